@@ -270,8 +270,11 @@ static void start(const kind *of, uint32_t threads) {
     memset(shards, 0, sizeof shards);
     for (uint32_t page = 0; of->row == mutex && page < PAGES; page++)
         pthread_mutex_init(&counts.locked[page].lock, NULL);
-    if (of->period > 0 && likes_service_start(&service, &options, none, PAGES, NULL, 0, of->period) != LIKES_OK)
-        fail("no service was started");
+    if (of->period > 0) {
+        uint32_t status = likes_service_start(&service, &options, none, PAGES, NULL, 0, NULL, 0, of->period);
+        if (status != LIKES_OK)
+            fail("no service was started");
+    }
     for (uint32_t i = 0; i < threads; i++) {
         player *it = &players[i];
         it->of = of;

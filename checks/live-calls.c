@@ -36,7 +36,7 @@ typedef struct {
 static opened open_service(likes_options options, const uint64_t *counts, size_t pages, const uint32_t *marks,
                            size_t marks_len) {
     opened it = {0};
-    IS(likes_open(&options, counts, pages, marks, marks_len, &it.driver), LIKES_OK);
+    IS(likes_open(&options, counts, pages, marks, marks_len, NULL, 0, &it.driver), LIKES_OK);
     for (uint32_t i = 0; i < options.seats; i++)
         IS(likes_driver_take_seat(&it.driver, &it.seats[i]), LIKES_OK);
     IS(likes_driver_take_phase(&it.driver, &it.phase), LIKES_OK);
@@ -70,7 +70,7 @@ static void plain(void) {
     likes_driver driver = {0};
     likes_seat seat = {0};
     likes_options options = {.seats = 1, .users = 2, .room = 1, .hot = 0};
-    IS(likes_open(&options, counts, 1, NULL, 0, &driver), LIKES_OK);
+    IS(likes_open(&options, counts, 1, NULL, 0, NULL, 0, &driver), LIKES_OK);
     IS(likes_driver_take_seat(&driver, &seat), LIKES_OK);
     for (uint32_t i = 0; i < 3; i++)
         IS(likes_seat_like(&seat, i % 2, 0), LIKES_LIKED);
@@ -163,7 +163,7 @@ static void openings(void) {
 #define REFUSED(field, value, status)                                   \
     wrong_one = right;                                                  \
     wrong_one.field = (value);                                          \
-    IS(likes_open(&wrong_one, counts, 1, NULL, 0, &driver), status);    \
+    IS(likes_open(&wrong_one, counts, 1, NULL, 0, NULL, 0, &driver), status);    \
     IS(driver.at == NULL, true)
     REFUSED(seats, 0, LIKES_WRONG_SEATS);
     REFUSED(seats, LIKES_MAX_SEATS + 1, LIKES_WRONG_SEATS);
@@ -178,48 +178,51 @@ static void openings(void) {
         REFUSED(reserved[n], 1, LIKES_WRONG_RESERVED);
         REFUSED(reserved[n], UINT64_C(1) << 63, LIKES_WRONG_RESERVED);
     }
-    IS(likes_open(&right, counts, 0, NULL, 0, &driver), LIKES_WRONG_PAGES);
-    IS(likes_open(&right, NULL, 0, NULL, 0, &driver), LIKES_WRONG_PAGES);
-    IS(likes_open(&right, counts, LIKES_MAX_PAGES + 1, NULL, 0, &driver), LIKES_WRONG_PAGES);
+    IS(likes_open(&right, counts, 0, NULL, 0, NULL, 0, &driver), LIKES_WRONG_PAGES);
+    IS(likes_open(&right, NULL, 0, NULL, 0, NULL, 0, &driver), LIKES_WRONG_PAGES);
+    IS(likes_open(&right, counts, LIKES_MAX_PAGES + 1, NULL, 0, NULL, 0, &driver), LIKES_WRONG_PAGES);
     counts[1] = LIKES_MAX_COUNT + 1;
-    IS(likes_open(&right, counts, 2, NULL, 0, &driver), LIKES_WRONG_COUNT);
+    IS(likes_open(&right, counts, 2, NULL, 0, NULL, 0, &driver), LIKES_WRONG_COUNT);
     counts[1] = UINT64_MAX;
-    IS(likes_open(&right, counts, 2, NULL, 0, &driver), LIKES_WRONG_COUNT);
+    IS(likes_open(&right, counts, 2, NULL, 0, NULL, 0, &driver), LIKES_WRONG_COUNT);
     counts[1] = LIKES_MAX_COUNT;
-    IS(likes_open(&right, counts, 2, NULL, 0, &driver), LIKES_OK);
-    IS(likes_open(&right, counts, 1, NULL, 0, &driver), LIKES_IN_USE);
+    IS(likes_open(&right, counts, 2, NULL, 0, NULL, 0, &driver), LIKES_OK);
+    IS(likes_open(&right, counts, 1, NULL, 0, NULL, 0, &driver), LIKES_IN_USE);
     likes_driver_free(&driver);
     IS(driver.at == NULL, true);
     right.seats = 1; /* each takes 9 bytes a page */
-    IS(likes_open(&right, counts, LIKES_MAX_PAGES, NULL, 0, &driver), LIKES_OK);
+    IS(likes_open(&right, counts, LIKES_MAX_PAGES, NULL, 0, NULL, 0, &driver), LIKES_OK);
     likes_driver_free(&driver);
 }
 
 /* An opening in which everything is wrong is put right in the order in which it is refused. */
 static void order_of_openings(void) {
     uint64_t counts[] = {0, UINT64_MAX};
-    uint32_t marks[] = {1, 1};
+    uint32_t marks[] = {1, 1}, lasts[] = {2, 0};
     likes_options options = {.seats = LIKES_MAX_SEATS + 1, .users = 0, .room = 0, .hot = 1000001, .reserved = {0, 1}};
     likes_driver driver = {0};
     opened it = open_service((likes_options){.seats = 1, .users = 1, .room = 1}, counts, 1, NULL, 0);
-    IS(likes_open(&options, counts, 0, marks, 2, &it.driver), LIKES_IN_USE);
+    IS(likes_open(&options, counts, 0, marks, 2, NULL, 0, &it.driver), LIKES_IN_USE);
     free_service(&it);
-    IS(likes_open(&options, counts, 0, marks, 2, &driver), LIKES_WRONG_RESERVED);
+    IS(likes_open(&options, counts, 0, marks, 2, NULL, 0, &driver), LIKES_WRONG_RESERVED);
     options.reserved[1] = 0;
-    IS(likes_open(&options, counts, 0, marks, 2, &driver), LIKES_WRONG_PAGES);
-    IS(likes_open(&options, counts, 2, marks, 2, &driver), LIKES_WRONG_MARKS);
+    IS(likes_open(&options, counts, 0, marks, 2, NULL, 0, &driver), LIKES_WRONG_PAGES);
+    IS(likes_open(&options, counts, 2, marks, 2, NULL, 0, &driver), LIKES_WRONG_MARKS);
     marks[1] = 0;
-    IS(likes_open(&options, counts, 2, marks, 2, &driver), LIKES_WRONG_COUNT);
+    IS(likes_open(&options, counts, 2, marks, 2, NULL, 0, &driver), LIKES_WRONG_COUNT);
     counts[1] = 0;
-    IS(likes_open(&options, counts, 2, marks, 2, &driver), LIKES_WRONG_SEATS);
+    IS(likes_open(&options, counts, 2, marks, 2, NULL, 0, &driver), LIKES_WRONG_SEATS);
     options.seats = 1;
-    IS(likes_open(&options, counts, 2, marks, 2, &driver), LIKES_WRONG_USERS);
+    IS(likes_open(&options, counts, 2, marks, 2, NULL, 0, &driver), LIKES_WRONG_USERS);
     options.users = 1;
-    IS(likes_open(&options, counts, 2, marks, 2, &driver), LIKES_WRONG_ROOM);
+    IS(likes_open(&options, counts, 2, marks, 2, lasts, 2, &driver), LIKES_WRONG_LASTS);
+    IS(likes_open(&options, counts, 2, marks, 2, lasts, 1, &driver), LIKES_WRONG_LASTS);
+    lasts[0] = 1;
+    IS(likes_open(&options, counts, 2, marks, 2, lasts, 1, &driver), LIKES_WRONG_ROOM);
     options.room = 1;
-    IS(likes_open(&options, counts, 2, marks, 2, &driver), LIKES_WRONG_HOT);
+    IS(likes_open(&options, counts, 2, marks, 2, NULL, 0, &driver), LIKES_WRONG_HOT);
     options.hot = 0;
-    IS(likes_open(&options, counts, 2, marks, 2, &driver), LIKES_OK);
+    IS(likes_open(&options, counts, 2, marks, 2, NULL, 0, &driver), LIKES_OK);
     likes_driver_free(&driver);
 }
 
@@ -251,19 +254,19 @@ static void marks(void) {
     split_by(few, 1, PAGES);
     split_by(few, 4, PAGES);
     split_by(many, 64, PAGES);
-    IS(likes_open(&options, counts, PAGES, many, 65, &driver), LIKES_WRONG_MARKS);
+    IS(likes_open(&options, counts, PAGES, many, 65, NULL, 0, &driver), LIKES_WRONG_MARKS);
     for (size_t n = 1; n < 64; n++) {
         uint32_t mark = many[n];
         many[n] = many[n == 63 ? 0 : 63];
-        IS(likes_open(&options, counts, PAGES, many, 64, &driver), LIKES_WRONG_MARKS);
+        IS(likes_open(&options, counts, PAGES, many, 64, NULL, 0, &driver), LIKES_WRONG_MARKS);
         many[n] = n % 2 ? PAGES : UINT32_MAX;
-        IS(likes_open(&options, counts, PAGES, many, 64, &driver), LIKES_WRONG_MARKS);
+        IS(likes_open(&options, counts, PAGES, many, 64, NULL, 0, &driver), LIKES_WRONG_MARKS);
         many[n] = mark;
     }
     for (uint32_t n = 0; n < LIKES_MAX_MARKS; n++)
         many[n] = (n + 32) % 64;
     split_by(many, 64, 64);
-    IS(likes_open(&options, counts, 63, many, 64, &driver), LIKES_WRONG_MARKS);
+    IS(likes_open(&options, counts, 63, many, 64, NULL, 0, &driver), LIKES_WRONG_MARKS);
     IS(driver.at == NULL, true);
 }
 
@@ -276,6 +279,7 @@ static void empty_handles(void) {
     likes_found found;
     likes_request requests[2] = {{0}};
     uint64_t counts[1] = {0};
+    uint32_t page = 7;
     IS(likes_driver_take_seat(&driver, &seat), LIKES_EMPTY);
     IS(likes_driver_take_phase(&driver, &phase), LIKES_EMPTY);
     IS(likes_phase_now(&phase), 0);
@@ -290,11 +294,16 @@ static void empty_handles(void) {
     IS(answers[0].status, LIKES_EMPTY);
     IS(answers[1].status, LIKES_OK);
     IS(likes_seat_run(&seat, NULL, 0, NULL, 0), 0);
+    IS(likes_seat_last(&seat, 0, &page), LIKES_EMPTY);
+    IS(likes_seat_lasts(&seat, 0, &page, 1), LIKES_EMPTY);
+    IS(likes_seat_lasts(&seat, UINT32_MAX, NULL, 0), LIKES_EMPTY);
+    IS(page, 7);
     IS(likes_seat_turn(&seat), LIKES_EMPTY);
     IS(likes_seat_retire(&seat), LIKES_EMPTY);
     IS(likes_seat_phase(&seat), 0);
     IS(likes_driver_turn(&driver, LIKES_END_IF_IT_SERVES), LIKES_EMPTY);
-    IS(likes_driver_turn(&driver, 2), LIKES_EMPTY);
+    IS(likes_driver_turn(&driver, LIKES_END), LIKES_EMPTY);
+    IS(likes_driver_turn(&driver, 3), LIKES_EMPTY);
     IS(likes_driver_snapshot(&driver, 0, counts, 1), LIKES_EMPTY);
     IS(likes_driver_snapshot(&driver, UINT32_MAX, NULL, 0), LIKES_EMPTY);
     IS(likes_driver_phase(&driver), 0);
@@ -377,7 +386,7 @@ static void late_phase(void) {
     likes_options options = {.seats = 1, .users = 1, .room = 1};
     opened it = {0};
     likes_phase again = {0};
-    IS(likes_open(&options, counts, 1, marks, 1, &it.driver), LIKES_OK);
+    IS(likes_open(&options, counts, 1, marks, 1, NULL, 0, &it.driver), LIKES_OK);
     IS(likes_driver_take_seat(&it.driver, &it.seats[0]), LIKES_OK);
     change_phase(&it, 1);
     change_phase(&it, 1);
@@ -488,7 +497,7 @@ static void reserved_requests(void) {
 /* Ends that are none of likes_end do nothing: while a phase runs, while it is ending, and after the end. */
 static void unknown_ends(void) {
     const uint64_t counts[] = {0};
-    const uint32_t marks[] = {0}, ends[] = {2, 3, 1u << 8, 1u << 31, UINT32_MAX};
+    const uint32_t marks[] = {0}, ends[] = {3, 4, 1u << 8, 1u << 31, UINT32_MAX};
     opened it = open_service((likes_options){.seats = 1, .users = 1, .room = 1, .hot = 0}, counts, 1, marks, 1);
     for (int stage = 0; stage < 4; stage++) {
         uint64_t phase = likes_driver_phase(&it.driver);
@@ -828,6 +837,7 @@ static void still_handles(void) {
     likes_answer answers[4];
     likes_found found;
     uint64_t last[2];
+    uint32_t page;
     likes_seat extra = {0};
     likes_phase another = {0};
     still.it = open_service((likes_options){.seats = 2, .users = 2, .room = 2, .hot = 0}, counts, 2, marks, 1);
@@ -840,6 +850,8 @@ static void still_handles(void) {
             IS(likes_seat_look(&still.it.seats[i], i, 1, 0, &answers[0]), LIKES_SEEN);
             IS(likes_seat_glance(&still.it.seats[i], i, 0, &answers[0]), LIKES_SEEN);
             IS(likes_seat_phase(&still.it.seats[i]), phase);
+            IS(likes_seat_last(&still.it.seats[i], i, &page), LIKES_OK);
+            IS(likes_seat_lasts(&still.it.seats[i], 0, &page, 1), LIKES_OK);
         }
         IS(likes_seat_run(&still.it.seats[0], row, 4, answers, 4), 4);
         change_phase(&still.it, 2);
@@ -872,10 +884,10 @@ static const struct {
     NAMED(NO_MEMORY),    NAMED(UNKNOWN_USER),  NAMED(OTHER_SEAT),     NAMED(UNKNOWN_PAGE), NAMED(UNKNOWN_OP),
     NAMED(UNKNOWN_END),  NAMED(WRONG_RANGE),   NAMED(WRONG_RESERVED), NAMED(WRONG_PAGES),  NAMED(WRONG_MARKS),
     NAMED(WRONG_COUNT),  NAMED(WRONG_SEATS),   NAMED(WRONG_USERS),    NAMED(WRONG_ROOM),   NAMED(WRONG_HOT),
-    NAMED(NO_THREAD),    NAMED(WRONG_PERIOD),  NAMED(NOT_STARTED),    NAMED(MOVED),        NAMED(UNKNOWN_SEAT),
-    NAMED(LOOK_LOST),
+    NAMED(WRONG_LASTS),  NAMED(NO_THREAD),     NAMED(WRONG_PERIOD),   NAMED(NOT_STARTED),  NAMED(MOVED),
+    NAMED(UNKNOWN_SEAT), NAMED(LOOK_LOST),
 };
-enum { NAMES = sizeof named / sizeof *named, OUTCOMES = 18, ERRORS = 17 };
+enum { NAMES = sizeof named / sizeof *named, OUTCOMES = 18, ERRORS = 18 };
 
 /* Whether a text is a name in small letters, with spaces. */
 static bool is_text_of(const char *text, const char *name) {

@@ -35,6 +35,23 @@ static void openings() {
     hold(open({2, 9}, {0}, 1000) == LIKES_OK, "an opening with the usual room");
 }
 
+// A service that goes on from the final counts and last likes of another.
+static void again() {
+    likes::Service first({2, 3, 4, 0}, {5, 7});
+    first.like(2, 1);
+    hold(first.last(2) == 1u && !first.last(0), "last likes");
+    hold(thrown([&] { first.last(3); }) == LIKES_UNKNOWN_USER, "the last like of a user too many");
+    const std::vector<std::uint32_t> lasts = {LIKES_NO_PAGE, LIKES_NO_PAGE, 1};
+    hold(first.lasts() == lasts, "all last likes");
+    std::vector<std::uint64_t> counts = first.stop();
+    hold(first.lasts() == lasts, "all last likes after the end");
+    likes::Service second({2, 3, 4, 0}, counts, 1000, first.lasts());
+    likes::Seen seen = second.look(2, 1);
+    hold(seen.last == 1u && seen.count == 8, "a look at a service that goes on");
+    hold(thrown([&] { likes::Service service({2, 3, 4, 0}, counts, 1000, {0, 1}); }) == LIKES_WRONG_LASTS,
+         "last likes of two users of three");
+}
+
 // Only seats 0 and 1 can be held.
 static void seats(likes::Service &service) {
     for (std::uint32_t number : {2u, 15u, 16u, 1000u, UINT32_MAX})
@@ -61,6 +78,7 @@ static void late(likes::Service &service) {
 
 int main() {
     openings();
+    again();
     likes::Service service({2, 9, 4, 0}, {5, 7});
     service.like(4, 1);
     hold(thrown([&] { service.like(9, 1); }) == LIKES_UNKNOWN_USER, "a user too many");

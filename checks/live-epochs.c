@@ -97,7 +97,7 @@ int main(int count, char **words) {
     const uint32_t marks[] = {0};
     uint64_t totals[PAGES], phases, likes = 0, looks = 0;
     likes_options options = {.seats = SEATS, .users = USERS, .room = LIKES_MAX_ROOM, .hot = 1000};
-    hold(likes_service_start(&service, &options, counts, PAGES, marks, 1, 1000) == LIKES_OK, "no service was started");
+    hold(likes_service_start(&service, &options, counts, PAGES, marks, 1, NULL, 0, 1000) == LIKES_OK, "no service was started");
     until = likes_clock() + strtoull(words[1], NULL, 10) * UINT64_C(1000000000);
     for (uint32_t i = 0; i < SEATS; i++) {
         workers[i].number = workers[i].random = i;

@@ -71,7 +71,7 @@ int main(void) {
     const uint32_t marks[] = {0};
     uint64_t totals[2];
     likes_options options = {.seats = 1, .users = 1, .room = 2};
-    hold(likes_open(&options, counts, 2, marks, 1, &driver) == LIKES_OK, "no service was opened");
+    hold(likes_open(&options, counts, 2, marks, 1, NULL, 0, &driver) == LIKES_OK, "no service was opened");
     hold(likes_driver_take_seat(&driver, &seat) == LIKES_OK, "no seat was taken");
     while (phase < LAST_OF_PROGRAM - 4) {
         if (phase % 1000000 == 0)

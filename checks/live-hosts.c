@@ -5,6 +5,7 @@
  *
  * In each round every seat has a thread, which notes each call with its answer and its phase. After the round:
  *   - each page's final count is its first count and its likes, and a snapshot's the likes of the phases up to it
+ *   - each user's last like at the end, and at a snapshot, is that of the phases up to it, or the opening's
  *   - each look has its user's last like, exactly
  *   - each look that waited was found once, with its tag, in the order of asking, in the next phase
  *   - each count has all likes of earlier phases and the seat's own before it, none of later phases and none of the
@@ -30,11 +31,12 @@ typedef struct {
     size_t length, room;
 } history;
 
-enum { MOST_PAGES = 1024 };
+enum { MOST_PAGES = 1024, MOST_USERS = LIKES_MAX_SEATS + 500 };
 
-/* The counts of all pages at the end of a phase. */
+/* The counts of all pages at the end of a phase, and the last likes of all users. */
 typedef struct {
     uint64_t phase, counts[MOST_PAGES];
+    uint32_t lasts[MOST_USERS];
 } moment;
 
 enum { MOMENTS = 64 };
@@ -51,7 +53,10 @@ typedef struct {
     uint32_t marks[LIKES_MAX_MARKS]; /* in random order */
     size_t marks_len;
     bool is_marked[MOST_PAGES];
+    uint32_t lasts[MOST_USERS]; /* of the opening */
+    size_t lasts_len;
     uint32_t calls, longest;
+    bool ends; /* whether its driver ends phases */
     likes_driver driver;
     likes_seat seats[LIKES_MAX_SEATS];
     likes_phase phase;
@@ -269,6 +274,24 @@ static bool has_counts(game *it, uint64_t *random, ranged *call, uint64_t *count
     return true;
 }
 
+/* Has the last likes of all users written, those of each seat by two calls whose ranges meet at a random place. */
+static void take_lasts(game *it, uint64_t *random, uint32_t *lasts) {
+    uint32_t seats = it->options.seats, row[MOST_USERS];
+    for (uint32_t i = 0; i < seats; i++) {
+        uint32_t own = (it->options.users - i + seats - 1) / seats, first = (uint32_t)below(random, own + 1);
+        pthread_mutex_lock(&it->locks[i]);
+        uint32_t low_status = likes_seat_lasts(&it->seats[i], 0, row, first);
+        uint32_t high_status = likes_seat_lasts(&it->seats[i], first, row + first, own - first);
+        uint32_t past_status = likes_seat_lasts(&it->seats[i], first, row, own - first + 1);
+        pthread_mutex_unlock(&it->locks[i]);
+        if (low_status != LIKES_OK || high_status != LIKES_OK || past_status != LIKES_WRONG_RANGE)
+            fail(it, "seat %u: the last likes of %u users were answered %u, %u and %u", i, own, low_status,
+                 high_status, past_status);
+        for (uint32_t n = 0; n < own; n++)
+            lasts[i + n * seats] = row[n];
+    }
+}
+
 /* Changes phases after random times, and makes the turns of seats whose lock is free, until all seats are gone. */
 static void drive(game *it) {
     uint64_t random = it->seed * 37;
@@ -278,9 +301,13 @@ static void drive(game *it) {
         if (it->taken < MOMENTS && below(&random, 4) == 0) {
             moment *next = &it->moments[it->taken];
             next->phase = likes_driver_phase(&it->driver);
-            it->taken += has_counts(it, &random, likes_driver_snapshot, next->counts);
+            if (has_counts(it, &random, likes_driver_snapshot, next->counts)) {
+                take_lasts(it, &random, next->lasts);
+                it->taken++;
+            }
         }
-        uint32_t status = likes_driver_turn(&it->driver, now >= due ? LIKES_END_IF_IT_SERVES : LIKES_NO_END);
+        uint32_t end = below(&random, 4) == 0 ? LIKES_END : LIKES_END_IF_IT_SERVES;
+        uint32_t status = likes_driver_turn(&it->driver, it->ends && now >= due ? end : LIKES_NO_END);
         if (status == LIKES_ENDED)
             break;
         if (status == LIKES_RELEASED)
@@ -358,12 +385,49 @@ static void check_last(const game *it, uint32_t number, const event *look, uint3
         fail(it, "seat %u: the last like of user %u was %u, and not %u", number, look->user, look->last, last);
 }
 
+/* Writes the last likes with which the round began. */
+static void begin_lasts(const game *it, uint32_t *lasts) {
+    for (uint32_t user = 0; user < it->options.users; user++)
+        lasts[user] = it->lasts_len == 0 ? LIKES_NO_PAGE : it->lasts[user];
+}
+
+/* Checks last likes at the end of a phase. */
+static void check_lasts(const game *it, uint64_t phase, const uint32_t *lasts) {
+    uint32_t expected[MOST_USERS];
+    begin_lasts(it, expected);
+    for (uint32_t i = 0; i < it->options.seats; i++)
+        for (size_t n = 0; n < it->histories[i].length; n++) {
+            const event *made = &it->histories[i].events[n];
+            if (made->kind == LIKED && made->phase <= phase)
+                expected[made->user] = made->page;
+        }
+    for (uint32_t user = 0; user < it->options.users; user++)
+        if (lasts[user] != expected[user])
+            fail(it, "after phase %llu user %u's last like was %u, and not %u", (unsigned long long)phase, user,
+                 lasts[user], expected[user]);
+}
+
+/* Checks the last likes at the end, asked for seat by seat and user by user, and those of the snapshots. */
+static void check_all_lasts(game *it, uint64_t end, uint64_t *random) {
+    uint32_t lasts[MOST_USERS];
+    take_lasts(it, random, lasts);
+    check_lasts(it, end, lasts);
+    for (uint32_t user = 0; user < it->options.users; user++) {
+        likes_seat *seat = &it->seats[likes_seat_of(user, it->options.seats)];
+        uint32_t last = 0;
+        if (likes_seat_last(seat, user, &last) != LIKES_OK || last != lasts[user])
+            fail(it, "the last like of user %u is told as %u, and not %u", user, last, lasts[user]);
+    }
+    for (size_t n = 0; n < it->taken; n++)
+        check_lasts(it, it->moments[n].phase, it->moments[n].lasts);
+}
+
 /* Checks the looks that were found against those that waited. Each found one has its user's last like of the phases
  * before it ran, and its seat's likes of these phases. */
 static void check_found(const game *it, tally *of, uint32_t number) {
     const history *done = &it->histories[number];
     uint32_t *last = (uint32_t *)malloc(it->options.users * sizeof *last);
-    memset(last, 0xff, it->options.users * sizeof *last);
+    begin_lasts(it, last);
     size_t wait = 0, likes = 0;
     for (size_t n = 0; n < done->length; n++) {
         const event *found = &done->events[n];
@@ -395,7 +459,7 @@ static void check_found(const game *it, tally *of, uint32_t number) {
 static void check_seen(const game *it, tally *of, uint32_t number) {
     const history *done = &it->histories[number];
     uint32_t *last = (uint32_t *)malloc(it->options.users * sizeof *last);
-    memset(last, 0xff, it->options.users * sizeof *last);
+    begin_lasts(it, last);
     uint64_t mine[MOST_PAGES] = {0};
     for (size_t n = 0; n < done->length; n++) {
         const event *made = &done->events[n];
@@ -427,6 +491,7 @@ static void check(game *it) {
         for (uint32_t page = 0; page < it->pages; page++)
             if (it->moments[n].counts[page] != it->counts[page] + row_of(of.all, &of, it->moments[n].phase)[page])
                 fail(it, "the counts after phase %llu are wrong", (unsigned long long)it->moments[n].phase);
+    check_all_lasts(it, end, &random);
     for (uint32_t i = 0; i < it->options.seats; i++) {
         check_seen(it, &of, i);
         check_found(it, &of, i);
@@ -460,6 +525,10 @@ static void draw_game(game *it, uint64_t seed) {
         if (it->is_marked[page])
             put_mark(it, (uint32_t)page, below(&random, it->marks_len + 1));
     }
+    it->lasts_len = below(&random, 2) == 0 ? 0 : it->options.users;
+    for (size_t user = 0; user < it->lasts_len; user++)
+        it->lasts[user] = below(&random, 4) == 0 ? LIKES_NO_PAGE : (uint32_t)below(&random, it->pages);
+    it->ends = below(&random, 8) > 0;
     it->calls = 1 + (uint32_t)low(&random, 20000);
     it->longest = 1 + (uint32_t)low(&random, 500);
 }
@@ -469,7 +538,8 @@ static void play_round(uint64_t seed) {
     pthread_t threads[LIKES_MAX_SEATS];
     player players[LIKES_MAX_SEATS];
     draw_game(&it, seed);
-    if (likes_open(&it.options, it.counts, it.pages, it.marks, it.marks_len, &it.driver) != LIKES_OK)
+    if (likes_open(&it.options, it.counts, it.pages, it.marks, it.marks_len, it.lasts, it.lasts_len, &it.driver) !=
+        LIKES_OK)
         fail(&it, "the service was not opened");
     for (uint32_t i = 0; i < it.options.seats; i++) {
         pthread_mutex_init(&it.locks[i], NULL);

@@ -9,21 +9,31 @@
 
 /* What the last call was passed, and how many there were. */
 static struct {
-    const void *first, *second, *third;
-    size_t first_len, second_len;
+    const void *first, *second, *third, *options;
+    size_t first_len, second_len, third_len;
     uint32_t from;
     int calls;
 } seen;
 
 uint32_t likes_open_nonnull(const likes_options *options, const uint64_t *counts, size_t pages, const uint32_t *marks,
-                            size_t marks_len, likes_driver *driver) {
+                            size_t marks_len, const uint32_t *lasts, size_t lasts_len, likes_driver *driver) {
     seen.calls += driver != NULL && options != NULL;
     seen.first = counts;
     seen.first_len = pages;
     seen.second = marks;
     seen.second_len = marks_len;
-    seen.third = options;
+    seen.third = lasts;
+    seen.third_len = lasts_len;
+    seen.options = options;
     return 41;
+}
+
+uint32_t likes_seat_lasts_nonnull(likes_seat *seat, uint32_t from, uint32_t *pages, size_t pages_len) {
+    seen.calls += seat != NULL;
+    seen.from = from;
+    seen.first = pages;
+    seen.first_len = pages_len;
+    return 45;
 }
 
 size_t likes_seat_run_nonnull(likes_seat *seat, const likes_request *requests, size_t requests_len,
@@ -90,29 +100,33 @@ int main(void) {
     likes_request requests[5] = {{0}};
     likes_answer answers[4];
     uint64_t counts[3] = {0};
-    uint32_t marks[2] = {0};
-    for (size_t n = 0; n < 4; n++) {
-        bool first = n & 1, second = n & 2;
-        HOLD(likes_open(&options, first ? counts : NULL, 3 * first, second ? marks : NULL, 2 * second, &driver) == 41);
-        HOLD(has_passed(counts, 3 * first, marks, 2 * second) && seen.third == &options);
+    uint32_t marks[2] = {0}, lasts[6] = {0};
+    for (size_t n = 0; n < 8; n++) {
+        bool first = n & 1, second = n & 2, third = n & 4;
+        HOLD(likes_open(&options, first ? counts : NULL, 3 * first, second ? marks : NULL, 2 * second,
+                        third ? lasts : NULL, 6 * third, &driver) == 41);
+        HOLD(has_passed(counts, 3 * first, marks, 2 * second) && seen.options == &options);
+        HOLD((third ? seen.third == lasts : seen.third != NULL) && seen.third_len == (size_t)6 * third);
         HOLD(likes_seat_run(&seat, first ? requests : NULL, 5 * first, second ? answers : NULL, 4 * second) == 42);
         HOLD(has_passed(requests, 5 * first, answers, 4 * second));
         HOLD(likes_driver_snapshot(&driver, 7, first ? counts : NULL, 3 * first) == 43);
         HOLD(has_passed(counts, 3 * first, answers, 4 * second) && seen.from == 7);
         HOLD(likes_driver_last_counts(&driver, 8, first ? counts : NULL, 3 * first) == 44);
         HOLD(has_passed(counts, 3 * first, answers, 4 * second) && seen.from == 8);
+        HOLD(likes_seat_lasts(&seat, 9, first ? lasts : NULL, 6 * first) == 45);
+        HOLD(has_passed(lasts, 6 * first, answers, 4 * second) && seen.from == 9);
     }
-    HOLD(seen.calls == 16);
+    HOLD(seen.calls == 40);
     likes_seat_free(NULL);
     likes_driver_free(NULL);
     likes_phase_free(NULL);
-    HOLD(seen.calls == 16);
+    HOLD(seen.calls == 40);
     likes_seat_free(&seat);
     HOLD(seen.first == &seat);
     likes_driver_free(&driver);
     HOLD(seen.first == &driver);
     likes_phase_free(&phase);
-    HOLD(seen.first == &phase && seen.calls == 19);
+    HOLD(seen.first == &phase && seen.calls == 43);
     HOLD(likes_seat_of(7, 3) == 1 && likes_seat_of(UINT32_MAX, 16) == 15);
     puts("all passed on as it should be");
     return 0;

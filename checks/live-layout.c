@@ -83,13 +83,17 @@ static void header(void) {
     IS(sizeof(likes_phase), HANDLE);
 }
 
-/* A service with 3 seats, 30 users, room for 5 looks, and 7 pages, of which page 2 is marked and none gets hot. */
+/* A service with 3 seats, 30 users, room for 5 looks, and 7 pages, of which page 2 is marked and none gets hot. Of the
+ * first 6 users of seat 1, only user 7 has a last like. */
 static const uint64_t counts[7] = {100, 200, 300, 400, 500, 600, 700};
 static const uint32_t marks[] = {2};
+static uint32_t lasts[30];
 static void *driver, *seats[4], *phase;
 
 static uint32_t open_by(const row *options) {
-    return likes_open_nonnull((const likes_options *)options, counts, 7, marks, 1, (likes_driver *)&driver);
+    memset(lasts, 0xff, sizeof lasts);
+    lasts[7] = 4;
+    return likes_open_nonnull((const likes_options *)options, counts, 7, marks, 1, lasts, 30, (likes_driver *)&driver);
 }
 
 static row right_options(void) {
@@ -120,6 +124,9 @@ static void options(void) {
     it = right_options();
     put32(&it, HOT, 1000001);
     IS(open_by(&it), 116); /* LIKES_WRONG_HOT */
+    it = right_options();
+    put32(&it, USERS, 31);
+    IS(open_by(&it), 117); /* LIKES_WRONG_LASTS */
     IS(driver == NULL, true);
 }
 
@@ -255,13 +262,31 @@ static void found(void) {
         IS(it.bytes[place], 0xa5);
 }
 
+/* Last likes, those of the opening too: numbers of 4 bytes, one behind the other. */
+static void last_likes(void) {
+    static const uint32_t shown[] = {UINT32_MAX, 4, 6, 3, 5};
+    uint32_t row[7];
+    memset(row, 0xa5, sizeof row);
+    IS(likes_seat_lasts_nonnull((likes_seat *)&seats[1], 1, row + 1, 5), 0);
+    IS(row[0], 0xa5a5a5a5);
+    IS(row[6], 0xa5a5a5a5);
+    for (uint32_t n = 0; n < 5; n++) {
+        IS(row[n + 1], shown[n]);
+        IS(likes_seat_last((likes_seat *)&seats[1], 3 * n + 4, row + n + 1), 0);
+        IS(row[n + 1], shown[n]);
+    }
+    IS(row[6], 0xa5a5a5a5);
+    IS(likes_seat_last((likes_seat *)&seats[1], 3, row), 104); /* LIKES_OTHER_SEAT */
+    IS(row[0], 0xa5a5a5a5);
+}
+
 /* A page that gets as many likes as the last option says becomes hot. */
 static void hot(void) {
     void *hot_driver = NULL, *seat = NULL;
     row it = right_options(), answer = {{0}};
     put32(&it, SEATS, 1);
     put32(&it, HOT, 2);
-    IS(likes_open_nonnull((likes_options *)&it, counts, 7, marks, 0, (likes_driver *)&hot_driver), 0);
+    IS(likes_open_nonnull((likes_options *)&it, counts, 7, marks, 0, lasts, 0, (likes_driver *)&hot_driver), 0);
     IS(likes_driver_take_seat((likes_driver *)&hot_driver, (likes_seat *)&seat), 0);
     for (uint32_t page = 0; page < 2; page++)
         for (uint32_t n = 0; n <= page; n++)
@@ -293,6 +318,7 @@ int main(void) {
     requests();
     arrays();
     found();
+    last_likes();
     end();
     hot();
     puts("all fields in their places");

@@ -27,7 +27,7 @@ static uint32_t start(uint32_t seats, uint32_t room, uint32_t period) {
     static const uint64_t counts[] = {10, 20};
     static const uint32_t marks[] = {0};
     likes_options options = {.seats = seats, .users = 100, .room = room, .hot = 0};
-    return likes_service_start(&service, &options, counts, 2, marks, 1, period);
+    return likes_service_start(&service, &options, counts, 2, marks, 1, NULL, 0, period);
 }
 
 /* Every call of a service answers this. */
@@ -36,6 +36,7 @@ static void all_refused(likes_service *it, uint32_t status) {
     likes_answer answer = {.count = 1};
     likes_found found;
     uint64_t counts[2] = {5, 6};
+    uint32_t last = 7;
     IS(likes_service_like(it, 0, 0), status);
     IS(likes_service_look(it, 0, 0, &answer), status);
     IS(answer.status, status);
@@ -53,6 +54,9 @@ static void all_refused(likes_service *it, uint32_t status) {
     likes_service_tick(it);
     likes_service_seat_turns(it);
     IS(likes_service_counts(it, counts, 2), status);
+    IS(likes_service_last(it, 0, &last), status);
+    IS(likes_service_lasts(it, &last, 1), status);
+    IS(last, 7);
     IS(likes_service_retire(it), status);
     IS(likes_service_stop(it, counts, 2), status);
     IS(counts[0], 5);
@@ -272,18 +276,54 @@ static void phases(void) {
 static void no_entries(void) {
     uint64_t totals[1];
     likes_options options = {.seats = 1, .users = 1, .room = 1};
-    IS(likes_service_start(&service, &options, NULL, 0, NULL, 0, 1000), LIKES_WRONG_PAGES);
-    IS(likes_service_start(&service, &options, (const uint64_t[]){5}, 1, NULL, 0, 1000), LIKES_OK);
+    IS(likes_service_start(&service, &options, NULL, 0, NULL, 0, NULL, 0, 1000), LIKES_WRONG_PAGES);
+    IS(likes_service_start(&service, &options, (const uint64_t[]){5}, 1, NULL, 0, NULL, 0, 1000), LIKES_OK);
     likes_seat *seat = likes_service_wake(&service, 0);
     IS(likes_service_run(&service, 0, NULL, 0, NULL), 0);
     IS(likes_seat_take_all_found(seat, NULL, 0), 0);
     likes_service_rest(&service, 0);
     IS(likes_service_run(&service, 1, NULL, 0, NULL), 0);
     IS(likes_service_counts(&service, NULL, 0), LIKES_WRONG_RANGE);
-    IS(likes_service_counts(&service, totals, 1), LIKES_NO_MOMENT);
+    for (int times = 0; times < 3; times++) {
+        IS(likes_service_counts(&service, totals, 1), LIKES_COUNTED);
+        IS(totals[0], 5);
+    }
+    IS(likes_service_lasts(&service, NULL, 0), LIKES_WRONG_RANGE);
     IS(likes_service_stop(&service, NULL, 0), LIKES_WRONG_RANGE);
     IS(likes_service_stop(&service, totals, 1), LIKES_OK);
     IS(totals[0], 5);
+}
+
+/* Last likes, while the service goes on and after all seats have retired, from which another service goes on. */
+static void last_likes(void) {
+    static const uint64_t counts[] = {10, 20};
+    uint64_t totals[2];
+    uint32_t last, lasts[100];
+    likes_options options = {.seats = 64, .users = 100, .room = 4, .hot = 0};
+    IS(start(64, 4, 1000), LIKES_OK);
+    for (uint32_t user = 0; user < 100; user += 3)
+        IS(likes_service_like(&service, user, user % 2), LIKES_LIKED);
+    IS(likes_service_last(&service, 63, &last), LIKES_OK);
+    IS(last, 1);
+    IS(likes_service_last(&service, 64, &last), LIKES_OK);
+    IS(last, LIKES_NO_PAGE);
+    IS(likes_service_last(&service, 100, &last), LIKES_UNKNOWN_USER);
+    IS(likes_service_lasts(&service, lasts, 99), LIKES_WRONG_RANGE);
+    IS(likes_service_lasts(&service, lasts, 101), LIKES_WRONG_RANGE);
+    IS(likes_service_retire(&service), LIKES_OK);
+    IS(likes_service_lasts(&service, lasts, 100), LIKES_OK);
+    for (uint32_t user = 0; user < 100; user++)
+        IS(lasts[user], user % 3 == 0 ? user % 2 : LIKES_NO_PAGE);
+    IS(likes_service_stop(&service, totals, 2), LIKES_OK);
+    lasts[1] = 2;
+    IS(likes_service_start(&service, &options, counts, 2, NULL, 0, lasts, 100, 1000), LIKES_WRONG_LASTS);
+    lasts[1] = 1;
+    IS(likes_service_start(&service, &options, counts, 2, NULL, 0, lasts, 100, 1000), LIKES_OK);
+    for (uint32_t user = 0; user < 100; user++) {
+        IS(likes_service_last(&service, user, &last), LIKES_OK);
+        IS(last, lasts[user]);
+    }
+    IS(likes_service_stop(&service, totals, 2), LIKES_OK);
 }
 
 int main(void) {
@@ -297,6 +337,7 @@ int main(void) {
     taken(2);
     phases();
     no_entries();
+    last_likes();
     puts("all wrong uses answered right");
     return 0;
 }

@@ -117,12 +117,12 @@ static void fail(int line, const char *call, const char *text) {
 /* Opens the service, where these allocations are refused. */
 static uint32_t open_service(size_t from, size_t to) {
     static const uint64_t counts[PAGES];
-    static const uint32_t marks[] = {0};
+    static const uint32_t marks[] = {0}, lasts[USERS];
     static const likes_options options = {.seats = SEATS, .users = USERS, .room = ROOM, .hot = 10};
     first = from;
     last = to;
     made = blocks = 0;
-    uint32_t status = likes_open(&options, counts, PAGES, marks, 1, &driver);
+    uint32_t status = likes_open(&options, counts, PAGES, marks, 1, lasts, USERS, &driver);
     first = last = 0;
     return status;
 }
@@ -144,8 +144,12 @@ static void request(uint64_t phase) {
     likes_answer answer, answers[ROW];
     likes_request row[ROW];
     likes_found found;
+    uint32_t last, lasts[ROW];
     for (uint32_t i = 0; i < 300; i++) {
         likes_seat *seat = &seats[i % SEATS];
+        IS(likes_seat_last(seat, i, &last), LIKES_OK);
+        uint32_t own = (USERS - i % SEATS + SEATS - 1) / SEATS;
+        IS(likes_seat_lasts(seat, 2 * i, lasts, ROW), 2 * i + ROW <= own ? LIKES_OK : LIKES_WRONG_RANGE);
         STILL(likes_seat_like(seat, i, i % PAGES));
         STILL(likes_seat_look(seat, i, i % 2 ? 0 : i % PAGES, i, &answer));
         STILL(likes_seat_glance(seat, i, i % PAGES, &answer));
@@ -166,9 +170,9 @@ static void play(uint64_t phase) {
     IS(likes_driver_phase(&driver), phase);
     IS(likes_phase_now(&phase_now), phase);
     IS(likes_driver_turn(&driver, LIKES_NO_END), LIKES_GOES_ON);
-    IS(likes_driver_turn(&driver, 2), LIKES_UNKNOWN_END);
+    IS(likes_driver_turn(&driver, 3), LIKES_UNKNOWN_END);
     request(phase);
-    IS(likes_driver_turn(&driver, LIKES_END_IF_IT_SERVES), LIKES_ANNOUNCED);
+    IS(likes_driver_turn(&driver, phase % 4 < 2 ? LIKES_END_IF_IT_SERVES : LIKES_END), LIKES_ANNOUNCED);
     IS(likes_driver_snapshot(&driver, 0, counts, PAGES), LIKES_NO_MOMENT);
     IS(likes_driver_turn(&driver, LIKES_END_IF_IT_SERVES), LIKES_NOT_ALL_IN);
     for (uint32_t i = 0; i < SEATS; i++)
@@ -200,6 +204,7 @@ static void refused(void) {
     likes_seat seat = {0};
     likes_phase empty = {0};
     likes_answer answer;
+    uint32_t last;
     STILL(likes_seat_free(&seat));
     STILL(likes_driver_free(&none));
     STILL(likes_phase_free(&empty));
@@ -209,10 +214,12 @@ static void refused(void) {
     IS(likes_phase_now(&empty), 0);
     IS(likes_seat_like(&seat, 0, 0), LIKES_EMPTY);
     IS(likes_seat_look(&seat, 0, 0, 0, &answer), LIKES_EMPTY);
+    IS(likes_seat_last(&seat, 0, &last), LIKES_EMPTY);
+    IS(likes_seat_lasts(&seat, 0, &last, 1), LIKES_EMPTY);
     IS(likes_driver_turn(&none, LIKES_END_IF_IT_SERVES), LIKES_EMPTY);
-    IS(likes_open(&options, counts, 1, NULL, 0, &driver), LIKES_IN_USE);
+    IS(likes_open(&options, counts, 1, NULL, 0, NULL, 0, &driver), LIKES_IN_USE);
     size_t held = blocks;
-    if (likes_open(&options, counts, 1, NULL, 0, &none) != LIKES_WRONG_COUNT || none.at != NULL || blocks != held)
+    if (likes_open(&options, counts, 1, NULL, 0, NULL, 0, &none) != LIKES_WRONG_COUNT || none.at != NULL || blocks != held)
         fail(__LINE__, "an opening with wrong numbers", "is answered otherwise, or leaves blocks behind");
 }
 

@@ -52,6 +52,8 @@ def openings():
         for name in ("users", "seats", "room", "hot"):
             refused(f"{name} {value!r}", kind, Likes, **{**right, name: value})
         refused(f"mark {value!r}", kind, Likes, **{**right, "marks": [value]})
+        if value is not None:
+            refused(f"last like {value!r}", kind, Likes, **{**right, "lasts": [value] * 9})
         if not isinstance(value, int) or not 0 <= value < 2**64:
             refused(f"count {value!r}", kind, Likes, **{**right, "counts": [0, value]})
     refused("period 0", ValueError, Likes, **right, period=0)
@@ -61,6 +63,24 @@ def openings():
     refused("no pages", Refused, Likes, **{**right, "counts": []})
     refused("a mark of no page", Refused, Likes, **right, marks=[1])
     refused("two marks of a page", Refused, Likes, **right, marks=[0, 0])
+    refused("a last like of no page", Refused, Likes, **right, lasts=[None] * 8 + [1])
+    refused("too few last likes", Refused, Likes, **right, lasts=[0] * 8)
+
+
+def again():
+    """A service that goes on from the final counts and last likes of another."""
+    with Likes(counts=[5, 0], users=3, seats=2) as first:
+        first.like(2, 1)
+        told = [first.last(user) for user in range(3)]
+        refused("the last like of an unknown user", Refused, first.last, 3)
+        for value in OUTSIDE:
+            refused(f"the last like of user {value}", ValueError, first.last, value)
+    refused("a last like after close", Closed, first.last, 0)
+    with Likes(counts=first.close(), users=3, seats=2, lasts=first.lasts) as second:
+        seen = [second.look(user, 1) for user in range(3)]
+    right = [None, None, 1]
+    if not told == first.lasts == second.lasts == right or seen != [(last, 1) for last in right]:
+        wrong.append(f"last likes: {told}, {first.lasts}, {seen}, {second.lasts}")
 
 
 def requests(service):
@@ -107,6 +127,7 @@ def structures(header):
 
 def main():
     openings()
+    again()
     with Likes(counts=[5, 0], users=9, seats=2) as service:
         requests(service)
         service.like(4, 1)

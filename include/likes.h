@@ -34,9 +34,9 @@
 extern "C" {
 #endif
 
-/* The version of this file and of the library, 0.2: 1,000 times the number of the ABI, plus a number within it.
+/* The version of this file and of the library, 0.3: 1,000 times the number of the ABI, plus a number within it.
  * docs/EMBEDDING.md says when it changes. */
-#define LIKES_VERSION 2
+#define LIKES_VERSION 3
 
 /* The version of the library that the program runs with. A shared library may be newer than this file. */
 uint32_t likes_version(void);
@@ -109,7 +109,7 @@ enum likes_status {
     LIKES_UNKNOWN_PAGE = 105,
     LIKES_UNKNOWN_OP = 106,     /* the operation isn't one of likes_op, or the request's reserved field isn't 0 */
     LIKES_UNKNOWN_END = 107,    /* the end isn't one of likes_end */
-    LIKES_WRONG_RANGE = 108,    /* the range of pages goes past the last page */
+    LIKES_WRONG_RANGE = 108,    /* the range goes past the last page, or past the seat's last user */
     LIKES_WRONG_RESERVED = 109, /* a reserved field of the options isn't 0 */
     LIKES_WRONG_PAGES = 110,    /* there are no pages, or more than LIKES_MAX_PAGES */
     LIKES_WRONG_MARKS = 111,    /* more than LIKES_MAX_MARKS, a mark of no page, or two of the same */
@@ -117,7 +117,8 @@ enum likes_status {
     LIKES_WRONG_SEATS = 113,
     LIKES_WRONG_USERS = 114,
     LIKES_WRONG_ROOM = 115,
-    LIKES_WRONG_HOT = 116
+    LIKES_WRONG_HOT = 116,
+    LIKES_WRONG_LASTS = 117 /* there are last likes, but not one for each user, or one is of no page */
 };
 
 #define LIKES_FIRST_ERROR 100u
@@ -130,11 +131,14 @@ static inline bool likes_is_error(uint32_t status) {
 /* Opens a service.
  *
  * counts has the initial count of each page. marks has the numbers of the pages that are split in every split phase, at
- * most LIKES_MAX_MARKS, in any order and no two alike. LIKES_OK fills the driver. Else the handle stays as it was, and
- * the answer is the first of these that applies: LIKES_IN_USE, WRONG_RESERVED, WRONG_PAGES, WRONG_MARKS, WRONG_COUNT,
- * WRONG_SEATS, WRONG_USERS, WRONG_ROOM, WRONG_HOT, NO_MEMORY. */
+ * most LIKES_MAX_MARKS, in any order and no two alike. lasts has the page of each user's last like, by user number, or
+ * LIKES_NO_PAGE; if its length is 0, no user has one. The counts and the last likes of an earlier service, opened
+ * again, go on where it ended. LIKES_OK fills the driver. Else the handle stays as it was, and the answer is the first
+ * of these that applies: LIKES_IN_USE, WRONG_RESERVED, WRONG_PAGES, WRONG_MARKS, WRONG_COUNT, WRONG_SEATS, WRONG_USERS,
+ * WRONG_LASTS, WRONG_ROOM, WRONG_HOT, NO_MEMORY. */
 static inline uint32_t likes_open(const likes_options *options, const uint64_t *counts, size_t pages,
-                                  const uint32_t *marks, size_t marks_len, likes_driver *driver);
+                                  const uint32_t *marks, size_t marks_len, const uint32_t *lasts, size_t lasts_len,
+                                  likes_driver *driver);
 
 /* Hands out the seats, at the first call seat 0, then 1 and so on: LIKES_OK, or the first that applies of LIKES_IN_USE,
  * EMPTY and ALL_TAKEN. A phase changes only when every seat has answered, so take them all. */
@@ -170,7 +174,8 @@ typedef struct likes_found {
 } likes_found;
 
 /* A call of a seat answers the first that applies of LIKES_EMPTY, GONE, BETWEEN, UNKNOWN_USER, OTHER_SEAT,
- * UNKNOWN_PAGE, LIKE_LIMIT and NO_ROOM, as far as it can answer them, or else what it did. */
+ * UNKNOWN_PAGE, LIKE_LIMIT and NO_ROOM, as far as it can answer them, or else what it did. (likes_seat_last and
+ * likes_seat_lasts do no phase work, so they answer neither GONE nor BETWEEN.) */
 
 /* Adds one like: LIKES_LIKED, BETWEEN, GONE, LIKE_LIMIT, EMPTY, UNKNOWN_USER, OTHER_SEAT or UNKNOWN_PAGE. */
 uint32_t likes_seat_like(likes_seat *seat, uint32_t user, uint32_t page);
@@ -187,6 +192,18 @@ uint32_t likes_seat_glance(likes_seat *seat, uint32_t user, uint32_t page, likes
 /* Takes the next found look, in the order of asking. False: there is none, and nothing is written. It works at any
  * time, also when the seat is gone. */
 bool likes_seat_take_found(likes_seat *seat, likes_found *found);
+
+/* Writes the page of a user's last like, or LIKES_NO_PAGE: LIKES_OK. Else nothing is written: the first that applies of
+ * LIKES_EMPTY, UNKNOWN_USER and OTHER_SEAT. It works at any time, also when the seat is gone. */
+uint32_t likes_seat_last(likes_seat *seat, uint32_t user, uint32_t *page);
+
+/* Writes the pages of the last likes of several of the seat's users, as many as the array has: LIKES_OK. They are users
+ * number from, from + 1 and so on of the seat. User u is number u / seats of its seat, so number n of seat s is user
+ * n * seats + s. Else nothing is written: the first that applies of LIKES_EMPTY and WRONG_RANGE. It works at any time.
+ *
+ * After LIKES_COUNTED of likes_driver_snapshot, and until a turn releases the next phase, the last likes of all seats
+ * are of the same moment as the counts. */
+static inline uint32_t likes_seat_lasts(likes_seat *seat, uint32_t from, uint32_t *pages, size_t pages_len);
 
 /* What is asked for in a request. */
 enum likes_op { LIKES_LIKE = 0, LIKES_LOOK = 1, LIKES_GLANCE = 2 };
@@ -219,15 +236,17 @@ uint64_t likes_seat_phase(likes_seat *seat);
 /* Whether a turn may end the phase. */
 enum likes_end {
     LIKES_NO_END = 0,
-    LIKES_END_IF_IT_SERVES = 1 /* a joined phase goes on if no page is marked and none can get hot */
+    LIKES_END_IF_IT_SERVES = 1, /* a joined phase goes on if no page is marked and none can get hot */
+    LIKES_END = 2               /* in any case, for a snapshot */
 };
 
 /* Makes a look, and does at most one thing for the phases: LIKES_ANNOUNCED, NOT_ALL_IN, RELEASED, GOES_ON or ENDED; or
  * the first that applies of LIKES_EMPTY and UNKNOWN_END. end is a likes_end.
  *
- * A split phase may end without being asked to: it does where the looks that wait at a seat take half of its room. An
- * ending phase is released once every seat has answered it or is gone, also where all are gone. So turns with
- * LIKES_END_IF_IT_SERVES, made when all seats are gone, lead to a joined phase, and there to LIKES_ENDED. */
+ * A split phase may end without being asked to: it does where the looks that wait at a seat take half of its room. A
+ * joined phase that all seats have left goes on, whatever is asked. An ending phase is released once every seat has
+ * answered it or is gone, also where all are gone. So turns with LIKES_END_IF_IT_SERVES or LIKES_END, made when all
+ * seats are gone, lead to a joined phase, and there to LIKES_ENDED. */
 uint32_t likes_driver_turn(likes_driver *driver, uint32_t end);
 
 /* Writes the counts of the pages from, from + 1 and so on, as many as the array has, where a joined phase is ending and
@@ -266,7 +285,7 @@ static inline const char *likes_status_text(uint32_t status) {
     static const char *const errors[] = {
         /* 100 */ "empty", "in use", "no memory", "unknown user", "other seat", "unknown page", "unknown op",
         /* 107 */ "unknown end", "wrong range", "wrong reserved", "wrong pages", "wrong marks", "wrong count",
-        /* 113 */ "wrong seats", "wrong users", "wrong room", "wrong hot",
+        /* 113 */ "wrong seats", "wrong users", "wrong room", "wrong hot", "wrong lasts",
     };
     static const char *const helpers[] = {
         /* 1000 */ "no thread", "wrong period", "not started", "moved", "unknown seat", "look lost",
@@ -283,7 +302,8 @@ static inline const char *likes_status_text(uint32_t status) {
 /* The library's own calls where the calls above take NULL. They take none: a language that can't include this file
  * calls these. */
 uint32_t likes_open_nonnull(const likes_options *options, const uint64_t *counts, size_t pages, const uint32_t *marks,
-                            size_t marks_len, likes_driver *driver);
+                            size_t marks_len, const uint32_t *lasts, size_t lasts_len, likes_driver *driver);
+uint32_t likes_seat_lasts_nonnull(likes_seat *seat, uint32_t from, uint32_t *pages, size_t pages_len);
 size_t likes_seat_run_nonnull(likes_seat *seat, const likes_request *requests, size_t requests_len,
                               likes_answer *answers, size_t answers_len);
 uint32_t likes_driver_snapshot_nonnull(likes_driver *driver, uint32_t from, uint64_t *counts, size_t counts_len);
@@ -293,11 +313,17 @@ void likes_driver_free_nonnull(likes_driver *driver);
 void likes_phase_free_nonnull(likes_phase *phase);
 
 static inline uint32_t likes_open(const likes_options *options, const uint64_t *counts, size_t pages,
-                                  const uint32_t *marks, size_t marks_len, likes_driver *driver) {
+                                  const uint32_t *marks, size_t marks_len, const uint32_t *lasts, size_t lasts_len,
+                                  likes_driver *driver) {
     static const uint64_t no_count = 0;
-    static const uint32_t no_mark = 0;
-    return likes_open_nonnull(options, pages == 0 ? &no_count : counts, pages, marks_len == 0 ? &no_mark : marks,
-                              marks_len, driver);
+    static const uint32_t no_page = 0;
+    return likes_open_nonnull(options, pages == 0 ? &no_count : counts, pages, marks_len == 0 ? &no_page : marks,
+                              marks_len, lasts_len == 0 ? &no_page : lasts, lasts_len, driver);
+}
+
+static inline uint32_t likes_seat_lasts(likes_seat *seat, uint32_t from, uint32_t *pages, size_t pages_len) {
+    uint32_t no_page;
+    return likes_seat_lasts_nonnull(seat, from, pages_len == 0 ? &no_page : pages, pages_len);
 }
 
 static inline size_t likes_seat_run(likes_seat *seat, const likes_request *requests, size_t requests_len,

@@ -83,7 +83,7 @@ typedef struct likes_service {
     pthread_mutex_t reading;
     likes_phase phase; /* used under `reading` */
     likes_place places[LIKES_MAX_SEATS];
-    uint32_t seats;
+    uint32_t seats, users;
     size_t pages;
     uint64_t period; /* in nanoseconds */
     uint64_t due;    /* when the split phase may end, by likes_clock; atomic */
@@ -341,21 +341,23 @@ static inline uint32_t likes_service_take_all(likes_service *service, uint32_t s
     return LIKES_OK;
 }
 
-/* Opens a service and starts its driver's thread. options, counts and marks are those of likes_open: NULL, 0 marks no
- * page. period is the time from the end of one split phase to that of the next, in microseconds, 1 or more: no look
- * waits much longer. 1000 suits most hosts.
+/* Opens a service and starts its driver's thread. options, counts, marks and lasts are those of likes_open: NULL, 0 is
+ * no marks, and no last likes. period is the time from the end of one split phase to that of the next, in microseconds,
+ * 1 or more: no look waits much longer. 1000 suits most hosts.
  * LIKES_OK, an answer of likes_open, LIKES_WRONG_PERIOD or LIKES_NO_THREAD; but for LIKES_OK there is nothing to be
  * stopped. */
 static inline uint32_t likes_service_start(likes_service *service, const likes_options *options, const uint64_t *counts,
-                                           size_t pages, const uint32_t *marks, size_t marks_len, uint32_t period) {
+                                           size_t pages, const uint32_t *marks, size_t marks_len,
+                                           const uint32_t *lasts, size_t lasts_len, uint32_t period) {
     likes_service_clear(service);
     uint32_t status = LIKES_WRONG_PERIOD;
     if (period > 0)
-        status = likes_open(options, counts, pages, marks, marks_len, &service->driver);
+        status = likes_open(options, counts, pages, marks, marks_len, lasts, lasts_len, &service->driver);
     if (status == LIKES_OK)
         status = likes_service_take_all(service, options->seats, options->room);
     if (status == LIKES_OK) {
         service->self = service;
+        service->users = options->users;
         service->pages = pages;
         service->period = (uint64_t)period * 1000;
         service->has_thread = pthread_create(&service->thread, NULL, likes_service_thread, service) == 0;
@@ -518,9 +520,39 @@ static inline uint32_t likes_service_look(likes_service *service, uint32_t user,
     return answer->status;
 }
 
+/* Writes the page of a user's last like: an answer of likes_seat_last. Any thread may call it. */
+static inline uint32_t likes_service_last(likes_service *service, uint32_t user, uint32_t *page) {
+    uint32_t fault = likes_service_fault(service);
+    if (fault != LIKES_OK)
+        return fault;
+    uint32_t number = likes_seat_of(user, service->seats);
+    uint32_t status = likes_seat_last(likes_service_wake(service, number), user, page);
+    likes_service_rest(service, number);
+    return status;
+}
+
+/* Writes the pages of all users' last likes, by user number, as likes_open takes them: LIKES_OK, or LIKES_WRONG_RANGE,
+ * where the array hasn't one entry for each user. Those of one seat are of one moment, and after likes_service_retire
+ * all are final: with the counts that likes_service_stop then gives, a new service goes on where this one has ended.
+ * The calling thread holds no seat. */
+static inline uint32_t likes_service_lasts(likes_service *service, uint32_t *lasts, size_t users) {
+    uint32_t fault = likes_service_fault(service);
+    if (fault != LIKES_OK)
+        return fault;
+    if (users != service->users)
+        return LIKES_WRONG_RANGE;
+    for (uint32_t number = 0; number < service->seats; number++) {
+        likes_seat *seat = likes_service_wake(service, number);
+        for (size_t user = number; user < users; user += service->seats)
+            likes_seat_last(seat, (uint32_t)user, &lasts[user]);
+        likes_service_rest(service, number);
+    }
+    return LIKES_OK;
+}
+
 /* The counts of all pages at one moment, the end of a joined phase, or the final counts where all seats are gone:
- * LIKES_COUNTED. Or LIKES_NO_MOMENT, where no page can be split and so no phase ends, or LIKES_WRONG_RANGE, where the
- * array hasn't one entry for each page. It takes up to two phases. The calling thread holds no seat. */
+ * LIKES_COUNTED. Or LIKES_WRONG_RANGE, where the array hasn't one entry for each page. It takes up to two phases. The
+ * calling thread holds no seat. */
 static inline uint32_t likes_service_counts(likes_service *service, uint64_t *counts, size_t pages) {
     uint32_t status = likes_service_fault(service), turn = LIKES_RELEASED;
     if (status != LIKES_OK)
@@ -533,7 +565,7 @@ static inline uint32_t likes_service_counts(likes_service *service, uint64_t *co
         /* Where a joined phase is ending, a turn could release the next one unseen. */
         bool is_ending = turn == LIKES_ANNOUNCED || turn == LIKES_NOT_ALL_IN;
         if (!is_ending || likes_driver_phase(&service->driver) % 2 == 1)
-            turn = likes_driver_turn(&service->driver, LIKES_END_IF_IT_SERVES);
+            turn = likes_driver_turn(&service->driver, LIKES_END);
         likes_service_seat_turns(service);
         sched_yield();
     }
@@ -547,7 +579,8 @@ static inline uint32_t likes_service_counts(likes_service *service, uint64_t *co
 
 /* Ends the driver's thread, has all seats retire, and makes the driver's turns until it answers LIKES_ENDED: LIKES_OK.
  * No thread holds a seat, and no call of the service is begun any more but likes_service_wake, likes_seat_take_found,
- * likes_service_take_found, likes_service_rest, likes_service_counts and likes_service_stop. */
+ * likes_service_take_found, likes_service_rest, likes_service_last, likes_service_lasts, likes_service_counts and
+ * likes_service_stop. */
 static inline uint32_t likes_service_retire(likes_service *service) {
     uint32_t status = likes_service_fault(service);
     if (status != LIKES_OK)
@@ -569,7 +602,8 @@ static inline uint32_t likes_service_retire(likes_service *service) {
 }
 
 /* Ends the service and gives the final counts: LIKES_OK, or LIKES_WRONG_RANGE, where nothing was done. All threads are
- * done with it. Found looks that were not taken are lost: take them between likes_service_retire and this. */
+ * done with it. Found looks that were not taken are lost, and so are last likes: take both between
+ * likes_service_retire and this. */
 static inline uint32_t likes_service_stop(likes_service *service, uint64_t *counts, size_t pages) {
     uint32_t status = likes_service_fault(service);
     if (status != LIKES_OK)

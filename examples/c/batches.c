@@ -71,7 +71,7 @@ int main(int count, char **words) {
     const uint64_t counts[PAGES] = {0};
     uint64_t totals[PAGES], sum = 0, liked = 0, asked = 0, answered = 0;
     likes_options options = {.seats = threads, .users = USERS, .room = 4096, .hot = 1000};
-    uint32_t status = likes_service_start(&service, &options, counts, PAGES, NULL, 0, 1000);
+    uint32_t status = likes_service_start(&service, &options, counts, PAGES, NULL, 0, NULL, 0, 1000);
     if (status != LIKES_OK) {
         fprintf(stderr, "not started: %s\n", likes_status_text(status));
         return 1;

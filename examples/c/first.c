@@ -10,7 +10,7 @@ int main(void) {
     likes_answer answer;
     uint64_t totals[2];
 
-    uint32_t status = likes_service_start(&service, &options, counts, 2, NULL, 0, 1000);
+    uint32_t status = likes_service_start(&service, &options, counts, 2, NULL, 0, NULL, 0, 1000);
     if (status != LIKES_OK) {
         fprintf(stderr, "not started: %s\n", likes_status_text(status));
         return 1;

@@ -70,11 +70,15 @@ private:
 // A service with its driver's thread. Threads share it; the destructor ends it.
 class Service {
 public:
-    // No page is marked as split. The period is in microseconds.
-    Service(const Options &options, const std::vector<std::uint64_t> &counts, std::uint32_t period = 1000)
-        : service_(new likes_service), totals_(counts.size()) {
+    // No page is marked as split. The period is in microseconds. lasts has each user's last like, as lasts() gives them;
+    // if it is empty, nobody has one.
+    Service(const Options &options, const std::vector<std::uint64_t> &counts, std::uint32_t period = 1000,
+            const std::vector<std::uint32_t> &lasts = {})
+        : service_(new likes_service), totals_(counts.size()), lasts_(options.users) {
         likes_options all = {options.seats, options.users, options.room, options.hot, {}};
-        check(likes_service_start(service_.get(), &all, counts.data(), counts.size(), nullptr, 0, period), LIKES_OK);
+        check(likes_service_start(service_.get(), &all, counts.data(), counts.size(), nullptr, 0, lasts.data(),
+                                  lasts.size(), period),
+              LIKES_OK);
     }
     ~Service() { end(); }
     Service(const Service &) = delete;
@@ -98,6 +102,20 @@ public:
         return seen(answer);
     }
 
+    // The page of a user's last like, if there is one.
+    std::optional<std::uint32_t> last(std::uint32_t user) {
+        std::uint32_t page;
+        check(likes_service_last(service_.get(), user, &page), LIKES_OK);
+        return page == LIKES_NO_PAGE ? std::nullopt : std::optional<std::uint32_t>(page);
+    }
+
+    // The page of each user's last like, by user number, or LIKES_NO_PAGE. After stop() they are final: with the final
+    // counts, another service goes on from them.
+    std::vector<std::uint32_t> lasts() {
+        std::vector<std::uint32_t> now(lasts_.size());
+        return likes_service_lasts(service_.get(), now.data(), now.size()) == LIKES_OK ? now : lasts_;
+    }
+
     std::uint32_t seats() const { return service_->seats; }
 
     // A seat below seats().
@@ -111,7 +129,11 @@ public:
 
 private:
     // What is stopped is left alone.
-    void end() { likes_service_stop(service_.get(), totals_.data(), totals_.size()); }
+    void end() {
+        likes_service_retire(service_.get());
+        likes_service_lasts(service_.get(), lasts_.data(), lasts_.size());
+        likes_service_stop(service_.get(), totals_.data(), totals_.size());
+    }
 
     static void check(std::uint32_t status, std::uint32_t wanted) {
         if (status != wanted)
@@ -126,6 +148,7 @@ private:
 
     std::unique_ptr<likes_service> service_;
     std::vector<std::uint64_t> totals_;
+    std::vector<std::uint32_t> lasts_;
 };
 
 } // namespace likes

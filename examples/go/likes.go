@@ -54,6 +54,7 @@ type Seen struct {
 type Service struct {
 	c     *C.likes_service
 	pages int
+	users int
 	calls []chan call
 	seats sync.WaitGroup
 }
@@ -63,12 +64,18 @@ type call struct {
 	reply   chan<- C.likes_answer
 }
 
-// Open opens a service with these initial counts. No page is marked as split.
+// Open opens a service with these initial counts. No page is marked as split, and no user has a last like.
 func Open(options Options, counts []uint64) (*Service, error) {
+	return OpenAgain(options, counts, nil)
+}
+
+// OpenAgain opens a service with the final counts and the last likes of another: by user number, a page or NoPage.
+func OpenAgain(options Options, counts []uint64, lasts []uint32) (*Service, error) {
 	if len(counts) == 0 {
 		return nil, status(C.LIKES_WRONG_PAGES)
 	}
 	service := &Service{c: (*C.likes_service)(C.calloc(1, C.sizeof_likes_service)), pages: len(counts)}
+	service.users = int(options.Users)
 	if service.c == nil {
 		return nil, status(C.LIKES_NO_MEMORY)
 	}
@@ -80,7 +87,11 @@ func Open(options Options, counts []uint64) (*Service, error) {
 	}
 	first := (*C.uint64_t)(unsafe.Pointer(&counts[0]))
 	period := C.uint32_t(options.Period.Microseconds())
-	told := C.likes_service_start(service.c, &numbers, first, C.size_t(len(counts)), nil, 0, period)
+	var last *C.uint32_t
+	if len(lasts) > 0 {
+		last = (*C.uint32_t)(unsafe.Pointer(&lasts[0]))
+	}
+	told := C.likes_service_start(service.c, &numbers, first, C.size_t(len(counts)), nil, 0, last, C.size_t(len(lasts)), period)
 	if told != C.LIKES_OK {
 		C.free(unsafe.Pointer(service.c))
 		return nil, status(told)
@@ -113,7 +124,16 @@ func (s *Service) Glance(user, page uint32) (Seen, error) {
 	return s.see(C.LIKES_GLANCE, user, page)
 }
 
-// Counts gives the counts of all pages at one moment, or nil where no page is split and so no phase ends.
+// Last gives the page of a user's last like, or NoPage.
+func (s *Service) Last(user uint32) (uint32, error) {
+	var page C.uint32_t
+	if told := C.likes_service_last(s.c, C.uint32_t(user), &page); told != C.LIKES_OK {
+		return NoPage, status(told)
+	}
+	return uint32(page), nil
+}
+
+// Counts gives the counts of all pages at one moment.
 func (s *Service) Counts() []uint64 {
 	counts := make([]uint64, s.pages)
 	first := (*C.uint64_t)(unsafe.Pointer(&counts[0]))
@@ -125,14 +145,22 @@ func (s *Service) Counts() []uint64 {
 
 // Close ends the service and gives the final counts. No goroutine calls it any more.
 func (s *Service) Close() []uint64 {
+	counts, _ := s.CloseWithLasts()
+	return counts
+}
+
+// CloseWithLasts does the same, and gives the last likes too, as OpenAgain takes them.
+func (s *Service) CloseWithLasts() ([]uint64, []uint32) {
 	for _, calls := range s.calls {
 		close(calls)
 	}
 	s.seats.Wait()
-	totals := make([]uint64, s.pages)
+	totals, lasts := make([]uint64, s.pages), make([]uint32, s.users)
+	C.likes_service_retire(s.c)
+	C.likes_service_lasts(s.c, (*C.uint32_t)(unsafe.Pointer(&lasts[0])), C.size_t(s.users))
 	C.likes_service_stop(s.c, (*C.uint64_t)(unsafe.Pointer(&totals[0])), C.size_t(s.pages))
 	C.free(unsafe.Pointer(s.c))
-	return totals
+	return totals, lasts
 }
 
 func (s *Service) see(op, user, page uint32) (Seen, error) {

@@ -25,13 +25,13 @@ OUTCOMES = (
 )
 ERRORS = (
     "EMPTY IN_USE NO_MEMORY UNKNOWN_USER OTHER_SEAT UNKNOWN_PAGE UNKNOWN_OP UNKNOWN_END WRONG_RANGE WRONG_RESERVED"
-    " WRONG_PAGES WRONG_MARKS WRONG_COUNT WRONG_SEATS WRONG_USERS WRONG_ROOM WRONG_HOT"
+    " WRONG_PAGES WRONG_MARKS WRONG_COUNT WRONG_SEATS WRONG_USERS WRONG_ROOM WRONG_HOT WRONG_LASTS"
 )
 Status = enum.IntEnum("Status", [*zip(OUTCOMES.split(), count()), *zip(ERRORS.split(), count(100))])
 STATUSES = {status.value: status for status in Status}
 OK, LIKED, SEEN, WAITS = list(Status)[:4]
 LIKE, LOOK, GLANCE = range(3)
-NO_END, END_IF_IT_SERVES = range(2)
+NO_END, END_IF_IT_SERVES, END = range(3)
 MOST = NO_PAGE = 2**32 - 1
 
 
@@ -70,9 +70,9 @@ def load():
     library has one that takes none, with _nonnull in its name."""
     library = ctypes.CDLL(os.environ.get("LIKES_LIBRARY", "liblikes.so.0"))
     handle, number, size = POINTER(Handle), c_uint32, c_size_t
-    counts = POINTER(c_uint64)
+    counts, pages = POINTER(c_uint64), POINTER(c_uint32)
     calls = {
-        "open_nonnull": ([POINTER(Options), counts, size, POINTER(c_uint32), size, handle], number),
+        "open_nonnull": ([POINTER(Options), counts, size, pages, size, pages, size, handle], number),
         "driver_take_seat": ([handle, handle], number),
         "driver_turn": ([handle, number], number),
         "driver_phase": ([handle], c_uint64),
@@ -80,6 +80,8 @@ def load():
         "driver_free_nonnull": ([handle], None),
         "seat_run_nonnull": ([handle, c_void_p, size, c_void_p, size], size),
         "seat_take_found": ([handle, POINTER(Found)], c_bool),
+        "seat_last": ([handle, number, pages], number),
+        "seat_lasts_nonnull": ([handle, number, pages, size], number),
         "seat_turn": ([handle], number),
         "seat_retire": ([handle], number),
         "seat_free_nonnull": ([handle], None),
@@ -156,17 +158,22 @@ def shown(look):
 
 class Likes:
     """A service. Its methods may be called by any thread. marks has the numbers of the pages that are split in every
-    split phase."""
+    split phase. lasts has the page of each user's last like, or None; if it is empty, nobody has one. A service that
+    is given the final counts and `lasts` of a closed one goes on where that has ended."""
 
-    def __init__(self, counts, users, seats=1, room=4096, hot=0, marks=(), period=0.001):
+    def __init__(self, counts, users, seats=1, room=4096, hot=0, marks=(), period=0.001, lasts=()):
         if not period > 0:
             raise ValueError(f"period {period} is not over 0")
         self.library, self.pages, self.period, self.due = load(), len(counts), period, 0.0
         self.driver, self.driving, self.seats, self.totals = Handle(), threading.Lock(), [], None
+        self.users, self.lasts = users, None
         options = Options(whole("seats", seats), whole("users", users), whole("room", room), whole("hot", hot))
         counts = (c_uint64 * max(1, self.pages))(*(whole("count", it, 2**64 - 1) for it in counts))
         row = (c_uint32 * max(1, len(marks)))(*(whole("mark", mark) for mark in marks))
-        opened = self.library.likes_open_nonnull(options, counts, self.pages, row, len(marks), byref(self.driver))
+        last = (c_uint32 * max(1, len(lasts)))(*(NO_PAGE if it is None else whole("last like", it) for it in lasts))
+        opened = self.library.likes_open_nonnull(
+            options, counts, self.pages, row, len(marks), last, len(lasts), byref(self.driver)
+        )
         self.check(opened, OK)
         for _ in range(options.seats):
             self.seats.append((Handle(), threading.Lock()))
@@ -235,8 +242,30 @@ class Likes:
         """The same at once. The count may lack other seats' likes of the present phase."""
         return self.one(GLANCE, user, page, SEEN)
 
+    def last(self, user):
+        """The page of the user's last like, or None."""
+        seat, lock = self.seats[self.seat_of(user)]
+        page = c_uint32()
+        with lock:
+            if self.totals is not None:
+                raise Closed
+            self.check(self.library.likes_seat_last(byref(seat), user, byref(page)), OK)
+        return None if page.value == NO_PAGE else page.value
+
+    def last_likes(self):
+        """The page of each user's last like, or None, of seats that have retired."""
+        lasts = [None] * self.users
+        for number, (seat, _) in enumerate(self.seats):
+            own = range(number, self.users, len(self.seats))
+            row = (c_uint32 * max(1, len(own)))()
+            self.check(self.library.likes_seat_lasts_nonnull(byref(seat), 0, row, len(own)), OK)
+            for user, page in zip(own, row):
+                lasts[user] = None if page == NO_PAGE else page
+        return lasts
+
     def close(self):
-        """Ends the service, and gives the final counts. All threads are done with it. It may be called again."""
+        """Ends the service, and gives the final counts; the last likes are in `lasts` then. All threads are done with
+        it. It may be called again."""
         if self.totals is not None:
             return self.totals
         while self.library.likes_driver_turn(byref(self.driver), END_IF_IT_SERVES) != Status.ENDED:
@@ -245,6 +274,7 @@ class Likes:
         totals = (c_uint64 * self.pages)()
         counted = self.library.likes_driver_last_counts_nonnull(byref(self.driver), 0, totals, self.pages)
         self.check(counted, Status.COUNTED)
+        self.lasts = self.last_likes()
         for seat, _ in self.seats:
             self.library.likes_seat_free_nonnull(byref(seat))
         self.library.likes_driver_free_nonnull(byref(self.driver))

@@ -1,5 +1,5 @@
 -- A call of what a handle holds, and what likes.h tells of it.
-use Rattle.std.specs.Prelude.{◌≡◌, ◌≢◌, ◌⊎◌, ℕ, ◌+◌, ◌≤◌, ◌<◌, ◌==◌, if◌then◌else◌, Bool, true, false, length, min, replicate, slice_get, take, List, [], ◌∷◌, ◌++◌, Option, Some, None}
+use Rattle.std.specs.Prelude.{◌≡◌, ◌≢◌, ◌⊎◌, ℕ, ◌+◌, ◌≤◌, ◌<◌, ◌==◌, if◌then◌else◌, Bool, true, false, length, min, replicate, slice_get, take, List, [], ◌∷◌, ◌++◌, Option, Some, None, Result, Ok, Err}
 use Rattle.std.specs.Global.{Global}
 use Rattle.std_alloc.specs.declared.boxed.Box.{Box}
 use Rattle.like_live.specs.LiveView.{LiveView, RanNext}
@@ -9,9 +9,14 @@ use Rattle.like_live.specs.declared.answer.LookAnswer.{LookAnswer}
 use Rattle.like_live.specs.declared.answer.TurnAnswer.{TurnAnswer}
 use Rattle.like_live.specs.declared.asked.Found.{Found}
 use Rattle.like_live.specs.declared.driver_answer.DriverAnswer.{DriverAnswer}
+use Rattle.like_live.specs.declared.driver_end.End.{End}
+use Rattle.like_live.specs.declared.driver_end.End.TheVariants.{No, IfItServes, Always}
 use Rattle.like_live.specs.Calls.{GlanceCase, LikeCase, LookCase, RetireCase, TakesFound}
 use Rattle.like_live.specs.Driver.{DriverTurns, TakesLast, TakesSnapshot}
+use Rattle.like_live.specs.Lasts.{AreLastsAt, TellsLast, users_of}
 use Rattle.like_live.specs.Moves.{Moves}
+use Rattle.like_requests.specs.declared.verdict.Verdict.{Verdict}
+use Rattle.like_tables.specs.LastLike.{page_or_none}
 use Rattle.like_seat.specs.StationView.{phase_at}
 use Rattle.like_c.specs.declared.opened.BoxedPhase.{BoxedPhase}
 use Rattle.like_c.specs.declared.opened.BoxedSeat.{BoxedSeat}
@@ -24,7 +29,7 @@ use Rattle.like_c.specs.Rows.{found_row, glance_op, glance_row, like_op, look_op
 use Rattle.like_live.specs.declared.open_error.OpenError.{OpenError}
 use Rattle.like_live.specs.Opening.{IsRefusedFor}
 use Rattle.like_c.specs.Opened.{IsOpenedAs, asked_of}
-use Rattle.like_c.specs.Status.{driver_status, last_status, like_status, open_status, snapshot_status, turn_status}
+use Rattle.like_c.specs.Status.{driver_status, last_status, like_status, open_status, snapshot_status, turn_status, verdict_status}
 use Rattle.like_c.specs.Status as status
 
 -- a call of a handle: where that is empty, this is so, and it stays empty; where it holds something, the call does this
@@ -75,6 +80,29 @@ pub data WritesFound (old : FoundRow) (is_found : Bool) (row : FoundRow) (s t : 
 abbrev pub TakesFoundAt : Option BoxedSeat → FoundRow → Bool → FoundRow → Option BoxedSeat → Type 0
 TakesFoundAt at old is_found row after =
     At ((is_found ≡ false) × (row ≡ old)) (WritesFound old is_found row) at after
+
+-- what is written of a user's last like: the page, or the number that stands for none; nothing of a user who is refused
+abbrev pub GivesLast : Result (Option ℕ) Verdict → (old result page : ℕ) → Type 0
+GivesLast (Ok last) old result page = (result ≡ status.ok) × (page ≡ page_or_none last)
+GivesLast (Err verdict) old result page = (result ≡ verdict_status verdict) × (page ≡ old)
+
+-- a user's last like is asked for, and the seat stays as it is
+abbrev pub LastLikeAt : ℕ → Option BoxedSeat → (old result page : ℕ) → Option BoxedSeat → Type 0
+LastLikeAt user at old result page after =
+    At ((result ≡ status.empty) × (page ≡ old)) (λ s t. (t ≡ s) × ((answer : Result (Option ℕ) Verdict)
+    × TellsLast s.seat user answer × GivesLast answer old result page)) at after
+
+-- the last likes of a seat's users from a place on are written, if it has so many users
+pub data GivesLasts (v : LiveView) (from : ℕ) (old : List ℕ) (result : ℕ) (pages : List ℕ) : Type 0 where
+  gives_range : ¬ (from + length old ≤ users_of v) → result ≡ status.wrong_range → pages ≡ old
+      → GivesLasts v from old result pages
+  gives_lasts : from + length old ≤ users_of v → result ≡ status.ok
+      → length pages ≡ length old → AreLastsAt v from pages → GivesLasts v from old result pages
+
+-- they are asked for, and the seat stays as it is
+abbrev pub LastLikesAt : ℕ → Option BoxedSeat → List ℕ → ℕ → List ℕ → Option BoxedSeat → Type 0
+LastLikesAt from at old result pages after =
+    At ((result ≡ status.empty) × (pages ≡ old)) (λ s t. (t ≡ s) × GivesLasts s.seat from old result pages) at after
 
 -- one request of a row is answered so
 pub data AnswersRow (v : LiveView) (request : RequestRow) (row : AnswerRow) (after : LiveView) : Type 0 where
@@ -130,15 +158,16 @@ abbrev pub KeepsRest : Opened → Opened → Type 0
 KeepsRest o p = p ≡ record o { driver = p.driver }
 
 -- whether a turn may end the phase, if the number says it
-abbrev pub may_end_of : ℕ → Option Bool
-may_end_of end = if end == 0 then Some false else if end == 1 then Some true else None
+abbrev pub end_of : ℕ → Option End
+end_of end =
+    if end == 0 then Some No else if end == 1 then Some IfItServes else if end == 2 then Some Always else None
 
 -- a driver takes a turn, if the end is known
 pub data Drives (end result : ℕ) (o p : Opened) : Type 0 where
-  drives : (may_end : Bool) (answer : DriverAnswer) → may_end_of end ≡ Some may_end
-      → DriverTurns o.driver may_end answer p.driver → KeepsRest o p → result ≡ driver_status answer
+  drives : (asked : End) (answer : DriverAnswer) → end_of end ≡ Some asked
+      → DriverTurns o.driver asked answer p.driver → KeepsRest o p → result ≡ driver_status answer
       → Drives end result o p
-  unknown_end : may_end_of end ≡ None → p ≡ o → result ≡ status.unknown_end → Drives end result o p
+  unknown_end : end_of end ≡ None → p ≡ o → result ≡ status.unknown_end → Drives end result o p
 
 abbrev pub DrivesAt : Option Opened → ℕ → ℕ → Option Opened → Type 0
 DrivesAt at end result after = At (result ≡ status.empty) (Drives end result) at after
@@ -210,13 +239,13 @@ abbrev pub IsUnreserved : Options → Type 0
 IsUnreserved options = options.reserved ≡ replicate 6 0
 
 -- a service is opened as asked for, into an empty handle; or it is told what is wrong first, or that there is no memory
-pub data OpensAt (options : Options) (counts marks : List ℕ) (at : Option Opened) (result : ℕ)
+pub data OpensAt (options : Options) (counts marks lasts : List ℕ) (at : Option Opened) (result : ℕ)
     (after : Option Opened) : Type 0 where
-  open_in_use : at ≢ None → result ≡ status.in_use → after ≡ at → OpensAt options counts marks at result after
+  open_in_use : at ≢ None → result ≡ status.in_use → after ≡ at → OpensAt options counts marks lasts at result after
   open_reserved : at ≡ None → ¬ IsUnreserved options → result ≡ status.wrong_reserved → after ≡ None
-      → OpensAt options counts marks at result after
-  opens : (o : Opened) → at ≡ None → IsUnreserved options → IsOpenedAs (asked_of options counts marks) o
-      → result ≡ status.ok → after ≡ Some o → OpensAt options counts marks at result after
+      → OpensAt options counts marks lasts at result after
+  opens : (o : Opened) → at ≡ None → IsUnreserved options → IsOpenedAs (asked_of options counts marks lasts) o
+      → result ≡ status.ok → after ≡ Some o → OpensAt options counts marks lasts at result after
   refused : (error : OpenError) → at ≡ None → IsUnreserved options
-      → IsRefusedFor (asked_of options counts marks) error → result ≡ open_status error → after ≡ None
-      → OpensAt options counts marks at result after
+      → IsRefusedFor (asked_of options counts marks lasts) error → result ≡ open_status error → after ≡ None
+      → OpensAt options counts marks lasts at result after

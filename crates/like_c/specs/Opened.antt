@@ -16,12 +16,13 @@ abbrev pub hot_of : ℕ → Option ℕ
 hot_of hot = if hot == 0 then None else Some hot
 
 -- what is asked for
-abbrev pub asked_of : Options → List ℕ → List ℕ → Asking
-asked_of options counts marks = record {
+abbrev pub asked_of : Options → List ℕ → List ℕ → List ℕ → Asking
+asked_of options counts marks lasts = record {
   counts = counts;
   marks = marks;
   seats = options.seats;
   users = options.users;
+  lasts = lasts;
   room = options.room;
   hot = hot_of options.hot;
 }

@@ -1,6 +1,6 @@
 -- The rows that cross to C.
-use Rattle.std.specs.Prelude.{ℕ, Option, Some, None}
-use Rattle.like_tables.specs.LastLike.{no_page}
+use Rattle.std.specs.Prelude.{ℕ}
+use Rattle.like_tables.specs.LastLike.{page_or_none}
 use Rattle.like_seat.specs.declared.seen.Seen.{Seen}
 use Rattle.like_live.specs.declared.answer.GlanceAnswer.{GlanceAnswer}
 use Rattle.like_live.specs.declared.answer.GlanceAnswer.TheVariants as glance
@@ -21,11 +21,6 @@ look_op = 1
 
 abbrev pub glance_op : ℕ
 glance_op = 2
-
--- a page, or the number that stands for none
-abbrev pub page_or_none : Option ℕ → ℕ
-page_or_none (Some page) = page
-page_or_none None = no_page
 
 -- a status alone
 abbrev pub status_row : ℕ → AnswerRow

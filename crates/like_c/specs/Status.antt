@@ -13,7 +13,7 @@ use Rattle.like_live.specs.declared.open_error.OpenError.TheVariants as open_err
 
 -- the version of likes.h
 abbrev pub version : ℕ
-version = 2
+version = 3
 
 abbrev pub ok : ℕ
 ok = 0
@@ -120,6 +120,9 @@ wrong_room = 115
 abbrev pub wrong_hot : ℕ
 wrong_hot = 116
 
+abbrev pub wrong_lasts : ℕ
+wrong_lasts = 117
+
 abbrev pub verdict_status : Verdict → ℕ
 verdict_status Accepted = ok
 verdict_status UnknownUser = unknown_user
@@ -162,5 +165,6 @@ open_status open_error.Marks = wrong_marks
 open_status open_error.Counts = wrong_count
 open_status open_error.Seats = wrong_seats
 open_status open_error.Users = wrong_users
+open_status open_error.Lasts = wrong_lasts
 open_status open_error.Room = wrong_room
 open_status open_error.Hot = wrong_hot

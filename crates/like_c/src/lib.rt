@@ -3,7 +3,7 @@
 #![tactic(auto)]
 
 ghost use Rattle.std.specs.Prelude.{◌≡◌, ◌<◌, ◌≤◌, ℕ, length, slice_get, None};
-ghost use Rattle.like_c.specs.Held.{DriverPhaseAt, DrivesAt, GlancesAt, HandsPhase, HandsSeat, LastAt, LikesAt, LooksAt, OpensAt, PhaseAt, PhaseNowAt, RetiresAt, RunsAt, SnapshotAt, TakesFoundAt, TurnsAt, may_end_of};
+ghost use Rattle.like_c.specs.Held.{DriverPhaseAt, DrivesAt, GlancesAt, HandsPhase, HandsSeat, LastAt, LastLikeAt, LastLikesAt, LikesAt, LooksAt, OpensAt, PhaseAt, PhaseNowAt, RetiresAt, RunsAt, SnapshotAt, TakesFoundAt, TurnsAt, end_of};
 ghost use Rattle.like_c.specs.Status.{version};
 
 mod driver_handle;
@@ -16,13 +16,15 @@ mod status;
 
 use crate::opened::Opened;
 pub use driver_handle::DriverHandle;
+use like_live::End;
 pub use phase_handle::PhaseHandle;
+use rows::page_or_none;
 pub use rows::{AnswerRow, FoundRow, Options, RequestRow, rows_are_laid_out};
 pub use seat_handle::SeatHandle;
 use std::alloc::Global;
 
 /// 1,000 times the number of the ABI, plus a number within it.
-const VERSION: u32 = 2;
+const VERSION: u32 = 3;
 
 /// The version of `likes.h` that the library has.
 #[unsafe(no_mangle)]
@@ -39,9 +41,10 @@ pub extern "C" fn likes_open_nonnull(
     options: &Options,
     counts: &[u64],
     marks: &[u32],
+    lasts: &[u32],
     driver: &mut DriverHandle,
 ) -> u32
-    ensures { OpensAt options.now counts.now marks.now driver.old.home result driver.new.home }
+    ensures { OpensAt options.now counts.now marks.now lasts.now driver.old.home result driver.new.home }
 {
     if driver.is_full() {
         return status::IN_USE;
@@ -49,7 +52,7 @@ pub extern "C" fn likes_open_nonnull(
     if !options.is_unreserved() {
         return status::WRONG_RESERVED;
     }
-    match Opened::new(alloc, options, counts, marks) {
+    match Opened::new(alloc, options, counts, marks, lasts) {
         Ok(opened) => {
             driver.put(opened);
             status::OK
@@ -105,19 +108,20 @@ pub extern "C" fn likes_driver_turn(driver: &mut DriverHandle, end: u32) -> u32
     let Some(opened) = driver.get() else {
         return status::EMPTY;
     };
-    match may_end_of(end) {
-        Some(may_end) => status::of_driver(opened.driver.turn(may_end)),
+    match end_of(end) {
+        Some(end) => status::of_driver(opened.driver.turn(end)),
         None => status::UNKNOWN_END,
     }
 }
 
 // Whether a turn may end the phase, if the number says it.
-fn may_end_of(end: u32) -> Option<bool>
-    ensures { result ≡ may_end_of end }
+fn end_of(end: u32) -> Option<End>
+    ensures { result ≡ end_of end }
 {
     match end {
-        0 => Some(false),
-        1 => Some(true),
+        0 => Some(End::No),
+        1 => Some(End::IfItServes),
+        2 => Some(End::Always),
         _ => None,
     }
 }
@@ -227,6 +231,42 @@ pub extern "C" fn likes_seat_glance(
     };
     *answer = AnswerRow::of_glance(boxed.seat.glance(user, page));
     answer.status
+}
+
+/// The page of a user's last like. A user who is refused leaves the number behind the pointer as it was.
+#[unsafe(no_mangle)]
+pub extern "C" fn likes_seat_last(seat: &mut SeatHandle, user: u32, page: &mut u32) -> u32
+    ensures { LastLikeAt user seat.old.home page.old result page.new seat.new.home }
+{
+    let Some(boxed) = seat.get() else {
+        return status::EMPTY;
+    };
+    match boxed.seat.last(user) {
+        Ok(last) => {
+            *page = page_or_none(last);
+            status::OK
+        }
+        Err(verdict) => status::of_verdict(verdict),
+    }
+}
+
+/// The pages of the last likes of a seat's users from a place on.
+#[unsafe(no_mangle)]
+pub extern "C" fn likes_seat_lasts_nonnull(
+    seat: &mut SeatHandle,
+    from: u32,
+    pages: &mut [u32],
+) -> u32
+    ensures { LastLikesAt from seat.old.home pages.old result pages.new seat.new.home }
+{
+    let Some(boxed) = seat.get() else {
+        return status::EMPTY;
+    };
+    if !boxed.seat.has_users(from, pages.len()) {
+        return status::WRONG_RANGE;
+    }
+    boxed.seat.lasts(from, pages);
+    status::OK
 }
 
 #[unsafe(no_mangle)]

@@ -51,12 +51,13 @@ impl Opened {
         options: &Options,
         counts: &[u64],
         marks: &[u32],
+        lasts: &[u32],
     ) -> Result<Box<Opened, Global>, OpenError>
-        ensures opened { IfOk result (λ b. IsOpenedAs (asked_of options.now counts.now marks.now) b.value) }
-        ensures refused { IfErr result (IsRefusedFor (asked_of options.now counts.now marks.now)) }
+        ensures opened { IfOk result (λ b. IsOpenedAs (asked_of options.now counts.now marks.now lasts.now) b.value) }
+        ensures refused { IfErr result (IsRefusedFor (asked_of options.now counts.now marks.now lasts.now)) }
     {
-        check(options, counts, marks)?;
-        let Ok(opening) = opening_of(alloc, options, counts, marks) else {
+        check(options, counts, marks, lasts)?;
+        let Ok(opening) = opening_of(alloc, options, counts, marks, lasts) else {
             return Err(OpenError::Memory);
         };
         let Service { driver, seats } = Service::open(alloc, &opening)?;
@@ -110,8 +111,8 @@ fn boxed_phase(alloc: Global, driver: &Driver) -> Result<Box<BoxedPhase, Global>
 }
 
 // Tests every number of what C asks for.
-fn check(options: &Options, counts: &[u64], marks: &[u32]) -> Result<(), OpenError>
-    ensures { let asked = asked_of options.now counts.now marks.now in
+fn check(options: &Options, counts: &[u64], marks: &[u32], lasts: &[u32]) -> Result<(), OpenError>
+    ensures { let asked = asked_of options.now counts.now marks.now lasts.now in
         MatchResult result (λ _. AreWithinLimits asked) (IsFirstWrong asked) }
 {
     let hot = hot_of(options.hot);
@@ -120,6 +121,7 @@ fn check(options: &Options, counts: &[u64], marks: &[u32]) -> Result<(), OpenErr
         marks,
         options.seats,
         options.users,
+        lasts,
         options.room,
         hot,
     )
@@ -131,14 +133,16 @@ fn opening_of(
     options: &Options,
     counts: &[u64],
     marks: &[u32],
+    lasts: &[u32],
 ) -> Result<Opening, AllocError>
-    ensures { IfOk result (λ opening. asking opening ≡ asked_of options.now counts.now marks.now) }
+    ensures { IfOk result (λ opening. asking opening ≡ asked_of options.now counts.now marks.now lasts.now) }
 {
     Ok(Opening {
         counts: Vec::from_slice(alloc, counts)?,
         marks: Vec::from_slice(alloc, marks)?,
         seats: options.seats,
         users: options.users,
+        lasts: Vec::from_slice(alloc, lasts)?,
         room: options.room,
         hot: hot_of(options.hot),
     })

@@ -2,7 +2,8 @@
 ghost use Rattle.std.specs.Prelude.{◌≡◌, ◌<◌, ◌≤◌, ◌≢◌, ◌↔◌, ℕ, IsTrue, length, slice_get};
 ghost use Rattle.like_c.specs.Held.{AnswersRow, IsToWait, IsUnreserved, KeepsUnasked, RunsRows};
 ghost use Rattle.like_c.specs.Layout.{AreLaidOut};
-ghost use Rattle.like_c.specs.Rows.{found_row, glance_row, like_op, look_row, page_or_none, seen_row, status_row};
+ghost use Rattle.like_c.specs.Rows.{found_row, glance_row, like_op, look_row, seen_row, status_row};
+ghost use Rattle.like_tables.specs.LastLike.{page_or_none};
 
 use crate::status;
 use like_board::SharedPost;
@@ -81,8 +82,9 @@ pub struct FoundRow {
     pub reserved: u32,
 }
 
+// The number of a page, or the one that stands for none.
 #[inline(always)]
-fn page_or_none(page: Option<u32>) -> u32
+pub(crate) fn page_or_none(page: Option<u32>) -> u32
     ensures { result ≡ page_or_none page }
 {
     match page {

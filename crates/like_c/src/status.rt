@@ -75,6 +75,8 @@ pub(crate) const WRONG_ROOM: u32 = 115;
 
 pub(crate) const WRONG_HOT: u32 = 116;
 
+pub(crate) const WRONG_LASTS: u32 = 117;
+
 #[inline(always)]
 pub(crate) fn of_verdict(verdict: Verdict) -> u32
     ensures { result ≡ verdict_status verdict }
@@ -131,6 +133,7 @@ pub(crate) fn of_open(error: OpenError) -> u32
         OpenError::Counts => WRONG_COUNT,
         OpenError::Seats => WRONG_SEATS,
         OpenError::Users => WRONG_USERS,
+        OpenError::Lasts => WRONG_LASTS,
         OpenError::Room => WRONG_ROOM,
         OpenError::Hot => WRONG_HOT,
         OpenError::Memory => NO_MEMORY,

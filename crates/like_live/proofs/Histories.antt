@@ -1,13 +1,15 @@
 -- The law of histories.
-use Rattle.std.proofs.Common.{◌≡◌, ℕ, ◌+◌, ◌<◌, true, false, List, [], ◌∷◌, ◌++◌, length, map, drop, get_or, Option, Some, None, refl, ap, sym, ◌∙◌, subst, arith, append-nil, append_assoc}
+use Rattle.std.proofs.Common.{◌≡◌, ℕ, ◌+◌, ◌<◌, true, false, cond, List, [], ◌∷◌, ◌++◌, length, map, drop, get_or, Option, Some, None, refl, ap, sym, ◌∙◌, subst, arith, append-nil, append_assoc}
 use Rattle.std.specs.List.{last_or, slice_get}
 use Rattle.std.proofs.lemmas.List.{length-replicate, length-set, map-append}
+use Rattle.std.proofs.lemmas.List.FromFn.{length-map-range_with_len}
 use Rattle.std.proofs.lemmas.List.Sums.{sum_by-cons}
 use Rattle.like_core.specs.declared.worker_state.WorkerState.TheVariants as state
 use Rattle.like_core.specs.Additions.{added_to}
 use Rattle.like_core.specs.Post.{PostView, slices}
 use Rattle.like_seat.proofs.MergedLikes.{same_everywhere}
-use Rattle.like_tables.specs.UserTable.{UserTable, last_of}
+use Rattle.like_tables.specs.Share.{owns}
+use Rattle.like_tables.specs.UserTable.{UserTable, last_in, last_of}
 use Rattle.like_tables.specs.Waiting.{Waiting}
 use Rattle.like_live.specs.declared.answer.GlanceAnswer.{GlanceAnswer}
 use Rattle.like_live.specs.declared.answer.LikeAnswer.{LikeAnswer}
@@ -235,7 +237,8 @@ whole_at_first v unused =
     record {
       sized = ap length new.slice ∙ length-replicate {A = ℕ} _ 0
           ∙ ap (λ (p : PostView). length p.marks) (sym new.at_post);
-      table = ap (λ (t : UserTable). length t.last) new.last ∙ length-replicate {A = Option ℕ} _ None
+      table = ap (λ (t : UserTable). length t.last) new.last
+          ∙ length-map-range_with_len (λ user. cond (owns unused.share user) (last_in unused.lasts user) None) 0 unused.share.users
           ∙ ap (λ (t : UserTable). t.share.users) (sym new.last);
       empty = λ e. ap (λ (w : Waiting Asked). w.held) new.held;
     }
@@ -258,8 +261,6 @@ histories_are_counted v after told unused done =
           ap (λ (xs : List ℕ). get_or xs page 0) new.slice ∙ same_everywhere _ page 0 in
           let all = t.tallies page in
           omega arith;
-      last = λ user.
-          t.last user ∙ ap (λ (o : Option ℕ). last_or o (pages_liked user told))
-          (ap (λ (u : UserTable). last_of u user) new.last ∙ same_everywhere _ user None);
+      last = t.last;
       taken = t.asks ∙ ap (λ xs. xs ++ asks_told told) nothing;
     }

@@ -10,6 +10,7 @@ pub mod Histories
 pub mod Marking
 pub mod Moments
 pub mod Keeping
+pub mod Lasting
 pub mod Moving
 pub mod Newly
 pub mod Requests

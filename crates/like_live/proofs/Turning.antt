@@ -11,6 +11,7 @@ use Rattle.like_core.specs.views.Views.{MayRelease, SawAllIn}
 use Rattle.like_seat.specs.Lead.{ChoosesRisen, LeadView, Sees, announced, counted_from, none_asked, published, those_risen, with_counts}
 use Rattle.like_seat.proofs.Leading.{counted-is}
 use Rattle.like_live.specs.declared.driver_answer.DriverAnswer.{DriverAnswer}
+use Rattle.like_live.specs.declared.driver_end.End.{End}
 use Rattle.like_live.specs.Opening.{splits_by}
 use Rattle.like_live.specs.Driver.{Acts, AreDriverParts, DriverCase, DriverView, HasRoom, IsSameDriver, IsService, LooksForEnd, ReadsBoundary, ReadsLast, ReleasesNext, SnapshotCase, announces, counted, ended, ends, goes_on, is_ending, is_last, not_ended, not_now, releases, releases_joined, releases_split, running, taken, waiting}
 
@@ -98,15 +99,15 @@ look-keeps v w sight sees = record {
   last = ap (λ (l : LeadView). l.seat.last) sees.saw;
 }
 
-case-same : (v w : LeadView) (sight : CoordSight) (may_end : Bool) (answer : DriverAnswer)
-    → DriverCase v sight may_end answer w
+case-same : (v w : LeadView) (sight : CoordSight) (end : End) (answer : DriverAnswer)
+    → DriverCase v sight end answer w
     → IsSameLead v w
-case-same v w sight may_end answer (waiting _ _ _ is) = unchanged v w is
-case-same v w sight may_end answer (releases _ _ _ next) = release-keeps v w next
-case-same v w sight may_end answer (announces _ _ _ _ _ is) =
+case-same v w sight end answer (waiting _ _ _ is) = unchanged v w is
+case-same v w sight end answer (releases _ _ _ next) = release-keeps v w next
+case-same v w sight end answer (announces _ _ _ _ is) =
     subst (IsSameLead v) (sym is) (record { board = refl; opening = refl; hot = refl })
-case-same v w sight may_end answer (running _ _ _ _ is) = unchanged v w is
-case-same v w sight may_end answer (ended _ _ _ _ is) = unchanged v w is
+case-same v w sight end answer (running _ _ _ _ is) = unchanged v w is
+case-same v w sight end answer (ended _ _ _ _ is) = unchanged v w is
 
 snapshot-same : (v w : LeadView) (sight : CoordSight) (from : ℕ) (old counts : List ℕ) (phase : Option ℕ)
     → SnapshotCase v sight from old phase w counts
@@ -132,10 +133,10 @@ end-same v w is_end (ends sight again seen sees _ _ _ sees_again _) =
 pub same-driver : (v w : DriverView) → IsSameLead v.lead w.lead → IsSameDriver v w
 same-driver v w s = record { board = s.board; opening = s.opening; hot = s.hot }
 
-pub acts-same : (v w : LeadView) (may_end : Bool) (answer : DriverAnswer) → Acts v may_end answer w → IsSameLead v w
-acts-same v w may_end answer does =
+pub acts-same : (v w : LeadView) (end : End) (answer : DriverAnswer) → Acts v end answer w → IsSameLead v w
+acts-same v w end answer does =
     same-on v does.seen w (look-keeps v does.seen does.sight does.sees).same
-    (case-same does.seen w does.sight may_end answer does.case)
+    (case-same does.seen w does.sight end answer does.case)
 
 pub boundary-same : (v w : LeadView) (from : ℕ) (old counts : List ℕ) (phase : Option ℕ)
     → ReadsBoundary v from old phase w counts

@@ -1,5 +1,5 @@
 -- What a driver does in its calls.
-use Rattle.std.specs.Prelude.{◌≡◌, ℕ, ◌+◌, ◌%◌, ◌==◌, ◌&&◌, ◌||◌, ◌<◌, ◌≤◌, ◌⊎◌, nat_lt, Bool, true, false, List, [], length, slice_index, Vec, vec_capacity, Option, Some, None}
+use Rattle.std.specs.Prelude.{◌≡◌, ℕ, ◌+◌, ◌%◌, ◌==◌, ◌||◌, ◌<◌, ◌≤◌, ◌⊎◌, nat_lt, Bool, true, false, List, [], length, slice_index, Vec, vec_capacity, Option, Some, None}
 use Rattle.std.specs.declared.alloc.Global.{Global}
 use Rattle.like_board.specs.Rule.{opened_coord}
 use Rattle.like_board.specs.Seats.{BoardId}
@@ -15,6 +15,8 @@ use Rattle.like_live.specs.Opening.{board_opening, splits_by}
 use Rattle.like_live.specs.declared.opening.Opening.{Opening}
 use Rattle.like_live.specs.declared.driver_answer.DriverAnswer.{DriverAnswer}
 use Rattle.like_live.specs.declared.driver_answer.DriverAnswer.TheVariants.{Announced, Waiting, Released, Running, Ended}
+use Rattle.like_live.specs.declared.driver_end.End.{End}
+use Rattle.like_live.specs.declared.driver_end.End.TheVariants.{No, IfItServes, Always}
 
 -- a driver: its lead, and whether its service is over, since it has written last counts
 pub record DriverView : Type 0 where
@@ -29,15 +31,12 @@ driver_of lead is_over = record { lead = lead; is_over = is_over }
 abbrev pub splits_some : LeadView → Bool
 splits_some v = splits_by v.seat.opening.marks v.hot
 
--- whether a phase of a service may be ended: it is not the last, and either it is split or `splits` says that something
--- would be split in the next
-abbrev pub may_be_ended : ℕ → Bool → Bool
-may_be_ended phase splits =
-    nat_lt phase service_limits.last_phase && ((phase % 2 == 1) || splits)
-
--- whether the driver's phase may be ended
-abbrev pub can_end : LeadView → Bool
-can_end v = may_be_ended v.seat.phase (splits_some v)
+-- whether the host asks for the end of the phase: never; if something is split in it, or would be in the next; or in any
+-- case
+abbrev pub asks_end : End → LeadView → Bool
+asks_end No v = false
+asks_end IfItServes v = (v.seat.phase % 2 == 1) || splits_some v
+asks_end Always v = true
 
 -- it releases the next phase: before a split one it chooses its hot pages, and publishes their mask
 pub data ReleasesNext (v after : LeadView) : Type 0 where
@@ -45,9 +44,11 @@ pub data ReleasesNext (v after : LeadView) : Type 0 where
   releases_split : IsJoined v.seat.phase → (m : ℕ) (chosen : LeadView) → ChoosesRisen v m chosen
       → after ≡ released (published chosen m) → ReleasesNext v after
 
--- the end of its phase may be announced: `may_end` says so, or the phase is split, where a seat can ask for it
-abbrev pub IsDue : LeadView → Bool → Type 0
-IsDue v may_end = (may_end ≡ true) ⊎ IsSplit v.seat.phase
+-- the end of its phase may be announced: it is not a service's last phase, and its host asks for its end, or it is split,
+-- where a seat can ask for it
+pub record IsDue (v : LeadView) (end : End) : Type 0 where
+  pub goes_on : v.seat.phase < service_limits.last_phase
+  pub asked : (asks_end end v ≡ true) ⊎ IsSplit v.seat.phase
 
 -- all seats have left a joined phase
 pub record IsLeft (v : LeadView) (sight : CoordSight) : Type 0 where
@@ -55,33 +56,34 @@ pub record IsLeft (v : LeadView) (sight : CoordSight) : Type 0 where
   pub all_gone : sight.all_gone ≡ true
 
 -- the cases of a turn whose look showed this: each does at most one thing. A phase that is ending is released once all
--- are in. One that runs is ended if that is asked for and may be, but not a joined phase that all seats have left, since
--- nobody would run the next
-pub data DriverCase (v : LeadView) (sight : CoordSight) (may_end : Bool)
+-- are in. One that runs is ended if that is asked for, but not a joined phase that all seats have left, since nobody would
+-- run the next
+pub data DriverCase (v : LeadView) (sight : CoordSight) (end : End)
     (answer : DriverAnswer) (after : LeadView) : Type 0 where
   waiting : sight.ending ≡ true → sight.all_in ≡ false
-      → answer ≡ Waiting → after ≡ v → DriverCase v sight may_end answer after
+      → answer ≡ Waiting → after ≡ v → DriverCase v sight end answer after
   releases : sight.ending ≡ true → sight.all_in ≡ true
-      → answer ≡ Released → ReleasesNext v after → DriverCase v sight may_end answer after
-  announces : sight.ending ≡ false → ¬ IsLeft v sight → can_end v ≡ true
-      → IsDue v may_end → answer ≡ Announced → after ≡ announced v → DriverCase v sight may_end answer after
-  running : sight.ending ≡ false → sight.all_gone ≡ false → (may_end ≡ true → can_end v ≡ false)
-      → answer ≡ Running → after ≡ v → DriverCase v sight may_end answer after
-  ended : sight.ending ≡ false → sight.all_gone ≡ true → (may_end ≡ true → IsJoined v.seat.phase)
-      → answer ≡ Ended → after ≡ v → DriverCase v sight may_end answer after
+      → answer ≡ Released → ReleasesNext v after → DriverCase v sight end answer after
+  announces : sight.ending ≡ false → ¬ IsLeft v sight → IsDue v end
+      → answer ≡ Announced → after ≡ announced v → DriverCase v sight end answer after
+  running : sight.ending ≡ false → sight.all_gone ≡ false
+      → (asks_end end v ≡ true → v.seat.phase ≡ service_limits.last_phase)
+      → answer ≡ Running → after ≡ v → DriverCase v sight end answer after
+  ended : sight.ending ≡ false → sight.all_gone ≡ true → (asks_end end v ≡ true → IsJoined v.seat.phase)
+      → answer ≡ Ended → after ≡ v → DriverCase v sight end answer after
 
 -- it looks, which is the event of the core, and does what the sight asks for
-pub record Acts (v : LeadView) (may_end : Bool) (answer : DriverAnswer) (after : LeadView) : Type 0 where
+pub record Acts (v : LeadView) (end : End) (answer : DriverAnswer) (after : LeadView) : Type 0 where
   pub sight : CoordSight
   pub seen : LeadView
   pub sees : Sees v sight seen
-  pub case : DriverCase seen sight may_end answer after
+  pub case : DriverCase seen sight end answer after
 
 -- a turn: a driver acts, until it has written last counts. Then its service is over, and it does nothing more
-pub data DriverTurns (v : DriverView) (may_end : Bool) (answer : DriverAnswer) (after : DriverView) : Type 0 where
-  acts : v.is_over ≡ false → Acts v.lead may_end answer after.lead → after.is_over ≡ false
-      → DriverTurns v may_end answer after
-  over : v.is_over ≡ true → answer ≡ Ended → after ≡ v → DriverTurns v may_end answer after
+pub data DriverTurns (v : DriverView) (end : End) (answer : DriverAnswer) (after : DriverView) : Type 0 where
+  acts : v.is_over ≡ false → Acts v.lead end answer after.lead → after.is_over ≡ false
+      → DriverTurns v end answer after
+  over : v.is_over ≡ true → answer ≡ Ended → after ≡ v → DriverTurns v end answer after
 
 -- the counts of all pages can be read as those of one moment: a joined phase is ending, and each seat has answered it
 pub record IsBoundary (v : LeadView) (sight : CoordSight) : Type 0 where

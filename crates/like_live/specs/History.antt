@@ -1,10 +1,10 @@
 -- What a live seat's calls were told, from its first call on.
-use Rattle.std.specs.Prelude.{◌≡◌, ℕ, ◌==◌, if◌then◌else◌, List, [], ◌∷◌, ◌++◌, map, Option, Some, None, flat_map, sum_by}
+use Rattle.std.specs.Prelude.{◌≡◌, ℕ, ◌==◌, if◌then◌else◌, List, [], ◌∷◌, ◌++◌, map, Option, Some, flat_map, sum_by}
 use Rattle.std.specs.List.{last_or}
 use Rattle.like_core.specs.declared.worker_state.WorkerState.TheVariants.{Gone}
 use Rattle.like_core.specs.Post.{IsFresh, PostView}
 use Rattle.like_tables.specs.Share.{Share}
-use Rattle.like_tables.specs.UserTable.{last_of, table_without_likes}
+use Rattle.like_tables.specs.UserTable.{last_of, table_with_lasts}
 use Rattle.like_live.specs.declared.answer.GlanceAnswer.{GlanceAnswer}
 use Rattle.like_live.specs.declared.answer.LikeAnswer.{LikeAnswer}
 use Rattle.like_live.specs.declared.answer.LikeAnswer.TheVariants.{Liked}
@@ -94,27 +94,28 @@ ask_waiting a = record { tag = a.tag; user = a.user; page = a.page }
 abbrev pub asks_left : LiveView → List Ask
 asks_left v = map ask_of v.found ++ map ask_waiting (waiting v)
 
--- a seat that has done nothing yet, in whose table no user has liked a page
+-- a seat that has done nothing yet, whose users have the last likes of an opening
 pub record IsUnused (v : LiveView) : Type 0 where
   pub post : PostView
   pub share : Share
+  pub lasts : List ℕ
   pub room : ℕ
   pub fresh : IsFresh post
-  pub new : IsNewLive post room (table_without_likes share) v
+  pub new : IsNewLive post room (table_with_lasts share lasts) v
 
 -- the seat after these calls has counted them: a page's tally is the number of its likes that were told `Liked`; a
--- user's last like is the page of the user's last one; and the looks that were told `Waits` are the found looks that
--- were taken, then those that are left, each once and in order
-pub record HistoryIsCounted (told : List Told) (after : LiveView) : Type 0 where
+-- user's last like is the page of the user's last one, or that with which the seat began; and the looks that were told
+-- `Waits` are the found looks that were taken, then those that are left, each once and in order
+pub record HistoryIsCounted (v : LiveView) (told : List Told) (after : LiveView) : Type 0 where
   pub tallies : (page : ℕ) → tally after page ≡ likes_told page told
-  pub last : (user : ℕ) → last_of after.seat.last user ≡ last_or None (pages_liked user told)
+  pub last : (user : ℕ) → last_of after.seat.last user ≡ last_or (last_of v.seat.last user) (pages_liked user told)
   pub taken : asks_taken told ++ asks_left after ≡ asks_told told
 
 -- the law of histories: whatever calls a fresh seat is asked, they are counted. At a seat that is gone none waits, so
 -- once its found looks are taken too, none is left
 abbrev pub HistoriesAreCounted : Type 0
 HistoriesAreCounted =
-    (v after : LiveView) (told : List Told) → IsUnused v → HasDone v told after → HistoryIsCounted told after
+    (v after : LiveView) (told : List Told) → IsUnused v → HasDone v told after → HistoryIsCounted v told after
 
 -- nothing waits at a seat that is gone, whatever calls it was asked
 abbrev pub NoneWaitsOnceGone : Type 0

@@ -4,6 +4,7 @@ pub mod Calls
 pub mod Driver
 pub mod History
 pub mod Kept
+pub mod Lasts
 pub mod LiveView
 pub mod Moments
 pub mod Moves

@@ -7,8 +7,10 @@ use Rattle.like_core.specs.core.State.{opening_with}
 use Rattle.like_core.specs.declared.opening.Opening.{Opening as CoreOpening}
 use Rattle.like_records.specs.First.{FailsFirst}
 use Rattle.like_requests.specs.Setup.{IsHotLimit}
+use Rattle.like_tables.specs.LastLike.{no_page}
+use Rattle.like_tables.specs.UserTable.{IsForUsers}
 use Rattle.like_live.specs.declared.open_error.OpenError.{OpenError}
-use Rattle.like_live.specs.declared.open_error.OpenError.TheVariants.{Pages, Marks, Counts, Seats, Users, Room, Hot, Memory}
+use Rattle.like_live.specs.declared.open_error.OpenError.TheVariants.{Pages, Marks, Counts, Seats, Users, Lasts, Room, Hot, Memory}
 use Rattle.like_live.specs.declared.opening.Opening.{Opening}
 
 -- what is asked for
@@ -17,6 +19,7 @@ pub record Asking : Type 0 where
   pub marks : List ℕ
   pub seats : ℕ
   pub users : ℕ
+  pub lasts : List ℕ
   pub room : ℕ
   pub hot : Option ℕ
 
@@ -27,6 +30,7 @@ asking o = record {
   marks = o.marks.items;
   seats = o.seats;
   users = o.users;
+  lasts = o.lasts.items;
   room = o.room;
   hot = o.hot;
 }
@@ -37,6 +41,12 @@ pub record AreMarks (pages : ℕ) (marks : List ℕ) : Type 0 where
   pub there : All (λ page. page < pages) marks
   pub unlike : AllPairs (λ page other. page ≢ other) marks
 
+-- these can be the last likes of so many users: there are none, or one for each user, which is one of so many pages, or
+-- the number that stands for none
+pub record AreLasts (pages users : ℕ) (lasts : List ℕ) : Type 0 where
+  pub len : IsForUsers users lasts
+  pub there : All (λ page. (page ≡ no_page) ⊎ (page < pages)) lasts
+
 -- the limit that this error says is broken
 abbrev pub Holds : Asking → OpenError → Type 0
 Holds a Pages = (1 ≤ length a.counts) × (length a.counts ≤ service_limits.pages)
@@ -44,13 +54,14 @@ Holds a Marks = AreMarks (length a.counts) a.marks
 Holds a Counts = All (λ count. count ≤ max_count) a.counts
 Holds a Seats = (1 ≤ a.seats) × (a.seats ≤ service_limits.seats)
 Holds a Users = 1 ≤ a.users
+Holds a Lasts = AreLasts (length a.counts) a.users a.lasts
 Holds a Room = (1 ≤ a.room) × (a.room ≤ max_stash)
 Holds a Hot = IsHotLimit a.hot
 Holds a Memory = ⊤
 
 -- the limits, in the order of their tests
 abbrev pub limits : List OpenError
-limits = Pages ∷ Marks ∷ Counts ∷ Seats ∷ Users ∷ Room ∷ Hot ∷ []
+limits = Pages ∷ Marks ∷ Counts ∷ Seats ∷ Users ∷ Lasts ∷ Room ∷ Hot ∷ []
 
 -- every limit holds
 abbrev pub AreWithinLimits : Asking → Type 0

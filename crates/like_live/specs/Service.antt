@@ -7,22 +7,22 @@ use Rattle.like_core.specs.Post.{IsFresh, additions_of}
 use Rattle.like_core.specs.OpeningLimits.{service_limits}
 use Rattle.like_core.specs.declared.worker_state.WorkerState.TheVariants.{Gone}
 use Rattle.like_tables.specs.Share.{share_of}
-use Rattle.like_tables.specs.UserTable.{table_without_likes}
+use Rattle.like_tables.specs.UserTable.{table_with_lasts}
 use Rattle.like_live.specs.declared.opening.Opening.{Opening}
 use Rattle.like_live.specs.declared.service.Service.{Service}
 use Rattle.like_live.specs.LiveView.{IsNewLive, IsSameSeat, LiveView, tally}
 use Rattle.like_live.specs.Driver.{DriverView, IsSameDriver, new_driver}
 use Rattle.like_live.specs.Opening.{IsWithinLimits, board_opening}
 
--- a seat of an opened service, by its number: it is new, at this board, and its users are those that are this number
--- modulo the number of seats
+-- a seat of an opened service, by its number: it is new, at this board; its users are those that are this number modulo
+-- the number of seats; and their last likes are those of the opening
 pub record IsOpenedSeat (o : Opening) (board : BoardId) (number : ℕ) (s : LiveView) : Type 0 where
   pub here : s.seat.post.board ≡ board_numbers board
   pub worker : s.seat.post.worker ≡ number
   pub fresh : IsFresh s.seat.post
   pub marks : s.seat.post.marks ≡ (board_opening o).marks
   pub limits : s.seat.post.limits ≡ service_limits
-  pub new : IsNewLive s.seat.post o.room (table_without_likes (share_of o.users o.seats o.seats number)) s
+  pub new : IsNewLive s.seat.post o.room (table_with_lasts (share_of o.users o.seats o.seats number) o.lasts.items) s
 
 -- the seats of an opened service, in order
 pub record AreOpenedSeats (o : Opening) (board : BoardId) (seats : List LiveView) : Type 0 where

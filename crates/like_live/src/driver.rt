@@ -16,6 +16,7 @@ use self::boundary::read_boundary;
 use self::last::read_last;
 use self::turns::act;
 use crate::driver_answer::DriverAnswer;
+use crate::driver_end::End;
 use crate::hint::Hint;
 use crate::live_seat::LiveSeat;
 use crate::opening::Opening;
@@ -92,24 +93,18 @@ impl Driver {
     }
 
     /// Makes one look at the phase word, and does at most one thing. A phase that is ending is released once every seat
-    /// has answered it or is gone. A phase that runs is ended if `may_end` is set, and a split phase also if the looks
-    /// that wait at a seat take half of its room. A joined phase goes on if no page is marked and none can be hot, or
-    /// if all seats have left it. Once last counts were written it does nothing.
-    pub fn turn(&mut self, may_end: bool) -> DriverAnswer
-        ensures case { DriverTurns self.old may_end result self.new }
+    /// has answered it or is gone. A phase that runs is ended as `end` says, and a split phase also if the looks
+    /// that wait at a seat take half of its room. A joined phase that all seats have left goes on, and so does a
+    /// service's last phase. Once last counts were written it does nothing.
+    pub fn turn(&mut self, end: End) -> DriverAnswer
+        ensures case { DriverTurns self.old end result self.new }
         ensures keeps { IsService self.new }
         ensures same { IsSameDriver self.old self.new }
     {
         if self.is_over {
             return DriverAnswer::Ended;
         }
-        let answer = act(
-            &mut self.lead,
-            &self.board,
-            &self.hint,
-            self.splits,
-            may_end,
-        );
+        let answer = act(&mut self.lead, &self.board, &self.hint, self.splits, end);
         if answer == DriverAnswer::Released {
             self.phase_now.set(self.lead.phase());
         }

@@ -6,8 +6,8 @@ ghost use Rattle.like_live.specs.History.{HistoriesAreCounted, NoneWaitsOnceGone
 ghost use Rattle.like_live.specs.Moments.{LastCountsAreTallies, SeatsAreExclusive};
 
 /// Whatever calls a fresh seat is asked: a page's tally is the number of its likes that were told `Liked`. A user's
-/// last like is the page of the user's last one. The looks that were told `Waits` are the found looks that were taken,
-/// then those that are left, each once and in order.
+/// last like is the page of the user's last one, or that with which the seat was opened. The looks that were told
+/// `Waits` are the found looks that were taken, then those that are left, each once and in order.
 pub fn histories_are_counted()
     ensures { HistoriesAreCounted }
 {}

@@ -9,6 +9,7 @@ mod asked;
 mod call;
 mod driver;
 mod driver_answer;
+mod driver_end;
 mod hint;
 mod laws;
 mod live_seat;
@@ -22,10 +23,12 @@ pub use asked::{Asked, Found};
 pub use call::{Answer, Call};
 pub use driver::Driver;
 pub use driver_answer::DriverAnswer;
+pub use driver_end::End;
 pub use laws::{
     answers_are_bounded, answers_are_reads, histories_are_counted, last_counts_are_tallies,
     last_counts_stay, none_waits_once_gone, seats_are_exclusive,
 };
+pub use like_tables::NO_PAGE;
 pub use live_seat::{LiveSeat, MAX_LIKES};
 pub use open_error::OpenError;
 pub use opening::{MAX_MARKS, Opening};

@@ -10,6 +10,7 @@ ghost use Rattle.like_live.specs.Moves.{Moves};
 ghost use Rattle.like_live.specs.Calls.{GlanceCase, LikeCase, LookCase, RetireCase, TakesFound, TalliesLike, last_after};
 
 mod batch;
+mod lasts;
 mod moves;
 mod requests;
 

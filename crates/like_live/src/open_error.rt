@@ -13,6 +13,8 @@ pub enum OpenError {
     Seats,
     #[error("at least one user")]
     Users,
+    #[error("no last likes, or one for each user: a page or none")]
+    Lasts,
     #[error("room for 1 to 4,096 looks")]
     Room,
     #[error("1 to 1,000,000 likes that make a page hot")]

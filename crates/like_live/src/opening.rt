@@ -1,9 +1,11 @@
-ghost use Rattle.std.specs.Prelude.{◌≡◌, ◌≢◌, ◌%◌, ◌≤◌, ◌↔◌, AllPairs, IsTrue, MatchResult};
+ghost use Rattle.std.specs.Prelude.{◌≡◌, ◌≢◌, ◌⊎◌, ◌%◌, ◌<◌, ◌≤◌, ◌↔◌, All, AllPairs, IsTrue, MatchResult};
 ghost use Rattle.like_requests.specs.Setup.{IsHotLimit};
-ghost use Rattle.like_live.specs.Opening.{AreMarks, AreWithinLimits, Asking, IsFirstWrong, IsWithinLimits, asking, board_opening, splits_by};
+ghost use Rattle.like_tables.specs.LastLike.{no_page};
+ghost use Rattle.like_live.specs.Opening.{AreLasts, AreMarks, AreWithinLimits, Asking, IsFirstWrong, IsWithinLimits, asking, board_opening, splits_by};
 
 use crate::open_error::OpenError;
 use like_requests::{MAX_COUNT, MAX_HOT, MAX_STASH};
+use like_tables::NO_PAGE;
 
 /// The most pages of a service.
 const MAX_PAGES: u32 = 1 << 24;
@@ -25,6 +27,8 @@ pub struct Opening {
     pub seats: u32,
     /// How many users there are, at least one. User `u` belongs to seat `u mod seats`.
     pub users: u32,
+    /// The page of each user's last like, by user number, or `NO_PAGE`. If it is empty, no user has one.
+    pub lasts: Vec<u32>,
     /// How many looks a seat has room for, those that wait and those that were found together: 1 to 4,096.
     pub room: u32,
     /// How many likes since the last choice make one of the first 64 pages hot, if any do: 1 to 1,000,000.
@@ -41,6 +45,7 @@ impl Opening {
             &self.marks,
             self.seats,
             self.users,
+            &self.lasts,
             self.room,
             self.hot,
         )
@@ -52,11 +57,19 @@ impl Opening {
         marks: &[u32],
         seats: u32,
         users: u32,
+        lasts: &[u32],
         room: u32,
         hot: Option<u32>,
     ) -> Result<(), OpenError>
-        ensures { let asked : Asking =
-            record { counts = counts.now; marks = marks.now; seats = seats; users = users; room = room; hot = hot } in
+        ensures { let asked : Asking = record {
+          counts = counts.now;
+          marks = marks.now;
+          seats = seats;
+          users = users;
+          lasts = lasts.now;
+          room = room;
+          hot = hot;
+        } in
             MatchResult result (λ _. AreWithinLimits asked) (IsFirstWrong asked) }
     {
         let pages = counts.len();
@@ -74,6 +87,9 @@ impl Opening {
         }
         if users < 1 {
             return Err(OpenError::Users);
+        }
+        if !are_lasts(lasts, users, pages) {
+            return Err(OpenError::Lasts);
         }
         if room < 1 || room > MAX_STASH {
             return Err(OpenError::Room);
@@ -118,6 +134,16 @@ fn are_marks(marks: &[u32], pages: usize) -> bool
     marks.len() <= MAX_MARKS
         && marks.iter().all(|page| (*page as usize) < pages)
         && are_unlike(marks)
+}
+
+// Whether these can be the last likes of so many users, at so many pages.
+fn are_lasts(lasts: &[u32], users: u32, pages: usize) -> bool
+    ensures { IsTrue result ↔ AreLasts pages users lasts.now }
+{
+    (lasts.is_empty() || lasts.len() == users as usize)
+        && lasts
+            .iter()
+            .all(|page| *page == NO_PAGE || (*page as usize) < pages)
 }
 
 // Whether no two of these are alike.

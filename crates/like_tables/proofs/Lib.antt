@@ -5,6 +5,7 @@ pub mod Homes
 pub mod Owned
 pub mod PageSets
 pub mod Places
+pub mod Rows
 pub mod Sliced
 pub mod Tagged
 pub mod Walk

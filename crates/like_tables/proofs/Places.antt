@@ -1,12 +1,12 @@
 -- What the places of a worker's users make: its table.
-use Rattle.std.proofs.Common.{◌≡◌, ◌≢◌, ℕ, ◌<◌, ◌≤◌, ◌&&◌, Bool, true, false, cond, List, length, get_or, set, map, replicate, Option, Some, None, inl, inr, refl, sym, ap, subst, ◌∙◌, arith, length-set, get_or-set_same, get_or-set_other}
+use Rattle.std.proofs.Common.{◌≡◌, ◌≢◌, ℕ, ◌<◌, ◌≤◌, ◌&&◌, Bool, true, false, cond, List, [], length, get_or, set, map, replicate, Option, Some, None, inl, inr, refl, sym, ap, subst, ◌∙◌, arith, length-set, get_or-set_same, get_or-set_other}
 use Rattle.std.specs.List.{range_with_len}
 use Rattle.std.proofs.lemmas.Bool.{cases_lt, cases_eq, and_parts, ltb-true, le-ltb}
 use Rattle.std.proofs.lemmas.List.{get_or_past, get_or_read, get_or-replicate, length-replicate, same_lists}
 use Rattle.std.proofs.lemmas.List.FromFn.{get_or-map-range_with_len, length-map-range_with_len}
-use Rattle.like_tables.specs.Share.{Share, owned_below, owns, serves_home}
-use Rattle.like_tables.specs.Places.{HoldsUsers, last_at, table_of}
-use Rattle.like_tables.specs.UserTable.{IsUserTable, UserTable, last_of, table_without_likes, with_last}
+use Rattle.like_tables.specs.Share.{IsShare, Share, owned_below, owns, serves_home}
+use Rattle.like_tables.specs.Places.{AreTaken, HoldsUsers, last_at, table_of}
+use Rattle.like_tables.specs.UserTable.{IsUserTable, UserTable, last_in, last_of, table_with_lasts, table_without_likes, with_last}
 use Rattle.like_tables.proofs.Owned.{owned_below-lt, owned_below-other}
 
 -- a user that the worker owns is there
@@ -75,19 +75,20 @@ same_table : (s : Share) (last last' : List (Option ℕ)) (room room' : ℕ) →
     (record { share = s; last = last'; room = room' })
 same_table s last last' room room' e f = λ i. record { share = s; last = e i; room = f i }
 
--- where no place has a page, no user has liked one
+-- no place has a page
+none-at : (n place : ℕ) → ◌≡◌ {A = Option ℕ} (get_or (replicate n None) place None) None
+none-at n place =
+    elim (cases_lt place n) [
+      | inl within ↦ get_or-replicate n place None None within
+      | inr past ↦ get_or_past (replicate n None) place None (omega (arith, length-replicate {A = Option ℕ} n None))
+    ]
+
+-- so no user has liked one
 last_at-none : (s : Share) (n user : ℕ) → last_at s (replicate n None) user ≡ None
 last_at-none s n user = go (owns s user) refl
   where
-    none : (place : ℕ) → ◌≡◌ {A = Option ℕ} (get_or (replicate n None) place None) None
-    none place =
-        elim (cases_lt place n) [
-          | inl within ↦ get_or-replicate n place None None within
-          | inr past ↦ get_or_past (replicate n None) place None (omega (arith, length-replicate {A = Option ℕ} n None))
-        ]
-
     go : (b : Bool) → owns s user ≡ b → last_at s (replicate n None) user ≡ None
-    go true e = last_at-owned s _ user e ∙ none (owned_below s user)
+    go true e = last_at-owned s _ user e ∙ none-at n (owned_below s user)
     go false e = last_at-other s _ user e
 
 pub table_of-replicate : (s : Share) → table_of s (replicate (owned_below s s.users) None) ≡ table_without_likes s
@@ -102,6 +103,35 @@ table_of-replicate s =
     (λ k d less. get_or-map-range_with_len (last_at s pages) 0 s.users k k d (omega arith) (omega arith)
     ∙ last_at-none s n k ∙ sym (get_or-replicate s.users k None d (omega arith))))
     (length-replicate n None)
+
+-- once all places are taken, the table has the last likes of the list
+pub table_of-taken : (s : Share) (lasts : List ℕ) (pages : List (Option ℕ)) → HoldsUsers s pages
+    → AreTaken s lasts pages (length pages) → table_of s pages ≡ table_with_lasts s lasts
+table_of-taken s lasts pages p t =
+    let listed : ℕ → Option ℕ = λ user. cond (owns s user) (last_in lasts user) None in
+    let long : length (map (last_at s pages) (range_with_len 0 s.users)) ≡ s.users =
+    length-map-range_with_len (last_at s pages) 0 s.users in
+    same_table s _ (map listed (range_with_len 0 s.users)) (length pages) (owned_below s s.users)
+    (same_lists _ _ (long ∙ sym (length-map-range_with_len listed 0 s.users))
+    (λ k d less. get_or-map-range_with_len (last_at s pages) 0 s.users k k d (omega arith) (omega arith)
+    ∙ go k (owns s k) refl
+    ∙ sym (get_or-map-range_with_len listed 0 s.users k k d (omega arith) (omega arith))))
+    t.len
+  where
+    go : (k : ℕ) (b : Bool) → owns s k ≡ b → last_at s pages k ≡ cond (owns s k) (last_in lasts k) None
+    go k true e =
+        last_at-owned s pages k e ∙ t.own k e (place-lt s pages k p e)
+        ∙ sym (ap (λ b. cond b (last_in lasts k) None) e)
+    go k false e = last_at-other s pages k e ∙ sym (ap (λ b. cond b (last_in lasts k) None) e)
+
+-- in an empty list no user has a last like
+pub without-lasts : (s : Share) → IsShare s → table_without_likes s ≡ table_with_lasts s []
+without-lasts s lawful =
+    let places = owned_below s s.users in
+    let len = length-replicate {A = Option ℕ} places None in
+    sym (table_of-replicate s)
+    ∙ table_of-taken s [] (replicate places None) (record { lawful = lawful; enough = len })
+    (record { len = len; own = λ user owned less. none-at places (owned_below s user) })
 
 -- a page written at a user's place is that user's
 last_at-set_same : (s : Share) (pages : List (Option ℕ)) (user : ℕ) (v : Option ℕ)

@@ -3,7 +3,8 @@ use Rattle.std.proofs.Common.{◌≡◌, ◌≢◌, ℕ, ◌+◌, ◌*◌, ◌%�
 use Rattle.std.proofs.lemmas.Bool.{cases_eq, cases_lt, lt-ltb}
 use Rattle.std.proofs.lemmas.Nat.{div-mul-add, mod-mul-add}
 use Rattle.like_tables.specs.Share.{IsShare, Share, homes_below, owned_below, owns, serves_home}
-use Rattle.like_tables.specs.Places.{IsGiven}
+use Rattle.like_tables.specs.Places.{AreTaken, IsGiven}
+use Rattle.like_tables.specs.UserTable.{last_in}
 use Rattle.like_tables.proofs.Owned.{homes_below-few, homes_below-none, homes_below-seat, homes_below-seats, owned_below-div, owned_below-mono, owned_below-other}
 use Rattle.like_tables.proofs.Places.{last_at-owned, owns-served}
 
@@ -124,13 +125,29 @@ IsAt-there s base submitter place a less =
       ))
     ]
 
-IsAt-owned : (s : Share) (base submitter place : ℕ) → IsAt s base submitter place → place < owned_below s s.users
+pub IsAt-owned : (s : Share) (base submitter place : ℕ) → IsAt s base submitter place → place < owned_below s s.users
     → owns s (base + submitter) ≡ true
 IsAt-owned s base submitter place a less =
     rw (
       lt-ltb (base + submitter) s.users (IsAt-there s base submitter place a less),
       IsAt-served s base submitter place a,
     ) refl
+
+-- with as many workers as submitters, a worker has one user in each round
+pub IsAt-lone : (s : Share) → IsShare s → s.submitters ≡ s.workers → (place : ℕ) → place < owned_below s s.users
+    → IsAt s (place * s.submitters) s.worker place
+IsAt-lone s lawful lone place less =
+    let there = owned-some s lawful (omega (arith, less)) in
+    let one = homes_below-seats s 0 there.0 (omega (arith, there.1)) (omega (arith, lone)) in
+    record {
+      round = place;
+      seat = 0;
+      base_is = refl;
+      submitter_is = omega arith;
+      inside = there.1;
+      small = there.0;
+      place_is = omega (arith, ap (λ n. place * n) one);
+    }
 
 -- before the walk
 pub IsGiven-none : (s : Share) (pages was : List (Option ℕ)) → IsGiven s pages was was 0
@@ -167,3 +184,29 @@ IsGiven-more s pages was now base submitter place page g a less room is = record
 
     mine : owns s (base + submitter) ≡ true
     mine = IsAt-owned s base submitter place a less
+
+-- nothing is taken yet
+pub AreTaken-none : (s : Share) (lasts : List ℕ) (pages : List (Option ℕ)) → length pages ≡ owned_below s s.users
+    → AreTaken s lasts pages 0
+AreTaken-none s lasts pages enough = record { len = enough; own = λ user owned less. absurd (omega (arith, less)) }
+
+-- one place more
+pub AreTaken-more : (s : Share) (lasts : List ℕ) (pages : List (Option ℕ)) (base submitter place : ℕ) (page : Option ℕ)
+    → AreTaken s lasts pages place → IsAt s base submitter place → place < owned_below s s.users
+    → page ≡ last_in lasts (base + submitter) → AreTaken s lasts (set pages place page) (place + 1)
+AreTaken-more s lasts pages base submitter place page t a less is =
+    let here = IsAt-place s base submitter place a in
+    let mine = IsAt-owned s base submitter place a less in
+    record {
+      len = length-set pages place page ∙ t.len;
+      own = λ user owned before. elim (cases_eq user (base + submitter)) [
+        | inl same ↦ rw same
+            (rw here (get_or-set_same pages place page None (omega (arith, t.len, less)) ∙ is))
+        | inr apart ↦
+            let differs = owned_below-other s user (base + submitter) (owns-served s user owned)
+            (owns-served s (base + submitter) mine) apart in
+            get_or-set_other pages place (owned_below s user) page None
+            (λ same. differs (same ∙ sym here))
+            ∙ t.own user owned (omega (arith, here, differs, before))
+      ];
+    }

@@ -8,3 +8,8 @@ no_page = 4294967295
 -- the page that a number stands for, if any
 abbrev pub page_in : ℕ → Option ℕ
 page_in number = if number == no_page then None else Some number
+
+-- the number of a page, or the one that stands for none
+abbrev pub page_or_none : Option ℕ → ℕ
+page_or_none (Some page) = page
+page_or_none None = no_page

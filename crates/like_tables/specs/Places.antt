@@ -1,8 +1,9 @@
 -- How a table of users is kept: a place for each user of the share, in the order of the users.
-use Rattle.std.specs.Prelude.{◌≡◌, ◌<◌, ℕ, true, false, if◌then◌else◌, List, length, map, slice_index_or, Option, None}
+use Rattle.std.specs.Prelude.{◌≡◌, ◌+◌, ◌<◌, ℕ, true, false, if◌then◌else◌, List, length, map, slice_index, slice_index_or, Option, None}
 use Rattle.std.specs.List.{range_with_len}
+use Rattle.like_tables.specs.LastLike.{page_or_none}
 use Rattle.like_tables.specs.Share.{IsShare, Share, owned_below, owns}
-use Rattle.like_tables.specs.UserTable.{UserTable}
+use Rattle.like_tables.specs.UserTable.{UserTable, last_in, last_of}
 
 -- there are as many places as users of the share
 pub record HoldsUsers (share : Share) (pages : List (Option ℕ)) : Type 0 where
@@ -22,6 +23,18 @@ pub record IsGiven (share : Share) (pages was now : List (Option ℕ)) (places :
       → slice_index_or now user None ≡ last_at share pages user
   pub others : (user : ℕ) → owns share user ≡ false
       → slice_index_or now user None ≡ slice_index_or was user None
+
+-- what was taken from a list of last likes at so many places: the last like of the user whose place it is
+pub record AreTaken (share : Share) (lasts : List ℕ) (pages : List (Option ℕ)) (places : ℕ) : Type 0 where
+  pub len : length pages ≡ owned_below share share.users
+  pub own : (user : ℕ) → owns share user ≡ true → owned_below share user < places
+      → slice_index_or pages (owned_below share user) None ≡ last_in lasts user
+
+-- a row has the last likes of the users from a place on: each page, or the number that stands for none
+abbrev pub AreLastsFrom : UserTable → ℕ → List ℕ → Type 0
+AreLastsFrom t from row =
+    (user i : ℕ) → owns t.share user ≡ true → owned_below t.share user ≡ from + i → i < length row
+    → slice_index row i ≡ page_or_none (last_of t user)
 
 -- the table that the places make
 abbrev pub table_of : Share → List (Option ℕ) → UserTable

@@ -1,5 +1,5 @@
 ghost use Rattle.std.specs.Prelude.{◌≡◌, ◌<◌, None, Some};
-ghost use Rattle.like_tables.specs.LastLike.{no_page};
+ghost use Rattle.like_tables.specs.LastLike.{no_page, page_in, page_or_none};
 
 use std::marker::Model;
 
@@ -34,6 +34,20 @@ impl LastLike {
         ensures { result ≡ Some page }
     {
         LastLike { number: page }
+    }
+
+    /// The page with this number, or none at `NO_PAGE`.
+    pub fn numbered(number: u32) -> Self
+        ensures { result ≡ page_in number }
+    {
+        LastLike { number }
+    }
+
+    /// The page's number, or `NO_PAGE`.
+    pub fn number(&self) -> u32
+        ensures { result ≡ page_or_none self.now }
+    {
+        self.number
     }
 
     #[inline(always)]

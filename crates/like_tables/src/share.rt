@@ -1,5 +1,5 @@
 ghost use Rattle.std.specs.Prelude.{◌≡◌, ◌<◌, ◌≤◌, IfOk, length};
-ghost use Rattle.like_tables.specs.Places.{HoldsUsers, IsGiven};
+ghost use Rattle.like_tables.specs.Places.{AreTaken, HoldsUsers, IsGiven};
 ghost use Rattle.like_tables.specs.Share.{owned_below, owns, share_of, submitter_of};
 
 use crate::last_like::LastLike;
@@ -95,6 +95,25 @@ impl UserShare {
         let (mut round, mut submitter) = (0, first);
         for page in pages {
             last[round + submitter] = page.page();
+            submitter += workers;
+            if submitter >= submitters {
+                round += submitters;
+                submitter = first;
+            }
+        }
+    }
+
+    // Writes the last likes of the worker's users to their places, out of those of all users. It walks as `give` does.
+    pub fn take(&self, lasts: &[u32], pages: &mut [LastLike])
+        requires places { HoldsUsers self.now pages.old }
+        requires users { length lasts.now ≡ self.now.users }
+        ensures { AreTaken self.now lasts.now pages.new (length pages.new) }
+    {
+        let (submitters, workers) = (self.submitters as usize, self.workers as usize);
+        let first = self.worker as usize;
+        let (mut round, mut submitter) = (0, first);
+        for place in 0..pages.len() {
+            pages[place] = LastLike::numbered(lasts[round + submitter]);
             submitter += workers;
             if submitter >= submitters {
                 round += submitters;

@@ -1,8 +1,9 @@
-ghost use Rattle.std.specs.Prelude.{◌≡◌, ◌≢◌, ◌<◌, ◌≤◌, ◌↔◌, ℕ, None, Some, IfOk, IsTrue, false, length, slice_index_or};
+ghost use Rattle.std.specs.Prelude.{◌≡◌, ◌≢◌, ◌+◌, ◌<◌, ◌≤◌, ◌↔◌, ℕ, None, Some, IfOk, IsTrue, false, length, slice_index_or};
 ghost use Rattle.like_requests.specs.Verdict.{is_accepted, verdict_of};
 ghost use Rattle.like_tables.specs.LastLike.{no_page};
 ghost use Rattle.like_tables.specs.Share.{owns, share_of, submitter_of};
-ghost use Rattle.like_tables.specs.UserTable.{IsUserTable, last_of, table_without_likes, with_last};
+ghost use Rattle.like_tables.specs.Places.{AreLastsFrom};
+ghost use Rattle.like_tables.specs.UserTable.{IsForUsers, IsUserTable, last_of, table_with_lasts, table_without_likes, with_last};
 
 use crate::last_like::LastLike;
 use crate::share::UserShare;
@@ -52,6 +53,29 @@ impl Users {
             share,
             pages: vec![in alloc; LastLike::none(); places]?,
         })
+    }
+
+    /// The table of worker `worker`, with the last likes of its users out of those of all: by user number, a page or
+    /// `NO_PAGE`. If there are none at all, no user has liked a page.
+    pub fn with_lasts(
+        alloc: Global,
+        users: u32,
+        submitters: u32,
+        workers: u32,
+        worker: u32,
+        lasts: &[u32],
+    ) -> Result<Self, AllocError>
+        requires submitters { 1 ≤ submitters }
+        requires workers { 1 ≤ workers }
+        requires lasts { IsForUsers users lasts.now }
+        ensures { IfOk result (λ table. table
+            ≡ table_with_lasts (share_of users submitters workers worker) lasts.now) }
+    {
+        let Users { share, mut pages } = Users::new(alloc, users, submitters, workers, worker)?;
+        if !lasts.is_empty() {
+            share.take(lasts, &mut pages);
+        }
+        Ok(Users { share, pages })
     }
 
     /// Whether the worker serves this user.
@@ -112,6 +136,27 @@ impl Users {
     {
         let place = self.share.owned_below(user) as usize;
         self.pages[place] = LastLike::of(page);
+    }
+
+    /// Whether the worker serves so many users from a place on, where its users are in the order of their numbers.
+    pub fn has_places(&self, from: u32, many: usize) -> bool
+        ensures places { IsTrue result ↔ (from + many ≤ self.now.room) }
+        ensures table { IsUserTable self.now }
+    {
+        let places = self.pages.len();
+        from as usize <= places && many <= places - from as usize
+    }
+
+    /// Writes the last likes of the worker's users from a place on: each one's page, or `NO_PAGE`.
+    pub fn write_lasts(&self, from: u32, row: &mut [u32])
+        requires { from + length row.old ≤ self.now.room }
+        ensures len { length row.new ≡ length row.old }
+        ensures lasts { AreLastsFrom self.now from row.new }
+        ensures table { IsUserTable self.now }
+    {
+        for place in 0..row.len() {
+            row[place] = self.pages[from as usize + place].number();
+        }
     }
 
     /// Writes the last like of each user of the worker to the user's place, and nothing to the places of others.

@@ -6,7 +6,7 @@ ghost use Rattle.like_live.specs.Service.{AreItsSeats};
 use crate::services::{closed, opened};
 use crate::threads::works;
 use like_board::SharedPost;
-use like_live::{Driver, DriverAnswer, LikeAnswer, LiveSeat, Service, TurnAnswer};
+use like_live::{Driver, DriverAnswer, End, LikeAnswer, LiveSeat, Service, TurnAnswer};
 use std::process::Abort;
 use std::test::Fail;
 use std::thread::Threads;
@@ -15,7 +15,7 @@ use std::thread::Threads;
 fn drives(rt: &impl Abort, driver: &mut Driver, wanted: DriverAnswer)
     ensures { IsSameDriver driver.old driver.new }
 {
-    assert!(rt; driver.turn(true) == wanted);
+    assert!(rt; driver.turn(End::IfItServes) == wanted);
 }
 
 // Answers a phase that ends.

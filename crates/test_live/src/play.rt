@@ -46,7 +46,7 @@ pub fn are_last_counts(driver: &mut Driver, are_written: bool, wanted: [u64; 2])
 // Makes a call of a driver, and says whether it is answered like this.
 fn is_driver_answer(driver: &mut Driver, call: OnDriver) -> bool {
     match call {
-        OnDriver::Turn(may_end, wanted) => driver.turn(may_end) == wanted,
+        OnDriver::Turn(end, wanted) => driver.turn(end) == wanted,
         OnDriver::Snapshot(phase, counts) => is_snapshot(driver, phase, counts),
         OnDriver::LastCounts(are_written, counts) => are_last_counts(driver, are_written, counts),
         OnDriver::Phase(wanted) => driver.phase() == wanted,

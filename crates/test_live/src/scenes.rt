@@ -1,6 +1,6 @@
 //! The worked examples of a live service as data.
 use like_live::{
-    Answer, Asked, Call, DriverAnswer, Found, GlanceAnswer, LikeAnswer, LookAnswer, TurnAnswer,
+    Answer, Asked, Call, DriverAnswer, End, Found, GlanceAnswer, LikeAnswer, LookAnswer, TurnAnswer,
 };
 use like_requests::Verdict;
 use like_seat::Seen;
@@ -26,7 +26,7 @@ pub enum OnSeat {
 #[derive(Clone, Copy)]
 pub enum OnDriver {
     /// Whether the phase may end.
-    Turn(bool, DriverAnswer),
+    Turn(End, DriverAnswer),
     /// The phase of a snapshot, if there is one, and the counts behind it.
     Snapshot(Option<u64>, [u64; 2]),
     /// Whether the last counts were written, and the counts behind it.
@@ -143,25 +143,25 @@ macro_rules! retire {
 }
 
 macro_rules! drive {
-    ($may_end:literal, $answer:ident) => {
-        Step::Driver(OnDriver::Turn($may_end, DriverAnswer::$answer))
+    ($end:ident, $answer:ident) => {
+        Step::Driver(OnDriver::Turn(End::$end, DriverAnswer::$answer))
     };
 }
 
 // The end of a phase, which both seats answer, and the release of the next.
 const CHANGE: &[Step] = &[
-    drive!(true, Announced),
+    drive!(IfItServes, Announced),
     turn!(0, Between),
     turn!(1, Between),
-    drive!(true, Released),
+    drive!(IfItServes, Released),
 ];
 
 // The same of a phase that is not due.
 const EARLY_CHANGE: &[Step] = &[
-    drive!(false, Announced),
+    drive!(No, Announced),
     turn!(0, Between),
     turn!(1, Between),
-    drive!(false, Released),
+    drive!(No, Released),
 ];
 
 const LOOK: Call = Call::Look {
@@ -255,12 +255,12 @@ const SCENES: &[Scene] = &[
             &[asks!(0, 7, Waits)],
             CHANGE,
             &[
-                drive!(true, Announced),
+                drive!(IfItServes, Announced),
                 retire!(0),
                 found!(7, None, 10),
                 Step::Seat(0, OnSeat::TakeFound(None)),
                 turn!(1, Between),
-                drive!(true, Released),
+                drive!(IfItServes, Released),
             ],
         ],
     },
@@ -280,13 +280,13 @@ const SCENES: &[Scene] = &[
         room: 2,
         parts: &[&[
             like!(0, 0, 0),
-            drive!(false, Running),
-            drive!(true, Announced),
+            drive!(No, Running),
+            drive!(IfItServes, Announced),
             Step::Driver(OnDriver::Snapshot(None, [0, 0])),
-            drive!(true, Waiting),
+            drive!(IfItServes, Waiting),
             turn!(0, Between),
             Step::Driver(OnDriver::Snapshot(Some(0), [11, 20])),
-            drive!(true, Released),
+            drive!(IfItServes, Released),
             Step::Driver(OnDriver::Phase(1)),
             Step::Seat(0, OnSeat::Phase(0)),
             turn!(0, Runs),
@@ -302,20 +302,20 @@ const SCENES: &[Scene] = &[
         parts: &[
             CHANGE,
             &[
-                drive!(false, Running),
+                drive!(No, Running),
                 asks!(0, 1, Waits),
                 asks_seat_1!(1, 2),
-                drive!(false, Running),
+                drive!(No, Running),
                 asks!(2, 3, Waits),
             ],
             EARLY_CHANGE,
             CHANGE,
             &[
                 turn!(0, Runs),
-                drive!(false, Running),
+                drive!(No, Running),
                 asks!(0, 4, Waits),
                 asks_seat_1!(1, 5),
-                drive!(false, Running),
+                drive!(No, Running),
                 asks_seat_1!(3, 6),
             ],
             EARLY_CHANGE,
@@ -332,9 +332,9 @@ const SCENES: &[Scene] = &[
             like!(0, 0, 0),
             Step::Driver(OnDriver::LastCounts(false, [0, 0])),
             retire!(0),
-            drive!(true, Ended),
+            drive!(IfItServes, Ended),
             Step::Driver(OnDriver::LastCounts(true, [13, 20])),
-            drive!(true, Ended),
+            drive!(IfItServes, Ended),
             Step::Driver(OnDriver::Phase(0)),
             Step::Driver(OnDriver::Snapshot(None, [0, 0])),
             Step::Driver(OnDriver::LastCounts(true, [13, 20])),
@@ -347,15 +347,15 @@ const SCENES: &[Scene] = &[
         room: 1,
         parts: &[&[
             like!(0, 0, 0),
-            drive!(true, Announced),
+            drive!(IfItServes, Announced),
             retire!(0),
             retire!(1),
-            drive!(false, Released),
-            drive!(false, Ended),
+            drive!(No, Released),
+            drive!(No, Ended),
             Step::Driver(OnDriver::LastCounts(false, [0, 0])),
-            drive!(true, Announced),
-            drive!(true, Released),
-            drive!(true, Ended),
+            drive!(IfItServes, Announced),
+            drive!(IfItServes, Released),
+            drive!(IfItServes, Ended),
             Step::Driver(OnDriver::LastCounts(true, [11, 20])),
         ]],
     },

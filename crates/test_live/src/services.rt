@@ -2,46 +2,51 @@
 ghost use Rattle.std.specs.Prelude.{IfOk};
 ghost use Rattle.like_live.specs.Service.{AreItsSeats};
 
-use like_live::{DriverAnswer, GlanceAnswer, LikeAnswer, OpenError, Opening, Service, TurnAnswer};
+use like_live::{
+    DriverAnswer, End, GlanceAnswer, LikeAnswer, NO_PAGE, OpenError, Opening, Service, TurnAnswer,
+};
 use like_requests::Verdict;
 use like_seat::Seen;
 use std::alloc::{AllocError, Global};
 use std::process::Abort;
 use std::test::Fail;
 
-// What a service is opened with.
+/// What a service is opened with.
 #[derive(Clone, Copy)]
-struct Numbers {
-    counts: &'static [u64],
-    marks: &'static [u32],
-    seats: u32,
-    users: u32,
-    room: u32,
-    hot: Option<u32>,
+pub struct Numbers {
+    pub counts: &'static [u64],
+    pub marks: &'static [u32],
+    pub seats: u32,
+    pub users: u32,
+    pub lasts: &'static [u32],
+    pub room: u32,
+    pub hot: Option<u32>,
 }
 
-// Two pages, the first of them marked, with 10 and 20 likes, and users 0 to 3.
-const PLAIN: Numbers = Numbers {
+/// Two pages, the first of them marked, with 10 and 20 likes, and users 0 to 3.
+pub const PLAIN: Numbers = Numbers {
     counts: &[10, 20],
     marks: &[0],
     seats: 2,
     users: 4,
+    lasts: &[],
     room: 2,
     hot: None,
 };
 
-fn opening_of(alloc: Global, numbers: &Numbers) -> Result<Opening, AllocError> {
+pub fn opening_of(alloc: Global, numbers: &Numbers) -> Result<Opening, AllocError> {
     Ok(Opening {
         counts: Vec::from_slice(alloc, numbers.counts)?,
         marks: Vec::from_slice(alloc, numbers.marks)?,
         seats: numbers.seats,
         users: numbers.users,
+        lasts: Vec::from_slice(alloc, numbers.lasts)?,
         room: numbers.room,
         hot: numbers.hot,
     })
 }
 
-fn open(alloc: Global, opening: &Opening) -> Result<Service, Fail>
+pub fn open(alloc: Global, opening: &Opening) -> Result<Service, Fail>
     ensures { IfOk result (λ s. AreItsSeats s.driver s.seats.items) }
 {
     match Service::open(alloc, opening) {
@@ -67,7 +72,21 @@ pub fn opened(alloc: Global, seats: u32, room: u32) -> Result<Service, Fail>
 const WRONG: &[(Numbers, OpenError)] = &[
     (Numbers { seats: 0, ..PLAIN }, OpenError::Seats),
     (Numbers { seats: 65, ..PLAIN }, OpenError::Seats),
-    (Numbers { users: 0, ..PLAIN }, OpenError::Users),
+    (
+        Numbers {
+            users: 0,
+            ..WRONG_LASTS
+        },
+        OpenError::Users,
+    ),
+    (WRONG_LASTS, OpenError::Lasts),
+    (
+        Numbers {
+            lasts: &[0, NO_PAGE, 2, 1],
+            ..WRONG_LASTS
+        },
+        OpenError::Lasts,
+    ),
     (Numbers { room: 0, ..PLAIN }, OpenError::Room),
     (
         Numbers {
@@ -114,6 +133,13 @@ const WRONG: &[(Numbers, OpenError)] = &[
     ),
 ];
 
+// Last likes of three users of four, and no room.
+const WRONG_LASTS: Numbers = Numbers {
+    lasts: &[0, NO_PAGE, 1],
+    room: 0,
+    ..PLAIN
+};
+
 const WRONG_COUNTS: Numbers = Numbers {
     counts: &[10, 1_000_000_000_000_000_001],
     ..PLAIN
@@ -141,6 +167,7 @@ const AT_LIMITS: &[Numbers] = &[
         marks: &[],
         seats: 1,
         users: 1,
+        lasts: &[NO_PAGE],
         room: 1,
         hot: Some(1),
     },
@@ -149,6 +176,7 @@ const AT_LIMITS: &[Numbers] = &[
         marks: &[1, 0],
         seats: 64,
         users: 1,
+        lasts: &[1],
         room: 4_096,
         hot: Some(1_000_000),
     },
@@ -199,6 +227,7 @@ fn opens_a_hundred_thousand_pages(rt: HostRuntime) -> Result<(), Fail> {
         marks: Vec::new(rt.alloc()),
         seats: 1,
         users: 1,
+        lasts: Vec::new(rt.alloc()),
         room: 1,
         hot: None,
     };
@@ -256,10 +285,10 @@ fn tells_the_phase_to_another_owner(rt: HostRuntime) -> Result<(), Fail> {
     let phase = driver.phase_now()?;
     let other = phase.share()?;
     for_any_thread(&other);
-    assert!(rt; driver.turn(true) == DriverAnswer::Announced && other.get() == 0);
+    assert!(rt; driver.turn(End::IfItServes) == DriverAnswer::Announced && other.get() == 0);
     let mut seat = seats.pop().ok_or("no seat")?;
     assert!(rt; seat.turn() == TurnAnswer::Between);
-    assert!(rt; driver.turn(true) == DriverAnswer::Released && other.get() == 1);
+    assert!(rt; driver.turn(End::IfItServes) == DriverAnswer::Released && other.get() == 1);
     drop(driver);
     assert!(rt; phase.get() == 1 && other.get() == 1);
     Ok(())

@@ -6,7 +6,7 @@ ghost use Rattle.like_live.specs.LiveView.{IsSameSeat};
 use crate::ends::{Host, closes};
 use crate::services::opened;
 use like_board::SharedPost;
-use like_live::{Driver, DriverAnswer, LikeAnswer, LiveSeat, LookAnswer, TurnAnswer};
+use like_live::{Driver, DriverAnswer, End, LikeAnswer, LiveSeat, LookAnswer, TurnAnswer};
 use std::process::Abort;
 use std::test::Fail;
 use std::thread::{Threads, join_mut};
@@ -85,7 +85,7 @@ pub fn drive(driver: &mut Driver)
     ensures { IsSameDriver driver.old driver.new }
 {
     for _ in 0..CALLS {
-        if driver.turn(true) == DriverAnswer::Ended {
+        if driver.turn(End::IfItServes) == DriverAnswer::Ended {
             break;
         }
     }

@@ -86,7 +86,7 @@ func (s *server) look(w http.ResponseWriter, r *http.Request) {
 	json.NewEncoder(w).Encode(shown)
 }
 
-// all answers the counts of one moment, where phases change, and else one look at each page.
+// all answers the counts of one moment, or else what a look at each page shows.
 func (s *server) all(w http.ResponseWriter, _ *http.Request) {
 	counts := s.service.Counts()
 	shown := map[string]uint64{}

@@ -1,10 +1,12 @@
-ghost use Rattle.std.specs.Prelude.{◌≡◌, ◌≤◌, ◌↔◌, true, IsTrue};
+ghost use Rattle.std.specs.Prelude.{◌≡◌, ◌⊎◌, ◌≤◌, ◌↔◌, true, IsTrue};
 ghost use Rattle.like_board.specs.Seats.{board_id};
 ghost use Rattle.like_core.specs.OpeningLimits.{service_limits};
+ghost use Rattle.like_core.specs.Phase.{IsSplit};
 ghost use Rattle.like_core.specs.views.Views.{SawAllIn};
-ghost use Rattle.like_live.specs.Driver.{Acts, IsDue, IsLeft, ReleasesNext, may_be_ended, splits_some};
+ghost use Rattle.like_live.specs.Driver.{Acts, IsLeft, ReleasesNext, asks_end, splits_some};
 
 use crate::driver_answer::DriverAnswer;
+use crate::driver_end::End;
 use crate::hint::Hint;
 use like_board::Board;
 use like_core::CoordSight;
@@ -19,12 +21,12 @@ pub(crate) fn act(
     board: &Board,
     hint: &Hint,
     splits: bool,
-    may_end: bool,
+    end: End,
 ) -> DriverAnswer
     requires here { lead.old.board ≡ board_id board.now }
     requires limits { lead.old.seat.opening.limits ≡ service_limits }
     requires splits { splits ≡ splits_some lead.old }
-    ensures { Acts lead.old may_end result lead.new }
+    ensures { Acts lead.old end result lead.new }
 {
     let sight = lead.look(board);
     if sight.ending {
@@ -35,7 +37,8 @@ pub(crate) fn act(
         release(lead, board);
         return DriverAnswer::Released;
     }
-    if !is_left(lead, sight) && may_be_ended(lead.phase(), splits) && is_due(lead, hint, may_end) {
+    let is_last = lead.phase() >= LAST_PHASE;
+    if !is_last && !is_left(lead, sight) && is_asked(lead, hint, splits, end) {
         lead.announce(board);
         return DriverAnswer::Announced;
     }
@@ -52,20 +55,20 @@ pub(crate) fn is_left(lead: &Lead, sight: CoordSight) -> bool
     sight.all_gone && lead.is_joined()
 }
 
-// Whether the end of the phase is asked for. A hint counts in split phases alone, since looks wait in these alone.
-fn is_due(lead: &Lead, hint: &Hint, may_end: bool) -> bool
-    ensures due { result ≡ true → IsDue lead.now may_end }
-    ensures told { may_end ≡ true → result ≡ true }
+// Whether the end of the phase is asked for, by the host or by a hint. A hint counts in split phases alone, since looks
+// wait in these alone.
+fn is_asked(lead: &Lead, hint: &Hint, splits: bool, end: End) -> bool
+    requires { splits ≡ splits_some lead.now }
+    ensures by { result ≡ true → (asks_end end lead.now ≡ true) ⊎ IsSplit lead.now.seat.phase }
+    ensures told { asks_end end lead.now ≡ true → result ≡ true }
 {
-    may_end || (!lead.is_joined() && hint.is_asked())
-}
-
-// Whether a phase of a service may be ended.
-fn may_be_ended(phase: u64, splits: bool) -> bool
-    requires within { phase ≤ service_limits.last_phase }
-    ensures { result ≡ may_be_ended phase splits }
-{
-    phase < LAST_PHASE && (phase % 2 == 1 || splits)
+    let is_split = !lead.is_joined();
+    let serves = is_split || splits;
+    match end {
+        End::Always => true,
+        End::IfItServes if serves => true,
+        _ => is_split && hint.is_asked(),
+    }
 }
 
 // Releases the next phase; before a split one it chooses that phase's hot pages, and publishes their mask.

@@ -97,7 +97,8 @@ fn new_seat(
 {
     let post = worker.at_shared(Arc::try_clone(board)?);
     let marks = marks_by(alloc, opening.counts.len(), &opening.marks)?;
-    let last = Users::new(alloc, opening.users, opening.seats, opening.seats, number)?;
+    let seats = opening.seats;
+    let last = Users::with_lasts(alloc, opening.users, seats, seats, number, &opening.lasts)?;
     match LiveSeat::new(alloc, post, marks, opening.room, last, hint.share()?) {
         Ok(seat) => Ok(seat),
         Err(_) => Err(AllocError),

@@ -4,8 +4,8 @@ use Rattle.like_core.specs.declared.view.WorkerSeatView.{WorkerSeatView}
 use Rattle.like_live.proofs.Marking.{length-marks_by}
 use Rattle.like_live.proofs.service.parts.new_seat.Goals as goal
 
-pub new-requires-2-clause-few_pages : goal.new-requires-2-clause-few_pages
-new-requires-2-clause-few_pages c =
+pub new-requires-clause-few_pages : goal.new-requires-clause-few_pages
+new-requires-clause-few_pages c =
     let o = c.args.opening.now in
     omega (
       arith,

@@ -1,0 +1,39 @@
+-- What a live seat tells of its users' last likes.
+use Rattle.std.specs.Prelude.{◌≡◌, ◌≢◌, ℕ, ◌+◌, ◌*◌, ◌<◌, true, List, length, slice_index, MatchResult, Option, Result}
+use Rattle.like_requests.specs.declared.request.Op.TheVariants.{Look}
+use Rattle.like_requests.specs.declared.request.PageRef.TheVariants.{Known}
+use Rattle.like_requests.specs.declared.verdict.Verdict.{Verdict}
+use Rattle.like_requests.specs.declared.verdict.Verdict.TheVariants.{Accepted}
+use Rattle.like_requests.specs.Verdict.{verdict_of}
+use Rattle.like_tables.specs.LastLike.{page_or_none}
+use Rattle.like_tables.specs.Share.{owns}
+use Rattle.like_tables.specs.UserTable.{last_of}
+use Rattle.like_live.specs.LiveView.{LiveView}
+
+-- the verdict on a user at this seat: that the user is accepted, or the first of these that fails: the user exists, the
+-- user is this seat's
+abbrev pub verdict_on : LiveView → ℕ → Verdict
+verdict_on v user =
+    verdict_of v.seat.last.share.users v.seat.last.share.submitters v.seat.last.share.worker
+    (record { op = Look; user = user; page = Known 0 })
+
+-- a user's last like is told: its page, if there is one; or why the user is refused
+abbrev pub TellsLast : LiveView → ℕ → Result (Option ℕ) Verdict → Type 0
+TellsLast v user answer =
+    MatchResult answer
+    (λ page. (verdict_on v user ≡ Accepted) × (page ≡ last_of v.seat.last user))
+    (λ verdict. (verdict ≢ Accepted) × (verdict ≡ verdict_on v user))
+
+-- how many users a seat has
+abbrev pub users_of : LiveView → ℕ
+users_of v = v.seat.last.room
+
+-- the user at a place of a seat: user i * seats + s at place i of seat s
+abbrev pub user_at : LiveView → ℕ → ℕ
+user_at v place = place * v.seat.last.share.workers + v.seat.last.share.worker
+
+-- a row has the last likes of a seat's users, from a place on: of each the page, or the number that stands for none
+pub record AreLastsAt (v : LiveView) (from : ℕ) (row : List ℕ) : Type 0 where
+  pub users : (i : ℕ) → i < length row → owns v.seat.last.share (user_at v (from + i)) ≡ true
+  pub lasts : (i : ℕ) → i < length row
+      → slice_index row i ≡ page_or_none (last_of v.seat.last (user_at v (from + i)))

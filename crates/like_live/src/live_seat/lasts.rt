@@ -1,0 +1,42 @@
+ghost use Rattle.std.specs.Prelude.{◌≡◌, ◌+◌, ◌≤◌, ◌↔◌, IsTrue, length};
+ghost use Rattle.like_live.specs.Lasts.{AreLastsAt, TellsLast, users_of};
+
+use crate::live_seat::LiveSeat;
+use like_core::Post;
+use like_requests::{Op, PageRef, Request, Verdict};
+
+impl<P: Post> LiveSeat<P> {
+    /// The page of a user's last like, if there is one. A user who is unknown, or another seat's, is refused. It makes
+    /// no look at the phase word, so it works in every state.
+    pub fn last(&self, user: u32) -> Result<Option<u32>, Verdict>
+        ensures { TellsLast self.now user result }
+    {
+        let users = self.seat.users();
+        let request = Request {
+            op: Op::Look,
+            user,
+            page: PageRef::Known(0),
+        };
+        match users.judge(users.worker(), &request) {
+            Verdict::Accepted => Ok(users.last(user)),
+            verdict => Err(verdict),
+        }
+    }
+
+    /// Whether the seat has so many users from a place on. At place `i` of seat `s` is user `i * seats + s`.
+    pub fn has_users(&self, from: u32, many: usize) -> bool
+        ensures { IsTrue result ↔ (from + many ≤ users_of self.now) }
+    {
+        self.seat.users().has_places(from, many)
+    }
+
+    /// Writes the last likes of the seat's users from a place on: each one's page, or `NO_PAGE`. As `last`, it works in
+    /// every state. After all seats have answered a joined phase, or are gone, their last likes are of one moment.
+    pub fn lasts(&self, from: u32, row: &mut [u32])
+        requires { from + length row.old ≤ users_of self.now }
+        ensures len { length row.new ≡ length row.old }
+        ensures lasts { AreLastsAt self.now from row.new }
+    {
+        self.seat.users().write_lasts(from, row);
+    }
+}
