@@ -1,25 +1,26 @@
 /* Measures the live core beside four plain ways to count likes, all in one process. bench/live and bench/live-counts
  * build and run it.
  *
- * usage: live MILLISECONDS [FILE]
+ * usage: live [OPTION...]
  *        live rows SYSTEM EXPONENT LOOKS ROWS
  *
- * Every thread has users of its own, with a table of their last likes, and goes through a ring of requests that were
- * drawn beforehand. A measurement lasts so many milliseconds. The systems take turns, five times, and the best counts.
- * After each measurement the pages' counts have to be exact. In one measurement more, five times as long, each look
- * that waits is timed. FILE gets the same numbers as comma-separated values.
+ * bench/live tells the options. Every thread has users of its own, with a table of their last likes, and goes through a
+ * ring of requests that were drawn beforehand. The systems take turns. After each measurement the pages' counts have to
+ * be exact. In one measurement more, five times as long, each look that waits is timed.
  *
  * In the second form, the first of four threads goes through so many rows by itself, in `counted_rows`, so that a tool
  * can count what they cost. A live service is then in a split phase, and no page's count is compared. */
 #include <likes_helpers.h>
 
+#include "live-options.h"
+
 #include <math.h>
 
-enum { ROW = 64, RING = 1 << 16, USERS = 1000000, PAGES = 1000, STRIDE = 16, PADDED = 64, THREADS = 4, TIMES = 5 };
+enum { ROW = 64, STRIDE = 16, PADDED = 64, COUNTED_THREADS = 4, TIMED = 5 };
 
 /* A page's number among the words of a peer: as at the board of the live core, the first 64 have a line each. */
 #define WORD(page) ((page) < PADDED ? (size_t)(page) * STRIDE : (size_t)PADDED * STRIDE + (page)-PADDED)
-enum { WORDS = PADDED * STRIDE + PAGES };
+enum { MOST_WORDS_OF_PAGES = PADDED * STRIDE + MOST_PAGES };
 
 typedef struct player player;
 
@@ -32,7 +33,7 @@ typedef struct {
 } kind;
 
 typedef struct {
-    const char *name;
+    char name[24];
     double exponent; /* of Zipf's law, or below 0: all requests are of one page */
     uint32_t looks;  /* in a hundred */
 } load;
@@ -49,7 +50,7 @@ struct player {
     likes_request *ring;
     uint32_t *last;
     uint64_t *shard;
-    uint64_t done, rows, began[RING / ROW];
+    uint64_t done, rows, *began;
     waits waits;
     pthread_t thread;
     char apart[128];
@@ -57,24 +58,21 @@ struct player {
 
 /* The counts of the peers. */
 static union {
-    uint64_t words[WORDS];
+    uint64_t words[MOST_WORDS_OF_PAGES];
     struct {
         pthread_mutex_t lock;
         uint64_t count;
         char apart[64];
-    } locked[PAGES];
+    } locked[MOST_PAGES];
 } counts;
-static uint64_t shards[THREADS][WORDS];
+static uint64_t shards[MOST_THREADS][MOST_WORDS_OF_PAGES];
 
+static options asked;
+static uint64_t ring; /* how many requests a thread goes through, a power of two */
 static likes_service service;
-static player players[THREADS];
+static player players[MOST_THREADS];
 static pthread_barrier_t begin;
 static bool is_over;
-
-static void fail(const char *text) {
-    fprintf(stderr, "bench/live: %s\n", text);
-    exit(1);
-}
 
 /* A peer: how it adds a like to `page`, and how it reads the page's count. */
 #define PEER(name, add, read)                                                             \
@@ -191,14 +189,10 @@ static const kind kinds[] = {
     {"glance,20ms", live, 20000, LIKES_GLANCE, true},
     {"look,single", single, 1000, LIKES_LOOK, true},
 };
-enum { KINDS = sizeof kinds / sizeof *kinds, FIRST_LIVE = 4 };
+enum { KINDS = sizeof kinds / sizeof *kinds };
 
-static const load loads[] = {
-    {"one page", -1, 0}, {"one page", -1, 10}, {"one page", -1, 50}, {"Zipf 0", 0, 0},    {"Zipf 0", 0, 10},
-    {"Zipf 0", 0, 50},   {"Zipf 1", 1, 0},     {"Zipf 1", 1, 10},    {"Zipf 1", 1, 50},   {"Zipf 1.4", 1.4, 0},
-    {"Zipf 1.4", 1.4, 10}, {"Zipf 1.4", 1.4, 50}, {"Zipf 2", 2, 0},  {"Zipf 2", 2, 10},   {"Zipf 2", 2, 50},
-};
-enum { LOADS = sizeof loads / sizeof *loads };
+/* The kinds that are measured, in this order. */
+static const kind *kinds_asked[MOST_WORDS];
 
 static uint32_t drawn(uint64_t *random) {
     *random = *random * UINT64_C(6364136223846793005) + 1442695040888963407u;
@@ -207,7 +201,7 @@ static uint32_t drawn(uint64_t *random) {
 
 /* The first page whose share of all requests, with those before it, is over a number. */
 static uint32_t page_at(const double *shares, double at) {
-    uint32_t low = 0, high = PAGES - 1;
+    uint32_t low = 0, high = asked.pages - 1;
     while (low < high) {
         uint32_t middle = (low + high) / 2;
         if (shares[middle] > at)
@@ -218,21 +212,29 @@ static uint32_t page_at(const double *shares, double at) {
     return low;
 }
 
+/* The page of a rank: that page, or one that is anywhere. The factor is a prime that divides no number of pages. */
+static uint32_t page_of(uint32_t rank) {
+    return asked.is_scattered ? (uint32_t)((rank + 1) * UINT64_C(2654435761) % asked.pages) : rank;
+}
+
 /* Draws the requests of all threads. */
 static void draw(const load *of, uint32_t threads) {
-    double shares[PAGES], sum = 0;
-    for (uint32_t page = 0; page < PAGES; page++)
+    double *shares = (double *)malloc(asked.pages * sizeof *shares), sum = 0;
+    if (shares == NULL)
+        fail("out of memory");
+    for (uint32_t page = 0; page < asked.pages; page++)
         shares[page] = sum += of->exponent < 0 ? page == 0 : pow(page + 1, -of->exponent);
     for (uint32_t i = 0; i < threads; i++) {
         uint64_t random = i + 1;
-        for (uint32_t n = 0; n < RING; n++) {
+        for (uint32_t n = 0; n < ring; n++) {
             likes_request *request = &players[i].ring[n];
             request->tag = n;
-            request->user = i + threads * (drawn(&random) % (USERS / threads));
-            request->page = page_at(shares, drawn(&random) / 4294967296.0 * sum);
+            request->user = i + threads * (drawn(&random) % (asked.users / threads));
+            request->page = page_of(page_at(shares, drawn(&random) / 4294967296.0 * sum));
             request->op = drawn(&random) % 100 < of->looks ? LIKES_LOOK : LIKES_LIKE;
         }
     }
+    free(shares);
 }
 
 static void *play(void *at) {
@@ -244,7 +246,7 @@ static void *play(void *at) {
         likes_service_wake(&service, it->number);
     uint64_t done = 0;
     while (!__atomic_load_n(&is_over, __ATOMIC_RELAXED)) {
-        it->of->row(it, &it->ring[done % RING], answers);
+        it->of->row(it, &it->ring[done & (ring - 1)], answers);
         done += ROW;
     }
     if (is_live)
@@ -256,22 +258,24 @@ static void *play(void *at) {
 /* Makes all looks such as a system has. */
 static void set_looks(const kind *of, uint32_t threads) {
     for (uint32_t i = 0; i < threads; i++)
-        for (uint32_t n = 0; n < RING; n++)
+        for (uint32_t n = 0; n < ring; n++)
             if (players[i].ring[n].op != LIKES_LIKE)
                 players[i].ring[n].op = of->look;
 }
 
 /* Makes a system ready: counts of 0, and nobody has liked anything. */
 static void start(const kind *of, uint32_t threads) {
-    static const uint64_t none[PAGES];
+    static const uint64_t none[MOST_PAGES];
     /* A page is hot that gets a like each 10 microseconds. */
-    likes_options options = {.seats = threads, .users = USERS, .room = 4096, .hot = of->period / 10};
-    memset(&counts, 0, sizeof counts);
-    memset(shards, 0, sizeof shards);
-    for (uint32_t page = 0; of->row == mutex && page < PAGES; page++)
+    likes_options options = {.seats = threads, .users = asked.users, .room = 4096, .hot = of->period / 10};
+    size_t words = PADDED * STRIDE + asked.pages;
+    memset(counts.words, 0, words * sizeof *counts.words);
+    for (uint32_t page = 0; of->row == mutex && page < asked.pages; page++) {
         pthread_mutex_init(&counts.locked[page].lock, NULL);
+        counts.locked[page].count = 0;
+    }
     if (of->period > 0) {
-        uint32_t status = likes_service_start(&service, &options, none, PAGES, NULL, 0, NULL, 0, of->period);
+        uint32_t status = likes_service_start(&service, &options, none, asked.pages, NULL, 0, NULL, 0, of->period);
         if (status != LIKES_OK)
             fail("no service was started");
     }
@@ -281,29 +285,30 @@ static void start(const kind *of, uint32_t threads) {
         it->number = i;
         it->threads = threads;
         it->shard = shards[i];
+        memset(shards[i], 0, words * sizeof *shards[i]);
         it->rows = 0;
         memset(&it->waits, 0, sizeof it->waits);
-        memset(it->last, 0xff, (USERS / threads + 1) * sizeof *it->last);
+        memset(it->last, 0xff, (asked.users / threads + 1) * sizeof *it->last);
     }
     set_looks(of, threads);
 }
 
 /* Compares each page's count with the likes that the threads have made. */
 static void check(const kind *of, uint32_t threads) {
-    static uint64_t made[PAGES], now[PAGES];
-    memset(made, 0, sizeof made);
+    static uint64_t made[MOST_PAGES], now[MOST_PAGES];
+    memset(made, 0, asked.pages * sizeof *made);
     for (uint32_t i = 0; i < threads; i++) {
-        for (uint32_t n = 0; n < RING; n++) {
-            uint64_t times = players[i].done / RING + (n < players[i].done % RING);
+        for (uint32_t n = 0; n < ring; n++) {
+            uint64_t times = players[i].done / ring + (n < players[i].done % ring);
             if (players[i].ring[n].op == LIKES_LIKE)
                 made[players[i].ring[n].page] += times;
             else
                 players[i].waits.asked += times;
         }
     }
-    if (of->period > 0 && likes_service_stop(&service, now, PAGES) != LIKES_OK)
+    if (of->period > 0 && likes_service_stop(&service, now, asked.pages) != LIKES_OK)
         fail("the service was not stopped");
-    for (uint32_t page = 0; page < PAGES; page++) {
+    for (uint32_t page = 0; page < asked.pages; page++) {
         if (of->period == 0)
             now[page] = of->row == mutex     ? locked_count(page, 0)
                         : of->row == sharded ? sum_of_shards(page, threads)
@@ -314,7 +319,7 @@ static void check(const kind *of, uint32_t threads) {
 }
 
 /* Measures a system once, in millions of requests a second. Where looks are timed, it takes five times as long. */
-static double measure(const kind *of, uint32_t threads, uint32_t milliseconds, bool is_timed) {
+static double measure(const kind *of, uint32_t threads, bool is_timed) {
     start(of, threads);
     pthread_barrier_init(&begin, NULL, threads + 1);
     is_over = false;
@@ -325,8 +330,7 @@ static double measure(const kind *of, uint32_t threads, uint32_t milliseconds, b
     }
     pthread_barrier_wait(&begin);
     uint64_t began = likes_clock();
-    for (int time = 0; time < (is_timed ? TIMES : 1); time++)
-        likes_sleep(milliseconds * UINT64_C(1000000));
+    likes_sleep((is_timed ? TIMED : 1) * asked.milliseconds * UINT64_C(1000000));
     __atomic_store_n(&is_over, true, __ATOMIC_RELAXED);
     uint64_t took = likes_clock() - began, done = 0;
     for (uint32_t i = 0; i < threads; i++) {
@@ -362,10 +366,11 @@ static waits all_waits(uint32_t threads) {
     return sum;
 }
 
-/* What was measured of a workload: the best of each system, and how long the looks of some waited. */
+/* What was measured of a workload: each time, what is told of it, and how long the looks of some waited. */
 typedef struct {
-    double millions[KINDS];
-    waits waits[KINDS];
+    double times[MOST_WORDS][MOST_TIMES];
+    double millions[MOST_WORDS], ratio[MOST_WORDS];
+    waits waits[MOST_WORDS];
 } measured;
 
 /* Whether looks of a system may wait. */
@@ -373,19 +378,39 @@ static bool may_wait(const kind *of, const load *at) {
     return of->period > 0 && of->look == LIKES_LOOK && at->looks > 0;
 }
 
-static void measure_all(const load *at, uint32_t threads, uint32_t milliseconds, measured *to) {
+static int compare(const void *one, const void *other) {
+    double difference = *(const double *)one - *(const double *)other;
+    return difference < 0 ? -1 : difference > 0;
+}
+
+/* The best or the median of so many numbers, and puts them in order. */
+static double told(double *numbers) {
+    qsort(numbers, asked.times, sizeof *numbers, compare);
+    return asked.is_median ? (numbers[(asked.times - 1) / 2] + numbers[asked.times / 2]) / 2 : numbers[asked.times - 1];
+}
+
+/* What is told of all times: the best, and ratios of these, or the medians of both. */
+static void sum_up(measured *it) {
+    double first[MOST_TIMES], ratios[MOST_TIMES];
+    memcpy(first, it->times[0], sizeof first);
+    for (uint32_t n = 0; n < asked.kinds.length; n++) {
+        for (uint32_t time = 0; time < asked.times; time++)
+            ratios[time] = it->times[n][time] / first[time];
+        it->millions[n] = told(it->times[n]);
+        it->ratio[n] = asked.is_median ? told(ratios) : it->millions[n] / it->millions[0];
+    }
+}
+
+static void measure_all(const load *at, uint32_t threads, measured *to) {
     memset(to, 0, sizeof *to);
     draw(at, threads);
-    for (int time = 0; time < TIMES; time++) {
-        for (int n = 0; n < KINDS; n++) {
-            double millions = measure(&kinds[n], threads, milliseconds, false);
-            if (millions > to->millions[n])
-                to->millions[n] = millions;
-        }
-    }
-    for (int n = 0; n < KINDS; n++) {
-        if (may_wait(&kinds[n], at)) {
-            measure(&kinds[n], threads, milliseconds, true);
+    for (uint32_t time = 0; time < asked.times; time++)
+        for (uint32_t n = 0; n < asked.kinds.length; n++)
+            to->times[n][time] = measure(kinds_asked[n], threads, false);
+    sum_up(to);
+    for (uint32_t n = 0; n < asked.kinds.length; n++) {
+        if (may_wait(kinds_asked[n], at)) {
+            measure(kinds_asked[n], threads, true);
             to->waits[n] = all_waits(threads);
         }
     }
@@ -394,31 +419,31 @@ static void measure_all(const load *at, uint32_t threads, uint32_t milliseconds,
 static void print_heads(uint32_t threads) {
     printf("\nmillions of requests a second, %u thread%s\n", threads, threads == 1 ? "" : "s");
     printf("%-9s %6s", "pages", "looks");
-    for (int n = 0; n < KINDS; n++)
-        printf(" %11s", kinds[n].name);
+    for (uint32_t n = 0; n < asked.kinds.length; n++)
+        printf(" %11s", kinds_asked[n]->name);
     puts("");
 }
 
 static void print_row(const load *at, const measured *it) {
     printf("%-9s %5u%%", at->name, at->looks);
-    for (int n = 0; n < KINDS; n++)
+    for (uint32_t n = 0; n < asked.kinds.length; n++)
         printf(" %11.1f", it->millions[n]);
     printf("\n%16s", "");
-    for (int n = 0; n < KINDS; n++)
-        printf(" %10.2fx", it->millions[n] / it->millions[0]);
+    for (uint32_t n = 0; n < asked.kinds.length; n++)
+        printf(" %10.2fx", it->ratio[n]);
     puts("");
-    for (int n = 0; n < KINDS; n++)
+    for (uint32_t n = 0; n < asked.kinds.length; n++)
         if (it->waits[n].all > 0)
-            printf("%16s %-11s %5.1f%% waited: median %.0f us, 99%% %.0f us, worst %.0f us\n", "", kinds[n].name,
-                   100.0 * it->waits[n].all / it->waits[n].asked, wait_of(&it->waits[n], 500),
+            printf("%16s %-11s %5.1f%% waited: median %.0f us, 99%% %.0f us, worst %.0f us\n", "",
+                   kinds_asked[n]->name, 100.0 * it->waits[n].all / it->waits[n].asked, wait_of(&it->waits[n], 500),
                    wait_of(&it->waits[n], 990), it->waits[n].worst / 1000.0);
     fflush(stdout);
 }
 
 static void write_row(FILE *file, uint32_t threads, const load *at, const measured *it) {
-    for (int n = 0; n < KINDS; n++)
-        fprintf(file, "%u,%s,%u,\"%s\",%.2f,%.2f,%.1f,%.1f,%.1f\n", threads, at->name, at->looks, kinds[n].name,
-                it->millions[n], it->millions[n] / it->millions[0], wait_of(&it->waits[n], 500),
+    for (uint32_t n = 0; n < asked.kinds.length; n++)
+        fprintf(file, "%u,%s,%u,\"%s\",%.2f,%.2f,%.1f,%.1f,%.1f\n", threads, at->name, at->looks,
+                kinds_asked[n]->name, it->millions[n], it->ratio[n], wait_of(&it->waits[n], 500),
                 wait_of(&it->waits[n], 990), it->waits[n].worst / 1000.0);
     fflush(file);
 }
@@ -446,7 +471,7 @@ static void go_to_split(void) {
 static void go_through(player *it, uint64_t rows) {
     likes_answer answers[ROW];
     for (uint64_t row = 0; row < rows; row++)
-        it->of->row(it, &it->ring[row * ROW % RING], answers);
+        it->of->row(it, &it->ring[row * ROW & (ring - 1)], answers);
 }
 
 __attribute__((noinline)) static void counted_rows(player *it, uint64_t rows) {
@@ -457,15 +482,15 @@ __attribute__((noinline)) static void counted_rows(player *it, uint64_t rows) {
 static void count_rows(const kind *of, const load *at, uint64_t rows) {
     load likes = *at;
     likes.looks = 0;
-    draw(&likes, THREADS);
-    start(of, THREADS);
+    draw(&likes, COUNTED_THREADS);
+    start(of, COUNTED_THREADS);
     if (of->period > 0)
         stop_thread();
-    go_through(&players[0], RING / ROW);
+    go_through(&players[0], ring / ROW);
     if (of->period > 0)
         go_to_split();
-    draw(at, THREADS);
-    set_looks(of, THREADS);
+    draw(at, COUNTED_THREADS);
+    set_looks(of, COUNTED_THREADS);
     counted_rows(&players[0], rows);
 }
 
@@ -477,39 +502,88 @@ static const kind *kind_named(const char *name) {
     return NULL;
 }
 
-static void make_room(void) {
-    for (uint32_t i = 0; i < THREADS; i++) {
-        players[i].ring = (likes_request *)calloc(RING, sizeof *players[i].ring);
-        players[i].last = (uint32_t *)calloc(USERS + 1, sizeof *players[i].last);
-        if (players[i].ring == NULL || players[i].last == NULL)
+/* Makes room for so many threads. Unless it is asked for, a ring has 65,536 requests, or as many as pages but at most
+ * 2^20: then its pages are no few that stay in the caches. */
+static void make_room(uint32_t threads) {
+    for (ring = 1 << 16; ring < asked.pages && ring < 1 << 20;)
+        ring *= 2;
+    if (asked.ring > 0)
+        ring = asked.ring;
+    for (uint32_t i = 0; i < threads; i++) {
+        players[i].ring = (likes_request *)calloc(ring, sizeof *players[i].ring);
+        players[i].began = (uint64_t *)calloc(ring / ROW, sizeof *players[i].began);
+        players[i].last = (uint32_t *)calloc(asked.users + 1, sizeof *players[i].last);
+        if (players[i].ring == NULL || players[i].began == NULL || players[i].last == NULL)
             fail("out of memory");
     }
 }
 
-int main(int count, char **words) {
-    make_room();
-    if (count == 6 && strcmp(words[1], "rows") == 0) {
-        load at = {"", atof(words[3]), (uint32_t)strtoul(words[4], NULL, 10)};
-        count_rows(kind_named(words[2]), &at, strtoull(words[5], NULL, 10));
-        return 0;
+static load load_of(const char *exponent, const char *looks) {
+    load made = {"one page", -1, (uint32_t)number_in(looks, 0, 100, "how many looks of a hundred? 0 to 100")};
+    if (strcmp(exponent, "one") != 0) {
+        made.exponent = number_in(exponent, 0, 10, "which exponent? one, for one page, or 0 to 10");
+        snprintf(made.name, sizeof made.name, "Zipf %g", made.exponent);
     }
-    uint32_t milliseconds = count > 1 ? (uint32_t)strtoul(words[1], NULL, 10) : 0;
-    if (milliseconds < 1 || milliseconds > 999)
-        fail("how many milliseconds? 1 to 999");
-    FILE *file = count > 2 ? fopen(words[2], "w") : NULL;
-    if (count > 2 && file == NULL)
+    return made;
+}
+
+/* All workloads of so many threads. */
+static void measure_loads(uint32_t threads, FILE *file) {
+    static measured it;
+    print_heads(threads);
+    for (uint32_t n = 0; n < asked.exponents.length * asked.looks.length; n++) {
+        load at = load_of(asked.exponents.words[n / asked.looks.length], asked.looks.words[n % asked.looks.length]);
+        measure_all(&at, threads, &it);
+        print_row(&at, &it);
+        if (file != NULL)
+            write_row(file, threads, &at, &it);
+    }
+}
+
+static uint32_t threads_in(const char *word) {
+    return (uint32_t)number_in(word, 1, MOST_THREADS, "how many threads? 1 to 64");
+}
+
+static uint32_t most_threads(void) {
+    uint32_t most = 0;
+    for (uint32_t n = 0; n < asked.threads.length; n++)
+        if (threads_in(asked.threads.words[n]) > most)
+            most = threads_in(asked.threads.words[n]);
+    return most;
+}
+
+static void measure_asked(void) {
+    make_room(most_threads());
+    for (uint32_t n = 0; n < asked.kinds.length; n++)
+        kinds_asked[n] = kind_named(asked.kinds.words[n]);
+    FILE *file = asked.file != NULL ? fopen(asked.file, "w") : NULL;
+    if (asked.file != NULL && file == NULL)
         fail("the file can't be written");
     if (file != NULL)
         fputs("threads,pages,looks,system,millions,ratio,median,most99,worst\n", file);
-    for (uint32_t threads = 1; threads <= THREADS; threads *= 2) {
-        print_heads(threads);
-        for (int n = 0; n < LOADS; n++) {
-            static measured it;
-            measure_all(&loads[n], threads, milliseconds, &it);
-            print_row(&loads[n], &it);
-            if (file != NULL)
-                write_row(file, threads, &loads[n], &it);
-        }
+    printf("%u pages, %u users, %u ms for each of %u measurements, %s\n", asked.pages, asked.users,
+           asked.milliseconds, asked.times, asked.is_median ? "the median" : "the best");
+    for (uint32_t n = 0; n < asked.threads.length; n++)
+        measure_loads(threads_in(asked.threads.words[n]), file);
+}
+
+/* The names of all kinds, in one word. */
+static char *all_kinds(void) {
+    static char names[KINDS * 16];
+    for (int n = 0; n < KINDS; n++)
+        strcat(strcat(names, kinds[n].name), " ");
+    return names;
+}
+
+int main(int count, char **words) {
+    bool is_counted = count == 6 && strcmp(words[1], "rows") == 0;
+    asked = options_in(is_counted ? 1 : count, words, all_kinds());
+    if (!is_counted) {
+        measure_asked();
+        return 0;
     }
+    make_room(COUNTED_THREADS);
+    load at = {"", atof(words[3]), (uint32_t)strtoul(words[4], NULL, 10)};
+    count_rows(kind_named(words[2]), &at, strtoull(words[5], NULL, 10));
     return 0;
 }

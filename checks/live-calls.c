@@ -129,6 +129,37 @@ static void two_seats(void) {
     free_service(&it);
 }
 
+/* A million pages, of which the last is marked: a split phase, and all counts after it. */
+static void million_pages(void) {
+    enum { PAGES = 1000000, LAST = PAGES - 1 };
+    static const uint64_t counts[PAGES];
+    static uint64_t last[PAGES];
+    const uint32_t marks[] = {LAST};
+    likes_answer answer;
+    opened it = open_service((likes_options){.seats = 2, .users = 2, .room = 1}, counts, PAGES, marks, 1);
+    change_phase(&it, 2);
+    IS(likes_seat_like(&it.seats[0], 0, LAST), LIKES_LIKED);
+    IS(likes_seat_like(&it.seats[0], 0, LAST), LIKES_LIKED);
+    IS(likes_seat_like(&it.seats[1], 1, LAST), LIKES_LIKED);
+    IS(likes_seat_like(&it.seats[0], 0, 5), LIKES_LIKED);
+    IS(likes_seat_like(&it.seats[1], 1, 5), LIKES_LIKED);
+    IS(likes_seat_look(&it.seats[0], 0, 5, 0, &answer), LIKES_SEEN);
+    IS(answer.count, 2);
+    IS(likes_seat_glance(&it.seats[0], 0, LAST, &answer), LIKES_SEEN);
+    IS(answer.count, 2);
+    IS(likes_seat_glance(&it.seats[1], 1, LAST, &answer), LIKES_SEEN);
+    IS(answer.count, 1);
+    change_phase(&it, 2);
+    IS(likes_seat_look(&it.seats[1], 1, LAST, 0, &answer), LIKES_SEEN);
+    IS(answer.count, 3);
+    IS(likes_seat_retire(&it.seats[0]), LIKES_GONE);
+    IS(likes_seat_retire(&it.seats[1]), LIKES_GONE);
+    IS(likes_driver_last_counts(&it.driver, 0, last, PAGES), LIKES_COUNTED);
+    for (uint32_t page = 0; page < PAGES; page++)
+        IS(last[page], page == LAST ? 3 : page == 5 ? 2 : 0);
+    free_service(&it);
+}
+
 /* Room for two looks: what has no room, and when there is room again. */
 static void room(void) {
     const uint64_t counts[] = {10};
@@ -946,6 +977,7 @@ int main(int count, char **words) {
     statuses();
     plain();
     two_seats();
+    million_pages();
     room();
     openings();
     order_of_openings();

@@ -55,10 +55,17 @@ def work_folder():
 
 @contextlib.contextmanager
 def program_folder():
-    """Such a folder with the program in it, as `likes`, which is built first where it has to be."""
-    built = subprocess.run([f"{ROOT}/likes"], stdout=subprocess.DEVNULL)
-    if built.returncode != 0:
-        sys.exit(built.returncode)
+    """Such a folder with the program in it, as `likes`, which is built first where it has to be.
+
+    That takes minutes. After `rt ci` it has to be, since that takes away what was built; and while `rt ci` works in
+    this clone, the build waits for its end."""
+    with subprocess.Popen([f"{ROOT}/likes"], stdout=subprocess.DEVNULL) as child:
+        try:
+            child.wait(5)
+        except subprocess.TimeoutExpired:
+            print("the program is built first: standard error tells how far that is, or what it waits for", flush=True)
+    if child.returncode != 0:
+        sys.exit(child.returncode)
     with work_folder() as folder:
         shutil.copy(f"{ROOT}/crates/like_driver/out/like_driver", f"{folder}/likes")
         yield folder

@@ -1,0 +1,460 @@
+/* What a seat and a driver may answer, by likes.h alone. Each call of live-hosts.c goes through this model, which makes
+ * it, compares the answer with what it knows, and notes it. What the call doesn't write has to stay as it was. */
+#ifndef LIVE_MODEL_H
+#define LIVE_MODEL_H
+
+#include "live-events.h"
+
+enum { ROW = 64 };
+
+/* What the library has not written. */
+enum { UNWRITTEN = 0xa5 };
+
+/* A look that waits, or was found and isn't taken. */
+typedef struct {
+    likes_found found;
+    uint64_t likes, start, end; /* as of the call in which it was found */
+    bool is_found;
+} wait;
+
+/* A seat behind its lock, and what is known of it. */
+typedef struct {
+    pthread_mutex_t lock;
+    likes_seat handle;
+    uint32_t status; /* LIKES_RUNS, LIKES_BETWEEN or LIKES_GONE, as of its last call; LIKES_EMPTY: freed */
+    uint64_t phase, likes;
+    wait *waits; /* a ring of as many as it has room for */
+    uint32_t first, length;
+    bool is_leaving, is_done;
+    uint32_t calls, late_calls; /* how many it has left, until it retires and after that */
+} seat;
+
+/* A round with its service. */
+typedef struct {
+    record record;
+    seat seats[LIKES_MAX_SEATS];
+    uint32_t *last;               /* each user's last like, or LIKES_NO_PAGE; used under its seat's lock */
+    uint32_t leaving, gone, done; /* how many seats are; atomic */
+    pthread_mutex_t driving;      /* of the driver and what is known of it, down to `phase` */
+    likes_driver driver;
+    bool is_ending, is_over;
+    bool is_all_in;  /* every seat has answered the phase that is ending, for certain */
+    bool is_held_up; /* a seat has not */
+    pthread_mutex_t reading;
+    likes_phase phase; /* used under `reading` */
+} game;
+
+static void spoil(void *at, size_t size) {
+    memset(at, UNWRITTEN, size);
+}
+
+static bool is_spoilt(const void *at, size_t size) {
+    const unsigned char *bytes = (const unsigned char *)at;
+    return size == 0 || (bytes[0] == UNWRITTEN && memcmp(bytes, bytes + 1, size - 1) == 0);
+}
+
+static uint32_t load(const uint32_t *at) {
+    return __atomic_load_n(at, __ATOMIC_SEQ_CST);
+}
+
+static void count(uint32_t *at) {
+    __atomic_add_fetch(at, 1, __ATOMIC_SEQ_CST);
+}
+
+/* A seat enters a joined phase: all that waits is found, in this call. */
+static void find_all(game *it, seat *at, uint64_t start, uint64_t end) {
+    for (uint32_t i = 0; i < at->length; i++) {
+        wait *next = &at->waits[(at->first + i) % it->record.options.room];
+        if (next->is_found)
+            continue;
+        next->is_found = true;
+        next->found.ran = next->found.asked + 1;
+        next->found.last = it->last[next->found.user];
+        next->likes = at->likes;
+        next->start = start;
+        next->end = end;
+    }
+}
+
+/* Follows a seat that isn't gone into the phase that it tells: the one that it was in, or the next. */
+static void follow(game *it, uint32_t number, uint64_t start, uint64_t end) {
+    seat *at = &it->seats[number];
+    uint64_t phase = likes_seat_phase(&at->handle);
+    if (phase == at->phase)
+        return;
+    if (phase != at->phase + 1)
+        fail(&it->record, "seat %u went from phase %llu to %llu", number, (unsigned long long)at->phase,
+             (unsigned long long)phase);
+    at->phase = phase;
+    if (phase % 2 == 0)
+        find_all(it, at, start, end);
+}
+
+/* What a request is refused for: LIKES_UNKNOWN_USER, OTHER_SEAT or UNKNOWN_PAGE, or LIKES_OK. */
+static uint32_t verdict_of(const game *it, uint32_t number, const likes_request *request) {
+    if (request->user >= it->record.options.users)
+        return LIKES_UNKNOWN_USER;
+    if (request->user % it->record.options.seats != number)
+        return LIKES_OTHER_SEAT;
+    return request->page >= it->record.pages ? LIKES_UNKNOWN_PAGE : LIKES_OK;
+}
+
+/* Whether a seat may give this answer. Whether it may wait, or be between phases, is checked once the round is over. */
+static bool may_answer(const game *it, uint32_t number, const likes_request *request, uint32_t status) {
+    const seat *at = &it->seats[number];
+    if (at->status == LIKES_EMPTY)
+        return status == LIKES_EMPTY;
+    if (request->op > LIKES_GLANCE || request->reserved != 0)
+        return status == LIKES_UNKNOWN_OP;
+    if (at->status == LIKES_GONE)
+        return status == LIKES_GONE;
+    if (status == LIKES_BETWEEN)
+        return true;
+    uint32_t verdict = verdict_of(it, number, request);
+    if (verdict != LIKES_OK)
+        return status == verdict;
+    if (request->op == LIKES_LIKE)
+        return status == LIKES_LIKED;
+    bool has_room = at->length < it->record.options.room;
+    bool waits = request->op == LIKES_LOOK && status == (uint32_t)(has_room ? LIKES_WAITS : LIKES_NO_ROOM);
+    return status == LIKES_SEEN || waits;
+}
+
+static void note_wait(const game *it, seat *at, const likes_request *request) {
+    wait *next = &at->waits[(at->first + at->length++) % it->record.options.room];
+    memset(next, 0, sizeof *next);
+    next->found = (likes_found){.tag = request->tag, .user = request->user, .page = request->page, .asked = at->phase};
+}
+
+/* Notes what a request was answered. */
+static void note_answer(game *it, uint32_t number, const likes_request *request, const likes_answer *answer,
+                        event made) {
+    seat *at = &it->seats[number];
+    uint32_t *last = &it->last[request->user];
+    if (answer->status == LIKES_LIKED) {
+        made.kind = LIKED;
+        *last = request->page;
+        at->likes++;
+    } else if (answer->status == LIKES_SEEN) {
+        made.kind = request->op == LIKES_LOOK ? LOOKED : GLANCED;
+        if (answer->last != *last)
+            fail(&it->record, "seat %u: the last like of user %u was told as %u, and not %u", number, request->user,
+                 answer->last, *last);
+    } else if (answer->status == LIKES_WAITS) {
+        made.kind = WAITED;
+        note_wait(it, at, request);
+    } else {
+        made.kind = answer->status == LIKES_NO_ROOM ? LACKED_ROOM : WAS_BETWEEN;
+    }
+    note(&it->record.histories[number], made);
+}
+
+/* Compares an answer with what it may be, and notes it. */
+static void take_answer(game *it, uint32_t number, const likes_request *request, const likes_answer *answer, span of) {
+    seat *at = &it->seats[number];
+    uint32_t status = answer->status;
+    if (!may_answer(it, number, request, status))
+        fail(&it->record, "seat %u, %s: request %u of user %u at page %u was answered %s, with %u looks of %u", number,
+             likes_status_text(at->status), request->op, request->user, request->page, likes_status_text(status),
+             at->length, it->record.options.room);
+    if (status != LIKES_SEEN && (answer->count != 0 || answer->last != 0))
+        fail(&it->record, "seat %u: the answer %s has a count or a last like", number, likes_status_text(status));
+    if (at->status == LIKES_EMPTY || at->status == LIKES_GONE || status == LIKES_UNKNOWN_OP)
+        return;
+    at->status = status == LIKES_BETWEEN ? LIKES_BETWEEN : LIKES_RUNS;
+    if (likes_is_error(status))
+        return;
+    event made = {.page = request->page, .phase = at->phase, .likes = at->likes, .start = of.start, .end = of.end};
+    made.count = answer->count;
+    note_answer(it, number, request, answer, made);
+}
+
+/* Makes a call of its own for a request. */
+static void call_one(game *it, uint32_t number, const likes_request *request) {
+    seat *at = &it->seats[number];
+    struct {
+        likes_answer before, at, behind;
+    } answers;
+    spoil(&answers, sizeof answers);
+    span of = {time_before(&it->record), 0};
+    uint32_t status;
+    if (request->op == LIKES_LIKE) {
+        status = likes_seat_like(&at->handle, request->user, request->page);
+        answers.at = (likes_answer){0, 0, status};
+    } else if (request->op == LIKES_LOOK) {
+        status = likes_seat_look(&at->handle, request->user, request->page, request->tag, &answers.at);
+    } else {
+        status = likes_seat_glance(&at->handle, request->user, request->page, &answers.at);
+    }
+    of.end = time_after(&it->record);
+    if (at->status != LIKES_EMPTY && at->status != LIKES_GONE)
+        follow(it, number, of.start, of.end);
+    if (status != answers.at.status)
+        fail(&it->record, "seat %u: a call gave %u and wrote %u", number, status, answers.at.status);
+    if (!is_spoilt(&answers.before, sizeof answers.before) || !is_spoilt(&answers.behind, sizeof answers.behind))
+        fail(&it->record, "seat %u: a call wrote beside its answer", number);
+    take_answer(it, number, request, &answers.at, of);
+}
+
+/* How many answers a row has to have: up to its end, those of the requests that were done, and the one at which it
+ * stopped. */
+static size_t answers_of(const game *it, uint32_t number, const likes_answer *answers, size_t done, size_t length) {
+    bool is_empty = it->seats[number].status == LIKES_EMPTY;
+    for (size_t i = 0; i < done; i++)
+        if (answers[i].status == LIKES_BETWEEN || answers[i].status == LIKES_NO_ROOM)
+            fail(&it->record, "seat %u: a row went on after the answer %s", number,
+                 likes_status_text(answers[i].status));
+    if (done > length || (is_empty && done > 0))
+        fail(&it->record, "seat %u: %zu of %zu requests were done", number, done, length);
+    if (done == length)
+        return done;
+    uint32_t status = answers[done].status;
+    if (status != LIKES_BETWEEN && status != LIKES_NO_ROOM && !is_empty)
+        fail(&it->record, "seat %u: a row stopped at the answer %s", number, likes_status_text(status));
+    return done + 1;
+}
+
+/* Runs a row of requests, with room for so many answers. Of the two lengths the shorter one counts. */
+static void call_row(game *it, uint32_t number, const likes_request *requests, size_t requests_len,
+                     size_t answers_len) {
+    seat *at = &it->seats[number];
+    likes_answer room[ROW + 2], *answers = room + 1;
+    spoil(room, sizeof room);
+    size_t length = requests_len < answers_len ? requests_len : answers_len;
+    span of = {time_before(&it->record), 0};
+    size_t done = likes_seat_run(&at->handle, requests_len == 0 ? NULL : requests, requests_len,
+                                 answers_len == 0 ? NULL : answers, answers_len);
+    of.end = time_after(&it->record);
+    if (at->status != LIKES_EMPTY && at->status != LIKES_GONE)
+        follow(it, number, of.start, of.end);
+    bool is_empty = at->status == LIKES_EMPTY;
+    size_t written = answers_of(it, number, answers, done, is_empty ? answers_len : length);
+    if (!is_spoilt(room, sizeof *room) || !is_spoilt(answers + written, (ROW + 1 - written) * sizeof *answers))
+        fail(&it->record, "seat %u: a row wrote beside its %zu answers", number, written);
+    for (size_t i = 0; i < written && i < requests_len; i++)
+        take_answer(it, number, &requests[i], &answers[i], of);
+}
+
+/* Compares a found look with the next one that has to be found. */
+static bool is_next(const likes_found *found, const wait *next) {
+    const likes_found *right = &next->found;
+    return found->tag == right->tag && found->user == right->user && found->page == right->page &&
+           found->asked == right->asked && found->ran == right->ran && found->last == right->last &&
+           found->reserved == 0;
+}
+
+/* Takes a found look. Whether there was one: there is one exactly where the next look was found. */
+static bool take_found(game *it, uint32_t number) {
+    seat *at = &it->seats[number];
+    wait *next = &at->waits[at->first];
+    likes_found found;
+    spoil(&found, sizeof found);
+    bool is_there = likes_seat_take_found(&at->handle, &found);
+    bool should = at->status != LIKES_EMPTY && at->length > 0 && next->is_found;
+    if (is_there != should)
+        fail(&it->record, "seat %u has %s found look, with %u that wait or were found", number, is_there ? "a" : "no",
+             at->length);
+    if (!is_there && !is_spoilt(&found, sizeof found))
+        fail(&it->record, "seat %u: no look was found, and one was written", number);
+    if (!is_there)
+        return false;
+    if (!is_next(&found, next))
+        fail(&it->record,
+             "seat %u: found was tag %llu, user %u, page %u, last %u, phases %llu and %llu, and not tag %llu, user %u, "
+             "page %u, last %u, phase %llu",
+             number, (unsigned long long)found.tag, found.user, found.page, found.last, (unsigned long long)found.asked,
+             (unsigned long long)found.ran, (unsigned long long)next->found.tag, next->found.user, next->found.page,
+             next->found.last, (unsigned long long)next->found.asked);
+    event made = {.kind = FOUND, .page = found.page, .phase = found.ran, .likes = next->likes, .start = next->start};
+    made.end = next->end;
+    made.count = found.count;
+    note(&it->record.histories[number], made);
+    at->first = (at->first + 1) % it->record.options.room;
+    at->length--;
+    return true;
+}
+
+/* How many users a seat has. */
+static uint32_t users_of(const game *it, uint32_t number) {
+    uint32_t seats = it->record.options.seats, users = it->record.options.users;
+    return (users - number + seats - 1) / seats;
+}
+
+/* Asks for a user's last like. The user may be unknown, or another seat's. */
+static void ask_last(game *it, uint32_t number, uint32_t user) {
+    const likes_request request = {.user = user, .op = LIKES_LOOK};
+    uint32_t right = it->seats[number].status == LIKES_EMPTY ? LIKES_EMPTY : verdict_of(it, number, &request);
+    uint32_t row[3];
+    spoil(row, sizeof row);
+    uint32_t status = likes_seat_last(&it->seats[number].handle, user, &row[1]);
+    if (status != right)
+        fail(&it->record, "seat %u: the last like of user %u is answered %s, and not %s", number, user,
+             likes_status_text(status), likes_status_text(right));
+    if (!is_spoilt(&row[0], sizeof *row) || !is_spoilt(&row[2], sizeof *row) ||
+        (right != LIKES_OK && !is_spoilt(&row[1], sizeof *row)))
+        fail(&it->record, "seat %u: the answer %s wrote beside a last like", number, likes_status_text(status));
+    if (right == LIKES_OK && row[1] != it->last[user])
+        fail(&it->record, "seat %u: the last like of user %u is told as %u, and not %u", number, user, row[1],
+             it->last[user]);
+}
+
+/* Asks for the last likes of so many of a seat's users, from one on. */
+static void ask_lasts(game *it, uint32_t number, uint32_t from, size_t length) {
+    uint32_t own = users_of(it, number), seats = it->record.options.seats;
+    uint32_t right = from > own || length > own - from ? LIKES_WRONG_RANGE : LIKES_OK;
+    if (it->seats[number].status == LIKES_EMPTY)
+        right = LIKES_EMPTY;
+    uint32_t *room = (uint32_t *)malloc((length + 2) * sizeof *room);
+    if (room == NULL)
+        abort();
+    spoil(room, (length + 2) * sizeof *room);
+    uint32_t status = likes_seat_lasts(&it->seats[number].handle, from, length == 0 ? NULL : room + 1, length);
+    if (status != right)
+        fail(&it->record, "seat %u: %zu last likes from %u are answered %s, and not %s", number, length, from,
+             likes_status_text(status), likes_status_text(right));
+    size_t written = right == LIKES_OK ? length : 0;
+    if (!is_spoilt(room, sizeof *room) || !is_spoilt(room + 1 + written, (length + 1 - written) * sizeof *room))
+        fail(&it->record, "seat %u: the answer %s wrote beside %zu last likes", number, likes_status_text(status),
+             written);
+    for (size_t i = 0; i < written; i++)
+        if (room[1 + i] != it->last[(from + i) * seats + number])
+            fail(&it->record, "seat %u: last like %zu is told as %u, and not %u", number, from + i, room[1 + i],
+                 it->last[(from + i) * seats + number]);
+    free(room);
+}
+
+/* Notes the answer of a turn, or of a retirement that is one. */
+static void take_turn(game *it, uint32_t number, uint32_t status, span of) {
+    seat *at = &it->seats[number];
+    bool is_there = at->status != LIKES_EMPTY && at->status != LIKES_GONE;
+    if (is_there ? status != LIKES_RUNS && status != LIKES_BETWEEN : status != at->status)
+        fail(&it->record, "seat %u, %s: a turn was answered %s", number, likes_status_text(at->status),
+             likes_status_text(status));
+    if (!is_there)
+        return;
+    follow(it, number, of.start, of.end);
+    at->status = status;
+    event made = {.kind = WAS_BETWEEN, .phase = at->phase, .likes = at->likes, .start = of.start, .end = of.end};
+    if (status == LIKES_BETWEEN)
+        note(&it->record.histories[number], made);
+}
+
+static uint32_t turn_seat(game *it, uint32_t number) {
+    span of = {time_before(&it->record), 0};
+    uint32_t status = likes_seat_turn(&it->seats[number].handle);
+    of.end = time_after(&it->record);
+    take_turn(it, number, status, of);
+    return status;
+}
+
+/* Has a seat retire. It can in a joined phase: the one that it was in, or the one after the split phase that it has
+ * answered. */
+static uint32_t retire_seat(game *it, uint32_t number) {
+    seat *at = &it->seats[number];
+    if (!at->is_leaving)
+        count(&it->leaving);
+    at->is_leaving = true;
+    span of = {time_before(&it->record), 0};
+    uint32_t status = likes_seat_retire(&at->handle);
+    of.end = time_after(&it->record);
+    if (status != LIKES_GONE || at->status == LIKES_GONE) {
+        take_turn(it, number, status, of);
+        return status;
+    }
+    if (at->phase % 2 == 0 ? at->status == LIKES_BETWEEN : at->status != LIKES_BETWEEN)
+        fail(&it->record, "seat %u, %s, retired in phase %llu", number, likes_status_text(at->status),
+             (unsigned long long)at->phase);
+    find_all(it, at, of.start, of.end);
+    at->status = LIKES_GONE;
+    at->phase = 0;
+    count(&it->gone);
+    return status;
+}
+
+/* Whether a turn of the driver may give this answer. All seats may be gone, or are for certain. */
+static bool may_turn(const game *it, uint32_t end, bool are_gone, uint32_t status) {
+    const record *of = &it->record;
+    bool is_split = of->phases_len % 2 == 0, splits = of->marks_len > 0 || of->options.hot > 0;
+    if (end > LIKES_END)
+        return status == LIKES_UNKNOWN_END;
+    if (it->is_over)
+        return status == LIKES_ENDED;
+    if (it->is_ending)
+        return status == LIKES_RELEASED ? !it->is_held_up : status == LIKES_NOT_ALL_IN && !it->is_all_in && !are_gone;
+    bool is_asked = end == LIKES_END || (end == LIKES_END_IF_IT_SERVES && (is_split || splits));
+    if (status == LIKES_ENDED)
+        return load(&it->leaving) == of->options.seats && !(is_split && is_asked);
+    if (are_gone && !is_split)
+        return false;
+    if (status == LIKES_ANNOUNCED)
+        return is_asked || is_split;
+    return status == LIKES_GOES_ON && !is_asked && !are_gone;
+}
+
+/* Makes a turn of the driver. */
+static uint32_t turn_driver(game *it, uint32_t end) {
+    record *of = &it->record;
+    bool are_gone = load(&it->gone) == of->options.seats;
+    uint64_t start = time_before(of);
+    uint32_t status = likes_driver_turn(&it->driver, end);
+    uint64_t after = time_after(of);
+    if (!may_turn(it, end, are_gone, status))
+        fail(of, "phase %zu: a turn of the driver, for end %u, was answered %s", of->phases_len - 1, end,
+             likes_status_text(status));
+    if (status == LIKES_ANNOUNCED) {
+        note_announcement(of, start, after, end == LIKES_NO_END);
+        it->is_ending = true;
+    } else if (status == LIKES_RELEASED) {
+        note_release(of, start, after);
+        it->is_ending = it->is_all_in = false;
+    }
+    if (likes_driver_phase(&it->driver) != of->phases_len - 1)
+        fail(of, "the driver tells phase %llu in phase %zu", (unsigned long long)likes_driver_phase(&it->driver),
+             of->phases_len - 1);
+    return status;
+}
+
+/* A call that writes the counts of a range of pages: likes_driver_snapshot or likes_driver_last_counts. */
+typedef uint32_t ranged(likes_driver *driver, uint32_t from, uint64_t *counts, size_t counts_len);
+
+/* Whether a call may be answered so about a range that is there. */
+static bool may_be_told(const game *it, ranged *call, uint32_t status) {
+    bool is_joined = it->record.phases_len % 2 == 1;
+    uint32_t seats = it->record.options.seats;
+    if (call == likes_driver_last_counts) {
+        bool must = it->is_over || (is_joined && load(&it->gone) == seats);
+        bool may = it->is_over || (is_joined && load(&it->leaving) == seats && !it->is_held_up);
+        return status == LIKES_COUNTED ? may : status == LIKES_NOT_ENDED && !must;
+    }
+    bool may = it->is_ending && is_joined && !it->is_over && !it->is_held_up;
+    return status == LIKES_COUNTED ? may : status == LIKES_NO_MOMENT && !(may && it->is_all_in);
+}
+
+/* Has the counts of a range written, and keeps them for the end of the round. Gives the answer. */
+static uint32_t write_counts(game *it, ranged *call, uint32_t from, size_t length) {
+    uint64_t *room = (uint64_t *)malloc((length + 2) * sizeof *room);
+    if (room == NULL)
+        abort();
+    spoil(room, (length + 2) * sizeof *room);
+    uint32_t status = call(&it->driver, from, length == 0 ? NULL : room + 1, length);
+    bool is_there = from <= it->record.pages && length <= it->record.pages - from;
+    if (is_there ? !may_be_told(it, call, status) : status != LIKES_WRONG_RANGE)
+        fail(&it->record, "phase %zu: the counts of %zu pages from %u are answered %s", it->record.phases_len - 1,
+             length, from, likes_status_text(status));
+    size_t written = status == LIKES_COUNTED ? length : 0;
+    if (!is_spoilt(room, sizeof *room) || !is_spoilt(room + 1 + written, (length + 1 - written) * sizeof *room))
+        fail(&it->record, "the answer %s wrote beside %zu counts", likes_status_text(status), written);
+    if (status == LIKES_COUNTED && call == likes_driver_last_counts)
+        it->is_over = true;
+    if (status == LIKES_COUNTED && call == likes_driver_snapshot)
+        it->is_all_in = true;
+    if (written == 0) {
+        free(room);
+        return status;
+    }
+    memmove(room, room + 1, length * sizeof *room);
+    note_moment(&it->record, from, room, length);
+    return status;
+}
+
+#endif
