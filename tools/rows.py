@@ -1,10 +1,14 @@
-"""What the tools share: the rows of CSV files, a line for each fault, and help."""
+"""The rows of CSV files, as the tools read and write them."""
 
-import argparse
+import contextlib
 import csv
-import os
+import gzip
+import io
 import re
 import sys
+import zlib
+
+from command import Fault, shown
 
 PAGES = "name,count,split"
 REQUESTS = "op,user,page"
@@ -24,73 +28,73 @@ QUOTES = {
 # What a field has in it that has to be in quotes.
 MARKS = re.compile('[",\r\n]')
 
+# How a file begins that gzip packed.
+GZIP = b"\x1f\x8b"
 
-class Fault(Exception):
-    """What is wrong with a file, in a line."""
+
+def called(name):
+    """What a file is called in a line."""
+    return "standard input" if name == "-" else name
 
 
-def records(name, strict=False):
-    """The records of a CSV file, each with the line on which it begins, read as the program reads them.
+@contextlib.contextmanager
+def opened(name):
+    """The bytes of a file, or of standard input if its name is -, unpacked if gzip packed them; and the file below
+    them, whose place says how much of it was read."""
+    try:
+        with open(0, "rb", closefd=False) if name == "-" else open(name, "rb") as file:
+            is_packed = file.peek(2)[:2] == GZIP
+            yield gzip.open(file) if is_packed else file, file.raw
+    except (EOFError, zlib.error, gzip.BadGzipFile):
+        raise Fault(f"{called(name)}: what gzip packed is damaged, or not all of it is there") from None
+    except OSError as error:
+        raise Fault(f"{called(name)}: {error.strerror}") from None
+
+
+def records_in(file, name, strict=False):
+    """The records of an open CSV file, each with the line on which it begins, read as the program reads them.
 
     Strictly, a quote that is not closed, and text behind a closing quote, are faults."""
     csv.field_size_limit(LONGEST if strict else sys.maxsize)
     line = 1
     try:
-        with open(name, newline="", encoding="utf-8-sig", errors="surrogateescape") as file:
-            reader = csv.reader(file, strict=strict)
-            for record in reader:
-                if record:
-                    yield line, record
-                line = reader.line_num + 1
+        reader = csv.reader(
+            io.TextIOWrapper(file, newline="", encoding="utf-8-sig", errors="surrogateescape"), strict=strict
+        )
+        for record in reader:
+            if record:
+                yield line, record
+            line = reader.line_num + 1
     except csv.Error as error:
-        raise Fault(f"{name}: line {line}: {QUOTES.get(str(error), error)}") from None
-    except OSError as error:
-        raise Fault(f"{name}: {error.strerror}") from None
+        raise Fault(f"{called(name)}: line {line}: {QUOTES.get(str(error), error)}") from None
+
+
+def records(name, strict=False):
+    """The records of a CSV file, each with the line on which it begins."""
+    with opened(name) as (file, _):
+        yield from records_in(file, name, strict)
 
 
 def rows_of(name, header):
     """The records of a CSV file behind its header, one by one."""
     wanted = header.split(",")
     found = records(name)
-    if next(found, (1, []))[1] != wanted:
-        raise Fault(f"{name}: the header is not {header}")
+    line, first = next(found, (1, []))
+    if first != wanted:
+        raise Fault(f"{called(name)}: line {line}: the header is not {header}")
     for line, row in found:
         if len(row) != len(wanted):
-            raise Fault(f"{name}: line {line}: not {len(wanted)} fields")
+            raise Fault(f"{called(name)}: line {line}: {len(row)} fields, and not {len(wanted)}")
         yield row
+
+
+def number(text, what):
+    """The whole number that a field has."""
+    if text.isascii() and text.isdigit():
+        return int(text)
+    raise Fault(f"{what} is {shown(text)}, and not a whole number")
 
 
 def field(text):
     """A field of a CSV file, in quotes where it has to be."""
     return '"' + text.replace('"', '""') + '"' if MARKS.search(text) else text
-
-
-def options(text):
-    """The options of a tool, whose first text is its help."""
-    return argparse.ArgumentParser(description=text, formatter_class=argparse.RawDescriptionHelpFormatter)
-
-
-def whole(low, high):
-    """What reads a whole number from a word, from the one to the other."""
-
-    def read(text):
-        if text.isascii() and text.isdigit() and low <= int(text) <= high:
-            return int(text)
-        raise argparse.ArgumentTypeError(f"{text} is not a whole number from {low} to {high}")
-
-    return read
-
-
-def run(main):
-    """Runs a tool, and ends with a line and status 1 where it meets a fault."""
-    try:
-        main()
-        sys.stdout.flush()
-    except Fault as fault:
-        sys.exit(str(fault))
-    except OSError as error:
-        # What is left to print has nowhere to go.
-        os.dup2(os.open(os.devnull, os.O_WRONLY), sys.stdout.fileno())
-        sys.exit(f"{error.filename or 'standard output'}: {error.strerror}")
-    except KeyboardInterrupt:
-        sys.exit(130)

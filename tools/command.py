@@ -1,0 +1,174 @@
+"""What the tools share as commands: their words, the line at a fault or a signal, output by rename, and progress."""
+
+import argparse
+import contextlib
+import os
+import re
+import shutil
+import signal
+import sys
+import threading
+
+# The version of the release that the tools are of, which tools/release writes beside them.
+VERSION = f"{os.path.dirname(os.path.realpath(__file__))}/version"
+
+# The signals at which a tool tidies up before it ends, and the status at a pipe that nobody reads, as of that signal.
+SIGNALS = (signal.SIGHUP, signal.SIGINT, signal.SIGTERM)
+PIPE = 128 + signal.SIGPIPE
+
+# The seconds before a line of progress comes, and between two of them.
+FIRST, NEXT = 2, 0.5
+
+
+class Fault(Exception):
+    """What is wrong, in a line."""
+
+
+class Stopped(BaseException):
+    """A signal came: its number."""
+
+
+def shown(text):
+    """A value as a line shows it: in quotes, with escapes, and not all of it if it is long."""
+    return repr(text) if len(text) <= 60 else f"{text[:60]!r}.."
+
+
+def version():
+    """The version of the release, where the tool is of one."""
+    try:
+        with open(VERSION, encoding="ascii") as file:
+            return file.read().strip()
+    except OSError:
+        return "of the repository, and of no release"
+
+
+def options(text):
+    """The options of a tool, whose first text is its help. The commands of a release have other names there."""
+    if os.path.basename(sys.argv[0]).startswith("likes-"):
+        text = re.sub(r"\btools/(?=[a-z])", "likes-", text)
+    parser = argparse.ArgumentParser(description=text, formatter_class=argparse.RawDescriptionHelpFormatter)
+    parser.add_argument("--version", action="version", version=f"%(prog)s {version()}", help="print the version")
+    return parser
+
+
+def add_output(parser):
+    """Adds the word for a file in place of standard output."""
+    parser.add_argument("-o", metavar="FILE", help="write into FILE, which gets its name when all is written")
+
+
+def whole(low, high):
+    """What reads a whole number from a word, from the one to the other."""
+
+    def read(text):
+        if text.isascii() and text.isdigit() and low <= int(text) <= high:
+            return int(text)
+        raise argparse.ArgumentTypeError(f"{shown(text)} is not a whole number from {low} to {high}")
+
+    return read
+
+
+def write(name):
+    """A new file for text, in which the bytes of a log stay as they are."""
+    return open(name, "w", newline="\n", encoding="utf-8", errors="surrogateescape")
+
+
+@contextlib.contextmanager
+def output(name):
+    """Standard output, or a file that gets its name when all is written into it."""
+    if name is None:
+        sys.stdout.reconfigure(encoding="utf-8", errors="surrogateescape", newline="\n")
+        yield sys.stdout
+        return
+    # A device keeps its name.
+    is_device = os.path.exists(name) and not os.path.isfile(name)
+    part = name if is_device else f"{name}.part-{os.getpid()}"
+    try:
+        with write(part) as file:
+            yield file
+        if not is_device:
+            os.replace(part, name)
+    except OSError as error:
+        raise Fault(f"{name}: {error.strerror}") from None
+    finally:
+        if not is_device and os.path.exists(part):
+            os.remove(part)
+
+
+@contextlib.contextmanager
+def new_folder(name):
+    """A folder that gets its name when all is written into it."""
+    if os.path.lexists(name):
+        raise Fault(f"{name} is already there: take it away, or name another folder by --into")
+    part = f"{name}.part-{os.getpid()}"
+    try:
+        os.mkdir(part)
+        yield part
+        os.rename(part, name)
+    except BrokenPipeError:
+        raise
+    except OSError as error:
+        raise Fault(f"{error.filename or name}: {error.strerror}") from None
+    finally:
+        shutil.rmtree(part, ignore_errors=True)
+
+
+@contextlib.contextmanager
+def progress(say, out=None):
+    """Shows on a terminal how far a tool is, from its third second on, unless its output goes there all the while."""
+    if not (sys.stderr and sys.stderr.isatty()) or out and out.isatty():
+        yield
+        return
+    ended = threading.Event()
+
+    def show():
+        wait = FIRST
+        while not ended.wait(wait):
+            print(f"\r{say()}\x1b[K", end="", file=sys.stderr, flush=True)
+            wait = NEXT
+        print("\r\x1b[K", end="", file=sys.stderr, flush=True)
+
+    thread = threading.Thread(target=show, daemon=True)
+    thread.start()
+    try:
+        yield
+    finally:
+        ended.set()
+        thread.join()
+
+
+def stop(number, _):
+    """Ends what runs, once: what tidies up is not stopped."""
+    for other in SIGNALS:
+        signal.signal(other, signal.SIG_IGN)
+    raise Stopped(number)
+
+
+def let_go():
+    """Drops what is left to print."""
+    os.dup2(os.open(os.devnull, os.O_WRONLY), sys.stdout.fileno())
+
+
+def run(main):
+    """Runs a tool, and ends with a line and status 1 where it meets a fault; at a signal, with the signal's status."""
+    if sys.argv[1:] == ["help"]:
+        sys.argv[1] = "--help"
+    for number in SIGNALS:
+        if signal.getsignal(number) != signal.SIG_IGN:
+            signal.signal(number, stop)
+    try:
+        main()
+        sys.stdout.flush()
+    except Fault as fault:
+        sys.exit(str(fault))
+    except Stopped as stopped:
+        number = stopped.args[0]
+        print(f"stopped by {signal.Signals(number).name}", file=sys.stderr)
+        sys.exit(128 + number)
+    except BrokenPipeError:
+        let_go()
+        sys.exit(PIPE)
+    except MemoryError:
+        sys.exit("out of memory")
+    except OSError as error:
+        let_go()
+        sys.exit(f"{error.filename or 'standard output'}: {error.strerror}")

@@ -1,0 +1,236 @@
+"""The requests of a log dealt to files for runs: pages, users, and the parts of a log, which are a run each."""
+
+import collections
+import gc
+import itertools
+import os
+import re
+
+import rows
+from command import Fault, shown, write
+
+# The most pages, files, requests in a file and users that the program takes, and the most bytes in a page's name.
+PAGES, FILES, REQUESTS, USERS, NAME = 1024, 64, 1000000, 1000000, 64
+
+# How many requests are dealt before they are written.
+WRITTEN = 1 << 16
+
+# What files say which part has a user's last like, and which page has which name in the files.
+LAST, NAMES = "number,part", "name,page"
+
+# A name for a page whose own can't stand in a pages file.
+STAND_IN = "page {} of names.csv"
+
+
+def is_name(text):
+    """Whether a page may have this name."""
+    try:
+        return 1 <= len(text.encode()) <= NAME
+    except UnicodeEncodeError:
+        return False
+
+
+class Page:
+    """A page: its name as CSV, its count at the start, its mark, and its likes in the log. Its requests go into the
+    lists of its part."""
+
+    def __init__(self, name, count="0", split="no"):
+        self.text, self.count, self.split = rows.field(name), count, split
+        self.likes = 0
+
+
+class Part:
+    """A part of a log, which is a run: its pages, and the requests for each file."""
+
+    def __init__(self, number, folder, files):
+        self.number, self.pages = number, []
+        self.pages_file = f"{folder}/pages.csv"
+        self.files = [f"{folder}/requests-{place:02}.csv" for place in range(files)]
+        self.texts = [[f"{rows.REQUESTS}\n"] for _ in range(files)]
+        self.counts = [-1] * files
+        os.makedirs(folder, exist_ok=True)
+
+    def add(self, page):
+        page.part, page.texts = self.number, self.texts
+        self.pages.append(page)
+
+    def write(self):
+        """Writes the requests so far, and gives the number of a file that has too many."""
+        for place, texts in enumerate(self.texts):
+            if texts:
+                with open(self.files[place], "ab") as file:
+                    file.write("".join(texts).encode(errors="surrogateescape"))
+                self.counts[place] += len(texts)
+                texts.clear()
+        return next((place for place, count in enumerate(self.counts) if count > REQUESTS), None)
+
+    def write_pages(self):
+        with write(self.pages_file) as file:
+            file.write(f"{rows.PAGES}\n")
+            file.writelines(f"{page.text},{page.count},{page.split}\n" for page in self.pages)
+
+
+class Dealt:
+    """A log dealt into a folder: to one part, or to as many as its pages take."""
+
+    def __init__(self, log, folder, files, has_parts=False):
+        self.log, self.folder, self.files, self.has_parts = log, folder, files, has_parts
+        self.pages = {}  # by the name that the log has
+        self.parts, self.stand_ins = [], {}
+        self.kept = self.rest = None  # where some pages keep their names, which, and the page of all others
+        self.others = 0
+        self.users = collections.defaultdict(itertools.count().__next__)
+        self.last_part = {}  # by the user's number
+        self.add_part()
+
+    def add_part(self):
+        number = len(self.parts)
+        folder = f"{self.folder}/part-{number:02}" if self.has_parts else self.folder
+        self.parts.append(Part(number, folder, self.files))
+
+    def keep(self, earlier, rest):
+        """Takes the pages of a run before, by name, and the name for all pages that have no room of their own."""
+        for name, page in earlier.items():
+            self.pages[name] = page
+            self.parts[0].add(page)
+        if rest is not None:
+            self.kept = kept_names(self.log, earlier, rest)
+            self.rest = self.pages.get(rest) or Page(rest)
+
+    def add(self, name, line):
+        """The page of a name that wasn't there yet."""
+        if self.kept is not None and name not in self.kept:
+            if not self.others and self.rest not in self.parts[0].pages:
+                self.parts[0].add(self.rest)
+            self.others += 1
+            self.pages[name] = self.rest
+            return self.rest
+        if len(self.parts[-1].pages) == PAGES:
+            if not self.has_parts:
+                why = f"more than {PAGES} pages: deal to parts (--parts), or name the less liked ones alike (--rest)"
+                raise self.log.fault(line, why)
+            self.add_part()
+        page = self.pages[name] = Page(self.name_of(name, line))
+        self.parts[-1].add(page)
+        return page
+
+    def name_of(self, name, line):
+        """The name that a page has in the files."""
+        if is_name(name) and not (self.has_parts and re.fullmatch(STAND_IN.format(r"\d+"), name)):
+            return name
+        if not (self.has_parts and name):
+            raise self.log.fault(line, f"page name is not 1 to {NAME} bytes of UTF-8: {shown(name)}")
+        stand_in = STAND_IN.format(len(self.stand_ins) + 1)
+        self.stand_ins[stand_in] = name
+        return stand_in
+
+    def deal(self):
+        """Gives each request to the file of its user, and writes it."""
+        gc.disable()  # nothing here is a circle
+        pages, users, last_part, files = self.pages, self.users, self.last_part, self.files
+        for count, (line, op, user, name) in enumerate(self.log, 1):
+            page = pages.get(name) or self.add(name, line)
+            number = users[user]
+            if number == USERS:
+                raise self.log.fault(line, f"more than {USERS} users")
+            page.texts[number % files].append(f"{op},{number},{page.text}\n")
+            if op == "like":
+                page.likes += 1
+                last_part[number] = page.part
+            if not count % WRITTEN:
+                self.write_requests()
+        self.write_requests()
+
+    def write_requests(self):
+        for part in self.parts:
+            place = part.write()
+            if place is not None:
+                advice = "deal to more files, or a part of the log at a time (-h)"
+                raise Fault(f"{rows.called(self.log.name)}: more than {REQUESTS} requests for file {place}: {advice}")
+
+    def rank(self, marked):
+        """Sorts the pages of each part, the most liked first and that of all others last, and marks so many."""
+        if not self.pages:
+            raise Fault(f"{rows.called(self.log.name)}: no page")
+        for part in self.parts:
+            part.pages.sort(key=lambda page: (page is not self.rest, page.likes), reverse=True)
+        if marked is not None:
+            pages = [page for part in self.parts for page in part.pages if page is not self.rest]
+            for rank, page in enumerate(sorted(pages, key=lambda page: page.likes, reverse=True)):
+                page.split = "yes" if rank < marked else "no"
+
+    def write(self, marked=None):
+        """Deals the log, and writes all files."""
+        self.deal()
+        self.rank(marked)
+        for part in self.parts:
+            part.write_pages()
+        users = ((number, self.log.user(user)) for user, number in self.users.items())
+        self.write_numbered("users.csv", rows.USERS, users)
+        if self.has_parts:
+            self.write_numbered("last.csv", LAST, ((number, str(part)) for number, part in self.last_part.items()))
+            self.write_numbered("names.csv", NAMES, self.stand_ins.items())
+
+    def write_numbered(self, name, header, pairs):
+        with write(f"{self.folder}/{name}") as file:
+            file.write(f"{header}\n")
+            file.writelines(f"{first},{rows.field(text)}\n" for first, text in pairs)
+
+    def requests(self):
+        return sum(sum(part.counts) for part in self.parts)
+
+    def told(self):
+        """What was dealt, in lines."""
+        pages = [page for part in self.parts for page in part.pages]
+        likes = sum(page.likes for page in pages)
+        more = f" and {self.others} more under one name" if self.others else ""
+        more += f" in {len(self.parts)} part{'s' * (len(self.parts) > 1)}" if self.has_parts else ""
+        yield f"likes {likes}, looks {self.requests() - likes}, pages {len(pages)}{more}, users {len(self.users)}"
+        yield from self.log.told()
+
+
+def kept_names(log, earlier, rest):
+    """The new pages of a log that keep their names where the others are named `rest`: all, or else the most liked."""
+    likes = collections.Counter()
+    for _, op, _, page in log:
+        likes[page] += op == "like"
+    if rest in likes and rest not in earlier:
+        raise Fault(f"{log.name}: a page is named {shown(rest)}: take another name for --rest")
+    new = [page for page in likes if page not in earlier]
+    names = [page for page in new if is_name(page)]
+    if len(names) == len(new) and len(earlier) + len(new) <= PAGES:
+        return set(names)
+    room = PAGES - len({*earlier, rest})
+    if room < 0:
+        raise Fault(f"{log.name}: no room for {shown(rest)} beside {PAGES} pages")
+    return set(sorted(names, key=likes.get, reverse=True)[:room])
+
+
+def add_rest(parser):
+    """Adds the word for a name of many pages."""
+    rest = f"""one name for all but the {PAGES - 1} most liked pages, if LOG has more than {PAGES} or one whose name is
+        too long. It is the last page, and has no mark and no rank. LOG is then read twice, so it has to be a file"""
+    parser.add_argument("--rest", metavar="NAME", help=rest)
+
+
+def judge_rest(words, parser):
+    """Refuses a name for many pages that can't be one."""
+    if words.rest is not None and not is_name(words.rest):
+        parser.error(f"--rest takes a name of 1 to {NAME} bytes of UTF-8, and not {shown(words.rest)}")
+    if words.rest is not None and not os.path.isfile(words.log):
+        parser.error(f"with --rest, LOG is read twice, and has to be a file: {words.log}")
+
+
+def earlier_pages(name):
+    """The pages of a pages file or of a report, by name."""
+    found = rows.records(name)
+    header = ",".join(next(found, (1, []))[1])
+    found.close()
+    if header == rows.REPORT:
+        found = [(row[5], row[6]) for row in rows.rows_of(name, rows.REPORT) if row[0] == "page"]
+    else:
+        found = rows.rows_of(name, rows.PAGES)
+    pages = {row[0]: Page(*row) for row in found}
+    if not pages:
+        raise Fault(f"{name}: no page")
+    return pages
