@@ -6,6 +6,7 @@ use Rattle.like_board.specs.Rule.{opened_coord}
 use Rattle.like_board.specs.Seats.{AreFresh, BoardId, coord_board, coord_view, seat_board, seat_meaning, seat_view}
 use Rattle.like_board.specs.declared.coord_seat.CoordSeat.{CoordSeat}
 use Rattle.like_board.specs.declared.worker_seat.WorkerSeat.{WorkerSeat}
+use Rattle.like_limits.specs.Limits.{hot_pages}
 use Rattle.like_core.specs.Phase.{is_marked}
 use Rattle.like_core.specs.Post.{IsFresh}
 use Rattle.like_core.specs.core.State.{opening_with}
@@ -58,18 +59,20 @@ first_count pages count counts are some =
 pub opened_alike : (board : BoardId) (workers pages count : ℕ) (marked : Bool) (limits : Limits) (counts : List ℕ)
     (marks : List Bool) (coord : CoordSeat) (seats : List WorkerSeat)
     → 1 ≤ pages
+    → limits.hot ≡ hot_pages
     → counts ≡ replicate pages count
     → marks ≡ replicate pages marked
     → coord_board coord ≡ board
     → coord_view coord ≡ opened_coord (opening_with limits workers counts marks)
     → AreFresh board (opening_with limits workers counts marks) seats
     → AreOpened board pages marked limits coord seats
-opened_alike board workers pages count marked limits counts marks coord seats some counts_are marks_are here view fresh =
+opened_alike board workers pages count marked limits counts marks coord seats some plain counts_are marks_are here view fresh =
     let z = ap (λ v. v.opening) view in
     record {
       here = here;
       fresh = rw z fresh;
       limits_are = ap (λ o. o.limits) z;
+      plain = plain;
       counted = ap (λ o. length o.counts) z ∙ (ap length counts_are ∙ length-replicate pages count);
       sized = ap (λ o. length o.marks) z ∙ (ap length marks_are ∙ length-replicate pages marked);
       first = ap (λ o. is_marked o.marks 0) z

@@ -1,5 +1,6 @@
 -- What the tests know of a board and of those at it.
 use Rattle.std.specs.Prelude.{◌≡◌, ℕ, ◌+◌, ◌^◌, ◌<◌, ◌≤◌, Bool, true, List, length, Option, Some, IsSomeAnd}
+use Rattle.like_limits.specs.Limits.{hot_pages}
 use Rattle.like_core.specs.declared.limits.Limits.{Limits}
 use Rattle.like_core.specs.declared.sight.CoordSight.{CoordSight}
 use Rattle.like_core.specs.Additions.{added_to, all_added}
@@ -12,12 +13,14 @@ use Rattle.like_board.specs.declared.worker_seat.WorkerSeat.{WorkerSeat}
 use Rattle.like_board.specs.Seats.{BoardId, AreFresh, board_numbers, coord_board, coord_view}
 use Rattle.test_parts.specs.declared.known.Known.{Known}
 
--- the seats of a board of so many pages, whose first is marked or is not, within these limits; no call was made on them
+-- the seats of a board of so many pages, whose first is marked or is not, within these limits, which give it no slots; no
+-- call was made on them
 pub record AreOpened (board : BoardId) (pages : ℕ) (marked : Bool) (limits : Limits) (coord : CoordSeat)
     (seats : List WorkerSeat) : Type 0 where
   pub here : coord_board coord ≡ board
   pub fresh : AreFresh board (coord_view coord).opening seats
   pub limits_are : (coord_view coord).opening.limits ≡ limits
+  pub plain : limits.hot ≡ hot_pages
   pub counted : length (coord_view coord).opening.counts ≡ pages
   pub sized : length (coord_view coord).opening.marks ≡ pages
   pub first : is_marked (coord_view coord).opening.marks 0 ≡ marked
@@ -38,6 +41,8 @@ pub record IsKnown (v : PostView) (k : Known) : Type 0 where
   pub likes : added_to 0 v.additions ≡ k.likes
   -- no number that is known can wrap
   pub few_phases : v.limits.last_phase < 2 ^ 64
+  -- its board has no slots
+  pub plain : v.limits.hot ≡ hot_pages
   pub few_likes : k.likes + k.room < 2 ^ 64
 
 -- the post is the same worker's, at the same board

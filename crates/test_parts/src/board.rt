@@ -1,5 +1,5 @@
 ghost use Rattle.std.specs.Prelude.{◌≡◌, ◌+◌, ◌≤◌, true, IfOk, IfSome, slice_index, vec_len};
-ghost use Rattle.like_limits.specs.Limits.{max_count};
+ghost use Rattle.like_limits.specs.Limits.{hot_pages, max_count};
 ghost use Rattle.like_core.specs.declared.worker_state.WorkerState.TheVariants.{Gone};
 ghost use Rattle.like_core.specs.OpeningLimits.{AreLimits, run_limits};
 ghost use Rattle.like_core.specs.Post.{additions_of};
@@ -57,6 +57,7 @@ fn opened(
     requires few_pages { pages ≤ limits.pages }
     requires small { count ≤ max_count }
     requires limits { AreLimits limits }
+    requires plain { limits.hot ≡ hot_pages }
     ensures opened { IfOk result (λ r. AreOpened (board_id r.0) pages marked limits r.1 r.2.items) }
     ensures workers { IfOk result (λ r. (coord_view r.1).opening.workers ≡ workers) }
     ensures counts { IfOk result (λ r. slice_index (coord_view r.1).opening.counts 0 ≡ count) }
@@ -259,6 +260,7 @@ fn plays(
     requires page { 1 ≤ limits.pages }
     requires small { count ≤ max_count }
     requires limits { AreLimits limits }
+    requires plain { limits.hot ≡ hot_pages }
 {
     let (board, coord, seats) = opened(alloc, workers, 1, count, marked, limits)?;
     plays_at(rt, &board, coord, seats, limits, marked, parts);

@@ -92,12 +92,14 @@ fn refuses_announcement_in_last_phase(rt: HostRuntime) -> Result<(), Fail> {
 pub fn small_limits() -> Limits
     ensures lawful { AreLimits result }
     ensures page { result.pages ≡ 1 }
+    ensures hot { result.hot ≡ 64 }
     ensures seat { result.seats ≡ 1 }
 {
     Limits {
         last_phase: 4,
         likes: 2,
         pages: 1,
+        hot: 64,
         seats: 1,
         form: Form::Counts,
     }
@@ -116,6 +118,7 @@ fn limits_are_these_numbers(rt: HostRuntime) -> Result<(), Fail> {
         last_phase: 16_777_214,
         likes: 64_000_000,
         pages: 1_024,
+        hot: 64,
         seats: 16,
         form: Form::Bits,
     };
@@ -124,6 +127,7 @@ fn limits_are_these_numbers(rt: HostRuntime) -> Result<(), Fail> {
         last_phase: 281_474_976_710_654,
         likes: 72_057_594_037_927_936,
         pages: 16_777_216,
+        hot: 64,
         seats: 64,
         form: Form::Counts,
     };

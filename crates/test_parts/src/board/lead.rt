@@ -1,6 +1,7 @@
 //! The coordinator of a board of one page.
 ghost use Rattle.std.specs.Prelude.{◌≡◌, ◌≤◌, true, false, length, IsTrue};
 ghost use Rattle.like_board.specs.Seats.{board_id, coord_board, coord_view};
+ghost use Rattle.like_limits.specs.Limits.{hot_pages};
 ghost use Rattle.test_parts.specs.Walk.{HasSeen, KeepsSeat};
 
 use super::calls::OnCoord;
@@ -11,6 +12,7 @@ use like_core::CoordSight;
 pub fn lead(coord: &mut CoordSeat, board: &Board, call: OnCoord) -> bool
     requires here { coord_board coord.old ≡ board_id board.now }
     requires one_page { length (coord_view coord.old).opening.counts ≡ 1 }
+    requires plain { (coord_view coord.old).opening.limits.hot ≡ hot_pages }
     ensures { KeepsSeat coord.old coord.new }
 {
     match call {
@@ -72,6 +74,7 @@ fn releases(coord: &mut CoordSeat, board: &Board, mask: u64) -> bool
     requires here { coord_board coord.old ≡ board_id board.now }
     requires saw { HasSeen (coord_view coord.old).last true }
     requires one_page { length (coord_view coord.old).opening.counts ≡ 1 }
+    requires plain { (coord_view coord.old).opening.limits.hot ≡ hot_pages }
     ensures { KeepsSeat coord.old coord.new }
 {
     if coord.phase() % 2 == 0 {

@@ -1,6 +1,7 @@
 //! The coordinator of a board of one page and one or two workers, who make calls in turn.
 ghost use Rattle.std.specs.Prelude.{◌≡◌, length, Some};
 ghost use Rattle.like_board.specs.Seats.{board_id, coord_board, coord_view};
+ghost use Rattle.like_limits.specs.Limits.{hot_pages};
 ghost use Rattle.test_parts.specs.Walk.{IsWorkerAt, KeepsSeat};
 
 use super::calls::Step;
@@ -19,6 +20,7 @@ pub struct Party<'a, P: Post> {
     pub second: Option<Walker<P>>,
     ghost here: { coord_board coord ≡ board_id board.now },
     ghost one_page: { length (coord_view coord).opening.counts ≡ 1 },
+    ghost plain: { (coord_view coord).opening.limits.hot ≡ hot_pages },
     ghost first_here: { IsWorkerAt (coord_board coord) 0 (P.view first.post) },
     ghost second_here: { (walker : _) → second ≡ Some walker → IsWorkerAt (coord_board coord) 1 (P.view walker.post) },
 }

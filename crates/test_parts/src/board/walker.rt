@@ -1,5 +1,6 @@
 //! A worker of a board, which knows the trait `Post` alone.
 ghost use Rattle.std.specs.Prelude.{◌≡◌, ◌^◌, ◌<◌, ◌≤◌, true, IsTrue};
+ghost use Rattle.like_limits.specs.Limits.{hot_pages};
 ghost use Rattle.like_core.specs.Phase.{is_marked};
 ghost use Rattle.like_core.specs.WorkerState.{RunsJoined, SawEnding, phase_of, seen};
 ghost use Rattle.like_core.specs.Post.{IsFresh, MayAdd, pages_of};
@@ -33,6 +34,7 @@ impl<P: Post> Walker<P> {
     pub fn new(post: P, limits: Limits, pages: u32, marked: bool) -> Walker<P>
         requires fresh { IsFresh (P.view post) }
         requires limits { (P.view post).limits ≡ limits }
+        requires plain { limits.hot ≡ hot_pages }
         requires pages { pages_of (P.view post) ≡ pages }
         requires first { is_marked (P.view post).marks 0 ≡ marked }
         ensures { result.post ≡ post }

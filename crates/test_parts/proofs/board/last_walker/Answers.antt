@@ -52,6 +52,7 @@ returns-clause-rest g c =
           let still = slice_get-before left (c.expect-seat.result ∷ []) i (slice_get_within left i seat at) in
           c.requires.fresh i seat (ap (λ xs. slice_get xs i) popped ∙ (still ∙ at));
       limits_are = c.requires.limits_are;
+      plain = c.requires.plain;
       counted = c.requires.counted;
       sized = c.requires.sized;
       first = c.requires.first;

@@ -15,8 +15,8 @@ returns-clause-opened c =
     let marks = c.in_ok-marks.ensures.items_if_clones_equal (λ y same. search rules) in
     if_ok_all c.with_limits.result c.with_limits.ensures.coord_here c.with_limits.ensures.coord
     c.with_limits.ensures.views
-    (λ r here view fresh. opened_alike _ _ _ _ _ _ _ _ _ _ c.requires.some_page (c.as_slice.ensures.value ∙ counts)
-    (c.as_slice-2.ensures.value ∙ marks) here view fresh)
+    (λ r here view fresh. opened_alike _ _ _ _ _ _ _ _ _ _ c.requires.some_page c.requires.plain
+    (c.as_slice.ensures.value ∙ counts) (c.as_slice-2.ensures.value ∙ marks) here view fresh)
 
 pub returns-clause-workers : goal.returns-clause-workers
 returns-clause-workers c =
