@@ -274,11 +274,9 @@ static void start(const kind *of, uint32_t threads) {
         pthread_mutex_init(&counts.locked[page].lock, NULL);
         counts.locked[page].count = 0;
     }
-    if (of->period > 0) {
-        uint32_t status = likes_service_start(&service, &options, none, asked.pages, NULL, 0, NULL, 0, of->period);
-        if (status != LIKES_OK)
-            fail("no service was started");
-    }
+    if (of->period > 0 &&
+        likes_service_start(&service, &options, none, asked.pages, NULL, 0, NULL, 0, of->period) != LIKES_OK)
+        fail("no service was started");
     for (uint32_t i = 0; i < threads; i++) {
         player *it = &players[i];
         it->of = of;

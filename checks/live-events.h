@@ -54,8 +54,10 @@ typedef struct {
     uint64_t *counts;                /* the initial ones */
     uint32_t marks[LIKES_MAX_MARKS]; /* in random order */
     size_t marks_len;
-    bool is_timed; /* whether calls are timed: a clock that all share slows them down */
-    uint64_t time; /* atomic */
+    uint32_t *last;  /* each user's last like, or LIKES_NO_PAGE; used under the lock of its seat */
+    size_t last_len; /* with how many of these the service was opened: all or none */
+    bool is_timed;   /* whether calls are timed: a clock that all share slows them down */
+    uint64_t time;   /* atomic */
     history histories[LIKES_MAX_SEATS];
     phase_span *phases;
     size_t phases_len, phases_room;
@@ -331,6 +333,7 @@ static void free_record(record *it) {
     free(it->moments);
     free(it->phases);
     free(it->counts);
+    free(it->last);
 }
 
 #endif

@@ -5,8 +5,8 @@
  * usage: live-hosts SEED SECONDS
  *
  * Of each call, the model knows what it may answer: the first refusal that applies, NO_ROOM exactly where the room is
- * full, each user's last like, at any time and from that of the opening on, and each look that waited once, with its tag, in the order of asking, in the next phase.
- * A call writes nothing beside its answers. After the round:
+ * full, each user's last like, also of the opening, and each look that waited once, with its tag, in the order of
+ * asking, in the next phase. A call writes nothing beside its answers. After the round:
  *   - each page's final count is its initial count and its likes, and a snapshot's the likes of the phases up to it
  *   - each count has all likes of earlier phases and the seat's own before it, none of later phases and none of the
  *     seat's own after it. In half of the rounds calls are timed: a count has no like that began after it and, where
@@ -74,20 +74,16 @@ static uint32_t draw_page(const record *it, uint64_t *random) {
     return (uint32_t)below(choice < 7 ? &favourite : random, it->pages);
 }
 
-/* A user, mostly one of the seat's. Others are those of other seats, the first that are unknown, and any number. */
-static uint32_t draw_user(const game *it, uint32_t number, uint64_t *random) {
-    uint32_t seats = it->record.options.seats, users = it->record.options.users;
-    if (!one_in(random, 50))
-        return number + seats * (uint32_t)low(random, users_of(it, number));
-    return one_in(random, 4) ? (uint32_t)drawn(random) : (uint32_t)below(random, (uint64_t)users + 2);
-}
-
 /* A request at a seat, mostly of a user of its own. In a row it may have an unknown operation. */
 static likes_request draw(const game *it, uint32_t number, player *by, bool in_row) {
     uint64_t *random = &by->random;
+    uint32_t seats = it->record.options.seats, users = it->record.options.users;
+    uint32_t own = (users - number + seats - 1) / seats;
     likes_request request = {.tag = by->tag++, .page = draw_page(&it->record, random)};
     request.op = (uint32_t)(below(random, 4) < 2 ? LIKES_LIKE : 1 + below(random, 2));
-    request.user = draw_user(it, number, random);
+    request.user = number + seats * (uint32_t)low(random, own);
+    if (one_in(random, 100))
+        request.user = (uint32_t)(one_in(random, 4) ? drawn(random) : below(random, (uint64_t)users + 2));
     if (one_in(random, 100))
         request.page = one_in(random, 2) ? (uint32_t)drawn(random) : (uint32_t)it->record.pages;
     if (in_row && one_in(random, 100))
@@ -134,14 +130,18 @@ static void take_some(player *by, uint32_t number) {
         continue;
 }
 
-/* A range of a seat's users: mostly one that is there, and sometimes empty or too long. */
-static void ask_some_lasts(player *by, uint32_t number) {
-    uint64_t *random = &by->random;
-    uint32_t own = users_of(by->game, number), from = (uint32_t)below(random, (uint64_t)own + 2);
-    size_t length = low(random, own < 300 ? own + 2 : 300);
-    if (!one_in(random, 8) && from <= own && length > own - from)
-        length = own - from;
-    ask_lasts(by->game, number, from, length);
+/* A user of the seat, or any number. */
+static void look_at_last(player *by, uint32_t number) {
+    uint32_t users = by->game->record.options.users, seats = by->game->record.options.seats;
+    uint32_t own = (users - number + seats - 1) / seats;
+    if (one_in(&by->random, 2)) {
+        uint32_t user = number + seats * (uint32_t)below(&by->random, own);
+        check_last(by->game, number, one_in(&by->random, 8) ? (uint32_t)drawn(&by->random) : user);
+        return;
+    }
+    uint32_t from = (uint32_t)below(&by->random, own + 1);
+    size_t length = low(&by->random, own - from + 1 < 1000 ? own - from + 1 : 1000);
+    check_lasts(by->game, number, from, one_in(&by->random, 8) ? own - from + 1 : length);
 }
 
 /* What a thread does with a seat that it holds. */
@@ -149,17 +149,15 @@ static void act(player *by, uint32_t number) {
     uint64_t choice = below(&by->random, 1000);
     if (choice < 900)
         call(by, number);
-    else if (choice < 960)
+    else if (choice < 950)
         take_some(by, number);
+    else if (choice < 960)
+        look_at_last(by, number);
     else if (choice < 985)
         turn_seat(by->game, number);
     else if (choice < 990)
         check_phase(by->game, number);
-    else if (choice < 993)
-        ask_some_lasts(by, number);
-    else if (choice < 996)
-        ask_last(by->game, number, draw_user(by->game, number, &by->random));
-    else
+    else if (choice < 995)
         pause_for(&by->random, by->plan->longest);
 }
 
@@ -229,15 +227,20 @@ static void take_counts(game *it, uint64_t *random, ranged *call) {
     }
 }
 
-/* An end that is asked for. */
-static uint32_t draw_end(uint64_t *random) {
-    return one_in(random, 4) ? LIKES_END : LIKES_END_IF_IT_SERVES;
+/* Asks each seat for the last likes of all its users. */
+static void check_all_lasts(game *it) {
+    uint32_t seats = it->record.options.seats, users = it->record.options.users;
+    for (uint32_t i = 0; i < seats; i++) {
+        pthread_mutex_lock(&it->seats[i].lock);
+        check_lasts(it, i, 0, (users - i + seats - 1) / seats);
+        pthread_mutex_unlock(&it->seats[i].lock);
+    }
 }
 
 /* Ends a phase, has every seat answer, and then releases the next. A seat that was freed before it was gone never
  * answers. */
 static void change_phase(game *it, const plan *plan, uint64_t *random) {
-    turn_driver(it, draw_end(random));
+    turn_driver(it, LIKES_END_IF_IT_SERVES);
     for (uint32_t i = 0; i < it->record.options.seats && it->is_ending; i++) {
         pthread_mutex_lock(&it->seats[i].lock);
         if (turn_seat(it, i) == LIKES_RUNS)
@@ -247,6 +250,8 @@ static void change_phase(game *it, const plan *plan, uint64_t *random) {
     it->is_all_in = it->is_ending && !plan->is_abandoned;
     for (uint64_t times = below(random, 8); times > 5; times--)
         take_counts(it, random, likes_driver_snapshot);
+    if (one_in(random, 4))
+        check_all_lasts(it);
     turn_driver(it, LIKES_NO_END);
 }
 
@@ -272,13 +277,13 @@ static void lead(game *it, const plan *plan, uint64_t *random) {
     else if (choice == 8)
         take_counts(it, random, likes_driver_last_counts);
     else if (choice == 9)
-        turn_driver(it, LIKES_END + 1 + (uint32_t)low(random, UINT32_MAX - LIKES_END));
+        turn_driver(it, 3 + (uint32_t)low(random, UINT32_MAX - 2));
     else if (choice < 14 && may_end)
         change_phase(it, plan, random);
     else if (choice == 14 && may_end)
         hold_up(it, random);
     else
-        turn_driver(it, may_end ? draw_end(random) : LIKES_NO_END);
+        turn_driver(it, !may_end ? LIKES_NO_END : one_in(random, 8) ? LIKES_END : LIKES_END_IF_IT_SERVES);
 }
 
 static void try_to_lead(game *it, const plan *plan, uint64_t *random) {
@@ -328,8 +333,9 @@ static void drive(game *it, const plan *plan, uint64_t *random) {
     }
 }
 
-/* The last counts, once all seats have left. */
+/* The last likes and counts, once all seats have left. */
 static void finish(game *it, uint64_t *random) {
+    check_all_lasts(it);
     if (likes_phase_now(&it->phase) != it->record.phases_len - 1)
         fail(&it->record, "the phase is told as %llu at the end", (unsigned long long)likes_phase_now(&it->phase));
     if (it->driver.at == NULL || load(&it->gone) < it->record.options.seats)
@@ -342,15 +348,6 @@ static void finish(game *it, uint64_t *random) {
         write_counts(it, likes_driver_last_counts, from,
                      it->record.pages - from < WRITTEN ? it->record.pages - from : WRITTEN);
     turn_driver(it, LIKES_END_IF_IT_SERVES);
-}
-
-/* The last likes of all users at the end, of each seat by two ranges that meet. */
-static void finish_lasts(game *it, uint64_t *random) {
-    for (uint32_t i = 0; i < it->record.options.seats; i++) {
-        uint32_t own = users_of(it, i), first = (uint32_t)below(random, (uint64_t)own + 1);
-        ask_lasts(it, i, 0, first);
-        ask_lasts(it, i, first, own - first);
-    }
 }
 
 /* Frees the seats that are left, the driver and the phase, in random order. */
@@ -383,15 +380,19 @@ static void draw_marks(record *it, uint64_t *random) {
     }
 }
 
-/* Draws last likes for an opening, or none at all. */
-static uint32_t *draw_lasts(const record *it, uint64_t *random) {
+/* Draws last likes, or none, with which the service is opened. */
+static void draw_lasts(record *it, uint64_t *random) {
     size_t users = it->options.users;
-    uint32_t *lasts = (uint32_t *)malloc(users * sizeof *lasts);
-    if (lasts == NULL)
+    it->last = (uint32_t *)malloc(users * sizeof *it->last);
+    if (it->last == NULL)
         abort();
+    memset(it->last, 0xff, users * sizeof *it->last);
+    if (one_in(random, 2))
+        return;
+    it->last_len = users;
     for (size_t user = 0; user < users; user++)
-        lasts[user] = one_in(random, 3) ? LIKES_NO_PAGE : (uint32_t)below(random, it->pages);
-    return lasts;
+        if (!one_in(random, 4))
+            it->last[user] = (uint32_t)below(random, it->pages);
 }
 
 /* Draws numbers for an opening: mostly small ones, and sometimes the largest. */
@@ -423,6 +424,7 @@ static void draw_record(record *it, uint64_t *random) {
     for (size_t page = 0; page < it->pages; page++)
         it->counts[page] = one_in(random, 4) ? LIKES_MAX_COUNT : low(random, 1000000);
     draw_marks(it, random);
+    draw_lasts(it, random);
     it->is_timed = one_in(random, 2);
     note_release(it, 0, 0);
 }
@@ -430,14 +432,9 @@ static void draw_record(record *it, uint64_t *random) {
 /* Opens a service, and takes its handles. */
 static void open_game(game *it, const plan *plan, uint64_t *random) {
     record *of = &it->record;
-    size_t users = of->options.users, lasts_len = one_in(random, 2) ? users : 0;
-    it->last = draw_lasts(of, random);
-    uint32_t status = likes_open(&of->options, of->counts, of->pages, of->marks, of->marks_len,
-                                 lasts_len == 0 ? NULL : it->last, lasts_len, &it->driver);
-    if (status != LIKES_OK)
-        fail(of, "the service was not opened: %s", likes_status_text(status));
-    if (lasts_len == 0)
-        memset(it->last, 0xff, users * sizeof *it->last);
+    const uint32_t *lasts = of->last_len == 0 ? NULL : of->last;
+    if (likes_open(&of->options, of->counts, of->pages, of->marks, of->marks_len, lasts, of->last_len, &it->driver))
+        fail(of, "the service was not opened");
     if (likes_driver_take_phase(&it->driver, &it->phase) != LIKES_OK)
         fail(of, "the phase was not handed out");
     pthread_mutex_init(&it->driving, NULL);
@@ -469,7 +466,6 @@ static void close_game(game *it) {
     pthread_mutex_destroy(&it->reading);
     all_phases += it->record.phases_len;
     all_moments += it->record.moments_len;
-    free(it->last);
     free_record(&it->record);
     rounds++;
 }
@@ -477,7 +473,7 @@ static void close_game(game *it) {
 static plan draw_plan(const game *it, uint64_t *random) {
     static const uint32_t shares[] = {0, 2, 50, 100};
     plan made = {.threads = 1 + (uint32_t)low(random, one_in(random, 8) ? MOST_THREADS : 12)};
-    made.calls = 1 + (uint32_t)low(random, 1 + 40000 / (1 + it->record.options.seats / 4));
+    made.calls = 1 + (uint32_t)low(random, 1 + 20000 / (1 + it->record.options.seats / 4));
     made.longest = 1 + (uint32_t)low(random, 500);
     made.end_share = shares[one_in(random, 4) ? below(random, 4) : 3];
     made.is_shared = !one_in(random, 4);
@@ -503,7 +499,6 @@ static void play_round(uint64_t seed) {
     for (uint32_t i = 0; i < plan.threads; i++)
         pthread_join(players[i].thread, NULL);
     finish(&it, &random);
-    finish_lasts(&it, &random);
     check_events(&it.record);
     free_all(&it, &random);
     close_game(&it);

@@ -33,7 +33,6 @@ typedef struct {
 typedef struct {
     record record;
     seat seats[LIKES_MAX_SEATS];
-    uint32_t *last;               /* each user's last like, or LIKES_NO_PAGE; used under its seat's lock */
     uint32_t leaving, gone, done; /* how many seats are; atomic */
     pthread_mutex_t driving;      /* of the driver and what is known of it, down to `phase` */
     likes_driver driver;
@@ -69,7 +68,7 @@ static void find_all(game *it, seat *at, uint64_t start, uint64_t end) {
             continue;
         next->is_found = true;
         next->found.ran = next->found.asked + 1;
-        next->found.last = it->last[next->found.user];
+        next->found.last = it->record.last[next->found.user];
         next->likes = at->likes;
         next->start = start;
         next->end = end;
@@ -130,7 +129,7 @@ static void note_wait(const game *it, seat *at, const likes_request *request) {
 static void note_answer(game *it, uint32_t number, const likes_request *request, const likes_answer *answer,
                         event made) {
     seat *at = &it->seats[number];
-    uint32_t *last = &it->last[request->user];
+    uint32_t *last = &it->record.last[request->user];
     if (answer->status == LIKES_LIKED) {
         made.kind = LIKED;
         *last = request->page;
@@ -274,53 +273,46 @@ static bool take_found(game *it, uint32_t number) {
     return true;
 }
 
-/* How many users a seat has. */
-static uint32_t users_of(const game *it, uint32_t number) {
-    uint32_t seats = it->record.options.seats, users = it->record.options.users;
-    return (users - number + seats - 1) / seats;
-}
-
-/* Asks for a user's last like. The user may be unknown, or another seat's. */
-static void ask_last(game *it, uint32_t number, uint32_t user) {
-    const likes_request request = {.user = user, .op = LIKES_LOOK};
+/* Asks for a user's last like, whatever the seat's state. */
+static void check_last(const game *it, uint32_t number, uint32_t user) {
+    const likes_request request = {.user = user};
+    likes_seat handle = it->seats[number].handle;
+    struct {
+        uint32_t before, at, behind;
+    } pages;
+    spoil(&pages, sizeof pages);
     uint32_t right = it->seats[number].status == LIKES_EMPTY ? LIKES_EMPTY : verdict_of(it, number, &request);
-    uint32_t row[3];
-    spoil(row, sizeof row);
-    uint32_t status = likes_seat_last(&it->seats[number].handle, user, &row[1]);
+    uint32_t status = likes_seat_last(&handle, user, &pages.at);
     if (status != right)
-        fail(&it->record, "seat %u: the last like of user %u is answered %s, and not %s", number, user,
-             likes_status_text(status), likes_status_text(right));
-    if (!is_spoilt(&row[0], sizeof *row) || !is_spoilt(&row[2], sizeof *row) ||
-        (right != LIKES_OK && !is_spoilt(&row[1], sizeof *row)))
-        fail(&it->record, "seat %u: the answer %s wrote beside a last like", number, likes_status_text(status));
-    if (right == LIKES_OK && row[1] != it->last[user])
-        fail(&it->record, "seat %u: the last like of user %u is told as %u, and not %u", number, user, row[1],
-             it->last[user]);
+        fail(&it->record, "seat %u: the last like of user %u is answered %s", number, user, likes_status_text(status));
+    if (status == LIKES_OK ? pages.at != it->record.last[user] : !is_spoilt(&pages.at, sizeof pages.at))
+        fail(&it->record, "seat %u: the last like of user %u is told as %u", number, user, pages.at);
+    if (!is_spoilt(&pages.before, sizeof pages.before) || !is_spoilt(&pages.behind, sizeof pages.behind))
+        fail(&it->record, "seat %u: a last like was written beside its place", number);
 }
 
-/* Asks for the last likes of so many of a seat's users, from one on. */
-static void ask_lasts(game *it, uint32_t number, uint32_t from, size_t length) {
-    uint32_t own = users_of(it, number), seats = it->record.options.seats;
-    uint32_t right = from > own || length > own - from ? LIKES_WRONG_RANGE : LIKES_OK;
-    if (it->seats[number].status == LIKES_EMPTY)
-        right = LIKES_EMPTY;
-    uint32_t *room = (uint32_t *)malloc((length + 2) * sizeof *room);
-    if (room == NULL)
+/* Asks for the last likes of some of a seat's users, from one of its users on. */
+static void check_lasts(const game *it, uint32_t number, uint32_t from, size_t length) {
+    uint32_t seats = it->record.options.seats, own = (it->record.options.users - number + seats - 1) / seats;
+    bool is_empty = it->seats[number].status == LIKES_EMPTY;
+    bool is_there = !is_empty && from <= own && length <= own - from;
+    likes_seat handle = it->seats[number].handle;
+    uint32_t *pages = (uint32_t *)malloc((length + 2) * sizeof *pages);
+    if (pages == NULL)
         abort();
-    spoil(room, (length + 2) * sizeof *room);
-    uint32_t status = likes_seat_lasts(&it->seats[number].handle, from, length == 0 ? NULL : room + 1, length);
-    if (status != right)
-        fail(&it->record, "seat %u: %zu last likes from %u are answered %s, and not %s", number, length, from,
-             likes_status_text(status), likes_status_text(right));
-    size_t written = right == LIKES_OK ? length : 0;
-    if (!is_spoilt(room, sizeof *room) || !is_spoilt(room + 1 + written, (length + 1 - written) * sizeof *room))
-        fail(&it->record, "seat %u: the answer %s wrote beside %zu last likes", number, likes_status_text(status),
-             written);
+    spoil(pages, (length + 2) * sizeof *pages);
+    uint32_t status = likes_seat_lasts(&handle, from, length == 0 ? NULL : pages + 1, length);
+    if (status != (uint32_t)(is_empty ? LIKES_EMPTY : is_there ? LIKES_OK : LIKES_WRONG_RANGE))
+        fail(&it->record, "seat %u: %zu last likes from %u are answered %s", number, length, from,
+             likes_status_text(status));
+    size_t written = is_there ? length : 0;
+    if (!is_spoilt(pages, sizeof *pages) || !is_spoilt(pages + 1 + written, (length + 1 - written) * sizeof *pages))
+        fail(&it->record, "seat %u: last likes were written beside their places", number);
     for (size_t i = 0; i < written; i++)
-        if (room[1 + i] != it->last[(from + i) * seats + number])
-            fail(&it->record, "seat %u: last like %zu is told as %u, and not %u", number, from + i, room[1 + i],
-                 it->last[(from + i) * seats + number]);
-    free(room);
+        if (pages[1 + i] != it->record.last[number + seats * (from + i)])
+            fail(&it->record, "seat %u: the last like of its user number %zu is told as %u", number, from + i,
+                 pages[1 + i]);
+    free(pages);
 }
 
 /* Notes the answer of a turn, or of a retirement that is one. */

@@ -10,7 +10,7 @@ use Rattle.like_core.specs.Additions.{added_to, page_read}
 use Rattle.like_core.specs.declared.worker_state.WorkerState.{WorkerState}
 use Rattle.like_core.specs.declared.worker_state.WorkerState.TheVariants as state
 use Rattle.like_core.specs.Post.{PostView, has_read, slices}
-use Rattle.like_core.specs.Phase.{IsJoined, is_hot, is_marked}
+use Rattle.like_core.specs.Phase.{IsJoined, is_hot_by, is_marked}
 use Rattle.like_core.specs.PhaseMasks.{mask_of}
 use Rattle.like_core.specs.WorkerState.{IsRunning, RunsJoined, RunsSplit, phase_of}
 use Rattle.like_tables.specs.Share.{owns}
@@ -66,7 +66,7 @@ joined_phase state.Gone h = absurd h
 pub plain : (post : PostView) (page : ℕ) → RunsJoined post.state → slices post page ≡ false
 plain post page joined =
     let even = joined_phase post.state joined in
-    and_left _ (is_marked post.marks page || is_hot (mask_of post.masks (phase_of post.state)) page)
+    and_left _ (is_marked post.marks page || is_hot_by post.limits.hot (mask_of post.masks (phase_of post.state)) page)
     (ne_eqb _ 1 (λ odd. absurd (omega arith)))
 
 -- what is true of all that waited is true of what each found look was

@@ -74,6 +74,7 @@ fn is_asked(lead: &Lead, hint: &Hint, splits: bool, end: End) -> bool
 // Releases the next phase; before a split one it chooses that phase's hot pages, and publishes their mask.
 fn release(lead: &mut Lead, board: &Board)
     requires here { lead.old.board ≡ board_id board.now }
+    requires limits { lead.old.seat.opening.limits ≡ service_limits }
     requires saw { SawAllIn lead.old.seat }
     ensures { ReleasesNext lead.old lead.new }
 {

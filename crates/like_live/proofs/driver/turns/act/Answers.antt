@@ -1,7 +1,12 @@
-use Rattle.std.proofs.Common.{refl, arith}
+use Rattle.std.proofs.Common.{ap, ◌∙◌, refl, arith}
 use Rattle.std.proofs.lemmas.Bool.{false≢true, not-false}
+use Rattle.like_seat.specs.Lead.{LeadView}
 use Rattle.like_live.specs.Driver.{announces, releases}
 use Rattle.like_live.proofs.driver.turns.act.Goals as goal
+
+pub release-requires-clause-limits : goal.release-requires-clause-limits
+release-requires-clause-limits c =
+    ap (λ (l : LeadView). l.seat.opening.limits) c.look-sight.ensures.saw ∙ c.requires.limits
 
 pub returns-then-sight : goal.returns-then-sight
 returns-then-sight c = record {

@@ -1,5 +1,6 @@
 use Rattle.std.proofs.Common.{◌≡◌, ◌%◌, ◌==◌, ℕ, true, false, sym, ap, ◌∙◌, subst, arith}
 use Rattle.std.proofs.lemmas.Bool.{eq-eqb, eqb-true}
+use Rattle.like_core.specs.OpeningLimits.{has_slots}
 use Rattle.like_core.specs.Phase.{IsJoined, IsSplit}
 use Rattle.like_core.specs.views.Views.{MayRelease}
 use Rattle.like_seat.specs.Lead.{LeadView, released}
@@ -18,6 +19,9 @@ split phase differs =
 pub choose-mask-requires-clause-joined : goal.choose-mask-requires-clause-joined
 choose-mask-requires-clause-joined c =
     eqb-true (c.args.lead.now.seat.phase % 2) 0 (sym c.is_joined.ensures ∙ c.if-is_joined.true)
+
+pub choose-mask-requires-clause-plain : goal.choose-mask-requires-clause-plain
+choose-mask-requires-clause-plain c = ap (λ l. has_slots l) c.requires.limits
 
 pub release-requires-clause-may : goal.release-requires-clause-may
 release-requires-clause-may c =

@@ -4,8 +4,14 @@ use Rattle.like_seat.specs.Steps.{CountsLike}
 use Rattle.like_live.specs.declared.asked.Asked.{Asked}
 use Rattle.like_live.specs.Calls.{liked}
 use Rattle.like_live.specs.LiveView.{LiveView, with_seat}
-use Rattle.like_live.proofs.Requests.{not-full}
+use Rattle.like_live.proofs.Requests.{after-counted, not-full}
 use Rattle.like_live.proofs.live_seat.LiveSeat.like_now.Goals as goal
+
+pub invariant_of-self : goal.invariant_of-self
+invariant_of-self g c =
+    after-counted c.self.inside.seat c.count_like.new.self c.self.inside.found c.self.inside.pages c.self.inside.room
+    c.self.inside.half c.args.user c.args.page c.count_like.result c.self.invariant c.count_like.ensures.counts
+    c.count_like.ensures.seat
 
 pub returns-clause-case : goal.returns-clause-case
 returns-clause-case g c =
