@@ -1,19 +1,21 @@
 """The requests of a log dealt to files for runs: pages, users, and the parts of a log, which are a run each."""
 
+import array
 import collections
 import gc
 import itertools
 import os
 import re
 
+import ahead
 import rows
 from command import Fault, shown, write
 
 # The most pages, files, requests in a file and users that the program takes, and the most bytes in a page's name.
 PAGES, FILES, REQUESTS, USERS, NAME = 1024, 64, 1000000, 1000000, 64
 
-# How many requests are dealt before they are written.
-WRITTEN = 1 << 16
+# How many batches are dealt before they are written.
+WRITTEN = 16
 
 # What files say which part has a user's last like, and which page has which name in the files.
 LAST, NAMES = "number,part", "name,page"
@@ -33,6 +35,8 @@ def is_name(text):
 class Page:
     """A page: its name as CSV, its count at the start, its mark, and its likes in the log. Its requests go into the
     lists of its part."""
+
+    __slots__ = "text", "count", "split", "likes", "part", "texts"
 
     def __init__(self, name, count="0", split="no"):
         self.text, self.count, self.split = rows.field(name), count, split
@@ -80,7 +84,8 @@ class Dealt:
         self.kept = self.rest = None  # where some pages keep their names, which, and the page of all others
         self.others = 0
         self.users = collections.defaultdict(itertools.count().__next__)
-        self.last_part = {}  # by the user's number
+        self.last_part = array.array("H", bytes(2 * USERS))  # by the user's number: the part, from 1, or 0
+        self.read = log.read()  # how much of the log was read, in words
         self.add_part()
 
     def add_part(self):
@@ -127,19 +132,33 @@ class Dealt:
     def deal(self):
         """Gives each request to the file of its user, and writes it."""
         gc.disable()  # nothing here is a circle
-        pages, users, last_part, files = self.pages, self.users, self.last_part, self.files
-        for count, (line, op, user, name) in enumerate(self.log, 1):
-            page = pages.get(name) or self.add(name, line)
-            number = users[user]
-            if number == USERS:
-                raise self.log.fault(line, f"more than {USERS} users")
-            page.texts[number % files].append(f"{op},{number},{page.text}\n")
-            if op == "like":
-                page.likes += 1
-                last_part[number] = page.part
-            if not count % WRITTEN:
-                self.write_requests()
+        users, last_part, files = self.users, self.last_part, self.files
+        whats = []  # op and page, by number
+        with ahead.reading(self.log) as batches:
+            for count, batch in enumerate(batches, 1):
+                self.read = batch.read
+                whats += self.new_of(batch, len(whats))
+                numbers = list(map(users.__getitem__, batch.users))
+                if len(users) > USERS:
+                    raise self.log.fault(self.line_past(batch), f"more than {USERS} users")
+                for (op, page), user in zip(map(whats.__getitem__, batch.numbers), numbers):
+                    page.texts[user % files].append(f"{op},{user},{page.text}\n")
+                    if op == "like":
+                        page.likes += 1
+                        last_part[user] = page.part + 1
+                if not count % WRITTEN:
+                    self.write_requests()
         self.write_requests()
+
+    def new_of(self, batch, first):
+        """Op and page of what is new in a batch, from the number that is the first."""
+        for number, (op, name) in enumerate(batch.new, first):
+            page = self.pages.get(name) or self.add(name, batch.lines[batch.numbers.index(number)])
+            yield op, page
+
+    def line_past(self, batch):
+        """The line of the first user who is too many."""
+        return next(line for line, user in zip(batch.lines, batch.users) if self.users[user] >= USERS)
 
     def write_requests(self):
         for part in self.parts:
@@ -168,7 +187,8 @@ class Dealt:
         users = ((number, self.log.user(user)) for user, number in self.users.items())
         self.write_numbered("users.csv", rows.USERS, users)
         if self.has_parts:
-            self.write_numbered("last.csv", LAST, ((number, str(part)) for number, part in self.last_part.items()))
+            lasts = ((user, str(part - 1)) for user, part in enumerate(self.last_part) if part)
+            self.write_numbered("last.csv", LAST, lasts)
             self.write_numbered("names.csv", NAMES, self.stand_ins.items())
 
     def write_numbered(self, name, header, pairs):
@@ -192,8 +212,9 @@ class Dealt:
 def kept_names(log, earlier, rest):
     """The new pages of a log that keep their names where the others are named `rest`: all, or else the most liked."""
     likes = collections.Counter()
-    for _, op, _, page in log:
-        likes[page] += op == "like"
+    for _, whats, _ in log.batches():
+        for op, page in whats:
+            likes[page] += op == "like"
     if rest in likes and rest not in earlier:
         raise Fault(f"{log.name}: a page is named {shown(rest)}: take another name for --rest")
     new = [page for page in likes if page not in earlier]

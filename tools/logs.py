@@ -2,6 +2,7 @@
 
 import argparse
 import contextlib
+import itertools
 import operator
 import os
 import re
@@ -21,8 +22,8 @@ LETTERS = {b"b": b"\b", b"n": b"\n", b"r": b"\r", b"t": b"\t", b"v": b"\v"}
 # The least status of an answer that refuses a request.
 REFUSED = "400"
 
-# How much of a log is read at a time, and the most characters in a line.
-BLOCK, LONGEST = 1 << 18, 1 << 20
+# How much of a log is read at a time, how many rows are a batch, and the most bytes in a line.
+BLOCK, BATCH, LONGEST = 1 << 18, 4096, 1 << 20
 
 # How many requests the meaning of which is kept.
 KEPT = 1 << 17
@@ -35,7 +36,7 @@ class Log:
     """A log, which is read anew each time."""
 
     def __init__(self, name):
-        self.name, self.file = name, None
+        self.name, self.file, self.left_out = name, None, {}
 
     def fault(self, line, why):
         return Fault(f"{rows.called(self.name)}: line {line}: {why}")
@@ -45,8 +46,9 @@ class Log:
         return text
 
     def told(self):
-        """What was left out, in lines."""
-        return ()
+        """How many lines are left out, for what, and the first of them."""
+        for why, (count, line, text) in self.left_out.items():
+            yield f"left out {count}, {why}: the first is line {line}, {shown(text)}"
 
     def read(self):
         """How much of the log was read, in words."""
@@ -63,8 +65,8 @@ class Table(Log):
         super().__init__(name)
         self.columns = columns
 
-    def __iter__(self):
-        """The line, op, user and page of each request."""
+    def requests(self):
+        """The line, op, page and user of each request."""
         with rows.opened(self.name) as (file, self.file):
             records = rows.records_in(file, self.name, strict=True)
             line, header = next(records, (1, []))
@@ -79,7 +81,13 @@ class Table(Log):
                 op, user, page = pick(row)
                 if op not in ("like", "look"):
                     raise self.fault(line, f"{self.columns[0]} is {shown(op)}, and not like or look")
-                yield line, op, user, page
+                yield line, (op, page), user
+
+    def batches(self):
+        """The requests in batches: their lines, op and page of each, and their users."""
+        requests = self.requests()
+        while batch := list(itertools.islice(requests, BATCH)):
+            yield tuple(zip(*batch))
 
 
 def without_escapes(text):
@@ -92,25 +100,31 @@ def without_escapes(text):
 
 
 class Meanings(dict):
-    """What requests of a web server are, by their text: op, page and, where the pattern has one, user; or None."""
+    """What requests of a web server are, by their text: op and page, or nothing; and their users, if they tell them."""
 
     def __init__(self, patterns):
         super().__init__()
-        self.patterns = patterns
+        self.patterns, self.users = patterns, {}
 
     def __missing__(self, request):
         if len(self) == KEPT:
             self.clear()
+            self.users.clear()
         text = without_escapes(request) if "\\" in request else request
-        found = (self.meaning(op, pattern.match(text)) for op, pattern in self.patterns.items())
-        self[request] = next(filter(None, found), None)
+        matches = ((op, pattern.match(text)) for op, pattern in self.patterns.items())
+        op, match = next(filter(operator.itemgetter(1), matches), ("", None))
+        page = self.group(match, "page", 1)
+        if user := self.group(match, "user"):
+            self.users[request] = user
+        self[request] = (op, page) if page else None
         return self[request]
 
-    def meaning(self, op, match):
-        groups = match.re.groupindex if match else {}
-        page = match and match["page" if "page" in groups else 1]
-        user = match["user"] or "" if "user" in groups else ""
-        return (op, *(unquote(text, errors="surrogateescape") for text in (page, user))) if page else None
+    def group(self, match, name, place=0):
+        """A group by its name or its place, with escapes decoded."""
+        if not match or name not in match.re.groupindex and not place:
+            return ""
+        found = match[name if name in match.re.groupindex else place] or ""
+        return unquote(found, errors="surrogateescape") if "%" in found else found
 
 
 class Combined(Log):
@@ -118,7 +132,7 @@ class Combined(Log):
 
     def __init__(self, name, patterns):
         super().__init__(name)
-        self.patterns, self.left_out = patterns, {}
+        self.patterns = patterns
 
     def blocks(self, file):
         """The log in pieces of whole lines."""
@@ -134,35 +148,41 @@ class Combined(Log):
         if rest:
             yield rest + b"\n"
 
-    def __iter__(self):
-        """The line, op, user and page of each request."""
-        meanings, line, self.left_out = Meanings(self.patterns), 0, {}
+    def batches(self):
+        """The requests in batches: their lines, op and page of each, and their users."""
+        meanings, first, self.left_out = Meanings(self.patterns), 1, {}
+        has_requests = False
         with rows.opened(self.name) as (file, self.file):
             for block in self.blocks(file):
-                text, first = block.decode(errors="surrogateescape"), line + 1
-                for line, (address, user, request, status) in enumerate(LINE.findall(text), first):
-                    meaning = meanings[request]
-                    if meaning and status < REFUSED:
-                        op, page, named = meaning
-                        yield line, op, named or (address if user == "-" else user), page
-                    elif address:
-                        self.leave_out(FAILED if meaning else OTHER, line, request)
-                    else:
-                        self.leave_out(JUNK, line, "" if JUNK in self.left_out else text.split("\n")[line - first])
-        if line == sum(count for count, *_ in self.left_out.values()):
+                text = block.decode(errors="surrogateescape")
+                found = LINE.findall(text)
+                batch = self.batch_of(found, text, first, meanings)
+                first += len(found)
+                if batch[0]:
+                    has_requests = True
+                    yield batch
+        if not has_requests:
             raise Fault(f"{rows.called(self.name)}: no request: {'; '.join(self.told()) or 'it has no line'}")
+
+    def batch_of(self, found, text, first, meanings):
+        """The requests of a piece of the log, from the line that is the first."""
+        addresses, users, requests, statuses = zip(*found)
+        whats = list(map(meanings.__getitem__, requests))
+        for at, (what, status) in enumerate(zip(whats, statuses)):
+            if not what or status >= REFUSED:
+                whats[at] = None
+                why = FAILED if what else OTHER if addresses[at] else JUNK
+                if why not in self.left_out:
+                    self.left_out[why] = [0, first + at, requests[at] or text.split("\n")[at] * (why == JUNK)]
+                self.left_out[why][0] += 1
+        if meanings.users or "-" in users:
+            named = map(meanings.users.get, requests)
+            users = [name or (address if user == "-" else user) for name, address, user in zip(named, addresses, users)]
+        lines = itertools.compress(itertools.count(first), whats)
+        return list(lines), list(filter(None, whats)), list(itertools.compress(users, whats))
 
     def user(self, text):
         return without_escapes(text) if "\\" in text else text
-
-    def leave_out(self, why, line, text):
-        count, *first = self.left_out.get(why, (0, line, text))
-        self.left_out[why] = (count + 1, *first)
-
-    def told(self):
-        """How many lines are left out, for what, and the first of them."""
-        for why, (count, line, text) in self.left_out.items():
-            yield f"left out {count}, {why}: the first is line {line}, {shown(text)}"
 
 
 def pattern(text):

@@ -1,0 +1,87 @@
+"""The requests of a log in batches, which a process of its own reads ahead."""
+
+import collections
+import contextlib
+import fcntl
+import marshal
+import os
+import signal
+
+import rows
+from command import Fault
+
+# How many bytes the length of a batch has, and how many the pipe holds.
+LENGTH, ROOM = 8, 1 << 20
+
+# Requests: the line, the number of what each is, and the user; op and page of each number that is new; and how much of
+# the log was read, in words.
+Batch = collections.namedtuple("Batch", "lines numbers users new read")
+
+
+class Numbers(dict):
+    """The number of each op and page, by their first appearance, and those that are new."""
+
+    def __missing__(self, what):
+        self.new.append(what)
+        self[what] = len(self)
+        return self[what]
+
+
+def batches(log):
+    """The requests of a log."""
+    numbers = Numbers()
+    for lines, whats, users in log.batches():
+        numbers.new = []
+        yield lines, list(map(numbers.__getitem__, whats)), users, numbers.new, log.read()
+
+
+def send(log, out):
+    """Sends the batches of a log, and at the end what it left out, or its fault."""
+    try:
+        for batch in batches(log):
+            put(out, batch)
+        put(out, log.left_out)
+    except Fault as fault:
+        put(out, str(fault))
+
+
+def put(out, value):
+    data = marshal.dumps(value)
+    out.write(len(data).to_bytes(LENGTH, "little") + data)
+
+
+def take(file, log):
+    """The next batch, or nothing at the end."""
+    length = int.from_bytes(file.read(LENGTH), "little")
+    data = file.read(length)
+    if len(data) < max(length, 1):
+        raise Fault(f"{rows.called(log.name)}: what reads it was stopped")
+    value = marshal.loads(data)
+    if isinstance(value, str):
+        raise Fault(value)
+    if isinstance(value, dict):
+        log.left_out = value
+        return None
+    return Batch(*value)
+
+
+@contextlib.contextmanager
+def reading(log):
+    """The batches of a log, while a process of its own reads them."""
+    ours, theirs = os.pipe()
+    with contextlib.suppress(AttributeError, OSError):  # an old Python, or a limit of the system
+        fcntl.fcntl(theirs, fcntl.F_SETPIPE_SZ, ROOM)
+    child = os.fork()
+    if child == 0:
+        # It ends when all is read, at a signal, or when nobody takes the next batch.
+        with contextlib.suppress(BaseException), open(theirs, "wb") as out:
+            os.close(ours)
+            send(log, out)
+        os._exit(0)
+    os.close(theirs)
+    try:
+        with open(ours, "rb") as file:
+            yield iter(lambda: take(file, log), None)
+    finally:
+        os.kill(child, signal.SIGKILL)
+        os.waitpid(child, 0)
