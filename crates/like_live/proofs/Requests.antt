@@ -48,22 +48,22 @@ after-sliced s t found pages room half user page parts is kept =
     let new : StationView Asked = liked_last (sliced s page) user page in
     let live = parts.live in
     subst (λ x. AreLiveSeatParts x found pages room half) (sym is) (
-      record {
-        live = record {
-          seat = subst (λ x. IsStation x) is kept;
-          limits = live.limits;
-          home = live.home;
-          split = live.split;
-          own = λ k d below. (let o = live.own k d below in record { there = o.there; owned = o.owned });
-          asked = live.asked;
-          next = live.next;
-          room = live.room;
-        };
-        capacity = parts.capacity;
-        pages_are = parts.pages_are;
-        room_is = parts.room_is;
-        half_is = parts.half_is;
-      }
+    record {
+      live = record {
+        seat = subst (λ x. IsStation x) is kept;
+        limits = live.limits;
+        home = live.home;
+        split = live.split;
+        own = λ k d below. (let o = live.own k d below in record { there = o.there; owned = o.owned });
+        asked = live.asked;
+        next = live.next;
+        room = live.room;
+      };
+      capacity = parts.capacity;
+      pages_are = parts.pages_are;
+      room_is = parts.room_is;
+      half_is = parts.half_is;
+    }
     )
 
 -- nor does a like on the board
@@ -75,22 +75,22 @@ after-added : (s t : StationView Asked) (found : Waiting Found) (pages room half
 after-added s t found pages room half user page count parts is kept =
     let live = parts.live in
     subst (λ x. AreLiveSeatParts x found pages room half) (sym is) (
-      record {
-        live = record {
-          seat = subst (λ x. IsStation x) is kept;
-          limits = live.limits;
-          home = live.home;
-          split = live.split;
-          own = λ k d below. (let o = live.own k d below in record { there = o.there; owned = o.owned });
-          asked = live.asked;
-          next = live.next;
-          room = live.room;
-        };
-        capacity = parts.capacity;
-        pages_are = parts.pages_are;
-        room_is = parts.room_is;
-        half_is = parts.half_is;
-      }
+    record {
+      live = record {
+        seat = subst (λ x. IsStation x) is kept;
+        limits = live.limits;
+        home = live.home;
+        split = live.split;
+        own = λ k d below. (let o = live.own k d below in record { there = o.there; owned = o.owned });
+        asked = live.asked;
+        next = live.next;
+        room = live.room;
+      };
+      capacity = parts.capacity;
+      pages_are = parts.pages_are;
+      room_is = parts.room_is;
+      half_is = parts.half_is;
+    }
     )
 
 -- so the parts agree after a like that is counted
