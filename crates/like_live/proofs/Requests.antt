@@ -1,14 +1,17 @@
 -- What is known of a request that is accepted.
-use Rattle.std.proofs.Common.{◌≡◌, ◌%◌, ◌<◌, ◌^◌, ℕ, Option, Some, None, true, nat_lt, ap, sym, subst, ◌∙◌, arith}
+use Rattle.std.proofs.Common.{◌≡◌, ◌%◌, ◌<◌, ◌^◌, ℕ, List, Option, Some, None, true, nat_lt, ap, sym, subst, ◌∙◌, arith}
 use Rattle.std.proofs.Math.Nat.{mod-mod}
 use Rattle.std.proofs.lemmas.Bool.{and_from, and_parts, eq-eqb, eqb-true}
 use Rattle.like_core.specs.OpeningLimits.{service_limits}
+use Rattle.like_core.specs.declared.view.Addition.{Addition}
 use Rattle.like_requests.specs.Verdict.{is_accepted}
 use Rattle.like_requests.specs.declared.request.Request.{Request}
 use Rattle.like_seat.specs.StationView.{IsStation, StationView}
 use Rattle.like_tables.specs.Share.{Share, owns}
 use Rattle.like_seat.specs.StationView.{likes_of}
+use Rattle.like_seat.specs.SlicedLike.{SlicedLike}
 use Rattle.like_seat.specs.Steps.{CountsLike, liked_last, sliced, with_addition}
+use Rattle.like_tables.specs.UserTable.{with_last}
 use Rattle.like_tables.specs.Waiting.{Waiting}
 use Rattle.like_live.specs.declared.asked.Asked.{Asked}
 use Rattle.like_live.specs.declared.asked.Found.{Found}
@@ -38,19 +41,26 @@ not-full s kept limits some =
     let few = kept.few in
     omega arith
 
--- a like in the slice changes nothing of what a live seat's parts agree on, if the seat is one still
-after-sliced : (s t : StationView Asked) (found : Waiting Found) (pages room half user page : ℕ)
+-- the seat with these additions, slice, likes that went into it, and last likes
+abbrev liked_in : StationView Asked → List Addition → List ℕ → List SlicedLike → List (Option ℕ) → StationView Asked
+liked_in s additions slice likes lasts = record s {
+  post = record s.post { additions = additions };
+  slice = slice;
+  sliced = likes;
+  last = record s.last { last = lasts };
+}
+
+-- a live seat's parts agree as before, where nothing changed but what a like changes and it is a seat still
+after-like : (s : StationView Asked) (found : Waiting Found) (pages room half : ℕ)
+    (additions : List Addition) (slice : List ℕ) (likes : List SlicedLike) (lasts : List (Option ℕ))
     → AreLiveSeatParts s found pages room half
-    → t ≡ liked_last (sliced s page) user page
-    → IsStation t
-    → AreLiveSeatParts t found pages room half
-after-sliced s t found pages room half user page parts is kept =
-    let new : StationView Asked = liked_last (sliced s page) user page in
+    → IsStation (liked_in s additions slice likes lasts)
+    → AreLiveSeatParts (liked_in s additions slice likes lasts) found pages room half
+after-like s found pages room half additions slice likes lasts parts kept =
     let live = parts.live in
-    subst (λ x. AreLiveSeatParts x found pages room half) (sym is) (
     record {
       live = record {
-        seat = subst (λ x. IsStation x) is kept;
+        seat = kept;
         limits = live.limits;
         home = live.home;
         split = live.split;
@@ -64,42 +74,20 @@ after-sliced s t found pages room half user page parts is kept =
       room_is = parts.room_is;
       half_is = parts.half_is;
     }
-    )
 
--- nor does a like on the board
-after-added : (s t : StationView Asked) (found : Waiting Found) (pages room half user page count : ℕ)
-    → AreLiveSeatParts s found pages room half
-    → t ≡ liked_last (with_addition s page count 1) user page
-    → IsStation t
-    → AreLiveSeatParts t found pages room half
-after-added s t found pages room half user page count parts is kept =
-    let live = parts.live in
-    subst (λ x. AreLiveSeatParts x found pages room half) (sym is) (
-    record {
-      live = record {
-        seat = subst (λ x. IsStation x) is kept;
-        limits = live.limits;
-        home = live.home;
-        split = live.split;
-        own = λ k d below. (let o = live.own k d below in record { there = o.there; owned = o.owned });
-        asked = live.asked;
-        next = live.next;
-        room = live.room;
-      };
-      capacity = parts.capacity;
-      pages_are = parts.pages_are;
-      room_is = parts.room_is;
-      half_is = parts.half_is;
-    }
-    )
-
--- so the parts agree after a like that is counted
+-- so they do after a like that is counted
 pub after-counted : (s t : StationView Asked) (found : Waiting Found) (pages room half user page : ℕ) (old : Option ℕ)
     → AreLiveSeatParts s found pages room half
     → CountsLike s user page old t
     → IsStation t
     → AreLiveSeatParts t found pages room half
 after-counted s t found pages room half user page None parts c kept =
-    after-sliced s t found pages room half user page parts c.1 kept
+    let lasts = (with_last s.last user page).last in
+    let new : StationView Asked = liked_last (sliced s page) user page in
+    subst (λ x. AreLiveSeatParts x found pages room half) (sym c.1)
+    (after-like s found pages room half s.post.additions new.slice new.sliced lasts parts (subst (λ x. IsStation x) c.1 kept))
 after-counted s t found pages room half user page (Some count) parts c kept =
-    after-added s t found pages room half user page count parts c.1 kept
+    let lasts = (with_last s.last user page).last in
+    let new : StationView Asked = liked_last (with_addition s page count 1) user page in
+    subst (λ x. AreLiveSeatParts x found pages room half) (sym c.1)
+    (after-like s found pages room half new.post.additions s.slice s.sliced lasts parts (subst (λ x. IsStation x) c.1 kept))
