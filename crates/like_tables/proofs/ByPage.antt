@@ -1,12 +1,11 @@
 -- The likes of a slice of split pages, page by page.
-use Rattle.std.proofs.Common.{◌≡◌, ◌≢◌, ℕ, ◌+◌, ◌<◌, ◌≤◌, ◌⊎◌, Bool, true, false, cond, eqb, List, length, get_or, set, map, replicate, Option, None, Some, inl, inr, refl, sym, ap, ◌∙◌, arith, length-set, get_or-set_same, get_or-set_other}
-use Rattle.std.specs.List.{range_with_len}
+use Rattle.std.proofs.Common.{◌≡◌, ◌≢◌, ℕ, ◌<◌, ◌⊎◌, Bool, true, false, cond, length, get_or, set, replicate, Option, None, Some, inl, inr, refl, sym, ap, ◌∙◌, arith, length-set, get_or-set_same, get_or-set_other}
 use Rattle.std.proofs.lemmas.Bool.{cases_eq, eq-eqb, eqb-true}
-use Rattle.std.proofs.lemmas.List.{get_or_default, get_or_past, get_or-replicate, length-replicate, same_lists}
+use Rattle.std.proofs.lemmas.List.{get_or-replicate, length-replicate, same_lists}
 use Rattle.std.proofs.lemmas.List.FromFn.{get_or-map-range_with_len, length-map-range_with_len}
-use Rattle.like_limits.specs.Buckets.{bucket, buckets}
+use Rattle.like_limits.specs.Buckets.{bucket}
 use Rattle.like_tables.specs.SplitPages.{AreSplitPages, MayPut, SplitPages, beside, is_page, is_split, page_in, with_page}
-use Rattle.like_tables.specs.SplitSlice.{IsSplitSlice, SplitSlice, bucket_in, by_page, has_split, likes_in, no_slice, with_likes}
+use Rattle.like_tables.specs.SplitSlice.{IsSplitSlice, SplitSlice, bucket_in, by_page, has_split, likes_in, with_likes}
 
 pub length-by_page : (s : SplitSlice) (n : ℕ) → length (by_page s n) ≡ n
 length-by_page s n = length-map-range_with_len (likes_in s) 0 n

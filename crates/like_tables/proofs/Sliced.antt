@@ -1,10 +1,9 @@
 -- What a slice of split pages has of each page.
-use Rattle.std.proofs.Common.{◌≡◌, ◌≢◌, ℕ, ◌+◌, ◌<◌, ◌≤◌, ◌^◌, Bool, true, false, cond, List, length, get_or, set, map, replicate, Option, None, Some, inl, inr, refl, sym, ap, ◌∙◌, arith, length-set, get_or-set_same, get_or-set_other}
-use Rattle.std.specs.List.{range_with_len}
-use Rattle.std.proofs.lemmas.Bool.{cases_eq, cases_lt, eq-eqb}
+use Rattle.std.proofs.Common.{◌≡◌, ℕ, ◌<◌, ◌^◌, Bool, true, cond, length, get_or, replicate, Option, None, Some, inl, inr, refl, sym, ap, ◌∙◌, arith}
+use Rattle.std.proofs.lemmas.Bool.{cases_lt, eq-eqb}
 use Rattle.std.proofs.lemmas.List.{get_or_default, get_or_past, get_or-replicate, length-replicate, same_lists}
-use Rattle.like_limits.specs.Buckets.{bucket, buckets}
-use Rattle.like_tables.specs.SplitPages.{AreSplitPages, is_page, none_split, page_in}
+use Rattle.like_limits.specs.Buckets.{buckets}
+use Rattle.like_tables.specs.SplitPages.{is_page, none_split, page_in}
 use Rattle.like_tables.specs.SplitSlice.{IsSplitSlice, SplitSlice, bucket_in, has_split, likes_in, no_slice}
 
 -- no bucket holds a page at first

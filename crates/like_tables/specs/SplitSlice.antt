@@ -1,5 +1,5 @@
 -- A worker's slice of its split pages.
-use Rattle.std.specs.Prelude.{◌≡◌, ◌≢◌, ℕ, ◌+◌, ◌<◌, ◌≤◌, if◌then◌else◌, Bool, true, List, length, map, replicate, slice_index, slice_set, None}
+use Rattle.std.specs.Prelude.{◌≡◌, ◌≢◌, ℕ, ◌<◌, ◌≤◌, if◌then◌else◌, Bool, true, List, length, map, replicate, slice_index, slice_set, None}
 use Rattle.std.specs.List.{range_with_len}
 use Rattle.like_limits.specs.Buckets.{bucket, buckets}
 use Rattle.like_tables.specs.SplitPages.{AreSplitPages, SplitPages, is_split, none_split, page_in, with_page}

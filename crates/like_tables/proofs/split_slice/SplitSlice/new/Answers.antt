@@ -1,5 +1,5 @@
-use Rattle.std.proofs.Common.{◌≡◌, subst, sym}
-use Rattle.like_tables.specs.SplitSlice.{IsSplitSlice, SplitSlice, no_slice}
+use Rattle.std.proofs.Common.{subst, sym}
+use Rattle.like_tables.specs.SplitSlice.{IsSplitSlice}
 use Rattle.like_tables.proofs.Sliced.{IsSplitSlice-none}
 use Rattle.like_tables.proofs.split_slice.SplitSlice.new.Goals as goal
 
