@@ -70,8 +70,8 @@ typedef struct likes_options {
     uint32_t seats; /* 1 to LIKES_MAX_SEATS */
     uint32_t users; /* 1 to 2^32 - 1. Users are numbered from 0, and take 4 bytes each. */
     uint32_t room;  /* how many looks a seat keeps, waiting and found ones together: 1 to LIKES_MAX_ROOM */
-    uint32_t hot;   /* 1 to LIKES_MAX_HOT: one of the first 64 pages that gets this many likes between two choices
-                       becomes hot; 0: none does */
+    uint32_t hot;   /* 1 to LIKES_MAX_HOT: a page that gets about this many likes between two choices is split; 1 to
+                       511 act as 512. 0: only marked pages are, and those of likes_driver_propose */
     uint64_t reserved[6]; /* 0 */
 } likes_options;
 
@@ -236,7 +236,7 @@ uint64_t likes_seat_phase(likes_seat *seat);
 /* Whether a turn may end the phase. */
 enum likes_end {
     LIKES_NO_END = 0,
-    LIKES_END_IF_IT_SERVES = 1, /* a joined phase goes on if no page is marked and none can get hot */
+    LIKES_END_IF_IT_SERVES = 1, /* a joined phase goes on if nothing would be split in the next one */
     LIKES_END = 2               /* in any case, for a snapshot */
 };
 
@@ -254,6 +254,16 @@ uint32_t likes_driver_turn(likes_driver *driver, uint32_t end);
  * a turn releases the next phase, further calls write the counts of other pages at the same moment. Else nothing is
  * written: the first that applies of LIKES_EMPTY, WRONG_RANGE and NO_MOMENT. */
 static inline uint32_t likes_driver_snapshot(likes_driver *driver, uint32_t from, uint64_t *counts, size_t counts_len);
+
+/* Writes the pages that are split in the present split phase, or were in the last one, as many as the array has room for,
+ * and answers how many. With room for 64 these are all. Before the first split phase they are the marked ones. An empty
+ * handle has none. */
+static inline size_t likes_driver_split_pages(likes_driver *driver, uint32_t *pages, size_t pages_len);
+
+/* From now on these pages are proposed for split phases, the first 64 of them, in place of those that the library finds by
+ * itself; none: it finds them again. They are split beside the marked ones, but for those that are no pages or share a
+ * bucket of a seat's table with another one. LIKES_OK, or LIKES_EMPTY. */
+static inline uint32_t likes_driver_propose(likes_driver *driver, const uint32_t *pages, size_t pages_len);
 
 /* The present phase. Phases with odd numbers are split. */
 uint64_t likes_driver_phase(likes_driver *driver);
@@ -308,6 +318,8 @@ size_t likes_seat_run_nonnull(likes_seat *seat, const likes_request *requests, s
                               likes_answer *answers, size_t answers_len);
 uint32_t likes_driver_snapshot_nonnull(likes_driver *driver, uint32_t from, uint64_t *counts, size_t counts_len);
 uint32_t likes_driver_last_counts_nonnull(likes_driver *driver, uint32_t from, uint64_t *counts, size_t counts_len);
+size_t likes_driver_split_pages_nonnull(likes_driver *driver, uint32_t *pages, size_t pages_len);
+uint32_t likes_driver_propose_nonnull(likes_driver *driver, const uint32_t *pages, size_t pages_len);
 void likes_seat_free_nonnull(likes_seat *seat);
 void likes_driver_free_nonnull(likes_driver *driver);
 void likes_phase_free_nonnull(likes_phase *phase);
@@ -337,6 +349,16 @@ static inline size_t likes_seat_run(likes_seat *seat, const likes_request *reque
 static inline uint32_t likes_driver_snapshot(likes_driver *driver, uint32_t from, uint64_t *counts, size_t counts_len) {
     uint64_t no_count;
     return likes_driver_snapshot_nonnull(driver, from, counts_len == 0 ? &no_count : counts, counts_len);
+}
+
+static inline size_t likes_driver_split_pages(likes_driver *driver, uint32_t *pages, size_t pages_len) {
+    uint32_t no_page;
+    return likes_driver_split_pages_nonnull(driver, pages_len == 0 ? &no_page : pages, pages_len);
+}
+
+static inline uint32_t likes_driver_propose(likes_driver *driver, const uint32_t *pages, size_t pages_len) {
+    static const uint32_t no_page = 0;
+    return likes_driver_propose_nonnull(driver, pages_len == 0 ? &no_page : pages, pages_len);
 }
 
 static inline uint32_t likes_driver_last_counts(likes_driver *driver, uint32_t from, uint64_t *counts,

@@ -1,7 +1,8 @@
 -- A call of what a handle holds, and what likes.h tells of it.
-use Rattle.std.specs.Prelude.{◌≡◌, ◌≢◌, ◌⊎◌, ℕ, ◌+◌, ◌≤◌, ◌<◌, ◌==◌, if◌then◌else◌, Bool, true, false, length, min, replicate, slice_get, take, List, [], ◌∷◌, ◌++◌, Option, Some, None, Result, Ok, Err}
+use Rattle.std.specs.Prelude.{◌≡◌, ◌≢◌, ◌⊎◌, ℕ, ◌+◌, ◌≤◌, ◌<◌, ◌==◌, if◌then◌else◌, Bool, true, false, drop, length, min, replicate, slice_get, take, List, [], ◌∷◌, ◌++◌, Option, Some, None, Result, Ok, Err}
 use Rattle.std.specs.Global.{Global}
 use Rattle.std_alloc.specs.declared.boxed.Box.{Box}
+use Rattle.like_choice.specs.Slots.{pages_in_use}
 use Rattle.like_live.specs.LiveView.{LiveView, RanNext}
 use Rattle.like_live.specs.declared.answer.GlanceAnswer.{GlanceAnswer}
 use Rattle.like_live.specs.declared.answer.LikeAnswer.{LikeAnswer}
@@ -69,6 +70,21 @@ PhaseAt at phase after = At (phase ≡ 0) (λ s t. (phase ≡ phase_at s.seat.se
 
 abbrev pub DriverPhaseAt : Option Opened → ℕ → Option Opened → Type 0
 DriverPhaseAt at phase after = At (phase ≡ 0) (λ o p. (phase ≡ o.driver.lead.seat.phase) × (p ≡ o)) at after
+
+-- the first split pages are written, as many as there is room for, and nothing changes
+pub record TellsSplit (old : List ℕ) (many : ℕ) (pages : List ℕ) (o p : Opened) : Type 0 where
+  pub len : length pages ≡ length old
+  pub few : many ≤ length old
+  pub told : take many pages ≡ take (length old) (pages_in_use o.driver.splits.slots)
+  pub rest : drop many pages ≡ drop many old
+  pub same : p ≡ o
+
+abbrev pub SplitPagesAt : Option Opened → List ℕ → ℕ → List ℕ → Option Opened → Type 0
+SplitPagesAt at old many pages after = At ((many ≡ 0) × (pages ≡ old)) (TellsSplit old many pages) at after
+
+-- pages are proposed, of which no more is known
+abbrev pub ProposesAt : Option Opened → ℕ → Option Opened → Type 0
+ProposesAt at result after = At (result ≡ status.empty) (λ o p. (result ≡ status.ok) × (p ≡ o)) at after
 
 -- a found look is taken, and its row is written: it ran in the phase after the one in which it was asked. If there is
 -- none, the row stays as it was

@@ -1,9 +1,8 @@
 -- What a service is opened with from C.
 use Rattle.std.specs.Prelude.{◌≡◌, ◌==◌, if◌then◌else◌, ℕ, List, map, reverse, IsSome, Option, Some, None}
 use Rattle.like_live.specs.declared.opening.Opening.{Opening}
-use Rattle.like_live.specs.declared.service.Service.{Service}
 use Rattle.like_live.specs.Opening.{Asking, asking}
-use Rattle.like_live.specs.Service.{IsOpened}
+use Rattle.like_live.specs.Service.{AreOpened}
 use Rattle.like_live.specs.LiveView.{LiveView}
 use Rattle.std.specs.Global.{Global}
 use Rattle.std_alloc.specs.declared.boxed.Box.{Box}
@@ -36,8 +35,5 @@ seat_in b = b.value.seat
 pub record IsOpenedAs (asked : Asking) (it : Opened) : Type 0 where
   pub opening : Opening
   pub asks : asking opening ≡ asked
-  pub service : Service
-  pub opened : IsOpened opening service
-  pub driver : it.driver ≡ service.driver
-  pub seats : reverse (map seat_in it.seats.items) ≡ service.seats.items
+  pub opened : AreOpened opening it.driver (reverse (map seat_in it.seats.items))
   pub phase : IsSome it.phase

@@ -3,7 +3,7 @@
 #![tactic(auto)]
 
 ghost use Rattle.std.specs.Prelude.{◌≡◌, ◌<◌, ◌≤◌, ℕ, length, slice_get, None};
-ghost use Rattle.like_c.specs.Held.{DriverPhaseAt, DrivesAt, GlancesAt, HandsPhase, HandsSeat, LastAt, LastLikeAt, LastLikesAt, LikesAt, LooksAt, OpensAt, PhaseAt, PhaseNowAt, RetiresAt, RunsAt, SnapshotAt, TakesFoundAt, TurnsAt, end_of};
+ghost use Rattle.like_c.specs.Held.{DriverPhaseAt, DrivesAt, GlancesAt, HandsPhase, HandsSeat, LastAt, LastLikeAt, LastLikesAt, LikesAt, LooksAt, OpensAt, PhaseAt, PhaseNowAt, ProposesAt, RetiresAt, RunsAt, SnapshotAt, SplitPagesAt, TakesFoundAt, TurnsAt, end_of};
 ghost use Rattle.like_c.specs.Status.{version};
 
 mod driver_handle;
@@ -24,7 +24,7 @@ pub use seat_handle::SeatHandle;
 use std::alloc::Global;
 
 /// 1,000 times the number of the ABI, plus a number within it.
-const VERSION: u32 = 3;
+const VERSION: u32 = 4;
 
 /// The version of `likes.h` that the library has.
 #[unsafe(no_mangle)]
@@ -154,6 +154,33 @@ pub extern "C" fn likes_driver_phase(driver: &mut DriverHandle) -> u64
         Some(opened) => opened.driver.phase(),
         None => 0,
     }
+}
+
+/// The pages that are split in the present or last split phase, as many as there is room for. The answer is how many were
+/// written.
+#[unsafe(no_mangle)]
+pub extern "C" fn likes_driver_split_pages_nonnull(
+    driver: &mut DriverHandle,
+    pages: &mut [u32],
+) -> usize
+    ensures { SplitPagesAt driver.old.home pages.old result pages.new driver.new.home }
+{
+    let Some(opened) = driver.get() else {
+        return 0;
+    };
+    opened.driver.split_pages(pages)
+}
+
+/// Proposes these pages for slots from now on. If there are none, the service finds them by sampling.
+#[unsafe(no_mangle)]
+pub extern "C" fn likes_driver_propose_nonnull(driver: &mut DriverHandle, pages: &[u32]) -> u32
+    ensures { ProposesAt driver.old.home result driver.new.home }
+{
+    let Some(opened) = driver.get() else {
+        return status::EMPTY;
+    };
+    opened.driver.propose(pages);
+    status::OK
 }
 
 /// The last counts of the pages from one on, once all seats are gone. No seats are given back: C cannot show whose they

@@ -5,6 +5,7 @@ ghost use Rattle.like_c.specs.Opened.{IsOpenedAs, asked_of, hot_of, seat_in};
 
 use crate::rows::Options;
 use like_board::SharedPost;
+use like_choice::Guided;
 use like_live::{Driver, LiveSeat, OpenError, Opening, PhaseNow, Service};
 use std::alloc::{AllocError, Global};
 
@@ -33,7 +34,7 @@ pub struct BoxedPhase {
 #[derive(Drop)]
 #[repr(C)]
 pub struct Opened {
-    pub(crate) driver: Driver,
+    pub(crate) driver: Driver<Guided>,
     pub(crate) seats: Vec<Box<BoxedSeat, Global>>,
     pub(crate) phase: Option<Box<BoxedPhase, Global>>,
     apart: Apart,
@@ -99,7 +100,10 @@ fn boxed(
     Ok(boxed)
 }
 
-fn boxed_phase(alloc: Global, driver: &Driver) -> Result<Box<BoxedPhase, Global>, AllocError> {
+fn boxed_phase(
+    alloc: Global,
+    driver: &Driver<Guided>,
+) -> Result<Box<BoxedPhase, Global>, AllocError> {
     let phase = driver.phase_now()?;
     Ok(Box::new(
         alloc,

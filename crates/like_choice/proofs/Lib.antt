@@ -3,3 +3,4 @@ pub mod Filling
 pub mod Choosing
 pub mod Newly
 pub mod Proposals
+pub mod Written

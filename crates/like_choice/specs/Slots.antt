@@ -1,6 +1,6 @@
 -- The slots of a service, and what a choice makes of them.
-use Rattle.std.specs.Prelude.{◌≡◌, ℕ, ◌-◌, ◌^◌, ◌<◌, ◌≤◌, ◌⊎◌, true, List, ◌++◌, length, replicate, slice_index}
-use Rattle.std.specs.List.{Contains}
+use Rattle.std.specs.Prelude.{◌≡◌, ℕ, ◌-◌, ◌^◌, ◌<◌, ◌≤◌, ◌⊎◌, true, List, ◌++◌, length, replicate, slice_index, ◌||◌, nat_lt, Bool, filter, map}
+use Rattle.std.specs.List.{list_any, range_with_len, Contains}
 use Rattle.like_limits.specs.Limits.{hot_pages}
 use Rattle.like_limits.specs.Buckets.{bucket}
 use Rattle.like_core.specs.Functions.{has_bit}
@@ -43,6 +43,19 @@ IsTaken factor slots bits page =
 abbrev pub IsFull : ℕ → Type 0
 IsFull bits = (slot : ℕ) → slot < hot_pages → has_bit bits slot ≡ true
 
+-- the pages of the slots in use, of the first so many, in order
+unfoldable pub pages_below : List ℕ → ℕ → ℕ → List ℕ
+pages_below slots bits many = map (slice_index slots) (filter (has_bit bits) (range_with_len 0 many))
+
+-- the pages in the slots in use, in order
+abbrev pub pages_in_use : SlotsView → List ℕ
+pages_in_use v = pages_below v.slots v.bits hot_pages
+
+-- whether a choice among these pages would leave a slot in use: a page is marked, or one of these is a page of the
+-- service
+abbrev pub would_use : SlotsView → List ℕ → Bool
+would_use v proposed = nat_lt 0 v.marks || list_any (λ page. nat_lt page v.pages) proposed
+
 -- what is always so: the pages in the slots in use are a lawful choice, and the marked ones are in theirs
 pub record AreSlots (v : SlotsView) : Type 0 where
   pub choice : IsChoice v.factor v.pages (slice_index v.slots) v.bits
@@ -69,5 +82,5 @@ pub record Chooses (old : SlotsView) (proposed : List ℕ) (new : SlotsView) : T
   pub asked : (slot : ℕ) → IsInUse new.bits slot
       → (slot < new.marks) ⊎ Contains proposed (slice_index new.slots slot)
   -- a page of the service that is proposed is in, unless another one has its bucket or no slot is left
-  pub left_out : (page : ℕ) → Contains proposed page → page < new.pages
+  pub left : (page : ℕ) → Contains proposed page → page < new.pages
       → IsTaken new.factor new.slots new.bits page ⊎ IsFull new.bits

@@ -1,5 +1,7 @@
 use crate::proposal::Proposal;
+use crate::samples::sampler::Sampler;
 use crate::slots::Slots;
+use std::alloc::AllocError;
 
 /// What proposes the pages that get slots in the split phase that comes next.
 ///
@@ -7,4 +9,10 @@ use crate::slots::Slots;
 pub trait Choice {
     /// Writes a new proposal over the old one, the most popular page first. The slots are those of the last choice.
     fn propose(&mut self, slots: &Slots, proposed: &mut Proposal);
+
+    /// What a seat samples its requests with: made for each seat once, when its service is opened. A choice that needs no
+    /// samples leaves it as it is.
+    fn sampler(&self, _seat: u32) -> Result<Sampler, AllocError> {
+        Ok(Sampler::idle())
+    }
 }

@@ -5,12 +5,14 @@
 mod bits;
 mod bucket;
 mod choice;
+mod guided;
 mod proposal;
 mod proposed;
 mod samples;
 mod slots;
 
 pub use choice::Choice;
+pub use guided::Guided;
 pub use proposal::Proposal;
 pub use proposed::{NoProposal, Proposed};
 pub use samples::Samples;

@@ -1,4 +1,4 @@
-ghost use Rattle.std.specs.Prelude.{◌≡◌, ◌<◌, IfOk};
+ghost use Rattle.std.specs.Prelude.{◌≡◌, IfOk};
 
 mod best;
 mod entry;
@@ -44,9 +44,8 @@ impl Model for Samples {
 }
 
 impl Samples {
-    /// For so many seats. A page is popular from `hot` likes between two choices on, where the likes before them count
-    /// too, a sixteenth less at each choice: 1 to 511 act as 512, and 0 says that no page is. A page gets a slot at
-    /// half as many again, and keeps it down to half as many.
+    /// For so many seats. `hot` is an estimate of likes between two choices, from which on a page is popular: 1 to 511
+    /// act as 512, and 0 says that no page gets hot.
     pub fn new(alloc: Global, seats: u32, hot: u32) -> Result<Samples, AllocError>
         ensures { IfOk result (λ samples. samples ≡ seats) }
     {
@@ -59,14 +58,6 @@ impl Samples {
             table: Table::new(alloc)?,
             hot,
         })
-    }
-
-    /// What a seat samples its requests with. Each seat has one.
-    pub fn sampler(&self, seat: u32) -> Result<Sampler, AllocError>
-        requires { seat < self.now }
-    {
-        let ring = self.readers[seat as usize].ring().share()?;
-        Ok(Sampler::new(ring, seat))
     }
 
     // Reads what the seats have stored since the last choice.
@@ -99,5 +90,12 @@ impl Choice for Samples {
             }
         }
         best.propose(slots, proposed);
+    }
+
+    fn sampler(&self, seat: u32) -> Result<Sampler, AllocError> {
+        match self.readers.get(seat as usize) {
+            Some(reader) => Ok(Sampler::new(reader.ring().share()?, seat)),
+            None => Ok(Sampler::idle()),
+        }
     }
 }

@@ -1,16 +1,20 @@
-ghost use Rattle.std.specs.Prelude.{◌≡◌, ◌<◌, ◌≤◌, All, length, slice_index};
+ghost use Rattle.std.specs.Prelude.{◌≡◌, ◌<◌, ◌≤◌, All, length, slice_index, drop, take};
 ghost use Rattle.like_limits.specs.Buckets.{bucket, buckets};
 ghost use Rattle.like_limits.specs.Limits.{hot_pages};
-ghost use Rattle.like_choice.specs.Slots.{AreApart, AreSlots, Chooses, new_slots};
+ghost use Rattle.like_choice.specs.Slots.{AreApart, AreSlots, Chooses, new_slots, pages_in_use, would_use};
 
 mod fill;
 mod kept;
+mod known;
 mod marked;
 mod taken;
+mod written;
 
 use self::fill::fill;
 use self::kept::kept;
+use self::known::has_page;
 use self::marked::marked_first;
+use self::written::write_used;
 use crate::bits::low_bits;
 use crate::bucket::bucket_of;
 use std::marker::Model;
@@ -92,6 +96,33 @@ impl Slots {
         ensures below { result < buckets }
     {
         bucket_of(self.factor, page)
+    }
+
+    /// Whether a choice among these pages would leave a slot in use: a page is marked, or one of these is a page of the
+    /// service.
+    pub fn would_use(&self, proposed: &[u32]) -> bool
+        ensures { result ≡ would_use self.now proposed.now }
+    {
+        self.marks > 0 || has_page(self.pages, proposed)
+    }
+
+    /// The page in each slot. It tells nothing where the slot isn't in use.
+    pub fn pages(&self) -> &[u32]
+        ensures pages { result.now ≡ self.now.slots }
+        ensures all { length self.now.slots ≡ hot_pages }
+    {
+        &self.slots
+    }
+
+    /// Writes the pages in the slots in use, in the order of their slots, as many as there is room for. The answer is
+    /// how many were written.
+    pub fn write_pages(&self, pages: &mut [u32]) -> usize
+        ensures len { length pages.new ≡ length pages.old }
+        ensures few { result ≤ length pages.old }
+        ensures pages { take result pages.new ≡ take (length pages.old) (pages_in_use self.now) }
+        ensures rest { drop result pages.new ≡ drop result pages.old }
+    {
+        write_used(&self.slots, self.bits, pages)
     }
 
     /// The page in a slot. It tells nothing where the slot isn't in use.

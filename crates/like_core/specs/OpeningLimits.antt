@@ -18,13 +18,13 @@ run_limits = record {
   form = Bits;
 }
 
--- the limits of a service that goes on: it has at most 16,777,216 pages, of which the first 64 may be hot, and 64 seats
+-- the limits of a service that goes on: it has at most 16,777,216 pages, of which any may be hot, and 64 seats
 abbrev pub service_limits : Limits
 service_limits = record {
   last_phase = 2 ^ 48 - 2;
   likes = 2 ^ 56;
   pages = 2 ^ 24;
-  hot = hot_pages;
+  hot = 2 ^ 24;
   seats = 64;
   form = Counts;
 }

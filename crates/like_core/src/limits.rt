@@ -46,7 +46,7 @@ impl Limits {
             last_phase: (1 << 48) - 2,
             likes: 1 << 56,
             pages: 1 << 24,
-            hot: 64,
+            hot: 1 << 24,
             seats: 64,
             form: Form::Counts,
         }

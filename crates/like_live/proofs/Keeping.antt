@@ -10,14 +10,14 @@ use Rattle.like_core.specs.declared.view.Addition.{Addition}
 use Rattle.like_core.specs.declared.view.PageRead.{PageRead}
 use Rattle.like_core.specs.declared.worker_state.WorkerState.{WorkerState}
 use Rattle.like_core.specs.declared.worker_state.WorkerState.TheVariants as state
-use Rattle.like_core.specs.Additions.{added_in, addition}
+use Rattle.like_core.specs.Additions.{added_in, added_to, addition}
 use Rattle.like_core.specs.Phase.{IsSplit}
 use Rattle.like_core.specs.Post.{answered, has_glanced, has_read, pages_of}
 use Rattle.like_core.specs.WorkerState.{RunsJoined, phase_of, seen}
 use Rattle.like_seat.specs.Merge.{MergesAndReports, merged}
 use Rattle.like_seat.specs.StationView.{StationView, phase_at}
 use Rattle.like_seat.specs.Steps.{CountsLike}
-use Rattle.like_seat.proofs.MergedLikes.{merging-all}
+use Rattle.like_seat.proofs.MergedLikes.{added_in-phase}
 use Rattle.like_live.specs.declared.answer.TurnAnswer.{TurnAnswer}
 use Rattle.like_live.specs.declared.asked.Asked.{Asked}
 use Rattle.like_live.specs.LiveView.{LiveView, with_seat}
@@ -192,9 +192,9 @@ Keeps-merged v s sized m =
                   | inr still ↦
                       let here : phase_at v.seat ≡ phase = ap phase_of still.0 in
                       let all : added_in phase page adds ≡ get_or v.seat.slice page 0 =
-                      merging-all (λ k. k == phase) (phase_at v.seat) v.seat.slice page (pages_of v.seat.post) adds
-                      m.1.0.1.0 sized
-                      ∙ ap (λ (b : Bool). cond b (get_or v.seat.slice page 0) 0) (eq-eqb _ _ here) in
+                      added_in-phase (phase_at v.seat) page phase adds m.1.0.1.0.phase_is
+                      ∙ ap (λ (b : Bool). cond b (added_to page adds) 0) (eq-eqb _ _ here)
+                      ∙ m.1.0.1.0.sums page in
                       let few : n ≤ get_or v.seat.slice page 0 = still.1 in
                       inl (omega arith)
                 ];

@@ -7,7 +7,6 @@ pub mod Closing
 pub mod Finding
 pub mod Gone
 pub mod Histories
-pub mod Marking
 pub mod Moments
 pub mod Keeping
 pub mod Lasting
@@ -15,5 +14,6 @@ pub mod Moving
 pub mod Newly
 pub mod Requests
 pub mod Showing
+pub mod Slotted
 pub mod Telling
 pub mod Turning

@@ -40,7 +40,7 @@ joined-now z s i (state.Answered phase) p is runs = absurd runs
 joined-now z s i state.Gone p is runs = absurd runs
 
 -- so does one that runs a split phase
-split-now : (z : Opening) (s : CoreState) (i : ℕ) (of : WorkerState)
+pub split-now : (z : Opening) (s : CoreState) (i : ℕ) (of : WorkerState)
     → IsInPhase z s
     → s.state i ≡ of
     → RunsSplit of
@@ -50,7 +50,7 @@ split-now z s i (state.Answered phase) p is runs = absurd runs
 split-now z s i state.Gone p is runs = absurd runs
 
 -- a seat's state is the one that the board's rule has of its worker
-state-at : (z : Opening) (m : Moment z) (s : LiveView) (at : IsSeatAt z m s)
+pub state-at : (z : Opening) (m : Moment z) (s : LiveView) (at : IsSeatAt z m s)
     → m.state.state at.view.worker ≡ s.seat.post.state
 state-at z m s at =
     let fits : FitsWorker z m.state at.view = m.shows.seats.each at.place (Worker at.view) at.there in

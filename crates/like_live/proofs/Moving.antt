@@ -77,7 +77,7 @@ Leaves-merged v s sized m =
     m.1.1 ∙ ap (λ (t : StationView Asked). record t { post = answered t.post }) m.1.0.1.1 in
     subst (λ (t : StationView Asked). Leaves v (with_seat v t)) (sym is) (record {
       same = record { board = refl; worker = refl; marks = refl; share = refl };
-      tallies = merged-tally v.seat adds m.1.0.1.0 sized;
+      tallies = merged-tally v.seat adds m.1.0.1.0;
       last = refl;
       sized = length-replicate {A = ℕ} (pages_of v.seat.post) 0 ∙ sym sized;
     })

@@ -10,9 +10,8 @@ use Rattle.like_core.specs.declared.opening.Opening.{Opening as CoreOpening}
 use Rattle.like_core.proofs.views.ViewLists.{sum_lone}
 use Rattle.like_live.specs.Driver.{DriverView}
 use Rattle.like_live.specs.declared.opening.Opening.{Opening}
-use Rattle.like_live.specs.declared.service.Service.{Service}
 use Rattle.like_live.specs.LiveView.{IsSameSeat, LiveView}
-use Rattle.like_live.specs.Service.{AreItsSeats, CallsKeepSeats, IsOpened}
+use Rattle.like_live.specs.Service.{AreItsSeats, AreOpened, CallsKeepSeats}
 use Rattle.like_live.proofs.Closing.{all-alike, sum-alike}
 
 -- a list has an element at each place within it
@@ -43,16 +42,18 @@ once-in-order seats n sized each i below =
     (ne_eqb s.seat.post.worker i (λ same. other (sym (each j s (std-element seats j s at)) ∙ same)))) ∙
     one
 
--- a service that was opened has all its seats
-pub opened-whole : (o : Opening) (s : Service) → IsOpened o s → AreItsSeats s.driver s.seats.items
-opened-whole o s is =
-    let workers : s.driver.lead.seat.opening.workers ≡ o.seats =
-    ap (λ (d : DriverView). d.lead.seat.opening.workers) is.driver in
+-- a driver and seats that were opened are all of one service
+pub opened-whole : (o : Opening) (driver : DriverView) (seats : List LiveView)
+    → AreOpened o driver seats
+    → AreItsSeats driver seats
+opened-whole o driver seats is =
+    let workers : driver.lead.seat.opening.workers ≡ o.seats =
+    ap (λ (d : DriverView). d.lead.seat.opening.workers) is.new in
     record {
-      len = is.seats.len ∙ sym workers;
-      here = λ k d below. (is.seats.each k (get_or s.seats.items k d) (slice_get-get_or s.seats.items k d below)).here;
+      len = is.fresh.len ∙ sym workers;
+      here = λ k d below. (is.fresh.each k (get_or seats k d) (slice_get-get_or seats k d below)).here;
       all = λ i below.
-          once-in-order s.seats.items o.seats is.seats.len (λ k v at. (is.seats.each k v at).worker) i
+          once-in-order seats o.seats is.fresh.len (λ k v at. (is.fresh.each k v at).worker) i
           (subst (λ n. i < n) workers below);
     }
 

@@ -1,5 +1,5 @@
 -- What a driver does in its calls.
-use Rattle.std.specs.Prelude.{◌≡◌, ℕ, ◌+◌, ◌%◌, ◌==◌, ◌||◌, ◌<◌, ◌≤◌, ◌⊎◌, nat_lt, Bool, true, false, List, [], length, slice_index, Vec, vec_capacity, Option, Some, None}
+use Rattle.std.specs.Prelude.{◌≡◌, ℕ, ◌+◌, ◌%◌, ◌==◌, ◌||◌, ◌<◌, ◌≤◌, ◌⊎◌, nat_lt, Bool, true, false, List, [], length, replicate, slice_index, Vec, vec_capacity, Option, Some, None}
 use Rattle.std.specs.declared.alloc.Global.{Global}
 use Rattle.like_board.specs.Rule.{opened_coord}
 use Rattle.like_board.specs.Seats.{BoardId}
@@ -10,45 +10,63 @@ use Rattle.like_core.specs.Phase.{IsJoined, IsSplit}
 use Rattle.like_core.specs.views.Places.{count_after}
 use Rattle.like_core.specs.declared.view.View.TheVariants.{Coord}
 use Rattle.like_core.specs.views.Shows.{IsKnown, IsLastMoment}
-use Rattle.like_seat.specs.Lead.{ChoosesRisen, LeadView, Sees, announced, new_lead, published, released, with_counts}
-use Rattle.like_live.specs.Opening.{board_opening, splits_by}
+use Rattle.like_seat.specs.Lead.{LeadView, PublishesChoice, Sees, announced, new_lead, released, with_counts}
+use Rattle.like_choice.specs.Slots.{AreSlots, Chooses}
+use Rattle.like_live.specs.Opening.{board_opening}
+use Rattle.like_live.specs.Splits.{AreSplitsOf, KeepsMarked, SplitsView, new_splits, would_split}
 use Rattle.like_live.specs.declared.opening.Opening.{Opening}
 use Rattle.like_live.specs.declared.driver_answer.DriverAnswer.{DriverAnswer}
 use Rattle.like_live.specs.declared.driver_answer.DriverAnswer.TheVariants.{Announced, Waiting, Released, Running, Ended}
 use Rattle.like_live.specs.declared.driver_end.End.{End}
 use Rattle.like_live.specs.declared.driver_end.End.TheVariants.{No, IfItServes, Always}
 
--- a driver: its lead, and whether its service is over, since it has written last counts
+-- a driver: its lead; which pages are split, and which are proposed; and whether its service is over, since it has written
+-- last counts
 pub record DriverView : Type 0 where
   pub lead : LeadView
+  pub splits : SplitsView
   pub is_over : Bool
 
--- the driver with this lead, and whether its service is over
-abbrev pub driver_of : LeadView → Bool → DriverView
-driver_of lead is_over = record { lead = lead; is_over = is_over }
+-- the driver with this lead and these pages, and whether its service is over
+abbrev pub driver_of : LeadView → SplitsView → Bool → DriverView
+driver_of lead splits is_over = record { lead = lead; splits = splits; is_over = is_over }
 
--- whether something would be split in the next split phase
-abbrev pub splits_some : LeadView → Bool
-splits_some v = splits_by v.seat.opening.marks v.hot
+-- one whose service goes on
+abbrev pub drives : LeadView → SplitsView → DriverView
+drives lead splits = driver_of lead splits false
 
 -- whether the host asks for the end of the phase: never; if something is split in it, or would be in the next; or in any
 -- case
-abbrev pub asks_end : End → LeadView → Bool
+abbrev pub asks_end : End → DriverView → Bool
 asks_end No v = false
-asks_end IfItServes v = (v.seat.phase % 2 == 1) || splits_some v
+asks_end IfItServes v = (v.lead.seat.phase % 2 == 1) || would_split v.splits
 asks_end Always v = true
 
--- it releases the next phase: before a split one it chooses its hot pages, and publishes their mask
-pub data ReleasesNext (v after : LeadView) : Type 0 where
-  releases_joined : IsSplit v.seat.phase → after ≡ released v → ReleasesNext v after
-  releases_split : IsJoined v.seat.phase → (m : ℕ) (chosen : LeadView) → ChoosesRisen v m chosen
-      → after ≡ released (published chosen m) → ReleasesNext v after
+-- it gives slots to the pages that are proposed, and publishes them
+pub record PublishesSlots (v after : DriverView) : Type 0 where
+  pub chooses : Chooses v.splits.slots v.splits.proposed after.splits.slots
+  pub lawful : AreSlots after.splits.slots
+  pub publishes : PublishesChoice v.lead after.splits.slots.slots after.splits.slots.bits after.lead
+  pub rest : after ≡ record v {
+    lead = after.lead;
+    splits = record v.splits { slots = after.splits.slots; held = after.lead.seat.slots };
+  }
+
+-- it releases the next phase: before a split one it gives slots to the pages that are split in it
+pub data ReleasesNext (v after : DriverView) : Type 0 where
+  releases_joined : IsSplit v.lead.seat.phase → after ≡ record v { lead = released v.lead } → ReleasesNext v after
+  releases_split : IsJoined v.lead.seat.phase → (chosen : DriverView) → PublishesSlots v chosen
+      → after ≡ record chosen { lead = released chosen.lead } → ReleasesNext v after
 
 -- the end of its phase may be announced: it is not a service's last phase, and its host asks for its end, or it is split,
 -- where a seat can ask for it
-pub record IsDue (v : LeadView) (end : End) : Type 0 where
-  pub goes_on : v.seat.phase < service_limits.last_phase
-  pub asked : (asks_end end v ≡ true) ⊎ IsSplit v.seat.phase
+pub record IsDue (v : DriverView) (end : End) : Type 0 where
+  pub goes_on : v.lead.seat.phase < service_limits.last_phase
+  pub asked : (asks_end end v ≡ true) ⊎ IsSplit v.lead.seat.phase
+
+-- pages may be proposed anew
+abbrev pub ProposesPages : DriverView → DriverView → Type 0
+ProposesPages v after = after ≡ record v { splits = record v.splits { proposed = after.splits.proposed } }
 
 -- all seats have left a joined phase
 pub record IsLeft (v : LeadView) (sight : CoordSight) : Type 0 where
@@ -57,32 +75,32 @@ pub record IsLeft (v : LeadView) (sight : CoordSight) : Type 0 where
 
 -- the cases of a turn whose look showed this: each does at most one thing. A phase that is ending is released once all
 -- are in. One that runs is ended if that is asked for, but not a joined phase that all seats have left, since nobody would
--- run the next
-pub data DriverCase (v : LeadView) (sight : CoordSight) (end : End)
-    (answer : DriverAnswer) (after : LeadView) : Type 0 where
+-- run the next. Before that, pages may be proposed anew
+pub data DriverCase (v : DriverView) (sight : CoordSight) (end : End)
+    (answer : DriverAnswer) (after : DriverView) : Type 0 where
   waiting : sight.ending ≡ true → sight.all_in ≡ false
       → answer ≡ Waiting → after ≡ v → DriverCase v sight end answer after
   releases : sight.ending ≡ true → sight.all_in ≡ true
       → answer ≡ Released → ReleasesNext v after → DriverCase v sight end answer after
-  announces : sight.ending ≡ false → ¬ IsLeft v sight → IsDue v end
-      → answer ≡ Announced → after ≡ announced v → DriverCase v sight end answer after
-  running : sight.ending ≡ false → sight.all_gone ≡ false
-      → (asks_end end v ≡ true → v.seat.phase ≡ service_limits.last_phase)
-      → answer ≡ Running → after ≡ v → DriverCase v sight end answer after
-  ended : sight.ending ≡ false → sight.all_gone ≡ true → (asks_end end v ≡ true → IsJoined v.seat.phase)
-      → answer ≡ Ended → after ≡ v → DriverCase v sight end answer after
+  announces : (now : DriverView) → sight.ending ≡ false → ¬ IsLeft v.lead sight → ProposesPages v now → IsDue now end
+      → answer ≡ Announced → after ≡ record now { lead = announced now.lead } → DriverCase v sight end answer after
+  running : sight.ending ≡ false → sight.all_gone ≡ false → ProposesPages v after
+      → (asks_end end after ≡ true → v.lead.seat.phase ≡ service_limits.last_phase)
+      → answer ≡ Running → DriverCase v sight end answer after
+  ended : sight.ending ≡ false → sight.all_gone ≡ true → ProposesPages v after
+      → (asks_end end after ≡ true → IsJoined v.lead.seat.phase)
+      → answer ≡ Ended → DriverCase v sight end answer after
 
 -- it looks, which is the event of the core, and does what the sight asks for
-pub record Acts (v : LeadView) (end : End) (answer : DriverAnswer) (after : LeadView) : Type 0 where
+pub record Acts (v : DriverView) (end : End) (answer : DriverAnswer) (after : DriverView) : Type 0 where
   pub sight : CoordSight
   pub seen : LeadView
-  pub sees : Sees v sight seen
-  pub case : DriverCase seen sight end answer after
+  pub sees : Sees v.lead sight seen
+  pub case : DriverCase (record v { lead = seen }) sight end answer after
 
 -- a turn: a driver acts, until it has written last counts. Then its service is over, and it does nothing more
 pub data DriverTurns (v : DriverView) (end : End) (answer : DriverAnswer) (after : DriverView) : Type 0 where
-  acts : v.is_over ≡ false → Acts v.lead end answer after.lead → after.is_over ≡ false
-      → DriverTurns v end answer after
+  acts : v.is_over ≡ false → Acts v end answer after → DriverTurns v end answer after
   over : v.is_over ≡ true → answer ≡ Ended → after ≡ v → DriverTurns v end answer after
 
 -- the counts of all pages can be read as those of one moment: a joined phase is ending, and each seat has answered it
@@ -113,8 +131,8 @@ pub record ReadsBoundary (v : LeadView) (from : ℕ) (old : List ℕ) (phase : O
 -- a snapshot of the pages from this one on; once the service is over there is none
 pub data TakesSnapshot (v : DriverView) (from : ℕ) (old : List ℕ) (phase : Option ℕ) (after : DriverView)
     (counts : List ℕ) : Type 0 where
-  reads : v.is_over ≡ false → ReadsBoundary v.lead from old phase after.lead counts → after.is_over ≡ false
-      → TakesSnapshot v from old phase after counts
+  reads : v.is_over ≡ false → ReadsBoundary v.lead from old phase after.lead counts
+      → after ≡ record v { lead = after.lead } → TakesSnapshot v from old phase after counts
   none_once_over : v.is_over ≡ true → phase ≡ None → counts ≡ old → after ≡ v
       → TakesSnapshot v from old phase after counts
 
@@ -152,7 +170,7 @@ pub data ReadsLast (v : LeadView) (from : ℕ) (old : List ℕ) (is_done : Bool)
 pub record TakesLast (v : DriverView) (from : ℕ) (old : List ℕ) (is_done : Bool) (after : DriverView) (counts : List ℕ)
     : Type 0 where
   pub case : ReadsLast v.lead from old is_done after.lead counts
-  pub over : after.is_over ≡ (is_done || v.is_over)
+  pub over : after ≡ record v { lead = after.lead; is_over = is_done || v.is_over }
 
 -- last counts stay: once they were written, they are written whenever they are asked for, and a page has the same count
 abbrev pub LastCountsStay : Type 0
@@ -162,23 +180,23 @@ LastCountsStay =
     → (is_done ≡ true) × ((i j : ℕ) → i < length counts → j < length later → from + i ≡ next + j
     → slice_index counts i ≡ slice_index later j)
 
--- what is true of every driver: its board has the limits of a service, and no more pages than these allow
+-- what is true of every driver: its board has the limits of a service, no more pages than these allow, and no mark; and
+-- its slots are lawful, and those with which it released the present or last split phase
 pub record IsService (v : DriverView) : Type 0 where
   pub few_pages : length v.lead.seat.opening.counts ≤ service_limits.pages
-  pub marks : length v.lead.seat.opening.marks ≡ length v.lead.seat.opening.counts
+  pub plain : v.lead.seat.opening.marks ≡ replicate (length v.lead.seat.opening.counts) false
   pub limits : v.lead.seat.opening.limits ≡ service_limits
+  pub splits : AreSplitsOf v.lead.seat v.splits
 
--- it is the same driver: of the same board, which was opened alike, with the same rule for hot pages
+-- it is the same driver: of the same board, which was opened alike, with the marked pages in the same slots
 pub record IsSameDriver (v after : DriverView) : Type 0 where
   pub board : after.lead.board ≡ v.lead.board
   pub opening : after.lead.seat.opening ≡ v.lead.seat.opening
-  pub hot : after.lead.hot ≡ v.lead.hot
+  pub marked : KeepsMarked v.splits.slots after.splits.slots
 
--- a driver's parts agree: its lead is that of its board, and it knows whether something would be split, and how many
--- pages there are
-pub record AreDriverParts (board : BoardId) (splits : Bool) (pages : ℕ) (v : DriverView) : Type 0 where
+-- a driver's parts agree: its lead is that of its board, and it knows how many pages there are
+pub record AreDriverParts (board : BoardId) (pages : ℕ) (v : DriverView) : Type 0 where
   pub here : v.lead.board ≡ board
-  pub splits_is : splits ≡ splits_some v.lead
   pub pages_is : pages ≡ length v.lead.seat.opening.counts
   pub service : IsService v
 
@@ -187,9 +205,10 @@ pub record HasRoom (back : Vec WorkerSeat Global) (v : DriverView) : Type 0 wher
   pub none : back.items ≡ []
   pub enough : v.lead.seat.opening.workers ≤ vec_capacity back
 
--- a new driver at this board: it has done nothing yet
-abbrev pub new_driver : Opening → BoardId → DriverView
-new_driver o board = record {
-  lead = new_lead board (opened_coord (board_opening o)) o.hot o.counts.items;
+-- a new driver at this board, by this factor: it has done nothing yet
+abbrev pub new_driver : Opening → ℕ → BoardId → DriverView
+new_driver o factor board = record {
+  lead = new_lead board (opened_coord (board_opening o factor)) None o.counts.items;
+  splits = new_splits factor (length o.counts.items) o.marks.items;
   is_over = false;
 }

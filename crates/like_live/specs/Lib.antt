@@ -10,3 +10,4 @@ pub mod Moments
 pub mod Moves
 pub mod Opening
 pub mod Service
+pub mod Splits

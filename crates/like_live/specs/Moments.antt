@@ -1,20 +1,24 @@
 -- The seats of a service at a moment of its board, which is between any two steps: what the board's rule says of them.
-use Rattle.std.specs.Prelude.{◌≡◌, ℕ, ◌+◌, All, List, [], ◌∷◌, flat_map, map, slice_index, sum_by}
+use Rattle.std.specs.Prelude.{◌≡◌, ℕ, ◌+◌, ◌<◌, ◌↔◌, true, All, List, [], ◌∷◌, Contains, flat_map, length, map, slice_index, sum_by}
 use mathlib.Core.Option.{some}
 use lib.ListN.{get_elem?}
+use Rattle.like_board.specs.Seats.{BoardId}
 use Rattle.like_core.specs.declared.opening.Opening.{Opening}
 use Rattle.like_core.specs.declared.view.View.{View}
-use Rattle.like_core.specs.declared.view.View.TheVariants.{Worker}
+use Rattle.like_core.specs.declared.view.View.TheVariants.{Coord, Worker}
 use Rattle.like_core.specs.declared.view.WorkerSeatView.{WorkerSeatView}
 use Rattle.like_core.specs.core.Numbers.{AllGone}
 use Rattle.like_core.specs.core.State.{numbers}
-use Rattle.like_core.specs.Post.{PostView}
+use Rattle.like_core.specs.Post.{PostView, slices}
 use Rattle.like_core.specs.WorkerState.{RunsJoined, RunsSplit}
 use Rattle.like_core.specs.views.Places.{count_after}
 use Rattle.like_core.specs.views.Shows.{Moment}
 use Rattle.like_core.specs.views.Views.{post_of}
 use Rattle.like_seat.specs.StationView.{IsStation}
+use Rattle.like_live.specs.declared.opening.Opening.{Opening as Asked}
+use Rattle.like_live.specs.Driver.{DriverView, IsSameDriver, IsService, new_driver}
 use Rattle.like_live.specs.LiveView.{LiveView, tally}
+use Rattle.like_live.specs.Splits.{IsSlotted}
 
 -- a seat's post, the board aside
 abbrev pub post_in : LiveView → PostView
@@ -59,3 +63,22 @@ LastCountsAreTallies =
     (z : Opening) (m : Moment z) (seats : List LiveView) → AreSeatsAt z m seats → All (λ s. IsStation s.seat) seats
     → AllGone (numbers z m.state)
     → (page : ℕ) → count_after z.counts m.views page ≡ slice_index z.counts page + sum_by (λ s. tally s page) seats
+
+-- a driver at a moment: this is what the coordinator's seat knows then
+abbrev pub IsDriverAt : (z : Opening) → Moment z → DriverView → Type 0
+IsDriverAt z m v = get_elem? m.views 0 ≡ some (Coord v.lead.seat)
+
+-- slices are those of slots: at any moment, a seat that runs a split phase slices exactly the pages in its driver's slots
+abbrev pub SlicesAreSlots : Type 0
+SlicesAreSlots =
+    (z : Opening) (m : Moment z) (v : DriverView) (s : LiveView) → IsDriverAt z m v → IsService v
+    → IsSeatAt z m s → IsStation s.seat → RunsSplit s.seat.post.state
+    → (page : ℕ) → page < length z.counts
+    → (slices s.seat.post page ≡ true) ↔ IsSlotted v.splits.slots page
+
+-- marked pages keep slots: whatever calls a driver was asked, each marked page is in a slot in use
+abbrev pub MarkedKeepSlots : Type 0
+MarkedKeepSlots =
+    (o : Asked) (factor : ℕ) (board : BoardId) (v : DriverView)
+    → IsSameDriver (new_driver o factor board) v → IsService v
+    → (page : ℕ) → Contains o.marks.items page → IsSlotted v.splits.slots page

@@ -1,12 +1,13 @@
 -- What a service may be opened with.
-use Rattle.std.specs.Prelude.{◌≡◌, ◌≢◌, ◌⊎◌, ℕ, ◌<◌, ◌≤◌, ◌==◌, ◌||◌, All, AllPairs, Bool, List, [], ◌∷◌, length, map, Option, is_some, ⊤}
-use Rattle.std.specs.List.{AllByRecursion, list_any, range_with_len}
+use Rattle.std.specs.Prelude.{◌≡◌, ◌⊎◌, ℕ, ◌<◌, ◌≤◌, All, List, [], ◌∷◌, length, Option, ⊤}
+use Rattle.std.specs.List.{AllByRecursion}
 use Rattle.like_limits.specs.Limits.{max_count, max_marks, max_stash}
 use Rattle.like_core.specs.OpeningLimits.{service_limits}
-use Rattle.like_core.specs.core.State.{opening_with}
+use Rattle.like_core.specs.core.State.{opening_by}
 use Rattle.like_core.specs.declared.opening.Opening.{Opening as CoreOpening}
 use Rattle.like_records.specs.First.{FailsFirst}
 use Rattle.like_requests.specs.Setup.{IsHotLimit}
+use Rattle.like_tables.specs.Factors.{IsFirstApart}
 use Rattle.like_tables.specs.LastLike.{no_page}
 use Rattle.like_tables.specs.UserTable.{IsForUsers}
 use Rattle.like_live.specs.declared.open_error.OpenError.{OpenError}
@@ -35,11 +36,11 @@ asking o = record {
   hot = o.hot;
 }
 
--- these can be marked, of so many pages: a few, and no two alike
+-- these can be marked, of so many pages: a few, and by some factor no two share a bucket, so no two are alike
 pub record AreMarks (pages : ℕ) (marks : List ℕ) : Type 0 where
   pub few : length marks ≤ max_marks
   pub there : All (λ page. page < pages) marks
-  pub unlike : AllPairs (λ page other. page ≢ other) marks
+  pub apart : (factor : ℕ) × IsFirstApart marks factor
 
 -- these can be the last likes of so many users: there are none, or one for each user, which is one of so many pages, or
 -- the number that stands for none
@@ -81,15 +82,6 @@ IsRefusedFor a error = IsFirstWrong a error ⊎ ((error ≡ Memory) × AreWithin
 abbrev pub IsRefused : Opening → OpenError → Type 0
 IsRefused o = IsRefusedFor (asking o)
 
--- whether something would be split in a split phase: a page is marked, or pages can be hot
-abbrev pub splits_by : List Bool → Option ℕ → Bool
-splits_by marks hot = list_any (λ mark. mark) marks || is_some hot
-
--- whether each of so many pages is marked
-abbrev pub marks_by : ℕ → List ℕ → List Bool
-marks_by pages marks = map (λ page. list_any (λ marked. marked == page) marks) (range_with_len 0 pages)
-
--- the opening of the service's board
-abbrev pub board_opening : Opening → CoreOpening
-board_opening o =
-    opening_with service_limits o.seats o.counts.items (marks_by (length o.counts.items) o.marks.items)
+-- the opening of the service's board, with the factor by which its pages have their buckets
+abbrev pub board_opening : Opening → ℕ → CoreOpening
+board_opening o factor = opening_by factor service_limits o.seats o.counts.items

@@ -6,34 +6,37 @@ use Rattle.like_board.specs.declared.worker_seat.WorkerSeat.{WorkerSeat}
 use Rattle.like_core.specs.Post.{IsFresh, additions_of}
 use Rattle.like_core.specs.OpeningLimits.{service_limits}
 use Rattle.like_core.specs.declared.worker_state.WorkerState.TheVariants.{Gone}
+use Rattle.like_tables.specs.Factors.{IsFirstApart}
 use Rattle.like_tables.specs.Share.{share_of}
 use Rattle.like_tables.specs.UserTable.{table_with_lasts}
 use Rattle.like_live.specs.declared.opening.Opening.{Opening}
-use Rattle.like_live.specs.declared.service.Service.{Service}
 use Rattle.like_live.specs.LiveView.{IsNewLive, IsSameSeat, LiveView, tally}
 use Rattle.like_live.specs.Driver.{DriverView, IsSameDriver, new_driver}
 use Rattle.like_live.specs.Opening.{IsWithinLimits, board_opening}
 
 -- a seat of an opened service, by its number: it is new, at this board; its users are those that are this number modulo
 -- the number of seats; and their last likes are those of the opening
-pub record IsOpenedSeat (o : Opening) (board : BoardId) (number : ℕ) (s : LiveView) : Type 0 where
+pub record IsOpenedSeat (o : Opening) (factor : ℕ) (board : BoardId) (number : ℕ) (s : LiveView) : Type 0 where
   pub here : s.seat.post.board ≡ board_numbers board
   pub worker : s.seat.post.worker ≡ number
   pub fresh : IsFresh s.seat.post
-  pub marks : s.seat.post.marks ≡ (board_opening o).marks
+  pub marks : s.seat.post.marks ≡ (board_opening o factor).marks
+  pub factor_is : s.seat.post.factor ≡ factor
   pub limits : s.seat.post.limits ≡ service_limits
   pub new : IsNewLive s.seat.post o.room (table_with_lasts (share_of o.users o.seats o.seats number) o.lasts.items) s
 
 -- the seats of an opened service, in order
-pub record AreOpenedSeats (o : Opening) (board : BoardId) (seats : List LiveView) : Type 0 where
+pub record AreOpenedSeats (o : Opening) (factor : ℕ) (board : BoardId) (seats : List LiveView) : Type 0 where
   pub len : length seats ≡ o.seats
-  pub each : (i : ℕ) (s : LiveView) → slice_get seats i ≡ Some s → IsOpenedSeat o board i s
+  pub each : (i : ℕ) (s : LiveView) → slice_get seats i ≡ Some s → IsOpenedSeat o factor board i s
 
--- a service that was opened so: every limit holds, and its driver and its seats are new ones of one board
-pub record IsOpened (o : Opening) (s : Service) : Type 0 where
+-- a driver and seats of a service that was opened so: every limit holds, and they are new ones of one board
+pub record AreOpened (o : Opening) (driver : DriverView) (seats : List LiveView) : Type 0 where
   pub within : IsWithinLimits o
-  pub driver : s.driver ≡ new_driver o s.driver.lead.board
-  pub seats : AreOpenedSeats o s.driver.lead.board s.seats.items
+  pub factor : ℕ
+  pub first : IsFirstApart o.marks.items factor
+  pub new : driver ≡ new_driver o factor driver.lead.board
+  pub fresh : AreOpenedSeats o factor driver.lead.board seats
 
 -- the seats are those of the driver's board, each of them once
 pub record AreItsSeats (v : DriverView) (seats : List LiveView) : Type 0 where

@@ -1,7 +1,8 @@
-ghost use Rattle.std.specs.Prelude.{◌≡◌, ◌↔◌, ◌+◌, ◌≤◌, IfOk, IsTrue, length};
+ghost use Rattle.std.specs.Prelude.{◌≡◌, ◌↔◌, ◌+◌, ◌≤◌, IfOk, IsTrue, drop, length, take};
 ghost use Rattle.std.specs.Arc.{arc_value};
 ghost use Rattle.like_board.specs.Rule.{opened_coord};
 ghost use Rattle.like_board.specs.Seats.{board_id, coord_board, coord_view};
+ghost use Rattle.like_choice.specs.Slots.{AreApart, pages_in_use};
 ghost use Rattle.like_live.specs.Driver.{DriverTurns, IsSameDriver, IsService, TakesLast, TakesSnapshot, new_driver};
 ghost use Rattle.like_live.specs.Opening.{IsWithinLimits, board_opening};
 ghost use Rattle.like_live.specs.Service.{AreGone, AreItsSeats, IsClosedService};
@@ -9,11 +10,13 @@ ghost use Rattle.like_live.specs.Service.{AreGone, AreItsSeats, IsClosedService}
 mod back;
 mod boundary;
 mod last;
+mod splits;
 mod turns;
 
 use self::back::give_back;
 use self::boundary::read_boundary;
 use self::last::read_last;
+use self::splits::Splits;
 use self::turns::act;
 use crate::driver_answer::DriverAnswer;
 use crate::driver_end::End;
@@ -22,6 +25,7 @@ use crate::live_seat::LiveSeat;
 use crate::opening::Opening;
 use crate::phase_now::PhaseNow;
 use like_board::{Board, CoordSeat, SharedPost, WorkerSeat};
+use like_choice::{Choice, Guided};
 use like_seat::Lead;
 use std::alloc::{AllocError, Global};
 use std::marker::Model;
@@ -30,13 +34,13 @@ use std::sync::Arc;
 /// What leads the phases of a service: it ends a phase once the host says so, and releases the next once every seat has
 /// answered or is gone.
 ///
-/// It owns its board with the seats. No call of it waits or takes memory.
+/// It owns its board with the seats. Its choice proposes the pages that get slots. No call of it waits or takes memory,
+/// but for what the choice does.
 #[derive(Drop)]
-pub struct Driver {
+pub struct Driver<C: Choice> {
     board: Arc<Board, Global>,
     lead: Lead,
-    /// Whether something would be split in a split phase: a page is marked, or pages can be hot.
-    splits: bool,
+    splits: Splits<C>,
     /// How many pages there are.
     pages: u32,
     hint: Hint,
@@ -48,41 +52,45 @@ pub struct Driver {
     back: Vec<WorkerSeat>,
 }
 
-impl Model for Driver {
+impl<C: Choice> Model for Driver<C> {
     ghost use Rattle.std.specs.Arc.{arc_value};
     ghost use Rattle.like_board.specs.Seats.{board_id};
     ghost use Rattle.like_live.specs.Driver.{AreDriverParts, DriverView, HasRoom, driver_of};
 
     ghost Value = { DriverView };
 
-    ghost view = { λ d. driver_of d.lead d.is_over };
+    ghost view = { λ d. driver_of d.lead d.splits d.is_over };
 
-    ghost invariant = { λ d. let v = driver_of d.lead d.is_over in
-        AreDriverParts (board_id (arc_value d.board)) d.splits d.pages v × HasRoom d.back v };
+    ghost invariant = { λ d. let v = driver_of d.lead d.splits d.is_over in
+        AreDriverParts (board_id (arc_value d.board)) d.pages v × HasRoom d.back v };
 }
 
-impl Driver {
-    /// The driver of a new board. All its room is made here.
+impl<C: Choice + Drop> Driver<C> {
+    /// The driver of a new board, by this factor. All its room is made here.
     pub(crate) fn new(
         alloc: Global,
         opening: &Opening,
+        factor: u32,
+        choice: C,
         board: Arc<Board, Global>,
         coord: CoordSeat,
         hint: Hint,
-    ) -> Result<Driver, AllocError>
+    ) -> Result<Driver<C>, AllocError>
         requires within { IsWithinLimits opening.now }
+        requires factor { AreApart factor opening.now.marks.items }
         requires here { coord_board coord ≡ board_id (arc_value board) }
-        requires new { coord_view coord ≡ opened_coord (board_opening opening.now) }
-        ensures { IfOk result (λ driver. driver ≡ new_driver opening.now (board_id (arc_value board))) }
+        requires new { coord_view coord ≡ opened_coord (board_opening opening.now factor) }
+        ensures { IfOk result (λ driver. driver ≡ new_driver opening.now factor (board_id (arc_value board))) }
     {
         let back = Vec::with_capacity(alloc, opening.seats as usize)?;
         let phase_now = PhaseNow::new(alloc)?;
-        match Lead::new(alloc, coord, opening.hot, &opening.counts) {
+        let pages = opening.counts.len() as u32;
+        match Lead::new(alloc, coord, None, &opening.counts) {
             Ok(lead) => Ok(Driver {
                 board,
                 lead,
-                splits: opening.splits_some(),
-                pages: opening.counts.len() as u32,
+                splits: Splits::new(choice, factor, pages, &opening.marks),
+                pages,
                 hint,
                 phase_now,
                 is_over: false,
@@ -92,10 +100,31 @@ impl Driver {
         }
     }
 
+    /// Ends the board, once all seats are given back and gone, and writes each page's last count.
+    pub(crate) fn finish(self, seats: Vec<LiveSeat<SharedPost>>, counts: &mut [u64])
+        requires whole { AreItsSeats self seats.items }
+        requires gone { AreGone seats.items }
+        requires places { length counts.old ≡ length self.lead.seat.opening.counts }
+        ensures { IsClosedService self seats.items counts.new }
+    {
+        let Driver {
+            board,
+            lead,
+            mut back,
+            ..
+        } = self;
+        give_back(seats, &mut back);
+        board.last_counts(lead.finish(), back, counts);
+    }
+}
+
+impl<C: Choice> Driver<C> {
     /// Makes one look at the phase word, and does at most one thing. A phase that is ending is released once every seat
     /// has answered it or is gone. A phase that runs is ended as `end` says, and a split phase also if the looks
     /// that wait at a seat take half of its room. A joined phase that all seats have left goes on, and so does a
     /// service's last phase. Once last counts were written it does nothing.
+    ///
+    /// Before it ends a phase it asks its choice for pages, and before it releases a split phase it gives these slots.
     pub fn turn(&mut self, end: End) -> DriverAnswer
         ensures case { DriverTurns self.old end result self.new }
         ensures keeps { IsService self.new }
@@ -104,7 +133,13 @@ impl Driver {
         if self.is_over {
             return DriverAnswer::Ended;
         }
-        let answer = act(&mut self.lead, &self.board, &self.hint, self.splits, end);
+        let answer = act(
+            &mut self.lead,
+            &mut self.splits,
+            &self.board,
+            &self.hint,
+            end,
+        );
         if answer == DriverAnswer::Released {
             self.phase_now.set(self.lead.phase());
         }
@@ -143,23 +178,6 @@ impl Driver {
         true
     }
 
-    /// Ends the board, once all seats are given back and gone, and writes each page's last count.
-    pub(crate) fn finish(self, seats: Vec<LiveSeat<SharedPost>>, counts: &mut [u64])
-        requires whole { AreItsSeats self seats.items }
-        requires gone { AreGone seats.items }
-        requires places { length counts.old ≡ length self.lead.seat.opening.counts }
-        ensures { IsClosedService self seats.items counts.new }
-    {
-        let Driver {
-            board,
-            lead,
-            mut back,
-            ..
-        } = self;
-        give_back(seats, &mut back);
-        board.last_counts(lead.finish(), back, counts);
-    }
-
     /// The present phase.
     pub fn phase(&self) -> u64
         ensures { result ≡ self.now.lead.seat.phase }
@@ -179,10 +197,33 @@ impl Driver {
         from <= self.pages && many <= (self.pages - from) as usize
     }
 
+    /// Writes the pages that are split in the present split phase, or were in the last one, in the order of their slots.
+    /// Before the first split phase these are the marked ones. The answer is how many were written: all of them, at most
+    /// 64, if there is room.
+    pub fn split_pages(&self, pages: &mut [u32]) -> usize
+        ensures len { length pages.new ≡ length pages.old }
+        ensures few { result ≤ length pages.old }
+        ensures pages { take result pages.new ≡ take (length pages.old) (pages_in_use self.now.splits.slots) }
+        ensures rest { drop result pages.new ≡ drop result pages.old }
+        ensures service { IsService self.now }
+    {
+        self.splits.write_pages(pages)
+    }
+
     /// How many pages there are.
     pub fn pages(&self) -> u32
         ensures { result ≡ length self.now.lead.seat.opening.counts }
     {
         self.pages
+    }
+}
+
+impl Driver<Guided> {
+    /// Proposes these pages for slots from now on, the first 64 of them, in place of those found by sampling. If there are
+    /// none, it samples again. The split phase after the present or next joined one is the first that can have them.
+    pub fn propose(&mut self, pages: &[u32])
+        ensures { self.new ≡ self.old }
+    {
+        self.splits.ask(pages);
     }
 }

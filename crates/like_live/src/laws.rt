@@ -3,7 +3,7 @@
 ghost use Rattle.like_live.specs.Answers.{AnswersAreBounded, AnswersAreReads};
 ghost use Rattle.like_live.specs.Driver.{LastCountsStay};
 ghost use Rattle.like_live.specs.History.{HistoriesAreCounted, NoneWaitsOnceGone};
-ghost use Rattle.like_live.specs.Moments.{LastCountsAreTallies, SeatsAreExclusive};
+ghost use Rattle.like_live.specs.Moments.{LastCountsAreTallies, MarkedKeepSlots, SeatsAreExclusive, SlicesAreSlots};
 
 /// Whatever calls a fresh seat is asked: a page's tally is the number of its likes that were told `Liked`. A user's
 /// last like is the page of the user's last one, or that with which the seat was opened. The looks that were told
@@ -22,6 +22,17 @@ pub fn none_waits_once_gone()
 /// so at each moment of their board, between any two steps.
 pub fn seats_are_exclusive()
     ensures { SeatsAreExclusive }
+{}
+
+/// In a split phase a seat slices exactly the pages in its driver's slots, with which the phase was released. This is so
+/// at each moment of their board.
+pub fn slices_are_slots()
+    ensures { SlicesAreSlots }
+{}
+
+/// A marked page is in a slot in use for ever.
+pub fn marked_keep_slots()
+    ensures { MarkedKeepSlots }
 {}
 
 /// Once all seats are gone, each page's count is its first count and the tallies of all seats.

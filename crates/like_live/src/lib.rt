@@ -17,6 +17,7 @@ mod open_error;
 mod opening;
 mod phase_now;
 mod service;
+mod signals;
 
 pub use answer::{GlanceAnswer, LikeAnswer, LookAnswer, TurnAnswer};
 pub use asked::{Asked, Found};
@@ -26,7 +27,8 @@ pub use driver_answer::DriverAnswer;
 pub use driver_end::End;
 pub use laws::{
     answers_are_bounded, answers_are_reads, histories_are_counted, last_counts_are_tallies,
-    last_counts_stay, none_waits_once_gone, seats_are_exclusive,
+    last_counts_stay, marked_keep_slots, none_waits_once_gone, seats_are_exclusive,
+    slices_are_slots,
 };
 pub use like_tables::NO_PAGE;
 pub use live_seat::{LiveSeat, MAX_LIKES};

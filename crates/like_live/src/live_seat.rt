@@ -1,4 +1,4 @@
-ghost use Rattle.std.specs.Prelude.{◌≡◌, ◌≤◌, ◌↔◌, ℕ, IfOk, IfSome, IsTrue};
+ghost use Rattle.std.specs.Prelude.{◌≡◌, ◌^◌, ◌≤◌, ◌↔◌, ℕ, false, replicate, IfOk, IfSome, IsTrue};
 ghost use Rattle.like_core.specs.declared.worker_state.WorkerState.TheVariants.{Gone};
 ghost use Rattle.like_limits.specs.Limits.{max_stash};
 ghost use Rattle.like_core.specs.OpeningLimits.{service_limits};
@@ -16,8 +16,8 @@ mod requests;
 
 use crate::answer::{GlanceAnswer, LikeAnswer, LookAnswer, TurnAnswer};
 use crate::asked::{Asked, Found};
-use crate::hint::Hint;
-use like_core::Post;
+use crate::signals::Signals;
+use like_core::{Post, SlotPost};
 use like_seat::Station;
 use like_tables::{Stash, Users};
 use moves::work_or_retire;
@@ -39,7 +39,7 @@ pub struct LiveSeat<P: Post> {
     room: u32,
     /// Half of the room.
     half: u32,
-    hint: Hint,
+    signals: Signals,
 }
 
 impl<P: Post> Model for LiveSeat<P> {
@@ -55,43 +55,46 @@ impl<P: Post> Model for LiveSeat<P> {
 }
 
 impl<P: Post + Drop> LiveSeat<P> {
-    /// A seat that has done nothing yet, with these marks of split pages, with room for so many looks that wait or were
-    /// found, and with these last likes. All its room is made here: its calls take no memory.
+    /// A seat that has done nothing yet, of a board with so many pages, none of them marked, which have their buckets by
+    /// this factor; with room for so many looks that wait or were found, and with these last likes. All its room is made
+    /// here: its calls take no memory.
     pub(crate) fn new(
         alloc: Global,
         post: P,
-        marks: Vec<bool>,
+        factor: u32,
+        pages: u32,
         room: u32,
         last: Users,
-        hint: Hint,
+        signals: Signals,
     ) -> Result<LiveSeat<P>, AllocError>
         requires fresh { IsFresh (P.view post) }
         requires limits { (P.view post).limits ≡ service_limits }
-        requires marks { marks.items ≡ (P.view post).marks }
-        requires few_pages { pages_of (P.view post) ≤ service_limits.pages }
+        requires marks { (P.view post).marks ≡ replicate pages false }
+        requires factor { (P.view post).factor ≡ factor }
+        requires least { 2 ^ 22 ≤ factor }
+        requires few_pages { pages ≤ service_limits.pages }
         requires some { 1 ≤ room }
         requires few { room ≤ max_stash }
         requires home { last.share.submitters ≡ last.share.workers }
         ensures new { IfOk result (IsNewLive (P.view post) room last) }
         ensures live { IfOk result (λ seat. IsLive seat) }
     {
-        let pages = marks.len() as u32;
         let found = Stash::new(alloc, room)?;
-        match Station::new(alloc, post, marks, room, last) {
+        match Station::of_service(alloc, post, factor, room, last) {
             Ok(seat) => Ok(LiveSeat {
                 seat,
                 found,
                 pages,
                 room,
                 half: room / 2,
-                hint,
+                signals,
             }),
             Err(_) => Err(AllocError),
         }
     }
 }
 
-impl<P: Post> LiveSeat<P> {
+impl<P: SlotPost> LiveSeat<P> {
     /// Looks at the phase word and does the phase work that it asks for, for a thread that has nothing else to do.
     #[inline(always)]
     pub fn turn(&mut self) -> TurnAnswer
@@ -166,7 +169,7 @@ impl<P: Post> LiveSeat<P> {
         if self.seat.is_gone() {
             return TurnAnswer::Gone;
         }
-        let sight = self.seat.look();
+        let sight = self.seat.look_with_slots();
         if sight.waits {
             return TurnAnswer::Between;
         }

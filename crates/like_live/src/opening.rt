@@ -1,11 +1,12 @@
-ghost use Rattle.std.specs.Prelude.{◌≡◌, ◌≢◌, ◌⊎◌, ◌%◌, ◌<◌, ◌≤◌, ◌↔◌, All, AllPairs, IsTrue, MatchResult};
+ghost use Rattle.std.specs.Prelude.{◌≡◌, ◌⊎◌, ◌%◌, ◌<◌, ◌≤◌, ◌↔◌, All, IsTrue, MatchResult};
 ghost use Rattle.like_requests.specs.Setup.{IsHotLimit};
+ghost use Rattle.like_tables.specs.Factors.{IsFirstApart};
 ghost use Rattle.like_tables.specs.LastLike.{no_page};
-ghost use Rattle.like_live.specs.Opening.{AreLasts, AreMarks, AreWithinLimits, Asking, IsFirstWrong, IsWithinLimits, asking, board_opening, splits_by};
+ghost use Rattle.like_live.specs.Opening.{AreLasts, AreMarks, AreWithinLimits, Asking, IsFirstWrong, IsWithinLimits, asking};
 
 use crate::open_error::OpenError;
 use like_requests::{MAX_COUNT, MAX_HOT, MAX_STASH};
-use like_tables::NO_PAGE;
+use like_tables::{NO_PAGE, factor_for};
 
 /// The most pages of a service.
 const MAX_PAGES: u32 = 1 << 24;
@@ -21,7 +22,8 @@ pub const MAX_MARKS: usize = 64;
 pub struct Opening {
     /// Each page's first count: 1 to 16,777,216 pages, each count at most 10^18.
     pub counts: Vec<u64>,
-    /// The numbers of the pages that are split in every split phase: at most 64, no two alike, in any order.
+    /// The numbers of the pages that are split in every split phase: at most 64, no two alike, in any order. (Very few
+    /// lists of 64 are refused too, since no factor gives each page a bucket of its own.)
     pub marks: Vec<u32>,
     /// How many seats there are: 1 to 64.
     pub seats: u32,
@@ -108,12 +110,15 @@ impl Opening {
         user % self.seats
     }
 
-    /// Whether something would be split in a split phase: a page is marked, or pages can be hot.
-    pub(crate) fn splits_some(&self) -> bool
+    /// The factor by which its pages have their buckets: the first by which no two marked pages share one.
+    pub(crate) fn factor(&self) -> u32
         requires { IsWithinLimits self.now }
-        ensures { result ≡ splits_by (board_opening self.now).marks self.now.hot }
+        ensures { IsFirstApart self.now.marks.items result }
     {
-        !self.marks.is_empty() || self.hot.is_some()
+        match factor_for(&self.marks) {
+            Some(factor) => factor,
+            None => unreachable!(),
+        }
     }
 }
 
@@ -133,7 +138,7 @@ fn are_marks(marks: &[u32], pages: usize) -> bool
 {
     marks.len() <= MAX_MARKS
         && marks.iter().all(|page| (*page as usize) < pages)
-        && are_unlike(marks)
+        && factor_for(marks).is_some()
 }
 
 // Whether these can be the last likes of so many users, at so many pages.
@@ -144,16 +149,4 @@ fn are_lasts(lasts: &[u32], users: u32, pages: usize) -> bool
         && lasts
             .iter()
             .all(|page| *page == NO_PAGE || (*page as usize) < pages)
-}
-
-// Whether no two of these are alike.
-fn are_unlike(pages: &[u32]) -> bool
-    ensures { IsTrue result ↔ AllPairs (λ page other. page ≢ other) pages.now }
-{
-    for later in 0..pages.len() {
-        if pages[..later].contains(&pages[later]) {
-            return false;
-        }
-    }
-    true
 }

@@ -1,6 +1,6 @@
 ghost use Rattle.std.specs.Prelude.{◌≡◌, IfErr, IfOk, OnOk, length};
 ghost use Rattle.like_live.specs.Opening.{IsRefused};
-ghost use Rattle.like_live.specs.Service.{AreGone, AreItsSeats, CallsKeepSeats, IsClosedService, IsOpened};
+ghost use Rattle.like_live.specs.Service.{AreGone, AreItsSeats, CallsKeepSeats, AreOpened, IsClosedService};
 
 mod parts;
 
@@ -10,20 +10,21 @@ use crate::live_seat::LiveSeat;
 use crate::open_error::OpenError;
 use crate::opening::Opening;
 use like_board::SharedPost;
+use like_choice::{Choice, Guided};
 use std::alloc::{AllocError, Global};
 
 /// A board with its driver and its seats. A host takes it apart, and hands each to a thread.
 #[derive(Drop)]
-pub struct Service {
-    pub driver: Driver,
+pub struct Service<C: Choice> {
+    pub driver: Driver<C>,
     /// Seat `u mod seats` is that of user `u`.
     pub seats: Vec<LiveSeat<SharedPost>>,
 }
 
 /// Some seat is not gone. The service that was passed comes back.
 #[derive(Drop)]
-pub struct NotAllGone {
-    pub service: Service,
+pub struct NotAllGone<C: Choice> {
+    pub service: Service<C>,
 }
 
 /// The driver's and the seats' calls leave them one service: `Service::open` gives all seats of a driver, and those are
@@ -32,15 +33,33 @@ pub fn calls_keep_seats()
     ensures { CallsKeepSeats }
 {}
 
-impl Service {
-    /// A service in phase 0, a joined one. Each number of the opening is tested, and nothing takes memory after this.
-    pub fn open(alloc: Global, opening: &Opening) -> Result<Service, OpenError>
-        ensures opened { IfOk result (IsOpened opening.now) }
+impl Service<Guided> {
+    /// A service in phase 0, a joined one, which finds by sampling which pages get slots, or is told by its host. Each
+    /// number of the opening is tested, and nothing takes memory after this.
+    pub fn open(alloc: Global, opening: &Opening) -> Result<Service<Guided>, OpenError>
+        ensures opened { IfOk result (λ s. AreOpened opening.now s.driver s.seats.items) }
         ensures whole { IfOk result (λ s. AreItsSeats s.driver s.seats.items) }
         ensures refused { IfErr result (IsRefused opening.now) }
     {
         opening.check()?;
-        match new_service(alloc, opening) {
+        let hot = opening.hot.unwrap_or(0);
+        match Guided::new(alloc, opening.seats, hot) {
+            Ok(choice) => Service::open_with(alloc, opening, choice),
+            Err(AllocError) => Err(OpenError::Memory),
+        }
+    }
+}
+
+impl<C: Choice + Drop> Service<C> {
+    /// A service in phase 0, a joined one, whose driver asks this choice which pages get slots. Each number of the opening
+    /// is tested, and nothing takes memory after this but the choice.
+    pub fn open_with(alloc: Global, opening: &Opening, choice: C) -> Result<Service<C>, OpenError>
+        ensures opened { IfOk result (λ s. AreOpened opening.now s.driver s.seats.items) }
+        ensures whole { IfOk result (λ s. AreItsSeats s.driver s.seats.items) }
+        ensures refused { IfErr result (IsRefused opening.now) }
+    {
+        opening.check()?;
+        match new_service(alloc, opening, choice) {
             Ok(service) => Ok(service),
             Err(AllocError) => Err(OpenError::Memory),
         }
@@ -48,7 +67,7 @@ impl Service {
 
     /// Ends the service, once all its seats are gone, and writes each page's last count: its first count and the
     /// tallies of all seats.
-    pub fn close(self, counts: &mut [u64]) -> Result<(), NotAllGone>
+    pub fn close(self, counts: &mut [u64]) -> Result<(), NotAllGone<C>>
         requires whole { AreItsSeats self.driver self.seats.items }
         requires places { length counts.old ≡ length self.driver.lead.seat.opening.counts }
         ensures gone { OnOk result (AreGone self.seats.items) }

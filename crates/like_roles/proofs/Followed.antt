@@ -36,14 +36,14 @@ use Rattle.like_service.specs.Service.{Service, is_split_in, request_at, submitt
 use Rattle.like_roles.specs.worker.Turns as turns
 use Rattle.like_roles.specs.worker.Turns.{CanGive, Gives, TakesAsk, Turns, Works, held_from, merged, saw, settled, trying, with_stashed, with_taken, without_first}
 use Rattle.like_requests.specs.Setup.{IsThere}
-use Rattle.like_seat.specs.Merge.{Merges}
+use Rattle.like_roles.specs.worker.Merges.{Merges}
 use Rattle.like_seat.specs.StationView.{HasPhaseMask, IsSliceInSplit}
 use Rattle.like_service.proofs.Blocks.{block-next-prompt, block-next-waits, order-parts, order_below-prompt, order_below-waits, stashed-block, stashed-other, stashed-prompt, took_to_wait-joined}
 use Rattle.like_roles.proofs.Effects.{HasRunOne, Runs-effects}
 use Rattle.like_roles.proofs.InBlocks.{before-next, parity, parts, running-of_within, runs-phase, runs-weaker, within-of_running}
 use Rattle.like_roles.proofs.Keeps.{runs-keeps, works-keeps}
 use Rattle.like_seat.proofs.Looking.{has-after, splits-after}
-use Rattle.like_seat.proofs.MergedLikes as merge
+use Rattle.like_roles.proofs.PageMerged as merge
 use Rattle.like_seat.proofs.MergedLikes.{cond_same}
 use Rattle.like_roles.proofs.notes.NotedMerge.{merge-noted}
 use Rattle.like_roles.proofs.notes.Noting.{GivesReply-noted, running-unmerged, unmerged-running, unmerged-seen}

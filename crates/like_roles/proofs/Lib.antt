@@ -6,6 +6,8 @@ pub mod Held
 pub mod Keeps
 pub mod Made
 pub mod Merging
+pub mod PageMerged
+pub mod PageOrder
 pub mod Seats
 pub mod Served
 pub mod counts

@@ -4,10 +4,10 @@ use Rattle.std.proofs.lemmas.List.{map-append}
 use Rattle.like_core.specs.declared.view.Addition.{Addition}
 use Rattle.like_tables.specs.declared.held.Held.{Held}
 use Rattle.like_seat.specs.Merge as merge
-use Rattle.like_seat.specs.Merge.{Merges}
+use Rattle.like_roles.specs.worker.Merges.{Merges}
 use Rattle.like_seat.specs.StationView.{StationView, phase_at}
 use Rattle.like_core.specs.Post.{pages_of}
-use Rattle.like_seat.proofs.WholeMerge.{merge_of}
+use Rattle.like_roles.proofs.PageOrder.{merge_of}
 use Rattle.like_service.specs.declared.log.Added.{Added}
 use Rattle.like_roles.specs.declared.worker.desk.Desk.{Desk}
 use Rattle.like_roles.specs.worker.Desk.{view_of}

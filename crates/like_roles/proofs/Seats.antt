@@ -1,5 +1,6 @@
 -- Seats of a board's workers.
 use Rattle.std.proofs.Common.{◌≡◌, List, ap, ◌∙◌}
+use Rattle.like_limits.specs.Buckets.{run_factor}
 use Rattle.like_requests.specs.Pages.{Page, marks_of}
 use Rattle.like_core.specs.declared.opening.Opening.{Opening}
 use Rattle.like_core.specs.declared.view.WorkerSeatView.{WorkerSeatView}
@@ -12,15 +13,17 @@ use Rattle.like_roles.specs.worker.New.{AreNewSeats}
 pub new_seats : (board : BoardId) (z : Opening) (pages : List Page) (seats : List WorkerSeat)
     → z.marks ≡ marks_of pages
     → z.limits ≡ run_limits
+    → z.factor ≡ run_factor
     → AreFresh board z seats
     → AreNewSeats board pages seats
-new_seats board z pages seats marks limits fresh worker seat at =
+new_seats board z pages seats marks limits factor fresh worker seat at =
     let f = fresh worker seat at in (
       f.0,
       record {
         is_his = ap (λ (v : WorkerSeatView). v.worker) f.1;
         marks = ap (λ (v : WorkerSeatView). v.opening.marks) f.1 ∙ marks;
         limits = ap (λ (v : WorkerSeatView). v.opening.limits) f.1 ∙ limits;
+        factor = ap (λ (v : WorkerSeatView). v.opening.factor) f.1 ∙ factor;
         fresh = f.2;
       },
     )

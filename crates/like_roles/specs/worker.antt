@@ -2,6 +2,7 @@
 pub mod WorkerView
 pub mod Shown
 pub mod Serve
+pub mod Merges
 pub mod Turns
 pub mod Places
 pub mod New

@@ -1,3 +1,7 @@
+pub mod Choosing
+pub mod Entering
+pub mod Filling
+pub mod Keeping
 pub mod Leading
 pub mod Looking
 pub mod MergedLikes

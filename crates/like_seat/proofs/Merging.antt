@@ -1,44 +1,52 @@
 -- A slice that is merged.
-use Rattle.std.proofs.Common.{◌≡◌, ℕ, List, length, get_or, inl, inr, ap, sym, ◌∙◌, subst, arith}
-use Rattle.std.proofs.lemmas.Bool.{cases_lt}
-use Rattle.std.proofs.lemmas.List.{get_or_past}
+use Rattle.std.proofs.Common.{◌≡◌, ◌+◌, ◌≤◌, ℕ, List, ◌∷◌, ◌++◌, [], replicate, sum, true, refl, ap, sym, ◌∙◌, subst, arith}
+use Rattle.like_core.specs.declared.view.Addition.{Addition}
 use Rattle.like_core.specs.declared.worker_state.WorkerState.TheVariants.{Answered}
-use Rattle.like_core.specs.Post.{PostView, answered}
+use Rattle.like_core.specs.Additions.{addition, all_added}
+use Rattle.like_core.specs.Post.{PostView, added, answered, pages_of}
 use Rattle.like_core.specs.WorkerState.{phase_of}
-use Rattle.like_tables.specs.Liked.{AreUnliked}
+use Rattle.like_tables.specs.SplitPages.{SplitPages}
+use Rattle.like_tables.specs.SplitSlice.{IsSplitSlice, SplitSlice, by_page, has_split, likes_in, no_slice, with_likes}
+use Rattle.like_tables.proofs.ByPage.{by_page-none}
 use Rattle.like_seat.specs.declared.tables.Tables.{Tables}
-use Rattle.like_seat.specs.Kept.{IsKept}
-use Rattle.like_seat.specs.StationView.{IsSliceInSplit}
-
--- a slice without a like may belong to every worker
-splits-empty : (post : PostView) (slice : List ℕ) → AreUnliked slice 0 (length slice) → IsSliceInSplit post slice
-splits-empty post slice none page some =
-    let empty : get_or slice page 0 ≡ 0 = elim (cases_lt page (length slice)) [
-      | inl inside ↦ none page (omega arith) inside
-      | inr past ↦ get_or_past slice page 0 past
-    ] in absurd (some empty)
+use Rattle.like_seat.specs.Kept.{IsKept, view_of}
+use Rattle.like_seat.specs.StationView.{likes_of}
+use Rattle.like_seat.proofs.Keeping.{Kept-unsplit, Kept-written, by_page-no_slice, of-run, of-service, sum-written}
+use Rattle.like_seat.proofs.MergedLikes.{all_added-push}
 
 -- a seat that has merged its slice may answer
-pub IsKept-reported : {W : Type 0} (post new : PostView) (t : Tables W) (phase : ℕ)
+pub IsKept-reported : {W : Type 0} (post : PostView) (t : Tables W) (phase : ℕ)
     → IsKept post t
-    → AreUnliked t.slice 0 (length t.slice)
+    → ((page : ℕ) → likes_in t.slice page ≡ 0)
     → phase ≡ phase_of t.state
-    → new ≡ answered post
-    → IsKept new (record t { state = Answered phase })
-IsKept-reported post new t phase k none is e =
-    subst (λ p. IsKept p (record t { state = Answered phase })) (sym e) (record {
-      marks = k.marks;
-      state = ap (λ n. Answered n) (ap phase_of k.state ∙ sym is);
-      hot = λ odd. absurd odd;
-      likes = k.likes;
-      seat = record {
-        few_pages = k.seat.few_pages;
-        limits = k.seat.limits;
-        within = k.seat.within;
-        sized = k.seat.sized;
-        masked = λ odd. absurd odd;
-        split = splits-empty (answered post) t.slice none;
-        few = k.seat.few;
-        waiting = k.seat.waiting;
-      };
-    })
+    → IsKept (answered post) (record t { state = Answered phase; slice = no_slice t.slice.splits.factor })
+IsKept-reported post t phase k none is =
+    let f : ℕ = t.slice.splits.factor in
+    let n : ℕ = pages_of post in
+    let empty : by_page (no_slice f) n ≡ by_page t.slice n = by_page-no_slice f n ∙ sym (by_page-none t.slice n none) in
+    let likes : t.likes ≡ all_added post.additions + sum (by_page (no_slice f) n) =
+    k.likes ∙ ap (λ (xs : List ℕ). all_added post.additions + sum xs) (sym empty) in
+    Kept-unsplit (answered post) (record t { state = Answered phase; slice = no_slice f }) f (λ runs. absurd runs) refl
+    k.factor k.slice.pages.factor (of-run post (answered post) t.marks.items t.marks.items refl refl refl refl k.run)
+    (of-service post (answered post) refl refl k.service) (ap (λ n. Answered n) (ap phase_of k.state ∙ sym is)) likes
+    (omega (arith, k.likes, k.seat.few)) k.seat.few_pages k.seat.limits k.seat.within k.seat.waiting
+
+-- a page's likes were added to its count, and taken out of the slice
+pub IsKept-merged : {W : Type 0} (post : PostView) (t : Tables W) (page old likes : ℕ) (after : SplitSlice)
+    → IsKept post t
+    → has_split t.slice page ≡ true
+    → likes ≡ likes_in t.slice page
+    → after ≡ with_likes t.slice page 0
+    → sum after.counts + likes ≡ sum t.slice.counts
+    → IsSplitSlice after
+    → IsKept (added post page old likes) (record t { slice = after })
+IsKept-merged {W} post t page old likes after k split likes_are is total lawful =
+    let n : ℕ = pages_of post in
+    let there = ((k.splits page).0 split).1 in
+    let sums : sum (by_page after n) ≡ sum after.counts =
+    ap (λ (s : SplitSlice). sum (by_page s n)) is
+    ∙ sum-written t.slice n page 0 (sum after.counts) k.slice split there k.sums (omega (arith, total, likes_are)) in
+    let more = all_added-push post.additions (addition (phase_of post.state) page old likes) in
+    Kept-written post (post.additions ++ addition (phase_of post.state) page old likes ∷ []) post.reads post.glances t
+    (record t { slice = after }) k refl refl refl (ap (λ (s : SplitSlice). s.splits) is) lawful sums
+    (omega (arith, k.likes, k.sums, total, sums, more)) (omega (arith, k.likes, k.seat.few))

@@ -1,66 +1,20 @@
--- How the merge of a slice goes from page to page.
-use Rattle.std.proofs.Common.{◌≡◌, ℕ, zero, suc, ◌≢◌, ◌+◌, ◌-◌, ◌<◌, ◌≤◌, ◌==◌, Bool, not, cond, List, [], ◌∷◌, ◌++◌, length, get_or, set, replicate, refl, ap, sym, ◌∙◌, inl, inr, arith, subst, append-nil, append_assoc}
-use Rattle.std.proofs.lemmas.Bool.{cases_lt, eq-eqb, ne_eqb}
-use Rattle.std.proofs.lemmas.List.{length-set, map-append, map-id, get_or-set_same, get_or-set_other}
-use Rattle.std.proofs.lemmas.List.Elements.{All-nil, All-push}
-use Rattle.std.proofs.lemmas.List.FromFn.{filter_of_map_range_with_len_more}
-use Rattle.std.specs.List.{filter, range_with_len}
+-- How the merge of a slice goes from page to page, by the pages' buckets.
+use Rattle.std.proofs.Common.{◌≡◌, ℕ, suc, ◌≢◌, ◌+◌, ◌<◌, ◌≤◌, ◌==◌, Bool, cond, List, [], ◌∷◌, ◌++◌, length, get_or, set, replicate, map, refl, ap, sym, ◌∙◌, inl, inr, arith, subst, append-nil, append_assoc, length-append}
+use Rattle.std.specs.List.{All, sum_by}
+use Rattle.std.specs.List.Sorted.{IsStrictlyIncreasing}
+use Rattle.std.proofs.Math.ListN.{get_or-append}
+use Rattle.std.proofs.Math.Seq.{get_or-append_seam}
+use Rattle.std.proofs.lemmas.Bool.{cases_eq, cases_lt, eq-eqb, ne_eqb}
+use Rattle.std.proofs.lemmas.List.{length-set, map-append, get_or-set_same, get_or-set_other}
+use Rattle.std.proofs.lemmas.List.Elements.{All-map, All-nil, All-push, All-weaker}
+use Rattle.std.proofs.lemmas.List.Sums.{sum_by-append, sum_by-cons}
 use Rattle.like_core.specs.declared.view.Addition.{Addition}
+use Rattle.like_core.specs.Additions.{added_to}
 use Rattle.like_core.specs.Post.{pages_of}
-use Rattle.like_tables.specs.Liked.{AreUnliked, IsNextLiked}
-use Rattle.like_seat.specs.Merge.{Merges, liked_below, merged}
+use Rattle.like_limits.specs.Buckets.{bucket}
+use Rattle.like_seat.specs.Merge.{MergesAll, merged}
 use Rattle.like_seat.specs.StationView.{StationView, phase_at}
-use Rattle.like_seat.specs.Steps.{merged_page}
-
--- the pages that a slice has likes of, and one page more
-pub liked-next : (slice : List ℕ) (n : ℕ)
-    → liked_below slice (n + 1) ≡ liked_below slice n ++ cond (not (get_or slice n 0 == 0)) (n ∷ []) []
-liked-next slice n =
-    let liked : ℕ → Bool = λ page. not (get_or slice page 0 == 0) in
-    ap (filter liked) (sym (map-id (range_with_len 0 (n + 1))))
-    ∙ filter_of_map_range_with_len_more liked (λ page. page) 0 n n (omega arith)
-    ∙ ap (λ (pages : List ℕ). filter liked pages ++ cond (liked n) (n ∷ []) []) (map-id (range_with_len 0 n))
-
--- which has likes
-pub liked-more : (slice : List ℕ) (n : ℕ)
-    → get_or slice n 0 ≢ 0
-    → liked_below slice (n + 1) ≡ liked_below slice n ++ n ∷ []
-liked-more slice n liked =
-    liked-next slice n
-    ∙ ap (λ (b : Bool). liked_below slice n ++ cond (not b) (n ∷ []) []) (ne_eqb (get_or slice n 0) 0 liked)
-
--- or has none
-pub liked-none : (slice : List ℕ) (n : ℕ)
-    → get_or slice n 0 ≡ 0
-    → liked_below slice (n + 1) ≡ liked_below slice n
-liked-none slice n none =
-    liked-next slice n
-    ∙ ap (λ (b : Bool). liked_below slice n ++ cond (not b) (n ∷ []) []) (eq-eqb (get_or slice n 0) 0 none)
-    ∙ append-nil (liked_below slice n)
-
--- what stands below n + 1 after a write at n
-below : (xs : List ℕ) (n x : ℕ) (f : ℕ → ℕ)
-    → n < length xs
-    → f n ≡ x
-    → ((i : ℕ) → i < n → get_or xs i 0 ≡ f i)
-    → (i : ℕ)
-    → i < n + 1
-    → get_or (set xs n x) i 0 ≡ f i
-below xs n x f within here before i h =
-    elim (cases_lt i n) [
-      | inl earlier ↦ get_or-set_other xs n i x 0 (λ e. absurd (omega arith)) ∙ before i earlier
-      | inr at_end ↦
-          let same : n ≡ i = omega arith in
-          subst (λ k. get_or (set xs n x) k 0 ≡ f k) same (get_or-set_same xs n x 0 within ∙ sym here)
-    ]
-
--- what stands above n after a write at n
-above : (xs ys : List ℕ) (n x : ℕ)
-    → ((i : ℕ) → n ≤ i → get_or xs i 0 ≡ get_or ys i 0)
-    → (i : ℕ)
-    → n + 1 ≤ i
-    → get_or (set xs n x) i 0 ≡ get_or ys i 0
-above xs ys n x after i h = get_or-set_other xs n i x 0 (λ e. absurd (omega arith)) ∙ after i (omega arith)
+use Rattle.like_seat.specs.Steps.{IsNext, NoneFrom, merged_page}
 
 -- a list of zeros
 zeros : (xs : List ℕ) → ((i : ℕ) → i < length xs → get_or xs i 0 ≡ 0) → xs ≡ replicate (length xs) 0
@@ -70,31 +24,58 @@ zeros (x ∷ xs) h =
     let rest : xs ≡ replicate (length xs) 0 = zeros xs (λ i k. h (suc i) (omega arith)) in
     ap (λ y. y ∷ xs) first ∙ ap (λ ys. 0 ∷ ys) rest
 
+-- one more number, which is above all others
+increasing-push : (xs : List ℕ) (x : ℕ) → IsStrictlyIncreasing xs → All (λ y. y < x) xs
+    → IsStrictlyIncreasing (xs ++ x ∷ [])
+increasing-push xs x rises below k less =
+    let long : length (xs ++ x ∷ []) ≡ length xs + 1 = length-append xs (x ∷ []) in
+    let here : get_or (xs ++ x ∷ []) k 0 ≡ get_or xs k 0 = get_or-append xs (x ∷ []) 0 k (omega arith) in
+    elim (cases_lt (k + 1) (length xs)) [
+      | inl inside ↦
+          let next = get_or-append xs (x ∷ []) 0 (k + 1) inside in omega (arith, rises k inside, next)
+      | inr last ↦
+          let at : length xs ≡ k + 1 = omega arith in
+          let end : get_or (xs ++ x ∷ []) (k + 1) 0 ≡ x =
+          ap (λ n. get_or (xs ++ x ∷ []) n 0) (sym at) ∙ get_or-append_seam xs x [] 0 in
+          omega (arith, below k 0 (omega arith))
+    ]
+
+-- how much one more addition adds to a page
+added_to-push : (page : ℕ) (adds : List Addition) (a : Addition)
+    → added_to page (adds ++ a ∷ []) ≡ added_to page adds + cond (a.page == page) a.likes 0
+added_to-push page adds a =
+    let f : Addition → ℕ = λ b. cond (b.page == page) b.likes 0 in
+    omega (arith, sum_by-append f adds (a ∷ []), sum_by-cons f a [])
+
 module _ {W : Type 0} where
   -- the seat after pages were merged by these additions, with this slice
   abbrev pub merged_with : StationView W → List Addition → List ℕ → StationView W
   merged_with s adds slice =
       record s { post = record s.post { additions = s.post.additions ++ adds }; slice = slice }
 
-  -- the first n pages are merged, by these additions
-  pub record Merging (s0 s : StationView W) (n : ℕ) (adds : List Addition) : Type 0 where
-    pub merges : Merges (phase_at s0) s0.slice n adds
+  -- the pages whose bucket, by this factor, is below one are merged, by these additions
+  pub record Merging (factor : ℕ) (s0 s : StationView W) (from : ℕ) (adds : List Addition) : Type 0 where
+    pub likes_are : All (λ a. a.likes ≡ get_or s0.slice a.page 0) adds
+    pub phase_is : All (λ a. a.phase ≡ phase_at s0) adds
+    pub in_order : IsStrictlyIncreasing (map (λ a. bucket factor a.page) adds)
+    pub below : All (λ a. bucket factor a.page < from) adds
     pub rest : s ≡ merged_with s0 adds s.slice
     pub sized : length s.slice ≡ length s0.slice
-    pub emptied : (page : ℕ) → page < n → get_or s.slice page 0 ≡ 0
-    pub left : (page : ℕ) → n ≤ page → get_or s.slice page 0 ≡ get_or s0.slice page 0
+    pub sums : (page : ℕ) → added_to page adds + get_or s.slice page 0 ≡ get_or s0.slice page 0
+    pub emptied : (page : ℕ) → bucket factor page < from → get_or s.slice page 0 ≡ 0
+    pub left : (page : ℕ) → from ≤ bucket factor page → get_or s.slice page 0 ≡ get_or s0.slice page 0
 
   -- no page is merged at first
-  pub Merging-start : (s : StationView W) → Merging s s 0 []
-  Merging-start s = record {
-    merges = record {
-      pages_are = refl;
-      likes_are = All-nil (λ (a : Addition). a.likes ≡ get_or s.slice a.page 0);
-      phase_is = All-nil (λ (a : Addition). a.phase ≡ phase_at s);
-    };
+  pub Merging-start : (factor : ℕ) (s : StationView W) → Merging factor s s 0 []
+  Merging-start factor s = record {
+    likes_are = All-nil (λ (a : Addition). a.likes ≡ get_or s.slice a.page 0);
+    phase_is = All-nil (λ (a : Addition). a.phase ≡ phase_at s);
+    in_order = λ k less. absurd (omega (arith, less));
+    below = All-nil (λ (a : Addition). bucket factor a.page < 0);
     rest = λ m. record s { post = record s.post { additions = sym (append-nil s.post.additions) m } };
     sized = refl;
-    emptied = λ page h. absurd (omega arith);
+    sums = λ page. omega arith;
+    emptied = λ page less. absurd (omega (arith, less));
     left = λ page h. refl;
   }
 
@@ -103,94 +84,108 @@ module _ {W : Type 0} where
   merge_of s page old =
       record { phase = phase_at s; page = page; old = old; likes = get_or s.slice page 0 }
 
-  -- the next page is merged, where its count was this
-  pub Merging-page : (s0 s t : StationView W) (n old : ℕ) (adds : List Addition) → Merging s0 s n adds → n < length s.slice
-      → get_or s.slice n 0 ≢ 0 → t ≡ merged_page s n old
-      → Merging s0 t (n + 1) (adds ++ merge_of s n old ∷ [])
-  Merging-page s0 s t n old adds m inside liked is =
-      let new : Addition = merge_of s n old in
-      let phase : phase_at s ≡ phase_at s0 = ap {A = StationView W} (λ x. phase_at x) m.rest in
-      let same : get_or s.slice n 0 ≡ get_or s0.slice n 0 = m.left n (omega arith) in
-      let slice : t.slice ≡ set s.slice n 0 = ap {A = StationView W} (λ x. x.slice) is in
-      let walks : Merging s0 (merged_page s n old) (n + 1) (adds ++ new ∷ []) = record {
-        merges = record {
-          pages_are = map-append (λ (a : Addition). a.page) adds (new ∷ [])
-              ∙ ap (λ (pages : List ℕ). pages ++ n ∷ []) m.merges.pages_are
-              ∙ sym (liked-more s0.slice n (λ e. liked (same ∙ e)));
-          likes_are = All-push (λ (a : Addition). a.likes ≡ get_or s0.slice a.page 0) adds new m.merges.likes_are same;
-          phase_is = All-push (λ (a : Addition). a.phase ≡ phase_at s0) adds new m.merges.phase_is phase;
-        };
-        rest =
-            ap {A = StationView W} (λ x. merged_with x (new ∷ []) (set s.slice n 0)) m.rest
-            ∙ (λ k. record s0 {
-              post =
-                  record s0.post { additions = append_assoc s0.post.additions adds (new ∷ []) k };
-              slice =
-                  set s.slice n 0;
-            });
-        sized = length-set s.slice n 0 ∙ m.sized;
-        emptied = below s.slice n 0 (λ _. 0) inside refl m.emptied;
-        left = above s.slice s0.slice n 0 m.left;
-      }
-      in subst (λ x. Merging s0 x (n + 1) (adds ++ new ∷ [])) (sym is) walks
+  -- what the slice has after the next page was merged
+  module _ (factor : ℕ) (s0 s : StationView W) (from page old : ℕ) (adds : List Addition)
+      (m : Merging factor s0 s from adds) (next : IsNext factor s.slice from page) where
+    sums-next : (other : ℕ)
+        → added_to other (adds ++ merge_of s page old ∷ []) + get_or (set s.slice page 0) other 0
+        ≡ get_or s0.slice other 0
+    sums-next other =
+        let more = added_to-push other adds (merge_of s page old) in
+        let before = m.sums other in
+        elim (cases_eq page other) [
+          | inl same ↦
+              let here : get_or (set s.slice page 0) other 0 ≡ 0 =
+              ap (λ k. get_or (set s.slice page 0) k 0) (sym same) ∙ get_or-set_same s.slice page 0 0 next.there in
+              let all : cond (page == other) (get_or s.slice page 0) 0 ≡ get_or s.slice other 0 =
+              ap (λ (b : Bool). cond b (get_or s.slice page 0) 0) (eq-eqb page other same)
+              ∙ ap (λ k. get_or s.slice k 0) same in
+              omega (arith, more, before, here, all)
+          | inr apart ↦
+              let kept : get_or (set s.slice page 0) other 0 ≡ get_or s.slice other 0 =
+              get_or-set_other s.slice page other 0 0 (λ e. apart (sym e)) in
+              let none : cond (page == other) (get_or s.slice page 0) 0 ≡ 0 =
+              ap (λ (b : Bool). cond b (get_or s.slice page 0) 0) (ne_eqb page other apart) in
+              omega (arith, more, before, kept, none)
+        ]
 
-  -- there is nothing to merge of a page that has no like
-  Merging-none : (s0 s : StationView W) (n : ℕ) (adds : List Addition) → Merging s0 s n adds → get_or s.slice n 0 ≡ 0
-      → Merging s0 s (n + 1) adds
-  Merging-none s0 s n adds m none =
-      let is : get_or s0.slice n 0 ≡ 0 = sym (m.left n (omega arith)) ∙ none in
-      record {
-        merges = record {
-          pages_are = m.merges.pages_are ∙ sym (liked-none s0.slice n is);
-          likes_are = m.merges.likes_are;
-          phase_is = m.merges.phase_is;
-        };
-        rest = m.rest;
-        sized = m.sized;
-        emptied = λ page h. elim (cases_lt page n) [
-          | inl earlier ↦ m.emptied page earlier
-          | inr past ↦ let same : n ≡ page = omega arith in subst (λ k. get_or s.slice k 0 ≡ 0) same none
-        ];
-        left = λ page h. m.left page (omega arith);
-      }
+    emptied-next : (other : ℕ) → bucket factor other < bucket factor page + 1
+        → get_or (set s.slice page 0) other 0 ≡ 0
+    emptied-next other less =
+        elim (cases_eq other page) [
+          | inl same ↦
+              ap (λ k. get_or (set s.slice page 0) k 0) same ∙ get_or-set_same s.slice page 0 0 next.there
+          | inr apart ↦
+              get_or-set_other s.slice page other 0 0 apart
+              ∙ elim (cases_lt (bucket factor other) from) [
+                | inl before ↦ m.emptied other before
+                | inr after ↦ next.first other after (omega arith) apart
+              ]
+        ]
 
-  -- nor of so many of them
-  unliked_next : (s0 s : StationView W) (n more : ℕ) (adds : List Addition) → Merging s0 s n adds
-      → AreUnliked s.slice n (n + more) → Merging s0 s (n + more) adds
-  unliked_next s0 s n zero adds m none = subst (λ k. Merging s0 s k adds) (omega arith) m
-  unliked_next s0 s n (suc more) adds m none =
-      let first = Merging-none s0 s n adds m (none n (omega arith) (omega arith)) in
-      subst (λ k. Merging s0 s k adds) (omega arith)
-      (unliked_next s0 s (n + 1) more adds first (λ page low high. none page (omega arith) (omega arith)))
+    left-next : (other : ℕ) → bucket factor page + 1 ≤ bucket factor other
+        → get_or (set s.slice page 0) other 0 ≡ get_or s0.slice other 0
+    left-next other above =
+        let apart : other ≢ page = λ e. absurd (omega (arith, above, ap (bucket factor) e)) in
+        get_or-set_other s.slice page other 0 0 apart ∙ m.left other (omega (arith, next.after))
 
-  pub Merging-unliked : (s0 s : StationView W) (n k : ℕ) (adds : List Addition) → Merging s0 s n adds → n ≤ k
-      → AreUnliked s.slice n k → Merging s0 s k adds
-  Merging-unliked s0 s n k adds m up none =
-      let same : n + (k - n) ≡ k = omega arith in
-      subst (λ j. Merging s0 s j adds) same
-      (unliked_next s0 s n (k - n) adds m (λ page low high. none page low (omega arith)))
+    -- the next page is merged, where its count was this
+    merging-page : Merging factor s0 (merged_page s page old) (bucket factor page + 1)
+        (adds ++ merge_of s page old ∷ [])
+    merging-page =
+        let new : Addition = merge_of s page old in
+        let phase : phase_at s ≡ phase_at s0 = ap {A = StationView W} (λ x. phase_at x) m.rest in
+        let same : get_or s.slice page 0 ≡ get_or s0.slice page 0 = m.left page next.after in
+        record {
+          likes_are = All-push (λ (a : Addition). a.likes ≡ get_or s0.slice a.page 0) adds new m.likes_are same;
+          phase_is = All-push (λ (a : Addition). a.phase ≡ phase_at s0) adds new m.phase_is phase;
+          in_order = subst IsStrictlyIncreasing (sym (map-append (λ (a : Addition). bucket factor a.page) adds (new ∷ [])))
+              (increasing-push (map (λ (a : Addition). bucket factor a.page) adds) (bucket factor page) m.in_order
+              (All-map (λ b. b < bucket factor page) (λ (a : Addition). bucket factor a.page) adds
+              (All-weaker (λ (a : Addition). bucket factor a.page < from)
+              (λ (a : Addition). bucket factor a.page < bucket factor page)
+              (λ a less. omega (arith, less, next.after)) adds m.below)));
+          below = All-push (λ (a : Addition). bucket factor a.page < bucket factor page + 1) adds new
+              (All-weaker (λ (a : Addition). bucket factor a.page < from)
+              (λ (a : Addition). bucket factor a.page < bucket factor page + 1)
+              (λ a less. omega (arith, less, next.after)) adds m.below)
+              (omega arith);
+          rest =
+              ap {A = StationView W} (λ x. merged_with x (new ∷ []) (set s.slice page 0)) m.rest
+              ∙ (λ k. record s0 {
+                post =
+                    record s0.post { additions = append_assoc s0.post.additions adds (new ∷ []) k };
+                slice =
+                    set s.slice page 0;
+              });
+          sized = length-set s.slice page 0 ∙ m.sized;
+          sums = sums-next;
+          emptied = emptied-next;
+          left = left-next;
+        }
 
-  -- all pages are merged
-  pub Merging-end : (s0 s : StationView W) (adds : List Addition) → Merging s0 s (pages_of s0.post) adds
-      → length s0.slice ≡ pages_of s0.post → s ≡ merged s0 adds
-  Merging-end s0 s adds m pages =
-      let slice : s.slice ≡ replicate (pages_of s0.post) 0 =
-      zeros s.slice (λ i k. m.emptied i (omega (arith, m.sized, pages))) ∙ ap (λ n. replicate n 0) (m.sized ∙ pages) in
-      m.rest ∙ ap (merged_with s0 adds) slice
-
-  -- a page is merged, and those before it that have no like
-  pub Merging-next : (s0 s t : StationView W) (from page old : ℕ) (adds : List Addition) → Merging s0 s from adds
-      → IsNextLiked s.slice from page → t ≡ merged_page s page old
-      → Merging s0 t (page + 1) (adds ++ merge_of s page old ∷ [])
-  Merging-next s0 s t from page old adds m next is =
-      Merging-page s0 s t page old adds
-      (Merging-unliked s0 s from page adds m next.after next.least) next.there next.liked is
+    pub Merging-next : (t : StationView W) → t ≡ merged_page s page old
+        → Merging factor s0 t (bucket factor page + 1) (adds ++ merge_of s page old ∷ [])
+    Merging-next t is =
+        subst (λ x. Merging factor s0 x (bucket factor page + 1) (adds ++ merge_of s page old ∷ [])) (sym is)
+        merging-page
 
   -- no page is left
-  pub Merging-done : (s0 s t : StationView W) (from : ℕ) (adds : List Addition) → Merging s0 s from adds
-      → from ≤ length s.slice → AreUnliked s.slice from (length s.slice) → t ≡ s → length s0.slice ≡ pages_of s0.post
-      → Merges (phase_at s0) s0.slice (pages_of s0.post) adds × (t ≡ merged s0 adds)
-  Merging-done s0 s t from adds m within none is pages =
-      let all = subst (λ k. Merging s0 s k adds) (m.sized ∙ pages)
-      (Merging-unliked s0 s from (length s.slice) adds m within none) in
-      (all.merges, is ∙ Merging-end s0 s adds all pages)
+  pub Merging-done : (factor : ℕ) (s0 s t : StationView W) (from : ℕ) (adds : List Addition)
+      → Merging factor s0 s from adds → NoneFrom factor s.slice from → t ≡ s → length s0.slice ≡ pages_of s0.post
+      → MergesAll factor (phase_at s0) s0.slice adds × (t ≡ merged s0 adds)
+  Merging-done factor s0 s t from adds m none is pages =
+      let empty : (page : ℕ) → get_or s.slice page 0 ≡ 0 = λ page. elim (cases_lt (bucket factor page) from) [
+        | inl before ↦ m.emptied page before
+        | inr after ↦ none page after
+      ] in
+      let slice : s.slice ≡ replicate (pages_of s0.post) 0 =
+      zeros s.slice (λ i k. empty i) ∙ ap (λ n. replicate n 0) (m.sized ∙ pages) in (
+        record {
+          likes_are = m.likes_are;
+          phase_is = m.phase_is;
+          sums = λ page. omega (arith, m.sums page, empty page);
+          in_order = m.in_order;
+        },
+        is ∙ m.rest ∙ ap (merged_with s0 adds) slice,
+      )

@@ -1,32 +1,107 @@
 -- How a seat is kept.
-use Rattle.std.specs.Prelude.{◌≡◌, ℕ, Bool}
-use Rattle.like_core.specs.Phase.{is_marked, split_by}
-use Rattle.like_core.specs.PhaseMasks.{mask_of, HasMask}
-use Rattle.like_core.specs.Post.{PostView}
-use Rattle.like_core.specs.WorkerState.{RunsSplit, phase_of}
+use Rattle.std.specs.Prelude.{◌≡◌, ◌↔◌, ℕ, ◌<◌, ◌≤◌, nat_lt, Bool, true, false, ◌&&◌, ◌||◌, List, length, sum}
+use Rattle.like_core.specs.Functions.{has_bit}
+use Rattle.like_core.specs.OpeningLimits.{AreLimits, has_slots}
+use Rattle.like_core.specs.Phase.{IsJoined, IsSplit, is_hot, is_hot_by, is_marked}
+use Rattle.like_core.specs.Post.{PostView, pages_of, slices}
+use Rattle.like_core.specs.Slots.{IsInSlot}
+use Rattle.like_core.specs.WorkerState.{RunsSplit}
+use Rattle.like_core.specs.declared.worker_state.WorkerState.TheVariants.{Runs}
+use Rattle.like_limits.specs.Buckets.{bucket, buckets, run_factor}
+use Rattle.like_limits.specs.Limits.{hot_pages}
+use Rattle.like_tables.specs.SplitSlice.{IsSplitSlice, SplitSlice, by_page, has_split}
 use Rattle.like_seat.specs.StationView.{IsStation, StationView, likes_of}
+use Rattle.like_seat.specs.Steps.{masks_entered}
 use Rattle.like_seat.specs.declared.tables.Tables.{Tables}
 
 -- the seat of a post and what is kept beside it
 abbrev pub view_of : {W : Type 0} → PostView → Tables W → StationView W
-view_of post t =
-    record { post = post; held = t.held; slice = t.slice; sliced = t.sliced.likes; last = t.last }
+view_of post t = record {
+  post = post;
+  held = t.held;
+  slice = by_page t.slice (pages_of post);
+  sliced = t.sliced.likes;
+  last = t.last;
+}
 
--- whether the page is split in the phase that the worker runs, as its tables have it, where the pages below a bound may
--- be hot
-abbrev pub is_split_by : {W : Type 0} → ℕ → Tables W → ℕ → Bool
-is_split_by bound t page = split_by bound (is_marked t.marks.items) (λ _. t.hot) (phase_of t.state) page
+-- its slice has just those pages split that are sliced in the split phase that it runs, and none in any other
+abbrev pub SplitsPages : PostView → SplitSlice → Type 0
+SplitsPages post s =
+    (page : ℕ)
+    → (has_split s page ≡ true)
+    ↔ (RunsSplit post.state × (page < pages_of post) × (slices post page ≡ true))
 
--- in a split phase its post has read the phase's mask, which is this
-abbrev pub KnowsHot : PostView → ℕ → Type 0
-KnowsHot post hot =
-    RunsSplit post.state
-    → HasMask (phase_of post.state) post.masks × (hot ≡ mask_of post.masks (phase_of post.state))
+-- the post is at a board of a run, with these marks: there are no more pages than buckets, and page i has bucket i
+pub record IsOfRun (post : PostView) (its : List Bool) : Type 0 where
+  pub plain : has_slots post.limits ≡ false
+  pub marks : post.marks ≡ its
+  pub small : pages_of post ≤ buckets
+  pub factor : post.factor ≡ run_factor
+
+-- the post is at a board of a service: no page is marked there
+pub record IsOfService (post : PostView) : Type 0 where
+  pub slotted : has_slots post.limits ≡ true
+  pub unmarked : (page : ℕ) → is_marked post.marks page ≡ false
 
 -- the tables are those of this post
 pub record IsKept {W : Type 0} (post : PostView) (t : Tables W) : Type 0 where
-  pub marks : post.marks ≡ t.marks.items
+  pub run : has_slots post.limits ≡ false → IsOfRun post t.marks.items
+  pub service : has_slots post.limits ≡ true → IsOfService post
   pub state : post.state ≡ t.state
-  pub hot : KnowsHot post t.hot
+  pub slice : IsSplitSlice t.slice
+  pub factor : t.slice.splits.factor ≡ post.factor
+  pub splits : SplitsPages post t.slice
+  pub sums : sum (by_page t.slice (pages_of post)) ≡ sum t.slice.counts
   pub likes : t.likes ≡ likes_of (view_of post t)
   pub seat : IsStation (view_of post t)
+
+-- a slice that has no split page, and may get some
+pub record IsUnsplit (s : SplitSlice) (f : ℕ) : Type 0 where
+  pub slice : IsSplitSlice s
+  pub factor : s.splits.factor ≡ f
+  pub none : (page : ℕ) → has_split s page ≡ false
+
+-- just those of the first n pages are split now that pass a test, and the numbers are as before
+pub record IsFilled (s : SplitSlice) (n : ℕ) (test : ℕ → Bool) (after : SplitSlice) : Type 0 where
+  pub slice : IsSplitSlice after
+  pub factor : after.splits.factor ≡ s.splits.factor
+  pub counts : after.counts ≡ s.counts
+  pub splits : (page : ℕ) → has_split after page ≡ (nat_lt page n && test page)
+
+-- a page is marked, or hot by this mask in a run
+abbrev pub is_split_in_run : List Bool → ℕ → ℕ → Bool
+is_split_in_run marks mask page = is_marked marks page || is_hot mask page
+
+-- a page is marked, or hot by this mask
+abbrev pub is_split_by : PostView → ℕ → ℕ → Bool
+is_split_by post mask page = is_marked post.marks page || is_hot_by post.limits.hot mask page
+
+-- no two slots in use have pages of one bucket
+abbrev pub AreSlotsApart : ℕ → (ℕ → ℕ) → ℕ → Type 0
+AreSlotsApart factor slots word =
+    (i j : ℕ) → i < hot_pages → j < hot_pages → has_bit word i ≡ true → has_bit word j ≡ true
+    → bucket factor (slots i) ≡ bucket factor (slots j) → i ≡ j
+
+-- just the pages in the first n slots are split now, of those in use, and the numbers are as before
+pub record IsFilledBySlots (s : SplitSlice) (slots : ℕ → ℕ) (word n : ℕ) (after : SplitSlice) : Type 0 where
+  pub slice : IsSplitSlice after
+  pub factor : after.splits.factor ≡ s.splits.factor
+  pub counts : after.counts ≡ s.counts
+  pub splits : (page : ℕ) → (has_split after page ≡ true) ↔ IsInSlot slots word n page
+
+-- the post runs the phase, and its slice may get split pages; of its limits the pages that may be hot are known
+pub record MayEnter (post : PostView) (s : SplitSlice) (phase : ℕ) : Type 0 where
+  pub runs : post.state ≡ Runs phase
+  pub limits : AreLimits post.limits
+  pub few_pages : pages_of post ≤ post.limits.pages
+  pub unsplit : IsUnsplit s post.factor
+
+-- it runs the phase that its post runs. Of a split one the mask was read, which is this, and its slice is filled
+pub record EntersBy {W : Type 0} (post : PostView) (phase mask : ℕ) (now : PostView) (t after : Tables W) : Type 0 where
+  pub at_post : now ≡ record post { masks = masks_entered post.masks phase mask }
+  pub rest : after ≡ record t { state = Runs phase; slice = after.slice }
+  pub split : IsSplit phase → IsFilled t.slice (pages_of post) (is_split_by post mask) after.slice
+  pub joined : IsJoined phase → after.slice ≡ t.slice
+
+abbrev pub Enters : {W : Type 0} → PostView → ℕ → PostView → Tables W → Tables W → Type 0
+Enters post phase now t after = (mask : ℕ) × EntersBy post phase mask now t after

@@ -1,15 +1,17 @@
 -- What leads the phases of a board, and what each of its steps does to it.
-use Rattle.std.specs.Prelude.{◌≡◌, ℕ, ◌+◌, ◌-◌, ◌≤◌, nat_le, Bool, true, List, [], ◌∷◌, length, min, take, slice_index, Option, Some, None}
+use Rattle.std.specs.Prelude.{◌≡◌, ℕ, ◌+◌, ◌-◌, ◌<◌, ◌≤◌, nat_le, Bool, true, List, [], ◌∷◌, length, min, take, slice_index, slice_set, Option, Some, None}
 use Rattle.like_board.specs.Seats.{BoardId}
 use Rattle.like_core.specs.declared.sight.CoordSight.{CoordSight}
 use Rattle.like_core.specs.declared.view.CoordSeatView.{CoordSeatView}
 use Rattle.like_core.specs.declared.view.View.TheVariants.{Coord}
 use Rattle.like_limits.specs.Limits.{hot_pages}
-use Rattle.like_core.specs.Phase.{IsSplit}
+use Rattle.like_core.specs.Phase.{IsJoined, IsSplit}
+use Rattle.like_core.specs.OpeningLimits.{has_slots}
+use Rattle.like_core.specs.Slots.{IsChoice, mask_of_slots}
 use Rattle.like_core.specs.views.Actions.{Surveys}
 use Rattle.like_core.specs.views.Shows.{IsKnown}
-use Rattle.like_core.specs.views.Views.{announced_coord, counted_coord, looked_coord, published_coord, released_coord}
-use Rattle.like_core.specs.Functions.{mask}
+use Rattle.like_core.specs.views.Views.{SawAllIn, announced_coord, counted_coord, looked_coord, published_coord, released_coord}
+use Rattle.like_core.specs.Functions.{has_bit, mask}
 
 -- its board; what its seat knows; how many likes make a page hot, if any do; and the counts at its last choice of the
 -- pages that may be hot
@@ -87,3 +89,39 @@ pub data ChoosesRisen (v : LeadView) (m : ℕ) (after : LeadView) : Type 0 where
       → m ≡ risen least v.before counts
       → after ≡ record v { seat = counted_from v.seat 0 counts; before = counts }
       → ChoosesRisen v m after
+
+-- these pages may be put into slots, and this word may say which are in use: it saw all in, the phase is a joined one of
+-- a service, and they are a lawful choice
+pub record MayPublishChoice (c : CoordSeatView) (pages : List ℕ) (bits : ℕ) : Type 0 where
+  pub all_in : SawAllIn c
+  pub joined : IsJoined c.phase
+  pub slotted : has_slots c.opening.limits ≡ true
+  pub len : length pages ≡ hot_pages
+  pub choice : IsChoice c.opening.factor (length c.opening.counts) (slice_index pages) bits
+
+-- each slot in use, of the first so many, holds its page
+abbrev pub HoldPages : List ℕ → List ℕ → ℕ → ℕ → Type 0
+HoldPages slots pages bits many =
+    (slot : ℕ) → slot < many → has_bit bits slot ≡ true → slice_index slots slot ≡ slice_index pages slot
+
+-- it puts these pages into the slots in use, and publishes their mask
+pub record PublishesChoice (v : LeadView) (pages : List ℕ) (bits : ℕ) (after : LeadView) : Type 0 where
+  pub all : length after.seat.slots ≡ hot_pages
+  pub holds : HoldPages after.seat.slots pages bits hot_pages
+  pub rest : after ≡ record v {
+    seat = record v.seat {
+      slots = after.seat.slots;
+      published = Some (mask_of_slots (slice_index pages) bits hot_pages);
+    };
+  }
+
+-- its seat put a page into a slot
+pub record PutsPage (c : CoordSeatView) (slot page : ℕ) (after : CoordSeatView) : Type 0 where
+  pub slots : after.slots ≡ slice_set c.slots slot page
+  pub rest : after ≡ record c { slots = after.slots; published = after.published }
+
+-- its seat put these pages into the slots in use, of the first so many
+pub record PutsPages (c : CoordSeatView) (pages : List ℕ) (bits many : ℕ) (after : CoordSeatView) : Type 0 where
+  pub all : length after.slots ≡ hot_pages
+  pub holds : HoldPages after.slots pages bits many
+  pub rest : after ≡ record c { slots = after.slots; published = after.published }

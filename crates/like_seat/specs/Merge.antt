@@ -1,20 +1,19 @@
 -- The merge of a whole slice.
-use Rattle.std.specs.Prelude.{◌≡◌, ℕ, ◌==◌, not, filter, List, ◌++◌, map, replicate, slice_index, All}
-use Rattle.std.specs.List.{range_with_len}
+use Rattle.std.specs.Prelude.{◌≡◌, ℕ, List, ◌++◌, map, replicate, slice_index, All}
+use Rattle.std.specs.List.Sorted.{IsStrictlyIncreasing}
 use Rattle.like_core.specs.declared.view.Addition.{Addition}
+use Rattle.like_core.specs.Additions.{added_to}
 use Rattle.like_core.specs.Post.{answered, pages_of}
+use Rattle.like_limits.specs.Buckets.{bucket}
 use Rattle.like_seat.specs.StationView.{StationView, phase_at}
 
--- the pages below a number that a slice has likes of, in order
-abbrev pub liked_below : List ℕ → ℕ → List ℕ
-liked_below slice pages = filter (λ page. not (slice_index slice page == 0)) (range_with_len 0 pages)
-
--- additions merge the first pages of a slice in a phase: they are to the pages that it has likes of, in order; each has
--- all the likes of its page; and each is of the phase
-pub record Merges (phase : ℕ) (slice : List ℕ) (pages : ℕ) (adds : List Addition) : Type 0 where
-  pub pages_are : map (λ a. a.page) adds ≡ liked_below slice pages
+-- additions merge a slice in a phase: each has all the likes of its page, and is of the phase; together they have what
+-- the slice has of each page; and they go by the pages' buckets, so that no page is merged twice
+pub record MergesAll (factor phase : ℕ) (slice : List ℕ) (adds : List Addition) : Type 0 where
   pub likes_are : All (λ a. a.likes ≡ slice_index slice a.page) adds
   pub phase_is : All (λ a. a.phase ≡ phase) adds
+  pub sums : (page : ℕ) → added_to page adds ≡ slice_index slice page
+  pub in_order : IsStrictlyIncreasing (map (λ a. bucket factor a.page) adds)
 
 -- the slice is added to the board by these additions, and emptied
 abbrev pub merged : {W : Type 0} → StationView W → List Addition → StationView W
@@ -23,11 +22,11 @@ merged s adds = record s {
   slice = replicate (pages_of s.post) 0;
 }
 
--- the slice is merged: one addition for each page that it has likes of, with all of them, in page order
+-- the slice is merged: one addition for each page that it has likes of, with all of them
 abbrev pub IsMerged : {W : Type 0} → StationView W → StationView W → Type 0
 IsMerged s after =
     (adds : List Addition)
-    × (Merges (phase_at s) s.slice (pages_of s.post) adds × (after ≡ merged s adds))
+    × (MergesAll s.post.factor (phase_at s) s.slice adds × (after ≡ merged s adds))
 
 -- the slice is merged, and then its phase answered
 abbrev pub MergesAndReports : {W : Type 0} → StationView W → StationView W → Type 0

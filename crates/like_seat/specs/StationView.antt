@@ -1,10 +1,11 @@
 -- What a worker's seat is, as contracts see it.
-use Rattle.std.specs.Prelude.{◌≡◌, ◌≢◌, ℕ, ◌+◌, ◌≤◌, true, List, length, slice_index, sum}
+use Rattle.std.specs.Prelude.{◌≡◌, ◌≢◌, ℕ, ◌+◌, ◌≤◌, false, true, List, length, slice_index, sum}
 use Rattle.like_core.specs.Additions.{all_added}
-use Rattle.like_core.specs.OpeningLimits.{AreLimits}
+use Rattle.like_core.specs.OpeningLimits.{AreLimits, has_slots}
 use Rattle.like_core.specs.PhaseMasks.{HasMask}
 use Rattle.like_core.specs.Post.{PostView, additions_of, pages_of, slices}
 use Rattle.like_core.specs.WorkerState.{RunsSplit, phase_of}
+use Rattle.like_limits.specs.Buckets.{run_factor}
 use Rattle.like_seat.specs.SlicedLike.{SlicedLike}
 use Rattle.like_tables.specs.UserTable.{UserTable}
 use Rattle.like_tables.specs.Waiting.{IsWaiting, Waiting}
@@ -39,11 +40,12 @@ abbrev pub IsSliceInSplit : PostView → List ℕ → Type 0
 IsSliceInSplit post slice =
     (page : ℕ) → slice_index slice page ≢ 0 → RunsSplit post.state × (slices post page ≡ true)
 
--- what is true of every seat: its board's limits are lawful, and its pages and its phase are within them; its slice has a
--- number for each page; it has counted no more likes than a worker may add; and it holds no more than it has room for
+-- what is true of every seat: its board's limits are lawful, and its pages and its phase are within them; in a run page i
+-- has bucket i; its slice has a number for each page; it has counted no more likes than a worker may add; and it holds no more than it has room for
 pub record IsStation {W : Type 0} (s : StationView W) : Type 0 where
   pub few_pages : pages_of s.post ≤ s.post.limits.pages
   pub limits : AreLimits s.post.limits
+  pub factor : has_slots s.post.limits ≡ false → s.post.factor ≡ run_factor
   pub within : phase_at s ≤ s.post.limits.last_phase
   pub sized : length s.slice ≡ pages_of s.post
   pub masked : HasPhaseMask s.post

@@ -1,19 +1,20 @@
 -- What each step of a seat does to it.
-use Rattle.std.specs.Prelude.{◌≡◌, ℕ, ◌+◌, ◌%◌, ◌≤◌, ◌==◌, if◌then◌else◌, true, false, List, [], ◌∷◌, ◌++◌, drop, length, replicate, slice_index, slice_set, Option, MatchOption}
+use Rattle.std.specs.Prelude.{◌≡◌, ◌≢◌, ℕ, ◌+◌, ◌%◌, ◌<◌, ◌≤◌, ◌==◌, if◌then◌else◌, true, false, List, [], ◌∷◌, ◌++◌, drop, length, replicate, slice_index, slice_set, Option, MatchOption}
 use Rattle.like_core.specs.declared.sight.Sight.{Sight}
 use Rattle.like_core.specs.declared.view.PhaseMask.{PhaseMask}
 use Rattle.like_core.specs.Post.{PostView, added, additions_of, has_glanced, has_read, looked_at, slices}
-use Rattle.like_core.specs.WorkerState.{phase_of, seen}
-use Rattle.like_tables.specs.Liked.{AreUnliked, IsNextLiked}
+use Rattle.like_core.specs.WorkerState.{IsRunning, IsSightOf, SeesEndingStill, phase_of, seen}
+use Rattle.like_limits.specs.Buckets.{bucket}
 use Rattle.like_tables.specs.UserTable.{UserTable, last_of, with_last}
 use Rattle.like_seat.specs.declared.merged.Merged.{Merged}
 use Rattle.like_seat.specs.declared.seen.Seen.{Seen}
-use Rattle.like_seat.specs.StationView.{StationView, tally_of}
+use Rattle.like_seat.specs.StationView.{IsStation, StationView, tally_of}
 use Rattle.like_seat.specs.SlicedLike.{sliced_like}
 
 -- a seat that has done nothing yet: it holds nothing, its slice is empty, and no like ever went into it
 pub record IsNewStation {W : Type 0} (post : PostView) (room : ℕ) (users : UserTable) (s : StationView W)
     : Type 0 where
+  pub is : IsStation s
   pub at_post : s.post ≡ post
   pub held : s.held ≡ record { held = []; capacity = room }
   pub slice : s.slice ≡ replicate (length post.marks) 0
@@ -42,6 +43,15 @@ saw s sight mask = record s { post = saw_at s.post sight mask }
 -- it looks, and sees this
 abbrev pub Looks : {W : Type 0} → StationView W → Sight → StationView W → Type 0
 Looks s sight after = (mask : ℕ) × (after ≡ saw s sight mask)
+
+-- a look, and what it shows: the phase that the seat is in, or the next; and the end of a phase that it has shown before.
+-- The seat then runs a phase, unless it waits
+pub record LooksAndEnters {W : Type 0} (s : StationView W) (shown : Sight) (after : StationView W) : Type 0 where
+  pub sight : IsSightOf s.post.state shown
+  pub ending : SeesEndingStill s.post.state s.post.last shown
+  pub looks : Looks s shown after
+  pub runs : shown.waits ≡ false → IsRunning after.post.state
+  pub seat : IsStation after
 
 -- one more like of a page in the slice, after all looks so far
 abbrev pub sliced : {W : Type 0} → StationView W → ℕ → StationView W
@@ -98,16 +108,28 @@ merged_page s page old =
     let t = with_addition s page old (slice_index s.slice page) in
     record t { slice = slice_set s.slice page 0 }
 
+-- no page of a slice whose bucket is from one on has a like
+abbrev pub NoneFrom : ℕ → List ℕ → ℕ → Type 0
+NoneFrom factor slice from = (page : ℕ) → from ≤ bucket factor page → slice_index slice page ≡ 0
+
+-- the page is the next of a slice that has a like, by the pages' buckets, from one on
+pub record IsNext (factor : ℕ) (slice : List ℕ) (from page : ℕ) : Type 0 where
+  pub after : from ≤ bucket factor page
+  pub there : page < length slice
+  pub liked : slice_index slice page ≢ 0
+  pub first : (other : ℕ) → from ≤ bucket factor other → bucket factor other ≤ bucket factor page → other ≢ page
+      → slice_index slice other ≡ 0
+
 -- a page's likes were merged, all of them
 pub record MergesPage {W : Type 0} (s : StationView W) (from : ℕ) (m : Merged) (after : StationView W)
     : Type 0 where
-  pub next : IsNextLiked s.slice from m.page
+  pub next : IsNext s.post.factor s.slice from m.page
   pub likes : m.likes ≡ slice_index s.slice m.page
   pub merged : after ≡ merged_page s m.page m.old
 
--- the next page from one on that has a like is merged, if there is one
+-- the next page that has a like is merged, by the pages' buckets from one on, if there is one
 abbrev pub MergesNext : {W : Type 0} → StationView W → ℕ → Option Merged → StationView W → Type 0
 MergesNext s from merged after =
     MatchOption merged
-    (AreUnliked s.slice from (length s.slice) × (after ≡ s))
+    (NoneFrom s.post.factor s.slice from × (after ≡ s))
     (λ m. MergesPage s from m after)

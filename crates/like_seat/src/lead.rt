@@ -6,13 +6,15 @@ ghost use Rattle.like_core.specs.OpeningLimits.{has_slots};
 ghost use Rattle.like_core.specs.Phase.{IsJoined};
 ghost use Rattle.like_core.specs.views.Shows.{IsKnown};
 ghost use Rattle.like_core.specs.views.Views.{MayAnnounce, MayPublish, MayRelease, SawAllIn};
-ghost use Rattle.like_seat.specs.Lead.{ChoosesRisen, Sees, announced, new_lead, published, released, with_counts};
+ghost use Rattle.like_seat.specs.Lead.{ChoosesRisen, MayPublishChoice, PublishesChoice, Sees, announced, new_lead, published, released, with_counts};
 
 mod counts;
 mod risen;
+mod slots;
 
 use self::counts::read_range;
 use self::risen::count_risen;
+use self::slots::put_pages;
 use like_board::{Board, CoordSeat};
 use like_core::{CoordSight, HOT_PAGES};
 use std::alloc::{AllocError, Global};
@@ -128,8 +130,8 @@ impl Lead {
         read_range(&mut self.seat, board, from, counts);
     }
 
-    /// Chooses the hot pages of the split phase that comes next: the mask of those of the first 64 pages whose counts
-    /// rose enough since its last choice.
+    /// Chooses the hot pages of the split phase that comes next, on a board without slots: the mask of those of the first
+    /// 64 pages whose counts rose enough since its last choice.
     pub fn choose(&mut self, board: &Board) -> u64
         requires here { self.old.board ≡ board_id board.now }
         requires saw { SawAllIn self.old.seat }
@@ -152,6 +154,21 @@ impl Lead {
         ensures { self.new ≡ published self.old mask }
     {
         self.seat.publish(board, mask);
+    }
+
+    /// Puts these pages into the slots of a service that these bits say are in use, and publishes that: they are what is
+    /// split in the phase that comes next. A slot that holds its page already isn't written. `held` is what the slots
+    /// hold, before and after.
+    pub fn publish_choice(&mut self, board: &Board, held: &mut [u32], pages: &[u32], bits: u64)
+        requires here { self.old.board ≡ board_id board.now }
+        requires may { MayPublishChoice self.old.seat pages.now bits }
+        requires held { held.old ≡ self.old.seat.slots }
+        requires all { length held.old ≡ hot_pages }
+        ensures publishes { PublishesChoice self.old pages.now bits self.new }
+        ensures held { held.new ≡ self.new.seat.slots }
+    {
+        put_pages(&mut self.seat, board, held, pages, bits);
+        self.seat.publish_slots(board, bits);
     }
 
     /// Releases the next phase, a split one with the mask that was published last.

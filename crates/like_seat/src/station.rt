@@ -3,12 +3,14 @@ ghost use Rattle.like_core.specs.declared.worker_state.WorkerState.TheVariants.{
 ghost use Rattle.like_limits.specs.Limits.{max_stash};
 ghost use Rattle.like_core.specs.OpeningLimits.{AreLimits};
 ghost use Rattle.like_core.specs.Post.{IsFresh, pages_of};
+ghost use Rattle.like_seat.specs.Kept.{IsOfRun};
 ghost use Rattle.like_seat.specs.StationView.{IsStation, likes_of, phase_at};
 ghost use Rattle.like_seat.specs.Steps.{IsNewStation};
 
 mod answers;
 mod looks;
 mod merges;
+mod service;
 mod waits;
 
 use crate::tables::Tables;
@@ -16,6 +18,9 @@ use like_core::{Post, WorkerState};
 use like_tables::Users;
 use std::alloc::Global;
 use std::marker::Model;
+
+// The factor of a run: page i has bucket i.
+const RUN_FACTOR: u32 = 1 << 22;
 
 /// A worker's station: its post at a board, and what it keeps beside it.
 ///
@@ -45,8 +50,8 @@ pub struct NoStation<P: Post> {
 }
 
 impl<P: Post, W: Copy> Station<P, W> {
-    /// A seat that has done nothing yet, with these marks of split pages, with room for so many that wait, and with these
-    /// last likes. All its room is made here: its steps take no memory.
+    /// A seat of a run that has done nothing yet, with these marks of split pages, with room for so many that wait, and
+    /// with these last likes. All its room is made here: its steps take no memory.
     pub fn new(
         alloc: Global,
         post: P,
@@ -56,15 +61,14 @@ impl<P: Post, W: Copy> Station<P, W> {
     ) -> Result<Station<P, W>, NoStation<P>>
         requires fresh { IsFresh (P.view post) }
         requires limits { AreLimits (P.view post).limits }
-        requires marks { marks.items ≡ (P.view post).marks }
         requires few_pages { pages_of (P.view post) ≤ (P.view post).limits.pages }
+        requires run { IsOfRun (P.view post) marks.items }
         requires some { 1 ≤ room }
         requires few { room ≤ max_stash }
         ensures new { IfOk result (IsNewStation (P.view post) room last) }
-        ensures seat { IfOk result (λ seat. IsStation seat) }
         ensures post { IfErr result (λ refused. refused.post ≡ post) }
     {
-        match Tables::new(alloc, marks, room, last) {
+        match Tables::new(alloc, marks, RUN_FACTOR, room, last) {
             Ok(tables) => Ok(Station { post, tables }),
             Err(_) => Err(NoStation { post }),
         }

@@ -1,28 +1,28 @@
-ghost use Rattle.std.specs.Prelude.{◌≡◌, ◌^◌, ◌<◌, ◌≤◌, ℕ, false, [], IfOk, length, replicate};
-ghost use Rattle.like_limits.specs.Limits.{hot_pages, max_stash};
-ghost use Rattle.like_core.specs.OpeningLimits.{has_slots};
+ghost use Rattle.std.specs.Prelude.{◌≡◌, ◌^◌, ◌<◌, ◌≤◌, [], IfOk, length, slice_index};
+ghost use Rattle.like_core.specs.Functions.{has_bit};
 ghost use Rattle.like_core.specs.WorkerState.{phase_of};
 ghost use Rattle.like_core.specs.declared.worker_state.WorkerState.TheVariants.{Runs};
-ghost use Rattle.like_seat.specs.Kept.{is_split_by};
-ghost use Rattle.like_seat.specs.Steps.{masks_entered};
+ghost use Rattle.like_limits.specs.Buckets.{buckets, run_factor};
+ghost use Rattle.like_limits.specs.Limits.{hot_pages, max_stash};
+ghost use Rattle.like_seat.specs.Kept.{AreSlotsApart, Enters, IsFilled, IsFilledBySlots, IsOfRun, IsOfService, IsUnsplit, MayEnter, is_split_in_run};
+ghost use Rattle.like_tables.specs.SplitSlice.{no_slice};
 
 use crate::slice_log::SliceLog;
-use like_core::{Post, WorkerState, is_hot};
-use like_tables::{Slice, Stash, Users};
+use like_core::{Post, SlotPost, WorkerState, is_hot};
+use like_tables::{SplitSlice, Stash, Users};
 use std::alloc::{AllocError, Global};
 
 /// What a seat keeps beside its post.
 #[derive(Drop)]
 pub(crate) struct Tables<W: Copy> {
-    /// Whether each page is marked as split.
+    /// Of a run: whether each page is marked as split.
     pub marks: Vec<bool>,
     /// The state of its post.
     pub state: WorkerState,
-    /// The mask of the hot pages of the split phase that it runs.
-    pub hot: u64,
     /// What waits for the next joined phase, and in that phase what is left of it.
     pub held: Stash<W>,
-    pub slice: Slice,
+    /// Which pages are split in the phase that it runs, and the likes that it has counted of them.
+    pub slice: SplitSlice,
     /// The likes that went into the slice.
     pub sliced: SliceLog,
     /// How many likes it has counted: what was added on the board, and the slice.
@@ -36,27 +36,26 @@ impl<W: Copy> Tables<W> {
     pub fn new(
         alloc: Global,
         marks: Vec<bool>,
+        factor: u32,
         room: u32,
         last: Users,
     ) -> Result<Tables<W>, AllocError>
-        requires few_pages { length marks.items < 2 ^ 32 }
+        requires factor { 2 ^ 22 ≤ factor }
         requires some { 1 ≤ room }
         requires few { room ≤ max_stash }
         ensures marks { IfOk result (λ tables. tables.marks ≡ marks) }
         ensures state { IfOk result (λ tables. tables.state ≡ Runs 0) }
         ensures held { IfOk result (λ tables. tables.held ≡ record { held = []; capacity = room }) }
-        ensures slice { IfOk result (λ tables. tables.slice ≡ replicate (length marks.items) 0) }
+        ensures slice { IfOk result (λ tables. tables.slice ≡ no_slice factor) }
         ensures sliced { IfOk result (λ tables. tables.sliced.likes ≡ []) }
         ensures likes { IfOk result (λ tables. tables.likes ≡ 0) }
         ensures last { IfOk result (λ tables. tables.last ≡ last) }
     {
-        let pages = marks.len() as u32;
         Ok(Tables {
             marks,
             state: WorkerState::Runs(0),
-            hot: 0,
             held: Stash::new(alloc, room)?,
-            slice: Slice::new(alloc, pages)?,
+            slice: SplitSlice::new(alloc, factor)?,
             sliced: SliceLog::new(),
             likes: 0,
             last,
@@ -64,22 +63,73 @@ impl<W: Copy> Tables<W> {
     }
 }
 
+// Splits each page that is marked, or hot by this mask, in a run.
+fn split_pages(slice: &mut SplitSlice, marks: &[bool], mask: u64)
+    requires few { length marks.now ≤ buckets }
+    requires unsplit { IsUnsplit slice.old run_factor }
+    ensures { IsFilled slice.old (length marks.now) (is_split_in_run marks.now mask) slice.new }
+{
+    for page in 0..marks.len() as u32 {
+        if marks[page as usize] || is_hot(mask, page) {
+            slice.put(page);
+        }
+    }
+}
+
+// Whether a word has a bit of the first 64.
+fn has_bit(word: u64, bit: usize) -> bool
+    requires { bit < hot_pages }
+    ensures { result ≡ has_bit word bit }
+{
+    (word >> bit) & 1 == 1
+}
+
+// Splits the pages in the slots in use, in a service.
+fn split_slots(slice: &mut SplitSlice, pages: &[u32; 64], used: u64)
+    requires unsplit { IsUnsplit slice.old slice.old.splits.factor }
+    requires apart { AreSlotsApart slice.old.splits.factor (slice_index pages.now) used }
+    ensures { IsFilledBySlots slice.old (slice_index pages.now) used hot_pages slice.new }
+{
+    for slot in 0..64 {
+        if has_bit(used, slot) {
+            slice.put(pages[slot]);
+        }
+    }
+}
+
 impl<W: Copy> Tables<W> {
-    // Runs the phase that was released; of a split one its post reads the mask.
+    // Runs the phase that was released. Of a split one of a run its post reads the mask, and the pages are split that are
+    // marked or hot.
     #[cold]
     #[inline(never)]
     pub fn enter<P: Post>(&mut self, post: &mut P, phase: u64)
-        requires runs { (P.view post.old).state ≡ Runs phase }
-        requires plain { has_slots (P.view post.old).limits ≡ false }
-        ensures post { P.view post.new ≡ record (P.view post.old) {
-          masks = masks_entered (P.view post.old).masks phase self.new.hot;
-        } }
-        ensures rest { self.new ≡ record self.old { state = Runs phase; hot = self.new.hot } }
+        requires may { MayEnter (P.view post.old) self.old.slice phase }
+        requires run { IsOfRun (P.view post.old) self.old.marks.items }
+        ensures enters { Enters (P.view post.old) phase (P.view post.new) self.old self.new }
     {
         self.state = WorkerState::Runs(phase);
-        if phase % 2 == 1 {
-            self.hot = post.hot();
+        if phase % 2 == 0 {
+            return;
         }
+        let mask = post.hot();
+        split_pages(&mut self.slice, &self.marks, mask);
+    }
+
+    // The same in a service, where the post reads the slots of a split phase, and the pages in those in use are split.
+    #[cold]
+    #[inline(never)]
+    pub fn enter_slots<P: SlotPost>(&mut self, post: &mut P, phase: u64)
+        requires may { MayEnter (P.view post.old) self.old.slice phase }
+        requires service { IsOfService (P.view post.old) }
+        ensures enters { Enters (P.view post.old) phase (P.view post.new) self.old self.new }
+    {
+        self.state = WorkerState::Runs(phase);
+        if phase % 2 == 0 {
+            return;
+        }
+        let mut pages = [0; 64];
+        let used = post.slots(&mut pages);
+        split_slots(&mut self.slice, &pages, used);
     }
 
     // The phase that the worker runs or has answered.
@@ -91,14 +141,5 @@ impl<W: Copy> Tables<W> {
             WorkerState::Runs(phase) | WorkerState::Answered(phase) => phase,
             WorkerState::Gone => 0,
         }
-    }
-
-    // Whether the page is split in that phase.
-    #[inline(always)]
-    pub fn is_sliced(&self, page: u32) -> bool
-        requires { page < length self.now.marks.items }
-        ensures { (bound : ℕ) → hot_pages ≤ bound → result ≡ is_split_by bound self.now page }
-    {
-        self.phase() % 2 == 1 && (self.marks[page as usize] || is_hot(self.hot, page))
     }
 }

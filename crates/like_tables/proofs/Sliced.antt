@@ -1,8 +1,8 @@
 -- What a slice of split pages has of each page.
-use Rattle.std.proofs.Common.{◌≡◌, ℕ, ◌<◌, ◌^◌, Bool, true, cond, length, get_or, replicate, Option, None, Some, inl, inr, refl, sym, ap, ◌∙◌, arith}
+use Rattle.std.proofs.Common.{◌≡◌, ℕ, ◌<◌, ◌^◌, Bool, false, true, cond, length, get_or, replicate, Option, None, Some, inl, inr, refl, sym, ap, ◌∙◌, arith}
 use Rattle.std.proofs.lemmas.Bool.{cases_lt, eq-eqb}
 use Rattle.std.proofs.lemmas.List.{get_or_default, get_or_past, get_or-replicate, length-replicate, same_lists}
-use Rattle.like_limits.specs.Buckets.{buckets}
+use Rattle.like_limits.specs.Buckets.{bucket, buckets}
 use Rattle.like_tables.specs.SplitPages.{is_page, none_split, page_in}
 use Rattle.like_tables.specs.SplitSlice.{IsSplitSlice, SplitSlice, bucket_in, has_split, likes_in, no_slice}
 
@@ -30,6 +30,9 @@ IsSplitSlice-none factor below = record {
   ];
 }
 
+pub has_split-none : (factor page : ℕ) → has_split (no_slice factor) page ≡ false
+has_split-none factor page = ap (is_page page) (page_in-none factor (bucket factor page))
+
 -- a page that a bucket holds is split
 held-split : (s : SplitSlice) (b page : ℕ) → IsSplitSlice s → page_in s.splits b ≡ Some page → has_split s page ≡ true
 held-split s b page is holds =
@@ -37,7 +40,7 @@ held-split s b page is holds =
     ∙ eq-eqb page page refl
 
 -- where no page has a like, each number is 0
-counts-none : (s : SplitSlice) → IsSplitSlice s → ((page : ℕ) → likes_in s page ≡ 0) → (b : ℕ) → get_or s.counts b 0 ≡ 0
+pub counts-none : (s : SplitSlice) → IsSplitSlice s → ((page : ℕ) → likes_in s page ≡ 0) → (b : ℕ) → get_or s.counts b 0 ≡ 0
 counts-none s is none b = by_page_in (page_in s.splits b) refl
   where
     by_page_in : (held : Option ℕ) → page_in s.splits b ≡ held → get_or s.counts b 0 ≡ 0

@@ -2,6 +2,7 @@
 use crate::play::are_last_counts;
 use crate::services::{Numbers, PLAIN, open, opening_of};
 use like_board::SharedPost;
+use like_choice::Guided;
 use like_live::{
     DriverAnswer, End, LikeAnswer, LiveSeat, LookAnswer, NO_PAGE, Service, TurnAnswer,
 };
@@ -49,7 +50,7 @@ fn likes(rt: &impl Abort, seat: &mut LiveSeat<SharedPost>, user: u32, page: u32)
 }
 
 // A service of three users ends.
-fn ends(rt: &impl Abort, service: Service) {
+fn ends(rt: &impl Abort, service: Service<Guided>) {
     let Service { mut driver, seats } = service;
     let (mut first, mut second) = two_seats(rt, seats);
     likes(rt, &mut first, 2, 1);

@@ -4,6 +4,7 @@ use crate::scenes::UNANSWERED;
 use crate::services::opened;
 use crate::threads::{CALLS, drive};
 use like_board::SharedPost;
+use like_choice::Guided;
 use like_live::{Call, Driver, LiveSeat, TurnAnswer};
 use std::process::Abort;
 use std::test::Fail;
@@ -47,7 +48,7 @@ fn work(seat: &mut LiveSeat<SharedPost>) -> u64 {
 fn cut(
     rt: &(impl Abort + Threads + Sync),
     seats: &mut [LiveSeat<SharedPost>],
-    driver: &mut Driver,
+    driver: &mut Driver<Guided>,
 ) -> u64 {
     let [seat] = seats else {
         panic!(rt; "not one seat");

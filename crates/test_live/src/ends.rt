@@ -6,13 +6,14 @@ ghost use Rattle.like_live.specs.Service.{AreItsSeats};
 use crate::services::{closed, opened};
 use crate::threads::works;
 use like_board::SharedPost;
+use like_choice::Guided;
 use like_live::{Driver, DriverAnswer, End, LikeAnswer, LiveSeat, Service, TurnAnswer};
 use std::process::Abort;
 use std::test::Fail;
 use std::thread::Threads;
 
 // Makes a turn of a driver, which ends a phase or releases the next.
-fn drives(rt: &impl Abort, driver: &mut Driver, wanted: DriverAnswer)
+fn drives(rt: &impl Abort, driver: &mut Driver<Guided>, wanted: DriverAnswer)
     ensures { IsSameDriver driver.old driver.new }
 {
     assert!(rt; driver.turn(End::IfItServes) == wanted);
@@ -28,7 +29,7 @@ fn answers(rt: &impl Abort, seat: &mut LiveSeat<SharedPost>)
 // Ends a phase, which both seats answer, and releases the next.
 fn change(
     rt: &impl Abort,
-    driver: &mut Driver,
+    driver: &mut Driver<Guided>,
     first: &mut LiveSeat<SharedPost>,
     second: &mut LiveSeat<SharedPost>,
 )
@@ -57,7 +58,7 @@ fn retires(rt: &impl Abort, seat: &mut LiveSeat<SharedPost>)
 // Two split phases with likes of both seats. Then both retire.
 fn plays(
     rt: &impl Abort,
-    driver: &mut Driver,
+    driver: &mut Driver<Guided>,
     first: &mut LiveSeat<SharedPost>,
     second: &mut LiveSeat<SharedPost>,
 )
@@ -84,7 +85,7 @@ pub enum Host {
 fn hosts(
     rt: &(impl Abort + Threads + Sync),
     host: Host,
-    driver: &mut Driver,
+    driver: &mut Driver<Guided>,
     first: &mut LiveSeat<SharedPost>,
     second: &mut LiveSeat<SharedPost>,
 )
@@ -99,7 +100,11 @@ fn hosts(
 }
 
 /// Plays a service, and closes it with its two seats in the other order.
-pub fn closes(rt: &(impl Abort + Threads + Sync), service: Service, host: Host) -> (bool, [u64; 2])
+pub fn closes(
+    rt: &(impl Abort + Threads + Sync),
+    service: Service<Guided>,
+    host: Host,
+) -> (bool, [u64; 2])
     requires { AreItsSeats service.driver service.seats.items }
 {
     let Service {

@@ -16,4 +16,6 @@ mod scenes;
 #[cfg(test)]
 mod services;
 #[cfg(test)]
+mod slots;
+#[cfg(test)]
 mod threads;

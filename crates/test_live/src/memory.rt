@@ -7,11 +7,11 @@ use std::process::Abort;
 use std::rt::Files;
 use std::test::Fail;
 
-// So many services are opened: a block that each of them keeps is 16 bytes or more.
-const SERVICES: usize = 100_000;
+// So many services are opened: a block that each of them keeps takes 32 bytes or more.
+const SERVICES: usize = 5_000;
 
 // The pages of memory that a process may come to have beside.
-const PAGES: usize = 256;
+const PAGES: usize = 32;
 
 // Opens a service of two seats, of which one likes, and drops all: the driver first, or a seat.
 fn opens_and_drops(rt: &impl Abort, alloc: Global, is_driver_first: bool) -> Result<(), Fail> {

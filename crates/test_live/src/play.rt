@@ -2,6 +2,7 @@
 use crate::scenes::{OnDriver, OnSeat, Scene, Step, UNANSWERED, scenes};
 use crate::services::opened;
 use like_board::SharedPost;
+use like_choice::Guided;
 use like_live::{Answer, Call, Driver, LiveSeat, Service};
 use std::process::Abort;
 use std::test::Fail;
@@ -32,19 +33,19 @@ fn is_seat_answer(seat: &mut LiveSeat<SharedPost>, call: OnSeat) -> bool {
 }
 
 // Whether a snapshot is of this phase, or there is none, with these counts behind it.
-fn is_snapshot(driver: &mut Driver, phase: Option<u64>, wanted: [u64; 2]) -> bool {
+fn is_snapshot(driver: &mut Driver<Guided>, phase: Option<u64>, wanted: [u64; 2]) -> bool {
     let mut counts = [0, 0];
     driver.pages() == 2 && driver.snapshot(0, &mut counts) == phase && counts == wanted
 }
 
 // Whether the last counts are written, or are not, and are these.
-pub fn are_last_counts(driver: &mut Driver, are_written: bool, wanted: [u64; 2]) -> bool {
+pub fn are_last_counts(driver: &mut Driver<Guided>, are_written: bool, wanted: [u64; 2]) -> bool {
     let mut counts = [0, 0];
     driver.pages() == 2 && driver.last_counts(0, &mut counts) == are_written && counts == wanted
 }
 
 // Makes a call of a driver, and says whether it is answered like this.
-fn is_driver_answer(driver: &mut Driver, call: OnDriver) -> bool {
+fn is_driver_answer(driver: &mut Driver<Guided>, call: OnDriver) -> bool {
     match call {
         OnDriver::Turn(end, wanted) => driver.turn(end) == wanted,
         OnDriver::Snapshot(phase, counts) => is_snapshot(driver, phase, counts),
@@ -54,7 +55,7 @@ fn is_driver_answer(driver: &mut Driver, call: OnDriver) -> bool {
 }
 
 // Makes a call, and says whether it is answered as the step says.
-fn is_answered(service: &mut Service, step: Step) -> bool {
+fn is_answered(service: &mut Service<Guided>, step: Step) -> bool {
     match step {
         Step::Driver(call) => is_driver_answer(&mut service.driver, call),
         Step::Seat(seat, call) => match service.seats.get_mut(seat) {
@@ -65,7 +66,7 @@ fn is_answered(service: &mut Service, step: Step) -> bool {
 }
 
 // The number of the first step that is answered otherwise than it says, if there is one.
-fn first_wrong(service: &mut Service, steps: &[Step]) -> Option<usize> {
+fn first_wrong(service: &mut Service<Guided>, steps: &[Step]) -> Option<usize> {
     for (number, step) in steps.iter().enumerate() {
         if !is_answered(service, *step) {
             return Some(number);
@@ -81,7 +82,7 @@ fn assert_none_wrong(rt: &impl Abort, name: &str, part: usize, wrong: Option<usi
 }
 
 // Makes the calls of a scene.
-fn play(rt: &impl Abort, service: &mut Service, scene: &Scene) {
+fn play(rt: &impl Abort, service: &mut Service<Guided>, scene: &Scene) {
     for (part, steps) in scene.parts.iter().enumerate() {
         assert_none_wrong(rt, scene.name, part, first_wrong(service, steps));
     }

@@ -2,6 +2,7 @@
 ghost use Rattle.std.specs.Prelude.{IfOk};
 ghost use Rattle.like_live.specs.Service.{AreItsSeats};
 
+use like_choice::Guided;
 use like_live::{
     DriverAnswer, End, GlanceAnswer, LikeAnswer, NO_PAGE, OpenError, Opening, Service, TurnAnswer,
 };
@@ -46,7 +47,7 @@ pub fn opening_of(alloc: Global, numbers: &Numbers) -> Result<Opening, AllocErro
     })
 }
 
-pub fn open(alloc: Global, opening: &Opening) -> Result<Service, Fail>
+pub fn open(alloc: Global, opening: &Opening) -> Result<Service<Guided>, Fail>
     ensures { IfOk result (λ s. AreItsSeats s.driver s.seats.items) }
 {
     match Service::open(alloc, opening) {
@@ -56,7 +57,7 @@ pub fn open(alloc: Global, opening: &Opening) -> Result<Service, Fail>
 }
 
 /// A service of two pages, the first of them marked, with 10 and 20 likes, and of users 0 to 3.
-pub fn opened(alloc: Global, seats: u32, room: u32) -> Result<Service, Fail>
+pub fn opened(alloc: Global, seats: u32, room: u32) -> Result<Service<Guided>, Fail>
     ensures { IfOk result (λ s. AreItsSeats s.driver s.seats.items) }
 {
     let numbers = Numbers {
@@ -245,7 +246,7 @@ fn opens_a_hundred_thousand_pages(rt: HostRuntime) -> Result<(), Fail> {
 }
 
 /// Whether a service of two pages is closed, and the counts behind it.
-pub fn closed(rt: &impl Abort, service: Service) -> (bool, [u64; 2])
+pub fn closed(rt: &impl Abort, service: Service<Guided>) -> (bool, [u64; 2])
     requires { AreItsSeats service.driver service.seats.items }
 {
     assert!(rt; service.driver.pages() == 2);

@@ -6,6 +6,7 @@ ghost use Rattle.like_live.specs.LiveView.{IsSameSeat};
 use crate::ends::{Host, closes};
 use crate::services::opened;
 use like_board::SharedPost;
+use like_choice::Guided;
 use like_live::{Driver, DriverAnswer, End, LikeAnswer, LiveSeat, LookAnswer, TurnAnswer};
 use std::process::Abort;
 use std::test::Fail;
@@ -81,7 +82,7 @@ fn work(seat: &mut LiveSeat<SharedPost>, user: u32) -> Done
 }
 
 /// The driver's thread.
-pub fn drive(driver: &mut Driver)
+pub fn drive(driver: &mut Driver<Guided>)
     ensures { IsSameDriver driver.old driver.new }
 {
     for _ in 0..CALLS {
@@ -105,7 +106,7 @@ fn work_both(
 
 fn in_threads(
     rt: &(impl Threads + Sync),
-    driver: &mut Driver,
+    driver: &mut Driver<Guided>,
     first: &mut LiveSeat<SharedPost>,
     second: &mut LiveSeat<SharedPost>,
 ) -> (Done, Done)
@@ -124,7 +125,7 @@ fn in_threads(
 /// Lets the driver and both seats work in threads, until both seats are gone.
 pub fn works(
     rt: &(impl Abort + Threads + Sync),
-    driver: &mut Driver,
+    driver: &mut Driver<Guided>,
     first: &mut LiveSeat<SharedPost>,
     second: &mut LiveSeat<SharedPost>,
 )

@@ -10,7 +10,8 @@ use std::marker::Model;
 /// subtraction for each row of requests.
 #[derive(Drop)]
 pub struct Sampler {
-    ring: Ring,
+    /// Where its samples go, if anybody reads them.
+    ring: Option<Ring>,
     /// How many requests go by before the next that is sampled.
     left: u32,
     /// The state of a small generator, by which the samples don't keep step with the requests.
@@ -33,9 +34,19 @@ impl Sampler {
     /// That of a seat. Each seat's generator begins elsewhere.
     pub(crate) fn new(ring: Ring, seat: u32) -> Sampler {
         Sampler {
-            ring,
+            ring: Some(ring),
             left: seat % 256,
             random: seat.wrapping_mul(0x9e37_79b9),
+            sequence: 1,
+        }
+    }
+
+    /// One whose samples nobody reads.
+    pub fn idle() -> Sampler {
+        Sampler {
+            ring: None,
+            left: 0,
+            random: 0,
             sequence: 1,
         }
     }
@@ -76,12 +87,15 @@ impl Sampler {
     pub fn note(&mut self, page: u32, kind: Kind)
         ensures { self.new ≡ self.old }
     {
+        let Some(ring) = &self.ring else {
+            return;
+        };
         let sample = Sample {
             page,
             kind,
             sequence: self.sequence,
         };
-        self.ring.store(self.sequence, sample.word());
+        ring.store(self.sequence, sample.word());
         self.sequence = (self.sequence + 1) % SEQUENCES;
     }
 }

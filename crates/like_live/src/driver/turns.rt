@@ -1,32 +1,35 @@
-ghost use Rattle.std.specs.Prelude.{◌≡◌, ◌⊎◌, ◌≤◌, ◌↔◌, true, IsTrue};
+ghost use Rattle.std.specs.Prelude.{◌≡◌, ◌⊎◌, ◌<◌, ◌≤◌, ◌↔◌, true, IsTrue};
 ghost use Rattle.like_board.specs.Seats.{board_id};
 ghost use Rattle.like_core.specs.OpeningLimits.{service_limits};
 ghost use Rattle.like_core.specs.Phase.{IsSplit};
 ghost use Rattle.like_core.specs.views.Views.{SawAllIn};
-ghost use Rattle.like_live.specs.Driver.{Acts, IsLeft, ReleasesNext, asks_end, splits_some};
+ghost use Rattle.like_live.specs.Driver.{Acts, IsLeft, ReleasesNext, asks_end, drives};
+ghost use Rattle.like_live.specs.Splits.{AreSplitsOf, Proposes};
 
+use super::splits::Splits;
 use crate::driver_answer::DriverAnswer;
 use crate::driver_end::End;
 use crate::hint::Hint;
 use like_board::Board;
+use like_choice::Choice;
 use like_core::CoordSight;
 use like_seat::Lead;
 
 /// The last phase of a service.
 pub(crate) const LAST_PHASE: u64 = (1 << 48) - 2;
 
-// Looks, and does what the sight asks for. `splits` says whether something would be split in a split phase.
-pub(crate) fn act(
+// Looks, and does what the sight asks for.
+pub(crate) fn act<C: Choice>(
     lead: &mut Lead,
+    splits: &mut Splits<C>,
     board: &Board,
     hint: &Hint,
-    splits: bool,
     end: End,
 ) -> DriverAnswer
     requires here { lead.old.board ≡ board_id board.now }
     requires limits { lead.old.seat.opening.limits ≡ service_limits }
-    requires splits { splits ≡ splits_some lead.old }
-    ensures { Acts lead.old end result lead.new }
+    requires splits { AreSplitsOf lead.old.seat splits.old }
+    ensures { Acts (drives lead.old splits.old) end result (drives lead.new splits.new) }
 {
     let sight = lead.look(board);
     if sight.ending {
@@ -34,11 +37,10 @@ pub(crate) fn act(
             return DriverAnswer::Waiting;
         }
         hint.clear();
-        release(lead, board);
+        release(lead, splits, board);
         return DriverAnswer::Released;
     }
-    let is_last = lead.phase() >= LAST_PHASE;
-    if !is_last && !is_left(lead, sight) && is_asked(lead, hint, splits, end) {
+    if is_due(lead, splits, hint, sight, end) {
         lead.announce(board);
         return DriverAnswer::Announced;
     }
@@ -46,6 +48,28 @@ pub(crate) fn act(
         return DriverAnswer::Ended;
     }
     DriverAnswer::Running
+}
+
+// Whether the end of the phase is to be announced. A service's last phase goes on, and so does a joined one that all
+// seats have left.
+fn is_due<C: Choice>(
+    lead: &Lead,
+    splits: &mut Splits<C>,
+    hint: &Hint,
+    sight: CoordSight,
+    end: End,
+) -> bool
+    ensures proposes { Proposes splits.old splits.new }
+    ensures goes_on { result ≡ true → lead.now.seat.phase < service_limits.last_phase }
+    ensures left { result ≡ true → ¬ IsLeft lead.now sight }
+    ensures by { result ≡ true → (asks_end end (drives lead.now splits.new) ≡ true) ⊎ IsSplit lead.now.seat.phase }
+    ensures told { asks_end end (drives lead.now splits.new) ≡ true → lead.now.seat.phase < service_limits.last_phase
+        → ¬ IsLeft lead.now sight → result ≡ true }
+{
+    if lead.phase() >= LAST_PHASE || is_left(lead, sight) {
+        return false;
+    }
+    is_asked(lead, splits, hint, end)
 }
 
 // Whether all seats have left a joined phase.
@@ -56,31 +80,47 @@ pub(crate) fn is_left(lead: &Lead, sight: CoordSight) -> bool
 }
 
 // Whether the end of the phase is asked for, by the host or by a hint. A hint counts in split phases alone, since looks
-// wait in these alone.
-fn is_asked(lead: &Lead, hint: &Hint, splits: bool, end: End) -> bool
-    requires { splits ≡ splits_some lead.now }
-    ensures by { result ≡ true → (asks_end end lead.now ≡ true) ⊎ IsSplit lead.now.seat.phase }
-    ensures told { asks_end end lead.now ≡ true → result ≡ true }
+// wait in these alone. Before that, pages are proposed for the next split phase: in a split phase, and in a joined one as
+// long as nothing would be split in the next.
+fn is_asked<C: Choice>(lead: &Lead, splits: &mut Splits<C>, hint: &Hint, end: End) -> bool
+    ensures proposes { Proposes splits.old splits.new }
+    ensures by { result ≡ true → (asks_end end (drives lead.now splits.new) ≡ true) ⊎ IsSplit lead.now.seat.phase }
+    ensures told { asks_end end (drives lead.now splits.new) ≡ true → result ≡ true }
 {
     let is_split = !lead.is_joined();
-    let serves = is_split || splits;
+    if !may_ask(end, is_split, hint) {
+        return false;
+    }
+    if is_split || !splits.would_split() {
+        splits.propose();
+    }
     match end {
         End::Always => true,
-        End::IfItServes if serves => true,
-        _ => is_split && hint.is_asked(),
+        _ => is_split || splits.would_split(),
     }
 }
 
-// Releases the next phase; before a split one it chooses that phase's hot pages, and publishes their mask.
-fn release(lead: &mut Lead, board: &Board)
+// Whether the host lets the phase end, or a hint asks for it.
+fn may_ask(end: End, is_split: bool, hint: &Hint) -> bool
+    ensures never { IsTrue result → (end ≡ End.No) → is_split ≡ true }
+    ensures told { (end ≡ End.No → ⊥) → IsTrue result }
+{
+    match end {
+        End::No => is_split && hint.is_asked(),
+        _ => true,
+    }
+}
+
+// Releases the next phase; before a split one it gives slots to the pages that are split in it.
+fn release<C: Choice>(lead: &mut Lead, splits: &mut Splits<C>, board: &Board)
     requires here { lead.old.board ≡ board_id board.now }
     requires limits { lead.old.seat.opening.limits ≡ service_limits }
     requires saw { SawAllIn lead.old.seat }
-    ensures { ReleasesNext lead.old lead.new }
+    requires splits { AreSplitsOf lead.old.seat splits.old }
+    ensures { ReleasesNext (drives lead.old splits.old) (drives lead.new splits.new) }
 {
     if lead.is_joined() {
-        let mask = lead.choose(board);
-        lead.publish(board, mask);
+        splits.publish(lead, board);
     }
     lead.release(board);
 }

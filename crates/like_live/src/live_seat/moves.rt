@@ -9,11 +9,11 @@ ghost use Rattle.like_live.specs.Calls.{RetireWorks};
 use crate::answer::TurnAnswer;
 use crate::asked::{Asked, Found};
 use crate::live_seat::LiveSeat;
-use like_core::Post;
+use like_core::{Post, SlotPost};
 use like_seat::Station;
 use like_tables::Stash;
 
-impl<P: Post> LiveSeat<P> {
+impl<P: SlotPost> LiveSeat<P> {
     // Looks at the phase word, and does the phase work that it asks for.
     #[inline(always)]
     pub(crate) fn advance(&mut self) -> TurnAnswer
@@ -25,7 +25,7 @@ impl<P: Post> LiveSeat<P> {
         if self.seat.is_gone() {
             return TurnAnswer::Gone;
         }
-        let sight = self.seat.look();
+        let sight = self.seat.look_with_slots();
         if sight.waits {
             return TurnAnswer::Between;
         }

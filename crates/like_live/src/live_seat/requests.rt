@@ -10,6 +10,7 @@ ghost use Rattle.like_live.specs.Calls.{GlancesNow, LikesNow, LooksNow, verdict_
 use crate::answer::{GlanceAnswer, LikeAnswer, LookAnswer};
 use crate::asked::Asked;
 use crate::live_seat::LiveSeat;
+use like_choice::Kind;
 use like_core::Post;
 use like_requests::{Op, PageRef, Request, Verdict};
 
@@ -69,6 +70,7 @@ impl<P: Post> LiveSeat<P> {
             return LikeAnswer::Full;
         }
         self.seat.count_like(user, page);
+        self.signals.count(page, Kind::Like);
         LikeAnswer::Liked
     }
 
@@ -83,6 +85,7 @@ impl<P: Post> LiveSeat<P> {
             return LookAnswer::Refused(self.refusal(user, page));
         }
         if !self.seat.is_sliced(page) {
+            self.signals.count(page, Kind::Look);
             return LookAnswer::Seen(self.seat.read_for(user, page));
         }
         if self.room == 0 {
@@ -109,9 +112,10 @@ impl<P: Post> LiveSeat<P> {
         ensures keeps { IsLive self.new }
     {
         self.room -= 1;
+        self.signals.count(asked.page, Kind::Look);
         self.seat.put_by(asked);
-        if self.room + self.found.len() <= self.half && !self.hint.is_asked() {
-            self.hint.ask();
+        if self.room + self.found.len() <= self.half {
+            self.signals.ask();
         }
     }
 

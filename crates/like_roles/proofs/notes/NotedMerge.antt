@@ -20,10 +20,10 @@ use Rattle.like_roles.specs.worker.Follows.{adds_to, IsNoted, IsTallied, IsUnmer
 use Rattle.like_service.specs.Likes.{likes_within}
 use Rattle.like_roles.specs.worker.Serve.{noted, noted_at}
 use Rattle.like_service.specs.Service.{Service, is_split_in}
-use Rattle.like_seat.specs.Merge.{Merges, liked_below}
+use Rattle.like_roles.specs.worker.Merges.{Merges, liked_below}
 use Rattle.like_roles.specs.worker.WorkerView.{WorkerView, phase_at}
 use Rattle.like_seat.specs.StationView.{IsSliceInSplit}
-use Rattle.like_seat.proofs.WholeMerge.{liked-next}
+use Rattle.like_roles.proofs.PageOrder.{liked-next}
 use Rattle.like_roles.proofs.notes.Noted.{AreMore, apart, count-all, count-none, none-passes, noted-each, noted-merged}
 
 module _ {A B : Type 0} (f : A → B) where

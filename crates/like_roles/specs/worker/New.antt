@@ -1,5 +1,6 @@
 -- A worker that was just made.
 use Rattle.std.specs.Prelude.{◌≡◌, ℕ, Bool, false, List, [], length, replicate, slice_get, Some, None}
+use Rattle.like_limits.specs.Buckets.{run_factor}
 use Rattle.like_requests.specs.Pages.{Page, marks_of}
 use Rattle.like_requests.specs.declared.setup.Setup.{Setup}
 use Rattle.like_core.specs.OpeningLimits.{run_limits}
@@ -10,11 +11,12 @@ use Rattle.like_tables.specs.Share.{dealt, share_of}
 use Rattle.like_tables.specs.UserTable.{table_without_likes}
 use Rattle.like_roles.specs.worker.WorkerView.{WorkerView}
 
--- the post is that worker's, at a board with these pages and the limits of a run, and no call was made on it
+-- the post is that worker's, at a board of a run with these pages, where page i has bucket i, and no call was made on it
 pub record IsPostOf (worker : ℕ) (pages : List Page) (post : PostView) : Type 0 where
   pub is_his : post.worker ≡ worker
   pub marks : post.marks ≡ marks_of pages
   pub limits : post.limits ≡ run_limits
+  pub factor : post.factor ≡ run_factor
   pub fresh : IsFresh post
 
 -- the seats of all workers at a board with these pages, in order; no call was made on them

@@ -14,7 +14,7 @@ use Rattle.like_roles.specs.declared.turn.Turn.{Turn}
 use Rattle.like_roles.specs.declared.turn.Turn.TheVariants as turn
 use Rattle.like_requests.specs.Setup.{IsThere}
 use Rattle.like_seat.specs.Merge as merge
-use Rattle.like_seat.specs.Merge.{Merges}
+use Rattle.like_roles.specs.worker.Merges.{Merges}
 use Rattle.like_seat.specs.Steps as steps
 use Rattle.like_roles.specs.worker.WorkerView.{WorkerView, TookAllEnds, IsNextPlace, has_to_wait, phase_at, seat_of, submitter_at, with_seat}
 use Rattle.like_roles.specs.worker.Serve.{Runs, noted}

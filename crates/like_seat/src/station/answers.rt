@@ -17,7 +17,7 @@ impl<P: Post, W: Copy> Station<P, W> {
         requires there { page < pages_of self.now.post }
         ensures { result ≡ slices self.now.post page }
     {
-        self.tables.is_sliced(page)
+        self.tables.slice.has(page)
     }
 
     /// Counts a user's like of a page, and remembers it as the user's last. Of a sliced page it goes into the slice. Else
@@ -31,7 +31,7 @@ impl<P: Post, W: Copy> Station<P, W> {
         ensures counts { CountsLike self.old user page result self.new }
         ensures seat { IsStation self.new }
     {
-        let sliced = self.is_sliced(page);
+        let sliced = self.tables.slice.has(page);
         self.tables.last.set(user, page);
         self.tables.likes += 1;
         if sliced {

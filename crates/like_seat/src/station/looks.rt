@@ -2,24 +2,21 @@ ghost use Rattle.std.specs.Prelude.{◌≡◌, ◌≢◌, false};
 ghost use Rattle.like_core.specs.declared.worker_state.WorkerState.TheVariants.{Gone};
 ghost use Rattle.like_core.specs.OpeningLimits.{has_slots};
 ghost use Rattle.like_core.specs.Post.{answered, retired};
-ghost use Rattle.like_core.specs.WorkerState.{IsRunning, IsSightOf, RunsJoined, SawEnding, SeesEndingStill};
+ghost use Rattle.like_core.specs.WorkerState.{RunsJoined, SawEnding};
 ghost use Rattle.like_seat.specs.StationView.{IsStation};
-ghost use Rattle.like_seat.specs.Steps.{Looks};
+ghost use Rattle.like_seat.specs.Steps.{LooksAndEnters};
 
 use crate::station::Station;
 use like_core::{Post, Sight, WorkerState};
 
 impl<P: Post, W: Copy> Station<P, W> {
-    /// Looks at the phase word, and enters the next phase where it was released; of a split one it then reads the mask.
+    /// Looks at the phase word, in a run, and enters the next phase where it was released; of a split one it then reads
+    /// the mask.
     #[inline(always)]
     pub fn look(&mut self) -> Sight
         requires here { self.old.post.state ≢ Gone }
         requires plain { has_slots self.old.post.limits ≡ false }
-        ensures sight { IsSightOf self.old.post.state result }
-        ensures ending { SeesEndingStill self.old.post.state self.old.post.last result }
-        ensures looks { Looks self.old result self.new }
-        ensures runs { result.waits ≡ false → IsRunning self.new.post.state }
-        ensures seat { IsStation self.new }
+        ensures { LooksAndEnters self.old result self.new }
     {
         let sight = self.post.look();
         if let WorkerState::Answered(phase) = self.tables.state {

@@ -1,6 +1,7 @@
 ghost use Rattle.std.specs.Prelude.{◌≡◌, ◌≤◌, ℕ, length};
 ghost use Rattle.like_core.specs.Post.{answered};
 ghost use Rattle.like_core.specs.WorkerState.{RunsSplit, SawEnding};
+ghost use Rattle.like_limits.specs.Buckets.{bucket, buckets};
 ghost use Rattle.like_tables.specs.Liked.{AreUnliked};
 ghost use Rattle.like_seat.specs.Merge.{IsMerged, MergesAndReports};
 ghost use Rattle.like_seat.specs.StationView.{IsStation, likes_of, tally_of};
@@ -11,21 +12,31 @@ use crate::station::Station;
 use like_core::{Post, WorkerState};
 
 impl<P: Post, W: Copy> Station<P, W> {
-    /// Adds the slice of the next page from `from` on that has a like to the page's count, and empties it.
+    /// Adds the slice of the next page that has a like to the page's count, and empties it. The pages go by their buckets,
+    /// from `from` on.
     pub fn merge_next(&mut self, from: u32) -> Option<Merged>
         requires split { RunsSplit self.old.post.state }
         requires ending { SawEnding self.old.post.last }
-        requires within { from ≤ length self.old.slice }
+        requires within { from ≤ buckets }
         ensures merges { MergesNext self.old from result self.new }
         ensures seat { IsStation self.new }
     {
-        let page = self.tables.slice.next(from)?;
+        let Some(page) = self.tables.slice.next(from) else {
+            return None;
+        };
         let likes = self.tables.slice.take(page);
         let old = self.post.add(page, likes);
         Some(Merged { page, old, likes })
     }
 
-    /// Adds each page's slice that has a like to the page's count, in page order, and empties it.
+    // The bucket of a page.
+    fn bucket(&self, page: u32) -> u32
+        ensures { result ≡ bucket self.now.post.factor page }
+    {
+        self.tables.slice.bucket(page)
+    }
+
+    /// Adds each page's slice that has a like to the page's count, in the order of their buckets, and empties it.
     pub fn merge(&mut self)
         requires split { RunsSplit self.old.post.state }
         requires ending { SawEnding self.old.post.last }
@@ -37,7 +48,7 @@ impl<P: Post, W: Copy> Station<P, W> {
     {
         let mut from = 0;
         while let Some(merged) = self.merge_next(from) {
-            from = merged.page + 1;
+            from = self.bucket(merged.page) + 1;
         }
     }
 
@@ -66,6 +77,7 @@ impl<P: Post, W: Copy> Station<P, W> {
         ensures seat { IsStation self.new }
     {
         self.tables.state = WorkerState::Answered(self.tables.phase());
+        self.tables.slice.clear();
         self.post.report();
     }
 }

@@ -10,7 +10,8 @@ use like_seat::Station;
 use like_tables::Held;
 
 impl Desk {
-    // Adds each page's slice that is not empty to the page's count on the board, in page order, and empties it.
+    // Adds each page's slice that is not empty to the page's count on the board, in page order, and empties it: in a run
+    // a page has the bucket of its number.
     pub fn merge<P: Post>(&mut self, seat: &mut Station<P, Held>)
         requires settled { IsSettled seat.old self.old }
         requires split { RunsSplit seat.old.post.state }

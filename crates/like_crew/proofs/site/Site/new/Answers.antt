@@ -46,6 +46,6 @@ returns-clause-seats c =
       workers = c.in_ok-board.ensures.seats;
       new = new_seats (board_id c.in_ok-board.board)
           (opening c.args.setup.now.workers c.deref.result.now c.deref-2.result.now) c.args.setup.now.pages
-          c.in_ok-board.workers.items marks refl
+          c.in_ok-board.workers.items marks refl refl
           c.in_ok-board.ensures.views;
     }

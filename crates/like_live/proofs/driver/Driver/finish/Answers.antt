@@ -7,20 +7,20 @@ use Rattle.like_live.proofs.Closing.{back-all, back-here, last-total}
 use Rattle.like_live.proofs.driver.Driver.finish.Goals as goal
 
 pub last_counts-requires-clause-seats_here : goal.last_counts-requires-clause-seats_here
-last_counts-requires-clause-seats_here c = λ k d below.
+last_counts-requires-clause-seats_here g c = λ k d below.
     back-here c.args.self c.args.seats.items c.give_back.new.back.items c.give_back.ensures.back c.requires.whole k d
     below
     ∙ sym (ap (λ (d : DriverView). d.lead.board) c.self.view_is) ∙ c.self.invariant.0.here ∙ ap board_id (sym c.deref.ensures)
 
 pub last_counts-requires-clause-all : goal.last_counts-requires-clause-all
-last_counts-requires-clause-all c = λ i there.
+last_counts-requires-clause-all g c = λ i there.
     let seat_is : coord_view c.finish.result ≡ c.args.self.lead.seat =
     c.finish.ensures.view ∙ ap (λ (d : DriverView). d.lead.seat) c.self.view_is in
     back-all c.args.self c.args.seats.items c.give_back.new.back.items c.give_back.ensures.back c.requires.whole i
     (subst (λ (d : CoordSeatView). i < d.opening.workers) seat_is there)
 
 pub returns : goal.returns
-returns c =
+returns g c =
     let back = c.give_back.new.back.items in
     let is = c.last_counts.ensures in
     let seat_is : coord_view c.finish.result ≡ c.args.self.lead.seat =

@@ -1,26 +1,60 @@
-use Rattle.std.proofs.Common.{ap, ◌∙◌, refl, arith}
-use Rattle.std.proofs.lemmas.Bool.{false≢true, not-false}
-use Rattle.like_seat.specs.Lead.{LeadView}
-use Rattle.like_live.specs.Driver.{announces, releases}
+use Rattle.std.proofs.Common.{◌≡◌, ◌<◌, ◌≤◌, inl, inr, true, false, refl, ap, sym, ◌∙◌, subst, arith}
+use Rattle.std.proofs.lemmas.Bool.{cases_eq, false≢true, not-false}
+use Rattle.like_core.specs.OpeningLimits.{service_limits}
+use Rattle.like_core.specs.declared.limits.Limits.{Limits}
+use Rattle.like_core.specs.declared.opening.Opening.{Opening}
+use Rattle.like_live.specs.Driver.{IsLeft, announces, drives, releases, running}
+use Rattle.like_live.proofs.Turning.{look-keeps, splits-still}
 use Rattle.like_live.proofs.driver.turns.act.Goals as goal
 
 pub release-requires-clause-limits : goal.release-requires-clause-limits
-release-requires-clause-limits c =
-    ap (λ (l : LeadView). l.seat.opening.limits) c.look-sight.ensures.saw ∙ c.requires.limits
+release-requires-clause-limits g c =
+    ap (λ (z : Opening). z.limits) (look-keeps _ _ _ c.look-sight.ensures).same.opening ∙ c.requires.limits
+
+pub release-requires-clause-splits : goal.release-requires-clause-splits
+release-requires-clause-splits g c =
+    splits-still _ _ _ (look-keeps _ _ _ c.look-sight.ensures).same c.requires.splits
 
 pub returns-then-sight : goal.returns-then-sight
-returns-then-sight c = record {
+returns-then-sight g c = record {
   sight = c.look-sight.result;
   seen = c.look-sight.new.self;
   sees = c.look-sight.ensures;
   case = releases c.if-sight.true (not-false _ c.if-not-sight.false) refl c.release.ensures;
 }
 
-pub returns-then-is_asked : goal.returns-then-is_asked
-returns-then-is_asked c = record {
-  sight = c.look-sight.result;
-  seen = c.look-sight.new.self;
-  sees = c.look-sight.ensures;
-  case = announces c.if-sight.false (λ left. false≢true (c.if-not-is_left.ensures.1 left))
-      (record { goes_on = omega (arith, c.phase-is_last.ensures, c.if-not-is_last.true); asked = c.is_asked.ensures.by c.if-is_asked.true }) refl c.announce.ensures;
-}
+pub returns-then-is_due : goal.returns-then-is_due
+returns-then-is_due g c =
+    let seen = c.look-sight.new.self in
+    let due = c.is_due.ensures in
+    let now = drives seen c.is_due.new.splits in
+    record {
+      sight = c.look-sight.result;
+      seen = seen;
+      sees = c.look-sight.ensures;
+      case = announces now c.if-sight.false (due.left c.if-is_due.true) (λ m. drives seen (due.proposes m))
+          (record { goes_on = due.goes_on c.if-is_due.true; asked = due.by c.if-is_due.true }) refl
+          (λ m. drives (c.announce.ensures m) c.is_due.new.splits);
+    }
+
+pub returns : goal.returns
+returns g c =
+    let seen = c.look-sight.new.self in
+    let due = c.is_due.ensures in
+    let looked = look-keeps _ _ _ c.look-sight.ensures in
+    let within : seen.seat.phase ≤ service_limits.last_phase =
+    omega (arith, looked.phase, c.look-sight.ensures.shows.within, ap (λ (l : Limits). l.last_phase) c.requires.limits) in
+    record {
+      sight = c.look-sight.result;
+      seen = seen;
+      sees = c.look-sight.ensures;
+      case = running c.if-sight.false c.if-sight-2.false (λ m. drives seen (due.proposes m))
+          (λ asks. elim (cases_eq seen.seat.phase service_limits.last_phase) [
+            | inl is ↦ is
+            | inr other ↦
+                let before : seen.seat.phase < service_limits.last_phase = omega arith in
+                let here : ¬ IsLeft seen c.look-sight.result =
+                λ left. false≢true (sym c.if-sight-2.false ∙ left.all_gone) in
+                absurd (false≢true (sym c.if-is_due.false ∙ due.told asks before here))
+          ]) refl;
+    }

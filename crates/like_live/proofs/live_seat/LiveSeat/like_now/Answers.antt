@@ -13,6 +13,13 @@ invariant_of-self g c =
     c.self.inside.half c.args.user c.args.page c.count_like.result c.self.invariant c.count_like.ensures.counts
     c.count_like.ensures.seat
 
+pub returns-clause-keeps : goal.returns-clause-keeps
+returns-clause-keeps g c = (
+    after-counted c.self.inside.seat c.count_like.new.self c.self.inside.found c.self.inside.pages c.self.inside.room
+    c.self.inside.half c.args.user c.args.page c.count_like.result c.self.invariant c.count_like.ensures.counts
+    c.count_like.ensures.seat
+    ).live
+
 pub returns-clause-case : goal.returns-clause-case
 returns-clause-case g c =
     let s = c.self.inside.seat in

@@ -8,17 +8,17 @@ use Rattle.like_live.proofs.live_seat.LiveSeat.retire.Goals as goal
 
 pub returns-then-sight-clause-case : goal.returns-then-sight-clause-case
 returns-then-sight-clause-case g c =
-    subst (λ (v : LiveView). RetireCase v Between (live_of c.look-sight.new.self c.self.inside.found)) c.self.view_is
-    (waits c.look-sight.result c.look-sight.ensures.looks.0 c.look-sight.ensures.sight c.if-sight.true refl
-    (λ m. live_of (c.look-sight.ensures.looks.1 m) c.self.inside.found))
+    subst (λ (v : LiveView). RetireCase v Between (live_of c.look_with_slots-sight.new.self c.self.inside.found)) c.self.view_is
+    (waits c.look_with_slots-sight.result c.look_with_slots-sight.ensures.looks.0 c.look_with_slots-sight.ensures.sight c.if-sight.true refl
+    (λ m. live_of (c.look_with_slots-sight.ensures.looks.1 m) c.self.inside.found))
 
 pub returns-clause-case : goal.returns-clause-case
 returns-clause-case g c =
     let after = live_of c.work_or_retire.new.seat c.work_or_retire.new.found in
-    let sight = c.look-sight.result in
-    let looks = c.look-sight.ensures.looks in
+    let sight = c.look_with_slots-sight.result in
+    let looks = c.look_with_slots-sight.ensures.looks in
     subst (λ (v : LiveView). RetireCase v c.work_or_retire.result after) c.self.view_is
-    (works sight looks.0 c.look-sight.ensures.sight c.if-sight.false
+    (works sight looks.0 c.look_with_slots-sight.ensures.sight c.if-sight.false
     (subst (λ (v : LiveView). RetireWorks v sight.ending c.work_or_retire.result after)
     (λ m. live_of (looks.1 m) c.self.inside.found) c.work_or_retire.ensures.works))
 

@@ -1,16 +1,19 @@
-use Rattle.std.proofs.Common.{length, ap, arith}
-use Rattle.like_core.specs.Post.{pages_of}
+use Rattle.std.proofs.Common.{◌≡◌, ℕ, false, length, replicate, ap, sym, ◌∙◌, arith}
+use Rattle.like_core.specs.Post.{PostView}
 use Rattle.like_core.specs.declared.view.WorkerSeatView.{WorkerSeatView}
-use Rattle.like_live.proofs.Marking.{length-marks_by}
 use Rattle.like_live.proofs.service.parts.new_seat.Goals as goal
+
+pub new-requires-clause-marks : goal.new-requires-clause-marks
+new-requires-clause-marks c =
+    let many = c.len-pages.ensures ∙ c.args.opening.now.counts.ok.0 in
+    ap (λ (p : PostView). p.marks) c.at_shared-post.ensures.meaning
+    ∙ ap (λ (v : WorkerSeatView). v.opening.marks) c.requires.view ∙ ap (λ n. replicate n false) (sym many)
+
+pub new-requires-clause-factor : goal.new-requires-clause-factor
+new-requires-clause-factor c =
+    ap (λ (p : PostView). p.factor) c.at_shared-post.ensures.meaning
+    ∙ ap (λ (v : WorkerSeatView). v.opening.factor) c.requires.view
 
 pub new-requires-clause-few_pages : goal.new-requires-clause-few_pages
 new-requires-clause-few_pages c =
-    let o = c.args.opening.now in
-    omega (
-      arith,
-      ap pages_of c.at_shared-post.ensures.meaning,
-      ap (λ (v : WorkerSeatView). length v.opening.marks) c.requires.view,
-      length-marks_by (length o.counts.items) o.marks.items,
-      c.requires.within.0.1,
-    )
+    omega (arith, c.len-pages.ensures, c.args.opening.now.counts.ok.0, c.requires.within.0.1)

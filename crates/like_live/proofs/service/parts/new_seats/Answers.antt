@@ -10,7 +10,7 @@ use Rattle.like_board.proofs.Pushing.{each-pushed}
 use Rattle.like_live.proofs.service.parts.new_seats.Goals as goal
 
 pub overflow_cast-number : goal.overflow_cast-number
-overflow_cast-number c =
+overflow_cast-number g c =
     let l = c.loop-worker in
     let from = c.into_iter-worker-iterator.ensures.into_iter_gives in
     let all = YieldsList-from_vec {s = c.into_iter-worker-iterator.result} c.args.workers.items from.0
@@ -21,11 +21,11 @@ overflow_cast-number c =
     omega (arith, turn.0, few, c.len-number.ensures, l.seats.ok.0, l.invariant.len)
 
 pub loop-worker-preserved : goal.loop-worker-preserved
-loop-worker-preserved c =
+loop-worker-preserved g c =
     let l = c.loop-worker in
     let seat = c.in_ok-seat.seat in
     let items = c.in_ok-push.ensures.items in
-    let Is : ℕ → LiveView → Type 0 = IsOpenedSeat c.args.opening.now (board_id (arc_value c.args.board.now)) in
+    let Is : ℕ → LiveView → Type 0 = IsOpenedSeat c.args.opening.now c.args.factor (board_id (arc_value c.args.board.now)) in
     let number : c.len-number.result ≡ length l.seats.items = c.len-number.ensures ∙ l.seats.ok.0 in
     record {
       len = ap length items ∙ length_push l.seats.items seat ∙ ap (λ n. n + 1) l.invariant.len

@@ -1,12 +1,32 @@
-use Rattle.std.proofs.Common.{◌≡◌, ◌∷◌, ◌++◌, [], length, subst, ap, sym, ◌∙◌, arith}
+use Rattle.std.proofs.Common.{◌≡◌, ◌≤◌, ◌∷◌, ◌++◌, [], length, subst, ap, sym, ◌∙◌, arith}
 use Rattle.std.proofs.lemmas.List.{length-set}
+use Rattle.like_core.specs.declared.limits.Limits.{Limits}
+use Rattle.like_core.specs.OpeningLimits.{has_slots}
+use Rattle.like_limits.specs.Buckets.{buckets, run_factor}
+use Rattle.like_limits.specs.Limits.{max_pages}
 use Rattle.like_tables.specs.declared.held.Held.{Held}
 use Rattle.like_seat.specs.StationView.{StationView, phase_at}
-use Rattle.like_seat.specs.Steps.{MergesNext}
-use Rattle.like_seat.proofs.WholeMerge.{Merging-done, Merging-next, Merging-start, merge_of}
+use Rattle.like_seat.specs.Steps.{IsNext, MergesNext, NoneFrom}
+use Rattle.like_roles.proofs.PageOrder.{AreUnliked-run, IsNextLiked-run, Merging-done, Merging-next, Merging-start, merge_of}
+use Rattle.like_roles.specs.declared.worker.desk.Desk.{Desk}
+use Rattle.like_roles.specs.worker.Desk.{IsSettled}
 use Rattle.like_roles.proofs.Counting.{HasNoted, merged-settled}
 use Rattle.like_roles.proofs.Merging.{HaveNoted-more, HaveNoted-none, IsMerged-noted}
 use Rattle.like_roles.proofs.worker.desk.Desk.merge.Goals as goal
+
+-- a run has no more pages than there are buckets
+few_pages : (s : StationView Held) (d : Desk) → IsSettled s d → length s.slice ≤ buckets
+few_pages s d is =
+    let most : s.post.limits.pages ≡ max_pages = ap (λ (l : Limits). l.pages) is.sound.run in
+    omega (arith, is.sound.seat.sized, is.sound.seat.few_pages, most)
+
+-- and there page i has bucket i
+in_run : (s : StationView Held) (d : Desk) → IsSettled s d → s.post.factor ≡ run_factor
+in_run s d is = is.sound.seat.factor (ap (λ (l : Limits). has_slots l) is.sound.run)
+
+pub merge_next-requires-clause-within : goal.merge_next-requires-clause-within
+merge_next-requires-clause-within g c =
+    omega (arith, c.loop-merged.invariant.within, few_pages c.loop-merged.seat c.loop-merged.self c.loop-merged.invariant.settled)
 
 pub returns-clause-merged : goal.returns-clause-merged
 returns-clause-merged g c =
@@ -15,7 +35,9 @@ returns-clause-merged g c =
     let adds = i.merging.0 in
     let done = subst (λ r. MergesNext l.seat l.from r c.merge_next.new.self) c.in_default.is
     c.merge_next.ensures.merges in
-    let whole = Merging-done c.args.seat.now l.seat c.merge_next.new.self l.from adds i.merging.1.0 i.within done.0
+    let none = subst (λ f. NoneFrom f l.seat.slice l.from) (in_run l.seat l.self i.settled) done.0 in
+    let rest = AreUnliked-run l.seat.slice l.from (few_pages l.seat l.self i.settled) none in
+    let whole = Merging-done c.args.seat.now l.seat c.merge_next.new.self l.from adds i.merging.1.0 i.within rest
     done.1 c.requires.settled.sound.seat.sized in
     IsMerged-noted c.args.seat.now c.merge_next.new.self c.args.self.now l.self adds whole.0 whole.1 i.merging.1.1
 
@@ -41,6 +63,8 @@ loop-merged-preserved g c =
     c.phase_of_run-phase.ensures ∙ sym (ap (λ (x : StationView Held). phase_at x) i.merging.1.0.rest) in
     let noted : HasNoted d e c.phase_of_run-phase.result m.page m.old m.likes =
     record { noted = n.noted; len = n.len; capacity = n.capacity; rest = n.rest } in
+    let by_run = subst (λ f. IsNext f s.slice c.loop-merged.from m.page) (in_run s d i.settled) merges.next in
+    let next = IsNextLiked-run s.slice c.loop-merged.from m.page (few_pages s d i.settled) by_run in
     let sized = ap (λ (x : StationView Held). length x.slice) merges.merged ∙ length-set s.slice m.page 0 in
     record {
       settled = merged-settled s t d e c.loop-merged.from c.phase_of_run-phase.result m i.settled
@@ -49,7 +73,7 @@ loop-merged-preserved g c =
       merging = (
         adds ++ merge_of s m.page m.old ∷ [],
         (
-          Merging-next c.args.seat.now s t c.loop-merged.from m.page m.old adds i.merging.1.0 merges.next merges.merged,
+          Merging-next c.args.seat.now s t c.loop-merged.from m.page m.old adds i.merging.1.0 next merges.merged,
           HaveNoted-more s c.args.self.now d e adds c.phase_of_run-phase.result m.page m.old m.likes i.merging.1.1 noted
               phase_is merges.likes,
         ),

@@ -1,6 +1,6 @@
 use Rattle.std.proofs.Common.{◌-◌, ◌≤◌, List, length}
 use Rattle.like_core.specs.declared.view.Addition.{Addition}
-use Rattle.like_seat.proofs.WholeMerge.{Merging}
+use Rattle.like_roles.proofs.PageOrder.{Merging}
 use Rattle.like_roles.specs.worker.Desk.{IsSettled}
 use Rattle.like_roles.proofs.Merging.{HaveNoted}
 use Rattle.like_roles.proofs.worker.desk.Desk.merge.Given as goal

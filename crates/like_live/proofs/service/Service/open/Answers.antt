@@ -1,5 +1,0 @@
-use Rattle.like_live.proofs.Newly.{opened-whole}
-use Rattle.like_live.proofs.service.Service.open.Goals as goal
-
-pub returns-in-Ok-clause-whole : goal.returns-in-Ok-clause-whole
-returns-in-Ok-clause-whole c = opened-whole _ _ c.in-Ok.ensures

@@ -1,0 +1,277 @@
+-- A seat that enters the next phase.
+use Rattle.std.proofs.Common.{◌≡◌, ℕ, ◌+◌, ◌%◌, ◌==◌, ◌<◌, ◌≤◌, ◌⊎◌, ◌↔◌, ◌&&◌, ◌||◌, nat_lt, Bool, true, false, cond, List, ◌∷◌, length, get_or, replicate, sum, Some, inl, inr, refl, sym, ap, subst, ◌∙◌, arith}
+use Rattle.std.specs.List.{list_any}
+use Rattle.std.proofs.lemmas.Bool.{and_from, and_parts, cases_eq, cond-true, eq-eqb, lt-ltb, ltb-false, ltb-true, or_right}
+use Rattle.like_core.specs.declared.sight.Sight.{Sight}
+use Rattle.like_core.specs.declared.view.PhaseMask.{PhaseMask}
+use Rattle.like_core.specs.declared.worker_state.WorkerState.{WorkerState}
+use Rattle.like_core.specs.declared.worker_state.WorkerState.TheVariants as state
+use Rattle.like_core.specs.declared.worker_state.WorkerState.TheVariants.{Answered, Runs}
+use Rattle.like_core.specs.Additions.{all_added}
+use Rattle.like_core.specs.Phase.{IsJoined, IsSplit, is_hot_by, is_marked}
+use Rattle.like_core.specs.Functions.{has_bit}
+use Rattle.like_core.specs.OpeningLimits.{AreLimits, has_slots}
+use Rattle.like_core.specs.PhaseMasks.{HasMask, mask_of}
+use Rattle.like_core.specs.Slots.{IsChoice, mask_of_slots}
+use Rattle.like_core.proofs.Slots.{slots_tell}
+use Rattle.like_limits.specs.Limits.{hot_pages}
+use Rattle.like_core.specs.Post.{PostView, looked_at, pages_of, slices}
+use Rattle.like_core.specs.WorkerState.{RunsSplit, seen}
+use Rattle.like_tables.specs.SplitSlice.{IsSplitSlice, SplitSlice, by_page, has_split, likes_in}
+use Rattle.like_tables.proofs.ByPage.{by_page-none, length-by_page, likes_in-none, likes_in-other}
+use Rattle.like_tables.proofs.Sliced.{counts-none}
+use Rattle.like_seat.specs.declared.tables.Tables.{Tables}
+use Rattle.like_seat.specs.Kept.{EntersBy, IsFilled, IsFilledBySlots, IsKept, IsOfRun, IsOfService, IsUnsplit, MayEnter, SplitsPages, is_split_by, is_split_in_run, view_of}
+use Rattle.like_seat.specs.Steps.{masks_entered}
+use Rattle.like_seat.proofs.Filling.{same_tests}
+use Rattle.like_seat.proofs.Keeping.{in-split, of-run, of-service, splits-none}
+
+parity : (n : ℕ) → IsSplit n ⊎ IsJoined n
+parity n = elim (cases_eq (n % 2) 1) [ inl odd ↦ inl odd | inr even ↦ inr (omega arith) ]
+
+-- who has answered has no page split
+unsplit : {W : Type 0} (post : PostView) (t : Tables W) (k : ℕ) → IsKept post t → t.state ≡ Answered k
+    → (page : ℕ) → has_split t.slice page ≡ false
+unsplit post t k kept is = splits-none post t.slice kept.splits (λ runs. absurd (subst RunsSplit (kept.state ∙ is) runs))
+
+-- so it may enter the next phase
+pub MayEnter-kept : {W : Type 0} (post looked : PostView) (t : Tables W) (sight : Sight) (k : ℕ) → IsKept post t
+    → t.state ≡ Answered k → sight.waits ≡ false → looked ≡ looked_at post sight → MayEnter looked t.slice (k + 1)
+MayEnter-kept post looked t sight k kept is goes look =
+    let runs : seen post.state sight ≡ Runs (k + 1) =
+    ap (λ s. seen s sight) (kept.state ∙ is) ∙ ap (λ (b : Bool). cond b (Answered k) (Runs (k + 1))) goes in
+    let may : MayEnter (looked_at post sight) t.slice (k + 1) = record {
+      runs = runs;
+      limits = kept.seat.limits;
+      few_pages = kept.seat.few_pages;
+      unsplit = record { slice = kept.slice; factor = kept.factor; none = unsplit post t k kept is };
+    } in subst (λ (p : PostView). MayEnter p t.slice (k + 1)) (sym look) may
+
+pub IsOfRun-looked : {W : Type 0} (post looked : PostView) (t : Tables W) (sight : Sight) → IsKept post t
+    → looked ≡ looked_at post sight → has_slots post.limits ≡ false → IsOfRun looked t.marks.items
+IsOfRun-looked post looked t sight kept look plain =
+    subst (λ (p : PostView). IsOfRun p t.marks.items) (sym look)
+    (of-run post (looked_at post sight) t.marks.items t.marks.items refl refl refl refl kept.run plain)
+
+pub IsOfService-looked : {W : Type 0} (post looked : PostView) (t : Tables W) (sight : Sight) → IsKept post t
+    → looked ≡ looked_at post sight → has_slots post.limits ≡ true → IsOfService looked
+IsOfService-looked post looked t sight kept look slotted =
+    subst (λ (p : PostView). IsOfService p) (sym look)
+    (of-service post (looked_at post sight) refl refl kept.service slotted)
+
+-- in a run the pages that are marked or hot are split
+pub filled-run : (post : PostView) (marks : List Bool) (mask : ℕ) (s after : SplitSlice) → IsOfRun post marks
+    → AreLimits post.limits → IsFilled s (length marks) (is_split_in_run marks mask) after
+    → IsFilled s (pages_of post) (is_split_by post mask) after
+filled-run post marks mask s after run limits f =
+    let hot : post.limits.hot ≡ hot_pages = omega (arith, ltb-false hot_pages post.limits.hot run.plain, limits.hot) in
+    record {
+      slice = f.slice;
+      factor = f.factor;
+      counts = f.counts;
+      splits = λ page. f.splits page
+          ∙ ap (λ (ms : List Bool). nat_lt page (length ms) && (is_marked ms page || is_hot_by hot_pages mask page))
+          (sym run.marks)
+          ∙ ap (λ (h : ℕ). nat_lt page (pages_of post) && (is_marked post.marks page || is_hot_by h mask page)) (sym hot);
+    }
+
+-- in a service those in the slots in use are
+pub filled-service : (post : PostView) (slots : ℕ → ℕ) (word : ℕ) (s after : SplitSlice) → IsOfService post
+    → AreLimits post.limits → pages_of post ≤ post.limits.pages → IsChoice post.factor (pages_of post) slots word
+    → IsFilledBySlots s slots word hot_pages after
+    → IsFilled s (pages_of post) (is_split_by post (mask_of_slots slots word hot_pages)) after
+filled-service post slots word s after service limits few choice f = record {
+  slice = f.slice;
+  factor = f.factor;
+  counts = f.counts;
+  splits = λ page.
+      let mask = mask_of_slots slots word hot_pages in
+      let n : ℕ = pages_of post in
+      let h : ℕ = post.limits.hot in
+      let most = limits.slotted service.slotted in
+      same_tests (has_split after page) (nat_lt page n && (is_marked post.marks page || is_hot_by h mask page))
+      (λ held.
+      let i = (f.splits page).0 held in
+      let there : page < n = omega (arith, choice.there i.slot i.below i.used, i.holds) in
+      and_from (nat_lt page n) _ (lt-ltb page n there)
+      (or_right (is_marked post.marks page) _
+      (and_from (nat_lt page h) (has_bit mask page) (lt-ltb page h (omega (arith, there, few, most)))
+      ((slots_tell slots word hot_pages page).1 i))))
+      (λ both.
+      let parts = and_parts (nat_lt page n) (is_marked post.marks page || is_hot_by h mask page) both in
+      let hot : is_hot_by h mask page ≡ true =
+      sym (ap (λ (b : Bool). b || is_hot_by h mask page) (service.unmarked page)) ∙ parts.1 in
+      (f.splits page).1 ((slots_tell slots word hot_pages page).0 (and_parts (nat_lt page h) (has_bit mask page) hot).1));
+}
+
+-- a slice with these numbers, of which no page was split, has no like
+empty : {W : Type 0} (post : PostView) (t : Tables W) (k : ℕ) (s : SplitSlice) → IsKept post t → t.state ≡ Answered k
+    → s.counts ≡ t.slice.counts → by_page s (pages_of post) ≡ by_page t.slice (pages_of post)
+empty post t k s kept is same =
+    let n : ℕ = pages_of post in
+    let none : (page : ℕ) → likes_in t.slice page ≡ 0 =
+    λ page. likes_in-other t.slice page (unsplit post t k kept is page) in
+    by_page-none s n (likes_in-none s
+    (λ b. ap (λ (xs : List ℕ). get_or xs b 0) same ∙ counts-none t.slice kept.slice none b))
+    ∙ sym (by_page-none t.slice n none)
+
+-- the mask of the phase that it enters
+entered-mask : (masks : List PhaseMask) (phase mask : ℕ) → IsSplit phase
+    → mask_of (masks_entered masks phase mask) phase ≡ mask
+entered-mask masks phase mask odd =
+    ap (λ (ms : List PhaseMask). mask_of ms phase)
+    (cond-true (phase % 2 == 1) (record { phase = phase; mask = mask } ∷ masks) masks (eq-eqb (phase % 2) 1 odd))
+    ∙ ap (λ (b : Bool). cond b mask (mask_of masks phase)) (eq-eqb phase phase refl)
+
+entered-has : (masks : List PhaseMask) (phase mask : ℕ) → IsSplit phase → HasMask phase (masks_entered masks phase mask)
+entered-has masks phase mask odd =
+    subst (HasMask phase)
+    (sym (cond-true (phase % 2 == 1) (record { phase = phase; mask = mask } ∷ masks) masks (eq-eqb (phase % 2) 1 odd)))
+    (ap (λ (b : Bool). b || list_any (λ (m : PhaseMask). m.phase == phase) masks) (eq-eqb phase phase refl))
+
+-- the post that has entered a phase
+abbrev pub entered : PostView → Sight → ℕ → ℕ → PostView
+entered post sight phase mask = record (looked_at post sight) {
+  state = Runs phase;
+  masks = masks_entered post.masks phase mask;
+}
+
+-- the pages that are to be split are those that are sliced
+fills : (post : PostView) (sight : Sight) (phase mask : ℕ) (s : SplitSlice) → IsSplit phase
+    → ((page : ℕ) → has_split s page ≡ (nat_lt page (pages_of post) && is_split_by post mask page))
+    → SplitsPages (entered post sight phase mask) s
+fills post sight phase mask s odd splits page =
+    let test : ℕ → Bool = λ m. is_split_by post m page in
+    let masks = entered-mask post.masks phase mask odd in (
+      λ held.
+          let parts = and_parts (nat_lt page (pages_of post)) (test mask) (sym (splits page) ∙ held) in (
+            odd,
+            ltb-true page (pages_of post) parts.0,
+            and_from (phase % 2 == 1) (test (mask_of (masks_entered post.masks phase mask) phase))
+                (eq-eqb (phase % 2) 1 odd) (ap test masks ∙ parts.1),
+          ),
+      λ sliced.
+          let parts = and_parts (phase % 2 == 1) (test (mask_of (masks_entered post.masks phase mask) phase)) sliced.2 in
+          splits page ∙ and_from (nat_lt page (pages_of post)) (test mask) (lt-ltb page (pages_of post) sliced.1)
+          (sym (ap test masks) ∙ parts.1),
+    )
+
+-- what is true of the slice of who has entered a phase
+pub record IsEntered (post : PostView) (s s' : SplitSlice) : Type 0 where
+  pub lawful : IsSplitSlice s'
+  pub factor : s'.splits.factor ≡ post.factor
+  pub counts : s'.counts ≡ s.counts
+  pub splits : SplitsPages post s'
+
+entered-slice : {W : Type 0} (post looked now : PostView) (t after : Tables W) (sight : Sight) (k mask : ℕ)
+    → IsKept post t → t.state ≡ Answered k → looked ≡ looked_at post sight → EntersBy looked (k + 1) mask now t after
+    → IsEntered (entered post sight (k + 1) mask) t.slice after.slice
+entered-slice {W} post looked now t after sight k mask kept is look e = elim (parity (k + 1)) [
+  | inl odd ↦
+      let filled = e.split odd in
+      record {
+        lawful = filled.slice;
+        factor = filled.factor ∙ kept.factor;
+        counts = filled.counts;
+        splits = fills post sight (k + 1) mask after.slice odd
+            (subst (λ (p : PostView). (page : ℕ)
+            → has_split after.slice page ≡ (nat_lt page (pages_of p) && is_split_by p mask page)) look filled.splits);
+      }
+  | inr even ↦
+      let same = e.joined even in
+      record {
+        lawful = subst IsSplitSlice (sym same) kept.slice;
+        factor = ap (λ (s : SplitSlice). s.splits.factor) same ∙ kept.factor;
+        counts = ap (λ (s : SplitSlice). s.counts) same;
+        splits = λ page. (
+          λ held. absurd (cc (ap (λ (s : SplitSlice). has_split s page) same, unsplit post t k kept is page, held)),
+          λ sliced. absurd (omega (arith, even, sliced.0)),
+        );
+      }
+]
+
+module _ {W : Type 0} (post looked now : PostView) (t after : Tables W) (sight : Sight) (k mask : ℕ)
+    (kept : IsKept post t) (is : t.state ≡ Answered k) (goes : sight.waits ≡ false)
+    (look : looked ≡ looked_at post sight) (e : EntersBy looked (k + 1) mask now t after) where
+  -- its post now
+  pub now-entered : now ≡ entered post sight (k + 1) mask
+  now-entered =
+      let runs : seen post.state sight ≡ Runs (k + 1) =
+      ap (λ s. seen s sight) (kept.state ∙ is) ∙ ap (λ (b : Bool). cond b (Answered k) (Runs (k + 1))) goes in
+      e.at_post
+      ∙ ap (λ (p : PostView). record p { masks = masks_entered p.masks (k + 1) mask }) look
+      ∙ (λ i. record (looked_at post sight) { state = runs i; masks = masks_entered post.masks (k + 1) mask })
+
+  -- its slice is empty, as it was
+  pub empty-entered : by_page after.slice (pages_of now) ≡ by_page t.slice (pages_of post)
+  empty-entered =
+      ap (λ (p : PostView). by_page after.slice (pages_of p)) now-entered
+      ∙ empty post t k after.slice kept is (entered-slice post looked now t after sight k mask kept is look e).counts
+
+  -- its tables are those of the post
+  pub IsKept-entered : k + 1 ≤ post.limits.last_phase → IsKept now after
+  IsKept-entered within =
+      let s = entered-slice post looked now t after sight k mask kept is look e in
+      let n : ℕ = pages_of post in
+      let same = empty post t k after.slice kept is s.counts in
+      let at : PostView = entered post sight (k + 1) mask in
+      let tables : Tables W = record t { state = Runs (k + 1); slice = after.slice } in
+      let likes : t.likes ≡ all_added post.additions + sum (by_page after.slice n) =
+      kept.likes ∙ ap (λ (xs : List ℕ). all_added post.additions + sum xs) (sym same) in
+      let keeps : IsKept at tables = record {
+        run = of-run post at t.marks.items t.marks.items refl refl refl refl kept.run;
+        service = of-service post at refl refl kept.service;
+        state = refl;
+        slice = s.lawful;
+        factor = s.factor;
+        splits = s.splits;
+        sums = ap (λ (xs : List ℕ). sum xs) same ∙ kept.sums ∙ sym (ap (λ (xs : List ℕ). sum xs) s.counts);
+        likes = likes;
+        seat = record {
+          few_pages = kept.seat.few_pages;
+          limits = kept.seat.limits;
+          factor = kept.seat.factor;
+          within = within;
+          sized = length-by_page after.slice n;
+          masked = λ odd. entered-has post.masks (k + 1) mask odd;
+          split = in-split at after.slice s.splits;
+          few = omega (arith, likes, kept.likes, kept.seat.few);
+          waiting = kept.seat.waiting;
+        };
+      } in
+      subst (λ (p : PostView). IsKept p after) (sym now-entered) (subst (λ (x : Tables W). IsKept at x) (sym e.rest) keeps)
+
+-- who has not answered stays in its phase
+pub stays : (s : WorkerState) (sight : Sight) → ((k : ℕ) → s ≡ Answered k → ⊥) → seen s sight ≡ s
+stays (state.Runs k) sight runs = refl
+stays (state.Answered k) sight runs = absurd (runs k refl)
+stays state.Gone sight runs = refl
+
+-- a look that leaves the phase
+pub IsKept-looked : {W : Type 0} (post now : PostView) (t : Tables W) (sight : Sight) → IsKept post t
+    → now ≡ looked_at post sight → seen post.state sight ≡ post.state → IsKept now t
+IsKept-looked {W} post now t sight k look same =
+    let at : PostView = record post { last = Some sight; looks = (looked_at post sight).looks } in
+    let is : now ≡ at =
+    look ∙ (λ i. record post { state = same i; last = Some sight; looks = (looked_at post sight).looks }) in
+    let keeps : IsKept at t = record {
+      run = of-run post at t.marks.items t.marks.items refl refl refl refl k.run;
+      service = of-service post at refl refl k.service;
+      state = k.state;
+      slice = k.slice;
+      factor = k.factor;
+      splits = k.splits;
+      sums = k.sums;
+      likes = k.likes;
+      seat = record {
+        few_pages = k.seat.few_pages;
+        limits = k.seat.limits;
+        factor = k.seat.factor;
+        within = k.seat.within;
+        sized = k.seat.sized;
+        masked = k.seat.masked;
+        split = k.seat.split;
+        few = k.seat.few;
+        waiting = k.seat.waiting;
+      };
+    } in subst (λ (p : PostView). IsKept p t) (sym is) keeps

@@ -1,0 +1,227 @@
+-- The slice that a seat keeps, and what is true of it after each step.
+use Rattle.std.proofs.Common.{◌≡◌, ◌≢◌, ◌↔◌, ℕ, ◌+◌, ◌%◌, ◌==◌, ◌^◌, ◌<◌, ◌≤◌, ◌&&◌, ◌||◌, nat_lt, Bool, true, false, List, length, get_or, set, replicate, sum, inl, inr, refl, sym, ap, subst, ◌∙◌, arith}
+use Rattle.std.proofs.lemmas.Bool.{and_from, and_parts, cases_lt, eq-eqb, eqb-true, false_from_ne_true, lt-ltb, ltb-true}
+use Rattle.std.proofs.lemmas.List.{get_or_past}
+use Rattle.std.proofs.lemmas.List.Folds.{sum_by-replicate}
+use Rattle.std.proofs.lemmas.List.Sums.{sum_by-set}
+use Rattle.like_core.specs.declared.worker_state.WorkerState.{WorkerState}
+use Rattle.like_core.specs.declared.worker_state.WorkerState.TheVariants as state
+use Rattle.like_core.specs.Phase.{IsSplit, is_hot_by, is_marked}
+use Rattle.like_core.specs.declared.view.Addition.{Addition}
+use Rattle.like_core.specs.declared.view.PageRead.{PageRead}
+use Rattle.like_core.specs.OpeningLimits.{AreLimits, has_slots}
+use Rattle.like_core.specs.PhaseMasks.{mask_of}
+use Rattle.like_core.specs.Post.{IsFresh, PostView, answered, pages_of, slices}
+use Rattle.like_core.specs.WorkerState.{IsRunning, RunsSplit, phase_of}
+use Rattle.like_limits.specs.Buckets.{bucket, buckets}
+use Rattle.like_tables.specs.Liked.{AreUnliked}
+use Rattle.like_tables.specs.SplitPages.{SplitPages, is_split}
+use Rattle.like_tables.specs.SplitSlice.{AreUnsliced, IsNextSliced, IsSplitSlice, SplitSlice, bucket_in, by_page, has_split, likes_in, no_slice, with_likes}
+use Rattle.like_tables.specs.Waiting.{IsWaiting}
+use Rattle.like_tables.proofs.ByPage.{by_page-none, by_page-with_likes, get_or-by_page, is_split-one, length-by_page, liked-split, likes_in-none, likes_in-other}
+use Rattle.like_tables.proofs.Sliced.{IsSplitSlice-none, counts-replicate, has_split-none}
+use Rattle.like_tables.proofs.Tagged.{bucket-lt}
+use Rattle.like_seat.specs.declared.tables.Tables.{Tables}
+use Rattle.like_seat.specs.Kept.{IsKept, IsOfRun, IsOfService, SplitsPages, view_of}
+use Rattle.like_seat.specs.StationView.{IsSliceInSplit, IsStation, StationView, likes_of}
+use Rattle.like_seat.specs.Steps.{IsNext, NoneFrom}
+use Rattle.like_seat.proofs.Filling.{same_tests}
+
+-- who runs an odd phase runs a split one
+runs-split : (s : WorkerState) → IsRunning s → IsSplit (phase_of s) → RunsSplit s
+runs-split (state.Runs k) runs odd = odd
+runs-split (state.Answered k) runs odd = absurd runs
+runs-split state.Gone runs odd = absurd runs
+
+-- its slice tells which pages are sliced in a phase that it runs
+pub has_split-slices : (post : PostView) (s : SplitSlice) (page : ℕ) → SplitsPages post s → IsRunning post.state
+    → page < pages_of post → has_split s page ≡ slices post page
+has_split-slices post s page splits runs there =
+    same_tests (has_split s page) (slices post page) (λ held. ((splits page).0 held).2)
+    (λ sliced.
+    let odd = and_parts (phase_of post.state % 2 == 1)
+    (is_marked post.marks page || is_hot_by post.limits.hot (mask_of post.masks (phase_of post.state)) page) sliced in
+    (splits page).1 (runs-split post.state runs (eqb-true _ 1 odd.0), there, sliced))
+
+-- who doesn't run a split phase has no page split
+pub splits-none : (post : PostView) (s : SplitSlice) → SplitsPages post s → (RunsSplit post.state → ⊥)
+    → (page : ℕ) → has_split s page ≡ false
+splits-none post s splits not_split page =
+    false_from_ne_true (has_split s page) (λ held. not_split ((splits page).0 held).0)
+
+-- a page that has a like is there, and is sliced
+pub in-split : (post : PostView) (s : SplitSlice) → SplitsPages post s → IsSliceInSplit post (by_page s (pages_of post))
+in-split post s splits page some =
+    elim (cases_lt page (pages_of post)) [
+      | inl there ↦
+          let liked : likes_in s page ≢ 0 = λ e. some (get_or-by_page s (pages_of post) page 0 there ∙ e) in
+          let sliced = (splits page).0 (liked-split s page liked) in (sliced.0, sliced.2)
+      | inr past ↦
+          absurd (some (get_or_past (by_page s (pages_of post)) page 0
+          (omega (arith, length-by_page s (pages_of post)))))
+    ]
+
+-- the likes of each page, whether it is there or not
+pub likes_in-page : (post : PostView) (s : SplitSlice) (page : ℕ) → SplitsPages post s
+    → get_or (by_page s (pages_of post)) page 0 ≡ likes_in s page
+likes_in-page post s page splits =
+    elim (cases_lt page (pages_of post)) [
+      | inl there ↦ get_or-by_page s (pages_of post) page 0 there
+      | inr past ↦
+          get_or_past (by_page s (pages_of post)) page 0 (omega (arith, length-by_page s (pages_of post)))
+          ∙ sym (likes_in-other s page (false_from_ne_true (has_split s page)
+          (λ held. absurd (omega (arith, ((splits page).0 held).1)))))
+    ]
+
+-- where no page of the list has a like, none has
+pub likes_in-unliked : (post : PostView) (s : SplitSlice) → SplitsPages post s
+    → AreUnliked (by_page s (pages_of post)) 0 (length (by_page s (pages_of post)))
+    → (page : ℕ) → likes_in s page ≡ 0
+likes_in-unliked post s splits none page =
+    sym (likes_in-page post s page splits)
+    ∙ elim (cases_lt page (length (by_page s (pages_of post)))) [
+      | inl there ↦ none page (omega arith) there
+      | inr past ↦ get_or_past (by_page s (pages_of post)) page 0 past
+    ]
+
+-- the next page of the slice that has a like
+pub IsNext-sliced : (post : PostView) (s : SplitSlice) (f from page : ℕ) → IsSplitSlice s → s.splits.factor ≡ f
+    → SplitsPages post s → IsNextSliced s from page → IsNext f (by_page s (pages_of post)) from page
+IsNext-sliced post s f from page is factor splits next =
+    let here : bucket_in s page ≡ bucket f page = ap (λ x. bucket x page) factor in
+    let there : page < pages_of post = ((splits page).0 next.split).1 in
+    record {
+      after = omega (arith, here, next.after);
+      there = omega (arith, there, length-by_page s (pages_of post));
+      liked = λ e. next.liked (sym (likes_in-page post s page splits) ∙ e);
+      first = λ other after within apart.
+          let same : bucket_in s other ≡ bucket f other = ap (λ x. bucket x other) factor in
+          likes_in-page post s other splits
+          ∙ elim (cases_lt (bucket_in s other) (bucket_in s page)) [
+            | inl before ↦ next.first other (omega arith) before
+            | inr shared ↦
+                likes_in-other s other (false_from_ne_true (has_split s other)
+                (λ held. apart (is_split-one s.splits other page held next.split (omega arith))))
+          ];
+    }
+
+pub NoneFrom-sliced : (post : PostView) (s : SplitSlice) (f from : ℕ) → s.splits.factor ≡ f → SplitsPages post s
+    → AreUnsliced s from buckets → NoneFrom f (by_page s (pages_of post)) from
+NoneFrom-sliced post s f from factor splits none page after =
+    let same : bucket_in s page ≡ bucket f page = ap (λ x. bucket x page) factor in
+    likes_in-page post s page splits
+    ∙ none page (omega arith) (omega (arith, same, bucket-lt f page))
+
+-- the sum of the pages' likes goes along with that of the buckets' numbers
+pub sum-written : (s : SplitSlice) (n page likes total : ℕ) → IsSplitSlice s → has_split s page ≡ true → page < n
+    → sum (by_page s n) ≡ sum s.counts → total + likes_in s page ≡ sum s.counts + likes
+    → sum (by_page (with_likes s page likes) n) ≡ total
+sum-written s n page likes total is split there sums is_total =
+    let long = length-by_page s n in
+    let now = ap (λ (xs : List ℕ). sum xs) (by_page-with_likes s n page likes is split there) in
+    let here : get_or (by_page s n) page 0 ≡ likes_in s page = get_or-by_page s n page 0 there in
+    let more = sum_by-set (λ x. x) (by_page s n) page likes 0 (omega arith) in
+    omega (arith, now, here, more)
+
+-- what is true of the board of a post stays so
+pub of-run : (post now : PostView) (marks marks' : List Bool) → now.limits ≡ post.limits → now.marks ≡ post.marks
+    → now.factor ≡ post.factor → marks' ≡ marks → (has_slots post.limits ≡ false → IsOfRun post marks)
+    → has_slots now.limits ≡ false → IsOfRun now marks'
+of-run post now marks marks' l m f e was plain =
+    let r = was (ap has_slots (sym l) ∙ plain) in
+    record {
+      plain = plain;
+      marks = m ∙ r.marks ∙ sym e;
+      small = subst (λ (ms : List Bool). length ms ≤ buckets) (sym m) r.small;
+      factor = f ∙ r.factor;
+    }
+
+pub of-service : (post now : PostView) → now.limits ≡ post.limits → now.marks ≡ post.marks
+    → (has_slots post.limits ≡ true → IsOfService post) → has_slots now.limits ≡ true → IsOfService now
+of-service post now l m was slotted =
+    let r = was (ap has_slots (sym l) ∙ slotted) in
+    record { slotted = slotted; unmarked = λ page. ap (λ (ms : List Bool). is_marked ms page) m ∙ r.unmarked page }
+
+-- a slice that has no split page has no like
+pub by_page-no_slice : (factor n : ℕ) → by_page (no_slice factor) n ≡ replicate n 0
+by_page-no_slice factor n =
+    by_page-none (no_slice factor) n (λ page. likes_in-other (no_slice factor) page (has_split-none factor page))
+
+pub sum-zeros : (n : ℕ) → sum (replicate n 0) ≡ 0
+sum-zeros n = sum_by-replicate (λ x. x) n 0 ∙ omega arith
+
+-- the tables of a post that made a step in its phase, which leaves the split pages
+pub Kept-written : {W : Type 0} (post : PostView) (a : List Addition) (r gl : List PageRead) (t after : Tables W)
+    → IsKept post t
+    → after.marks.items ≡ t.marks.items → after.state ≡ t.state → after.held ≡ t.held
+    → after.slice.splits ≡ t.slice.splits → IsSplitSlice after.slice
+    → sum (by_page after.slice (pages_of post)) ≡ sum after.slice.counts
+    → after.likes ≡ likes_of (view_of (record post { additions = a; reads = r; glances = gl }) after)
+    → after.likes ≤ post.limits.likes
+    → IsKept (record post { additions = a; reads = r; glances = gl }) after
+Kept-written {W} post a r gl t after k marks state_is held splits is sums likes few =
+    let now : PostView = record post { additions = a; reads = r; glances = gl } in
+    let split : SplitsPages now after.slice = λ page.
+    subst (λ (s : SplitPages). (is_split s page ≡ true)
+    ↔ (RunsSplit post.state × (page < pages_of post) × (slices post page ≡ true))) (sym splits) (k.splits page) in
+    record {
+      run = of-run post now t.marks.items after.marks.items refl refl refl marks k.run;
+      service = of-service post now refl refl k.service;
+      state = k.state ∙ sym state_is;
+      slice = is;
+      factor = ap (λ (s : SplitPages). s.factor) splits ∙ k.factor;
+      splits = split;
+      sums = sums;
+      likes = likes;
+      seat = record {
+        few_pages = k.seat.few_pages;
+        limits = k.seat.limits;
+        factor = k.seat.factor;
+        within = k.seat.within;
+        sized = length-by_page after.slice (pages_of post);
+        masked = k.seat.masked;
+        split = in-split now after.slice split;
+        few = omega (arith, likes, few);
+        waiting = subst IsWaiting (sym held) k.seat.waiting;
+      };
+    }
+
+-- the tables of a post that never looked, or answered: no page is split
+pub Kept-unsplit : {W : Type 0} (post : PostView) (t : Tables W) (factor : ℕ)
+    → (RunsSplit post.state → ⊥) → t.slice ≡ no_slice factor → factor ≡ post.factor → factor < 2 ^ 32
+    → (has_slots post.limits ≡ false → IsOfRun post t.marks.items)
+    → (has_slots post.limits ≡ true → IsOfService post) → post.state ≡ t.state
+    → t.likes ≡ likes_of (view_of post t) → t.likes ≤ post.limits.likes
+    → pages_of post ≤ post.limits.pages → AreLimits post.limits
+    → phase_of post.state ≤ post.limits.last_phase → IsWaiting t.held
+    → IsKept post t
+Kept-unsplit {W} post t factor not_split slice_is factor_is below run service state_is likes few few_pages limits within held =
+    let splits : SplitsPages post t.slice = λ page. (
+      λ has. absurd (cc (ap (λ (s : SplitSlice). has_split s page) slice_is, has_split-none factor page, has)),
+      λ runs. absurd (not_split runs.0),
+    ) in
+    record {
+      run = run;
+      service = service;
+      state = state_is;
+      slice = subst IsSplitSlice (sym slice_is) (IsSplitSlice-none factor below);
+      factor = ap (λ (s : SplitSlice). s.splits.factor) slice_is ∙ factor_is;
+      splits = splits;
+      sums =
+          ap (λ (s : SplitSlice). sum (by_page s (pages_of post))) slice_is
+          ∙ ap (λ (xs : List ℕ). sum xs) (by_page-no_slice factor (pages_of post))
+          ∙ sum-zeros (pages_of post) ∙ sym (sum-zeros buckets)
+          ∙ sym (ap (λ (s : SplitSlice). sum s.counts) slice_is);
+      likes = likes;
+      seat = record {
+        few_pages = few_pages;
+        limits = limits;
+        factor = λ plain. (run plain).factor;
+        within = within;
+        sized = length-by_page t.slice (pages_of post);
+        masked = λ runs. absurd (not_split runs);
+        split = in-split post t.slice splits;
+        few = omega (arith, likes, few);
+        waiting = held;
+      };
+    }

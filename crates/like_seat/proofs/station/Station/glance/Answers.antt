@@ -1,0 +1,29 @@
+use Rattle.std.proofs.Common.{◌≡◌, ℕ, ◌+◌, ◌<◌, get_or, sym, ap, subst, ◌∙◌, arith}
+use Rattle.like_core.specs.Post.{PostView, pages_of}
+use Rattle.like_tables.specs.SplitSlice.{by_page}
+use Rattle.like_tables.proofs.ByPage.{get_or-by_page}
+use Rattle.like_seat.specs.declared.seen.Seen.{Seen}
+use Rattle.like_seat.specs.Kept.{view_of}
+use Rattle.like_seat.specs.StationView.{StationView}
+use Rattle.like_seat.specs.Steps.{Glances}
+use Rattle.like_seat.proofs.station.Station.glance.Goals as goal
+
+pub returns-clause-glances : goal.returns-clause-glances
+returns-clause-glances g c =
+    let p = g.P.Post.view c.self.inside.post in
+    let t = c.self.inside.tables in
+    let page : ℕ = c.args.page in
+    let there : page < pages_of p =
+    subst (λ (v : StationView g.row.W.Denot). page < pages_of v.post) (sym c.self.view_is) c.requires.there in
+    let own : c.likes-own.result ≡ get_or (by_page t.slice (pages_of p)) page 0 =
+    c.likes-own.ensures ∙ sym (get_or-by_page t.slice (pages_of p) page 0 there) in
+    let shown : Seen = record { last = c.last-last.result; count = c.glance.result + c.likes-own.result } in
+    subst (λ (v : StationView g.row.W.Denot). Glances v c.args.user page shown (view_of (g.P.Post.view c.glance.new.self) t))
+    c.self.view_is
+    (record {
+      count = c.glance.result;
+      last = c.last-last.ensures;
+      counts = omega (arith, own);
+      own = omega (arith, own, c.glance.ensures.own);
+      glanced = ap (λ (q : PostView). view_of q t) c.glance.ensures.view;
+    })

@@ -1,0 +1,59 @@
+use Rattle.std.proofs.Common.{◌≡◌, ℕ, List, set, sum, refl, sym, ap, subst, ◌∙◌, get_or}
+use Rattle.like_core.specs.Post.{PostView, added, pages_of}
+use Rattle.like_tables.specs.SplitSlice.{SplitSlice, by_page}
+use Rattle.like_tables.proofs.ByPage.{by_page-with_likes, get_or-by_page}
+use Rattle.like_seat.specs.declared.merged.Merged.{Merged}
+use Rattle.like_seat.specs.Kept.{IsKept, view_of}
+use Rattle.like_seat.specs.StationView.{StationView}
+use Rattle.like_seat.specs.Steps.{MergesPage, NoneFrom}
+use Rattle.like_seat.proofs.Keeping.{IsNext-sliced, NoneFrom-sliced}
+use Rattle.like_seat.proofs.Merging.{IsKept-merged}
+use Rattle.like_seat.proofs.station.Station.merge_next.Goals as goal
+
+pub returns-in_default-clause-merges : goal.returns-in_default-clause-merges
+returns-in_default-clause-merges g c =
+    let t = c.self.inside.tables in
+    let k = c.self.invariant in
+    let none = NoneFrom-sliced (g.P.Post.view c.self.inside.post) t.slice
+    (g.P.Post.view c.self.inside.post).factor c.args.from k.factor k.splits
+    c.in_default.ensures.none in
+    (subst (λ (v : StationView g.row.W.Denot). NoneFrom v.post.factor v.slice c.args.from) c.self.view_is none, refl)
+
+pub invariant_of-self : goal.invariant_of-self
+invariant_of-self g c =
+    let t = c.self.inside.tables in
+    subst (λ (p : PostView). IsKept p (record t { slice = c.take-likes.new.self })) (sym c.add-old.ensures.view)
+    (IsKept-merged (g.P.Post.view c.self.inside.post) t c.in-Some.page c.add-old.result c.take-likes.result
+    c.take-likes.new.self c.self.invariant c.in-Some.ensures.next.split c.take-likes.ensures.taken
+    c.take-likes.ensures.emptied c.take-likes.ensures.total c.take-likes.ensures.slice)
+
+pub returns-clause-merges : goal.returns-clause-merges
+returns-clause-merges g c =
+    let p = g.P.Post.view c.self.inside.post in
+    let t = c.self.inside.tables in
+    let k = c.self.invariant in
+    let n : ℕ = pages_of p in
+    let page : ℕ = c.in-Some.page in
+    let old : ℕ = c.add-old.result in
+    let next = c.in-Some.ensures.next in
+    let there = ((k.splits page).0 next.split).1 in
+    let likes : c.take-likes.result ≡ get_or (by_page t.slice n) page 0 =
+    c.take-likes.ensures.taken ∙ sym (get_or-by_page t.slice n page 0 there) in
+    let posts : g.P.Post.view c.add-old.new.self ≡ added p page old (get_or (by_page t.slice n) page 0) =
+    c.add-old.ensures.view ∙ ap (λ (k : ℕ). added p page old k) likes in
+    let slices : by_page c.take-likes.new.self (pages_of (g.P.Post.view c.add-old.new.self))
+    ≡ set (by_page t.slice n) page 0 =
+    ap (λ (q : PostView). by_page c.take-likes.new.self (pages_of q)) c.add-old.ensures.view
+    ∙ ap (λ (s : SplitSlice). by_page s n) c.take-likes.ensures.emptied
+    ∙ by_page-with_likes t.slice n page 0 k.slice next.split there in
+    let m : Merged = record { page = page; old = old; likes = c.take-likes.result } in
+    subst (λ (v : StationView g.row.W.Denot). MergesPage v c.args.from m
+    (view_of (g.P.Post.view c.add-old.new.self) (record t { slice = c.take-likes.new.self }))) c.self.view_is
+    (record {
+      next = IsNext-sliced p t.slice p.factor c.args.from page k.slice k.factor k.splits next;
+      likes = likes;
+      merged = λ i. record (view_of p t) { post = posts i; slice = slices i };
+    })
+
+pub returns-clause-seat : goal.returns-clause-seat
+returns-clause-seat g c = (invariant_of-self g c).seat

@@ -1,0 +1,57 @@
+ghost use Rattle.std.specs.Prelude.{◌≡◌, ◌<◌, length};
+ghost use Rattle.like_board.specs.Seats.{board_id, coord_board, coord_view};
+ghost use Rattle.like_limits.specs.Limits.{hot_pages};
+ghost use Rattle.like_core.specs.Functions.{has_bit};
+ghost use Rattle.like_core.specs.views.Views.{MayPut};
+ghost use Rattle.like_seat.specs.Lead.{MayPublishChoice, PutsPage, PutsPages};
+
+use like_board::{Board, CoordSeat};
+use like_core::HOT_PAGES;
+
+// Puts these pages into the slots in use, but for those that hold them. `held` is what the slots hold.
+pub(crate) fn put_pages(
+    seat: &mut CoordSeat,
+    board: &Board,
+    held: &mut [u32],
+    pages: &[u32],
+    bits: u64,
+)
+    requires here { coord_board seat.old ≡ board_id board.now }
+    requires may { MayPublishChoice (coord_view seat.old) pages.now bits }
+    requires held { held.old ≡ (coord_view seat.old).slots }
+    requires all { length held.old ≡ hot_pages }
+    ensures board { coord_board seat.new ≡ coord_board seat.old }
+    ensures puts { PutsPages (coord_view seat.old) pages.now bits hot_pages (coord_view seat.new) }
+    ensures held { held.new ≡ (coord_view seat.new).slots }
+{
+    for slot in 0..HOT_PAGES {
+        if is_in_use(bits, slot) {
+            put_page(seat, board, held, slot, pages[slot as usize]);
+        }
+    }
+}
+
+// Whether a slot is in use.
+fn is_in_use(bits: u64, slot: u32) -> bool
+    requires { slot < hot_pages }
+    ensures { result ≡ has_bit bits slot }
+{
+    bits >> slot & 1 == 1
+}
+
+// Puts a page into a slot, if that holds another.
+fn put_page(seat: &mut CoordSeat, board: &Board, held: &mut [u32], slot: u32, page: u32)
+    requires here { coord_board seat.old ≡ board_id board.now }
+    requires may { MayPut (coord_view seat.old) slot page }
+    requires held { held.old ≡ (coord_view seat.old).slots }
+    requires all { length held.old ≡ hot_pages }
+    ensures board { coord_board seat.new ≡ coord_board seat.old }
+    ensures puts { PutsPage (coord_view seat.old) slot page (coord_view seat.new) }
+    ensures held { held.new ≡ (coord_view seat.new).slots }
+{
+    if held[slot as usize] == page {
+        return;
+    }
+    seat.put(board, slot, page);
+    held[slot as usize] = page;
+}

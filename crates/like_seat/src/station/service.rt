@@ -1,0 +1,60 @@
+//! What a seat of a service has in place of one of a run.
+ghost use Rattle.std.specs.Prelude.{◌≡◌, ◌≢◌, ◌^◌, ◌≤◌, false, true, IfErr, IfOk};
+ghost use Rattle.like_core.specs.declared.worker_state.WorkerState.TheVariants.{Gone};
+ghost use Rattle.like_core.specs.OpeningLimits.{AreLimits, has_slots};
+ghost use Rattle.like_core.specs.Post.{IsFresh, pages_of};
+ghost use Rattle.like_limits.specs.Limits.{max_stash};
+ghost use Rattle.like_seat.specs.Kept.{IsOfService};
+ghost use Rattle.like_seat.specs.Steps.{IsNewStation, LooksAndEnters};
+
+use crate::station::{NoStation, Station};
+use crate::tables::Tables;
+use like_core::{Post, Sight, SlotPost, WorkerState};
+use like_tables::Users;
+use std::alloc::Global;
+
+impl<P: Post, W: Copy> Station<P, W> {
+    /// A seat of a service that has done nothing yet, at a board whose pages have their buckets by this factor.
+    pub fn of_service(
+        alloc: Global,
+        post: P,
+        factor: u32,
+        room: u32,
+        last: Users,
+    ) -> Result<Station<P, W>, NoStation<P>>
+        requires fresh { IsFresh (P.view post) }
+        requires limits { AreLimits (P.view post).limits }
+        requires few_pages { pages_of (P.view post) ≤ (P.view post).limits.pages }
+        requires service { IsOfService (P.view post) }
+        requires factor { factor ≡ (P.view post).factor }
+        requires least { 2 ^ 22 ≤ factor }
+        requires some { 1 ≤ room }
+        requires few { room ≤ max_stash }
+        ensures new { IfOk result (IsNewStation (P.view post) room last) }
+        ensures post { IfErr result (λ refused. refused.post ≡ post) }
+    {
+        match Tables::new(alloc, Vec::new(alloc), factor, room, last) {
+            Ok(tables) => Ok(Station { post, tables }),
+            Err(_) => Err(NoStation { post }),
+        }
+    }
+}
+
+impl<P: SlotPost, W: Copy> Station<P, W> {
+    /// Looks at the phase word, in a service, and enters the next phase where it was released; of a split one it then
+    /// reads the slots.
+    #[inline(always)]
+    pub fn look_with_slots(&mut self) -> Sight
+        requires here { self.old.post.state ≢ Gone }
+        requires slotted { has_slots self.old.post.limits ≡ true }
+        ensures { LooksAndEnters self.old result self.new }
+    {
+        let sight = self.post.look();
+        if let WorkerState::Answered(phase) = self.tables.state {
+            if !sight.waits {
+                self.tables.enter_slots(&mut self.post, phase + 1);
+            }
+        }
+        sight
+    }
+}
