@@ -83,7 +83,7 @@ Chooses-filled v proposed kept slots bits old are fills = record {
     ]
     | inr among ↦ inr among
   ];
-  left = fills.left;
+  left_out = fills.left_out;
 }
 
 pub AreSlots-filled : (v : SlotsView) (proposed : List ℕ) (kept : ℕ) (slots : List ℕ) (bits : ℕ) → AreSlots v

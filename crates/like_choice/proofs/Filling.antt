@@ -22,7 +22,7 @@ Fills-none factor pages slots bits = record {
   stay = λ slot used. (used.1, refl);
   asked = λ slot used. inl used.1;
   lawful = λ choice. choice;
-  left = λ page among below. absurd (omega (arith, among.1));
+  left_out = λ page among below. absurd (omega (arith, among.1));
 }
 
 -- a page is left out
@@ -33,7 +33,7 @@ Fills-left factor pages page slots bits out = record {
   stay = λ slot used. (used.1, refl);
   asked = λ slot used. inl used.1;
   lawful = λ choice. choice;
-  left = λ other among below.
+  left_out = λ other among below.
       let same = only page other among in
       subst (λ p. IsTaken factor slots bits p ⊎ IsFull bits) (sym same) (out (subst (λ p. p < pages) same below));
 }
@@ -122,7 +122,7 @@ Fills-put factor pages page slots bits after slot all there free sets below apar
         ];
         apart = put-apart put choice;
       };
-      left = λ other among small. inl (
+      left_out = λ other among small. inl (
         slot,
         (there, put-used put),
         ap (bucket factor) (new-page put slot refl ∙ sym (only page other among)),
@@ -155,11 +155,11 @@ Fills-more factor pages some more slots bits between bits_between after bits_aft
     | inr among ↦ inr (Contains-append_right some more _ among)
   ];
   lawful = λ choice. second.lawful (first.lawful choice);
-  left = λ page among below. elim (Contains-append_cases some more page among) [
-    | inl early ↦ elim (first.left page early below) [
+  left_out = λ page among below. elim (Contains-append_cases some more page among) [
+    | inl early ↦ elim (first.left_out page early below) [
       | inl taken ↦ inl (taken-stays factor between bits_between after bits_after page second.stay taken)
       | inr full ↦ inr (λ slot small. (second.stay slot (small, full slot small)).0)
     ]
-    | inr late ↦ second.left page late below
+    | inr late ↦ second.left_out page late below
   ];
 }

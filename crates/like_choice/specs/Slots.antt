@@ -82,5 +82,5 @@ pub record Chooses (old : SlotsView) (proposed : List ℕ) (new : SlotsView) : T
   pub asked : (slot : ℕ) → IsInUse new.bits slot
       → (slot < new.marks) ⊎ Contains proposed (slice_index new.slots slot)
   -- a page of the service that is proposed is in, unless another one has its bucket or no slot is left
-  pub left : (page : ℕ) → Contains proposed page → page < new.pages
+  pub left_out : (page : ℕ) → Contains proposed page → page < new.pages
       → IsTaken new.factor new.slots new.bits page ⊎ IsFull new.bits

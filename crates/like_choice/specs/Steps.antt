@@ -22,5 +22,5 @@ pub record Fills (factor pages : ℕ) (proposed slots : List ℕ) (bits : ℕ) (
   pub asked : (slot : ℕ) → IsInUse bits_after slot
       → (has_bit bits slot ≡ true) ⊎ Contains proposed (slice_index after slot)
   pub lawful : IsChoice factor pages (slice_index slots) bits → IsChoice factor pages (slice_index after) bits_after
-  pub left : (page : ℕ) → Contains proposed page → page < pages
+  pub left_out : (page : ℕ) → Contains proposed page → page < pages
       → IsTaken factor after bits_after page ⊎ IsFull bits_after

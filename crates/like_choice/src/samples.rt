@@ -44,8 +44,9 @@ impl Model for Samples {
 }
 
 impl Samples {
-    /// For so many seats. `hot` is an estimate of likes between two choices, from which on a page is popular: 1 to 511
-    /// act as 512, and 0 says that no page gets hot.
+    /// For so many seats. A page is popular from `hot` likes between two choices on, where the likes before them count
+    /// too, a sixteenth less at each choice: 1 to 511 act as 512, and 0 says that no page is. A page gets a slot at
+    /// half as many again, and keeps it down to half as many.
     pub fn new(alloc: Global, seats: u32, hot: u32) -> Result<Samples, AllocError>
         ensures { IfOk result (λ samples. samples ≡ seats) }
     {

@@ -12,7 +12,7 @@ use Rattle.like_core.specs.declared.worker_state.WorkerState.{WorkerState}
 use Rattle.like_core.specs.declared.worker_state.WorkerState.TheVariants as state
 use Rattle.like_core.specs.Additions.{added_in, added_to, addition}
 use Rattle.like_core.specs.Phase.{IsSplit}
-use Rattle.like_core.specs.Post.{answered, has_glanced, has_read, pages_of}
+use Rattle.like_core.specs.Post.{answered, has_glanced, has_read}
 use Rattle.like_core.specs.WorkerState.{RunsJoined, phase_of, seen}
 use Rattle.like_seat.specs.Merge.{MergesAndReports, merged}
 use Rattle.like_seat.specs.StationView.{StationView, phase_at}

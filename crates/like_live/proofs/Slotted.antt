@@ -1,5 +1,5 @@
 -- The pages in a driver's slots are those that its seats slice.
-use Rattle.std.proofs.Common.{◌≡◌, ℕ, ◌+◌, ◌-◌, ◌%◌, ◌<◌, ◌≤◌, ◌==◌, ◌&&◌, ◌||◌, ◌↔◌, nat_lt, Bool, true, false, List, ◌++◌, length, replicate, slice_index, get_or, refl, ap, sym, ◌∙◌, subst, arith}
+use Rattle.std.proofs.Common.{◌≡◌, ℕ, ◌-◌, ◌%◌, ◌<◌, ◌≤◌, ◌==◌, ◌&&◌, ◌||◌, nat_lt, Bool, true, false, List, length, replicate, get_or, ap, sym, ◌∙◌, subst, arith}
 use Rattle.std.proofs.lemmas.Bool.{eq-eqb, lt-ltb}
 use Rattle.std.proofs.lemmas.List.{get_or-replicate, get_or_append_left, get_or_default}
 use mathlib.Core.Option.{some}
@@ -7,29 +7,26 @@ use lib.ListN.{get_elem?}
 use Rattle.like_core.specs.declared.opening.Opening.{Opening}
 use Rattle.like_core.specs.declared.limits.Limits.{Limits}
 use Rattle.like_core.specs.declared.view.CoordSeatView.{CoordSeatView}
-use Rattle.like_core.specs.declared.view.View.TheVariants.{Coord, Worker}
+use Rattle.like_core.specs.declared.view.View.TheVariants.{Coord}
 use Rattle.like_core.specs.declared.worker_state.WorkerState.{WorkerState}
 use Rattle.like_core.specs.declared.worker_state.WorkerState.TheVariants as state
 use Rattle.like_core.specs.Functions.{has_bit}
 use Rattle.like_core.specs.OpeningLimits.{service_limits}
-use Rattle.like_core.specs.Phase.{IsSplit, is_marked, is_hot_by, split_by}
+use Rattle.like_core.specs.Phase.{IsSplit, is_marked, split_by}
 use Rattle.like_core.specs.PhaseMasks.{mask_of}
 use Rattle.like_core.specs.Post.{KnowsSlices, PostView, slices}
-use Rattle.like_core.specs.Slots.{IsInSlot}
 use Rattle.like_core.specs.WorkerState.{IsRunning, RunsSplit}
-use Rattle.like_core.specs.core.State.{is_split_now}
 use Rattle.like_core.specs.views.Shows.{FitsCoord, Moment}
 use Rattle.like_core.specs.views.Views.{post_of}
 use Rattle.like_core.proofs.Slots.{slots_tell}
 use Rattle.like_core.proofs.core.CoreReached.{reachable_is_exclusive}
 use Rattle.like_core.proofs.views.SplitPages.{slices_are_split}
-use Rattle.like_seat.specs.StationView.{HasPhaseMask, IsStation}
+use Rattle.like_seat.specs.StationView.{HasPhaseMask}
 use Rattle.like_limits.specs.Limits.{hot_pages}
 use Rattle.like_choice.specs.Slots.{SlotsView}
 use Rattle.like_live.specs.Driver.{DriverView, IsService}
-use Rattle.like_live.specs.LiveView.{LiveView}
-use Rattle.like_live.specs.Moments.{IsSeatAt, MarkedKeepSlots, SlicesAreSlots, post_in}
-use Rattle.like_live.specs.Splits.{IsSlotted, slots_mask}
+use Rattle.like_live.specs.Moments.{MarkedKeepSlots, SlicesAreSlots}
+use Rattle.like_live.specs.Splits.{slots_mask}
 use Rattle.like_live.proofs.Moments.{split-now, state-at}
 use Rattle.like_live.proofs.Turning.{last-split}
 

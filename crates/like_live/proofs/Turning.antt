@@ -1,5 +1,5 @@
 -- What a driver's calls keep.
-use Rattle.std.proofs.Common.{Vec, Global, vec_capacity, ◌≡◌, ◌+◌, ◌-◌, ◌%◌, ◌<◌, ◌≤◌, ◌==◌, cond, length, replicate, slice_index, ℕ, Bool, true, false, List, ◌∷◌, Option, Some, ap, sym, ◌∙◌, subst, refl, arith}
+use Rattle.std.proofs.Common.{Vec, Global, vec_capacity, ◌≡◌, ◌+◌, ◌-◌, ◌%◌, ◌<◌, ◌≤◌, ◌==◌, cond, length, replicate, ℕ, Bool, true, false, List, ◌∷◌, Option, Some, ap, sym, ◌∙◌, subst, refl, arith}
 use Rattle.std.proofs.lemmas.Bool.{eq-eqb, ne_eqb}
 use Rattle.std.proofs.lemmas.List.{length-replicate}
 use Rattle.like_limits.specs.Limits.{hot_pages}

@@ -1,5 +1,5 @@
 -- A seat that enters the next phase.
-use Rattle.std.proofs.Common.{◌≡◌, ℕ, ◌+◌, ◌%◌, ◌==◌, ◌<◌, ◌≤◌, ◌⊎◌, ◌↔◌, ◌&&◌, ◌||◌, nat_lt, Bool, true, false, cond, List, ◌∷◌, length, get_or, replicate, sum, Some, inl, inr, refl, sym, ap, subst, ◌∙◌, arith}
+use Rattle.std.proofs.Common.{◌≡◌, ℕ, ◌+◌, ◌%◌, ◌==◌, ◌<◌, ◌≤◌, ◌⊎◌, ◌&&◌, ◌||◌, nat_lt, Bool, true, false, cond, List, ◌∷◌, length, get_or, sum, Some, inl, inr, refl, sym, ap, subst, ◌∙◌, arith}
 use Rattle.std.specs.List.{list_any}
 use Rattle.std.proofs.lemmas.Bool.{and_from, and_parts, cases_eq, cond-true, eq-eqb, lt-ltb, ltb-false, ltb-true, or_right}
 use Rattle.like_core.specs.declared.sight.Sight.{Sight}
@@ -15,13 +15,13 @@ use Rattle.like_core.specs.PhaseMasks.{HasMask, mask_of}
 use Rattle.like_core.specs.Slots.{IsChoice, mask_of_slots}
 use Rattle.like_core.proofs.Slots.{slots_tell}
 use Rattle.like_limits.specs.Limits.{hot_pages}
-use Rattle.like_core.specs.Post.{PostView, looked_at, pages_of, slices}
+use Rattle.like_core.specs.Post.{PostView, looked_at, pages_of}
 use Rattle.like_core.specs.WorkerState.{RunsSplit, seen}
 use Rattle.like_tables.specs.SplitSlice.{IsSplitSlice, SplitSlice, by_page, has_split, likes_in}
 use Rattle.like_tables.proofs.ByPage.{by_page-none, length-by_page, likes_in-none, likes_in-other}
 use Rattle.like_tables.proofs.Sliced.{counts-none}
 use Rattle.like_seat.specs.declared.tables.Tables.{Tables}
-use Rattle.like_seat.specs.Kept.{EntersBy, IsFilled, IsFilledBySlots, IsKept, IsOfRun, IsOfService, IsUnsplit, MayEnter, SplitsPages, is_split_by, is_split_in_run, view_of}
+use Rattle.like_seat.specs.Kept.{EntersBy, IsFilled, IsFilledBySlots, IsKept, IsOfRun, IsOfService, MayEnter, SplitsPages, is_split_by, is_split_in_run}
 use Rattle.like_seat.specs.Steps.{masks_entered}
 use Rattle.like_seat.proofs.Filling.{same_tests}
 use Rattle.like_seat.proofs.Keeping.{in-split, of-run, of-service, splits-none}

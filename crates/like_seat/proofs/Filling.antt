@@ -1,5 +1,5 @@
 -- A slice in which pages are split, one after the other, by the factor of a run.
-use Rattle.std.proofs.Common.{◌≡◌, ◌≢◌, ℕ, ◌+◌, ◌<◌, ◌≤◌, ◌&&◌, ◌↔◌, nat_lt, Bool, true, false, inl, inr, refl, sym, ap, ◌∙◌, arith}
+use Rattle.std.proofs.Common.{◌≡◌, ℕ, ◌+◌, ◌<◌, ◌&&◌, ◌↔◌, nat_lt, Bool, true, false, inl, inr, refl, sym, ap, ◌∙◌, arith}
 use Rattle.std.proofs.lemmas.Bool.{and_from, and_parts, cases_eq, cases_lt, lt-ltb, ltb-true}
 use Rattle.like_limits.specs.Buckets.{bucket, buckets, run_factor}
 use Rattle.like_tables.specs.SplitPages.{MayPut, is_split}

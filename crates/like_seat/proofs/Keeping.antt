@@ -1,6 +1,6 @@
 -- The slice that a seat keeps, and what is true of it after each step.
-use Rattle.std.proofs.Common.{◌≡◌, ◌≢◌, ◌↔◌, ℕ, ◌+◌, ◌%◌, ◌==◌, ◌^◌, ◌<◌, ◌≤◌, ◌&&◌, ◌||◌, nat_lt, Bool, true, false, List, length, get_or, set, replicate, sum, inl, inr, refl, sym, ap, subst, ◌∙◌, arith}
-use Rattle.std.proofs.lemmas.Bool.{and_from, and_parts, cases_lt, eq-eqb, eqb-true, false_from_ne_true, lt-ltb, ltb-true}
+use Rattle.std.proofs.Common.{◌≡◌, ◌≢◌, ◌↔◌, ℕ, ◌+◌, ◌%◌, ◌==◌, ◌^◌, ◌<◌, ◌≤◌, ◌||◌, Bool, true, false, List, length, get_or, replicate, sum, inl, inr, refl, sym, ap, subst, ◌∙◌, arith}
+use Rattle.std.proofs.lemmas.Bool.{and_parts, cases_lt, eqb-true, false_from_ne_true}
 use Rattle.std.proofs.lemmas.List.{get_or_past}
 use Rattle.std.proofs.lemmas.List.Folds.{sum_by-replicate}
 use Rattle.std.proofs.lemmas.List.Sums.{sum_by-set}
@@ -11,19 +11,19 @@ use Rattle.like_core.specs.declared.view.Addition.{Addition}
 use Rattle.like_core.specs.declared.view.PageRead.{PageRead}
 use Rattle.like_core.specs.OpeningLimits.{AreLimits, has_slots}
 use Rattle.like_core.specs.PhaseMasks.{mask_of}
-use Rattle.like_core.specs.Post.{IsFresh, PostView, answered, pages_of, slices}
+use Rattle.like_core.specs.Post.{PostView, pages_of, slices}
 use Rattle.like_core.specs.WorkerState.{IsRunning, RunsSplit, phase_of}
 use Rattle.like_limits.specs.Buckets.{bucket, buckets}
 use Rattle.like_tables.specs.Liked.{AreUnliked}
 use Rattle.like_tables.specs.SplitPages.{SplitPages, is_split}
 use Rattle.like_tables.specs.SplitSlice.{AreUnsliced, IsNextSliced, IsSplitSlice, SplitSlice, bucket_in, by_page, has_split, likes_in, no_slice, with_likes}
 use Rattle.like_tables.specs.Waiting.{IsWaiting}
-use Rattle.like_tables.proofs.ByPage.{by_page-none, by_page-with_likes, get_or-by_page, is_split-one, length-by_page, liked-split, likes_in-none, likes_in-other}
-use Rattle.like_tables.proofs.Sliced.{IsSplitSlice-none, counts-replicate, has_split-none}
+use Rattle.like_tables.proofs.ByPage.{by_page-none, by_page-with_likes, get_or-by_page, is_split-one, length-by_page, liked-split, likes_in-other}
+use Rattle.like_tables.proofs.Sliced.{IsSplitSlice-none, has_split-none}
 use Rattle.like_tables.proofs.Tagged.{bucket-lt}
 use Rattle.like_seat.specs.declared.tables.Tables.{Tables}
 use Rattle.like_seat.specs.Kept.{IsKept, IsOfRun, IsOfService, SplitsPages, view_of}
-use Rattle.like_seat.specs.StationView.{IsSliceInSplit, IsStation, StationView, likes_of}
+use Rattle.like_seat.specs.StationView.{IsSliceInSplit, likes_of}
 use Rattle.like_seat.specs.Steps.{IsNext, NoneFrom}
 use Rattle.like_seat.proofs.Filling.{same_tests}
 

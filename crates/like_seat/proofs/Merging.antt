@@ -1,16 +1,13 @@
 -- A slice that is merged.
-use Rattle.std.proofs.Common.{◌≡◌, ◌+◌, ◌≤◌, ℕ, List, ◌∷◌, ◌++◌, [], replicate, sum, true, refl, ap, sym, ◌∙◌, subst, arith}
-use Rattle.like_core.specs.declared.view.Addition.{Addition}
+use Rattle.std.proofs.Common.{◌≡◌, ◌+◌, ℕ, List, ◌∷◌, ◌++◌, [], sum, true, refl, ap, sym, ◌∙◌, arith}
 use Rattle.like_core.specs.declared.worker_state.WorkerState.TheVariants.{Answered}
 use Rattle.like_core.specs.Additions.{addition, all_added}
 use Rattle.like_core.specs.Post.{PostView, added, answered, pages_of}
 use Rattle.like_core.specs.WorkerState.{phase_of}
-use Rattle.like_tables.specs.SplitPages.{SplitPages}
 use Rattle.like_tables.specs.SplitSlice.{IsSplitSlice, SplitSlice, by_page, has_split, likes_in, no_slice, with_likes}
 use Rattle.like_tables.proofs.ByPage.{by_page-none}
 use Rattle.like_seat.specs.declared.tables.Tables.{Tables}
-use Rattle.like_seat.specs.Kept.{IsKept, view_of}
-use Rattle.like_seat.specs.StationView.{likes_of}
+use Rattle.like_seat.specs.Kept.{IsKept}
 use Rattle.like_seat.proofs.Keeping.{Kept-unsplit, Kept-written, by_page-no_slice, of-run, of-service, sum-written}
 use Rattle.like_seat.proofs.MergedLikes.{all_added-push}
 

@@ -3,4 +3,6 @@ use Rattle.like_c.specs.Held.{at_some}
 use Rattle.like_c.proofs.likes_driver_propose_nonnull.Goals as goal
 
 pub returns : goal.returns
-returns c = at_some _ _ c.in-Some.ensures.driver (refl, ?) refl
+returns c =
+    at_some _ _ c.in-Some.ensures.driver
+    (refl, λ m. record c.in-Some.opened.now { driver = c.propose.ensures m }) refl

@@ -26,8 +26,8 @@ impl Reader {
         &self.ring
     }
 
-    /// Adds the new samples of the ring to a table. If the seat has stored more than the ring holds since the last time,
-    /// those that are there count for the lost ones too.
+    /// Adds the new samples of the ring to a table. If the seat has stored more than the ring holds since the last
+    /// time, those that are there count for the lost ones too.
     pub fn read(&mut self, table: &mut Table) {
         let (new, stored) = self.count_new();
         if new == 0 {

@@ -1,8 +1,8 @@
-use Rattle.std.proofs.Common.{◌≡◌, ℕ, ◌+◌, ◌<◌, ◌&&◌, ◌||◌, nat_lt, Bool, true, false, List, refl, sym, ap, subst, ◌∙◌, arith}
+use Rattle.std.proofs.Common.{◌≡◌, ℕ, ◌<◌, ◌&&◌, ◌||◌, nat_lt, Bool, true, false, refl, sym, ap, subst, ◌∙◌, arith}
 use Rattle.std.proofs.lemmas.Bool.{le-ltb, or_from, or_left, or_right}
 use Rattle.like_core.specs.Phase.{is_hot, is_marked}
 use Rattle.like_limits.specs.Buckets.{buckets}
-use Rattle.like_tables.specs.SplitSlice.{IsSplitSlice, SplitSlice, has_split, with_split}
+use Rattle.like_tables.specs.SplitSlice.{IsSplitSlice, SplitSlice, has_split}
 use Rattle.like_seat.specs.Kept.{is_split_in_run}
 use Rattle.like_seat.proofs.Filling.{fill-may, fill-put, fill-skip}
 use Rattle.like_seat.proofs.tables.split_pages.Goals as goal

@@ -1,7 +1,6 @@
-use Rattle.std.proofs.Common.{◌≡◌, ℕ, ◌<◌, Bool, true, false, refl, sym, ap, subst, ◌∙◌, slice_index, arith}
+use Rattle.std.proofs.Common.{◌≡◌, ℕ, ◌<◌, true, false, refl, sym, ap, subst, ◌∙◌, slice_index, arith}
 use Rattle.like_core.specs.Functions.{has_bit}
 use Rattle.like_limits.specs.Limits.{hot_pages}
-use Rattle.like_core.specs.Slots.{IsInSlot}
 use Rattle.like_tables.specs.SplitSlice.{IsSplitSlice, SplitSlice, has_split}
 use Rattle.like_seat.proofs.Filling.{slot-may, slot-skips, slot-splits}
 use Rattle.like_seat.proofs.tables.split_slots.Goals as goal

@@ -1,14 +1,12 @@
 use Rattle.std.proofs.Common.{◌≡◌, ◌≤◌, false, length, replicate, vec_capacity, rules, ap, sym, ◌∙◌, subst, refl}
-use Rattle.std.proofs.lemmas.List.{length-replicate}
 use Rattle.like_core.specs.OpeningLimits.{service_limits}
 use Rattle.like_core.specs.declared.opening.Opening.{Opening as CoreOpening}
 use Rattle.like_core.specs.declared.view.CoordSeatView.{CoordSeatView}
 use Rattle.like_board.specs.Rule.{opened_coord}
-use Rattle.like_board.specs.Seats.{coord_view}
 use Rattle.like_seat.specs.Lead.{LeadView}
 use Rattle.like_choice.specs.Slots.{AreSlots}
 use Rattle.like_live.specs.Opening.{board_opening}
-use Rattle.like_live.specs.Splits.{AreSplitsOf, SplitsView, new_splits}
+use Rattle.like_live.specs.Splits.{AreSplitsOf, SplitsView}
 use Rattle.like_live.proofs.Turning.{new-splits}
 use Rattle.like_live.proofs.driver.Driver.new.Goals as goal
 

@@ -1,6 +1,6 @@
 use Rattle.std.proofs.Common.{refl, subst}
 use Rattle.like_live.specs.Driver.{DriverView, IsSameDriver, TakesSnapshot, driver_of, reads}
-use Rattle.like_live.proofs.Turning.{Keeps, boundary-still, same-parts, same-room, same-service, still-keeps}
+use Rattle.like_live.proofs.Turning.{boundary-still, same-parts, same-room, same-service, still-keeps}
 use Rattle.like_live.proofs.driver.Driver.snapshot.Goals as goal
 
 pub invariant_of-self : goal.invariant_of-self

@@ -1,5 +1,5 @@
-use Rattle.std.proofs.Common.{◌≡◌, Bool, false, sym, subst}
-use Rattle.like_live.specs.Driver.{Acts, DriverTurns, DriverView, IsSameDriver, acts, driver_of, drives}
+use Rattle.std.proofs.Common.{Bool, sym, subst}
+use Rattle.like_live.specs.Driver.{Acts, DriverTurns, DriverView, IsSameDriver, acts, driver_of}
 use Rattle.like_live.proofs.Turning.{Keeps, acts-keeps, same-parts, same-room, same-service}
 use Rattle.like_live.proofs.driver.Driver.turn.Goals as goal
 

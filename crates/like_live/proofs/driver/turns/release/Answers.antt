@@ -4,7 +4,6 @@ use Rattle.like_core.specs.Phase.{IsJoined, IsSplit}
 use Rattle.like_core.specs.views.Views.{MayRelease}
 use Rattle.like_seat.specs.Lead.{LeadView, released}
 use Rattle.like_live.specs.Driver.{drives, releases_joined, releases_split}
-use Rattle.like_live.specs.Splits.{SplitsView}
 use Rattle.like_live.proofs.Turning.{may-release}
 use Rattle.like_live.proofs.driver.turns.release.Goals as goal
 use Rattle.like_live.proofs.driver.turns.release.Goals.{then-is_joined, else-is_joined}

@@ -1,4 +1,4 @@
-use Rattle.std.proofs.Common.{◌≡◌, ℕ, false, length, replicate, ap, sym, ◌∙◌, arith}
+use Rattle.std.proofs.Common.{false, replicate, ap, sym, ◌∙◌, arith}
 use Rattle.like_core.specs.Post.{PostView}
 use Rattle.like_core.specs.declared.view.WorkerSeatView.{WorkerSeatView}
 use Rattle.like_live.proofs.service.parts.new_seat.Goals as goal

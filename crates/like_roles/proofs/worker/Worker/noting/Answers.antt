@@ -1,8 +1,8 @@
-use Rattle.std.proofs.Common.{◌≡◌, ◌≤◌, ℕ, None, Some, List, Bool, length, ap, sym, ◌∙◌, arith, rules}
+use Rattle.std.proofs.Common.{◌≡◌, None, Some, List, Bool, length, ap, sym, ◌∙◌, arith, rules}
 use Rattle.std.proofs.lemmas.Grind.{common_steps}
 use Rattle.std.proofs.lemmas.List.{length-map}
 use Rattle.like_core.specs.OpeningLimits.{has_slots}
-use Rattle.like_core.specs.Post.{PostView, pages_of}
+use Rattle.like_core.specs.Post.{PostView}
 use Rattle.like_core.specs.declared.limits.Limits.{Limits}
 use Rattle.like_roles.proofs.worker.Worker.noting.Goals as goal
 

@@ -1,4 +1,4 @@
-use Rattle.std.proofs.Common.{◌≡◌, ℕ, List, get_or, set, refl, sym, ap, ◌∙◌}
+use Rattle.std.proofs.Common.{ℕ, List, get_or, set, sym, ap, ◌∙◌}
 use Rattle.like_core.specs.declared.view.CoordSeatView.{CoordSeatView}
 use Rattle.like_board.specs.Seats.{coord_view}
 use Rattle.like_seat.proofs.Choosing.{puts-held, puts-slotted}

@@ -1,6 +1,6 @@
 use Rattle.std.proofs.Common.{◌≡◌, ℕ, ◌+◌, ◌<◌, ◌∷◌, ◌++◌, [], true, get_or, set, sum, refl, sym, ap, subst, ◌∙◌, arith}
 use Rattle.like_core.specs.Additions.{addition}
-use Rattle.like_core.specs.Post.{PostView, added, pages_of, slices}
+use Rattle.like_core.specs.Post.{PostView, pages_of, slices}
 use Rattle.like_core.specs.WorkerState.{IsRunning, phase_of}
 use Rattle.like_tables.specs.SplitSlice.{SplitSlice, by_page, has_split, likes_in}
 use Rattle.like_tables.proofs.ByPage.{by_page-with_likes, get_or-by_page}

@@ -1,4 +1,4 @@
-use Rattle.std.proofs.Common.{◌≡◌, ℕ, List, set, sum, refl, sym, ap, subst, ◌∙◌, get_or}
+use Rattle.std.proofs.Common.{◌≡◌, ℕ, set, refl, sym, ap, subst, ◌∙◌, get_or}
 use Rattle.like_core.specs.Post.{PostView, added, pages_of}
 use Rattle.like_tables.specs.SplitSlice.{SplitSlice, by_page}
 use Rattle.like_tables.proofs.ByPage.{by_page-with_likes, get_or-by_page}

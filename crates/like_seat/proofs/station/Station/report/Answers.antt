@@ -1,4 +1,4 @@
-use Rattle.std.proofs.Common.{◌≡◌, List, ℕ, length, refl, sym, ap, subst, ◌∙◌}
+use Rattle.std.proofs.Common.{◌≡◌, ℕ, length, sym, ap, subst, ◌∙◌}
 use Rattle.like_core.specs.declared.worker_state.WorkerState.TheVariants.{Answered}
 use Rattle.like_core.specs.Post.{PostView, answered, pages_of}
 use Rattle.like_tables.specs.Liked.{AreUnliked}

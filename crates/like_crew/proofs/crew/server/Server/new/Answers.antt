@@ -1,6 +1,7 @@
-use Rattle.std.proofs.Common.{◌≡◌, length, map, sym, ap}
+use Rattle.std.proofs.Common.{◌≡◌, length, map, sym, ap, subst}
 use Rattle.like_tables.specs.Share.{Share, share_of}
 use Rattle.like_tables.specs.UserTable.{UserTable, table_without_likes}
+use Rattle.like_crew.specs.Server.{AreOwnPlans}
 use Rattle.like_crew.proofs.servers.Finishing.{agree-new}
 use Rattle.like_crew.proofs.crew.server.Server.new.Goals as goal
 
@@ -17,3 +18,12 @@ invariant_of-result g c =
       agree-new c.args.setup.now c.args.sizes.now c.args.number _ c.args.notes c.in_ok-worker.worker
           (map g.I.Inbox.view c.args.inboxes.items) c.requires.is_worker c.requires.post c.requires.inboxes new,
     )
+
+pub returns-clause-works : goal.returns-clause-works
+returns-clause-works g c = λ service of own.
+    let share = ap (λ (u : UserTable). u.share) c.in_ok-worker.ensures.new.last in
+    record {
+      plans = subst (λ (s : Share). AreOwnPlans service s.workers s.worker (map g.I.Inbox.view c.args.inboxes.items))
+          (sym share) own;
+      follows = λ _. c.in_ok-worker.ensures.follows service of;
+    }
