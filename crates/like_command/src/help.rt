@@ -56,8 +56,8 @@ checked";
 pub const SUMMARY: &str = "\
 After the report, also writes to standard error how many
 requests were liked, seen and refused, how many phases
-there were, and how long it took. Refused requests are no
-error, so use it first with real data";
+there were, and how long it took. Without this option,
+one line tells the refused requests, if there are any";
 
 pub const SCRIPT: &str = "\
 A file of turns to take before the rounds: CSV with the
@@ -115,9 +115,13 @@ The answers:
   liked         the like is counted
   seen          the look is answered; a look that waited shows its user's last
                 like at the moment when it ran
-  unknown-user  the user's number is not below U
-  other-home    the user's requests belong in another file
-  unknown-page  PAGES has no such page
+  unknown-user  the user's number is not below U: give a larger --users
+  other-home    the user's requests belong in another file: that of user u is
+                file u mod M
+  unknown-page  PAGES has no such page: add it, or correct its name
+
+If requests are refused (one of the last three answers), one line on standard
+error says how many, and the status is still 0.
 
 A replay makes a round for each request of its busiest worker, and more for
 looks that wait and for changes of phase, but at most 1000000. If it ends with

@@ -26,10 +26,11 @@ use Rattle.like_service.specs.declared.run_fault.RunFault.TheVariants as threads
 use Rattle.like_requests.specs.declared.script.Turned.{Turned}
 use Rattle.like_command.specs.declared.options.Options.{Options}
 use Rattle.like_replies.specs.PlaceRows.{text_of}
+use Rattle.like_replies.specs.Notices.{notice_of}
 use Rattle.like_replies.specs.Summary.{requests_in}
-use Rattle.like_replies.specs.declared.summary.Summary.{Summary}
+use Rattle.like_replies.specs.declared.notice.Notice.{Notice}
 use Rattle.like_files.specs.Faults.{fault_of, fault_of_replay, fault_of_run}
-use Rattle.like_files.specs.Inputs.{GivesLists, GivesPages, Inputs, RefusesLists, RefusesPlans, WritesReport, asked_summary, setup_of}
+use Rattle.like_files.specs.Inputs.{GivesLists, GivesPages, Inputs, RefusesLists, RefusesPlans, WritesReport, setup_of}
 use Rattle.like_files.specs.Replay.{GivesAll, IsReplayFilesFault, IsReplayListsFault}
 use Rattle.like_files.specs.Run.{IsRunFilesFault, IsRunListsFault}
 use Rattle.like_files.specs.declared.fault.DriverFault.{DriverFault}
@@ -44,16 +45,16 @@ one_list_a_page setup plans report right =
 
 -- a report that is right for settings, which are those that were asked for, was written
 pub writes : (options : Options) (setup asked : Setup) (plans : List (List Request)) (report : Report)
-    (old new : Option (List ℕ)) {summary : Option Summary}
+    (old new : Option (List ℕ)) {notice : Option Notice}
     → setup ≡ asked
     → IsRightReport setup plans report
     → (options.places ≡ true → HasRightPlaces setup plans report)
     → (options.places ≡ false → HasNoPlaces report)
     → Appends old new (text_of options.places setup.pages report)
-    → summary ≡ asked_summary options.summary report → WritesReport options asked plans old new summary
-writes options setup asked plans report old new {summary} same right placed none written summed =
-    subst (λ (s : Setup). WritesReport options s plans old new summary) same
-    (record { report = report; right = right; placed = placed; none = none; written = written; summed = summed })
+    → notice ≡ notice_of options.summary report → WritesReport options asked plans old new notice
+writes options setup asked plans report old new {notice} same right placed none written noticed =
+    subst (λ (s : Setup). WritesReport options s plans old new notice) same
+    (record { report = report; right = right; placed = placed; none = none; written = written; noticed = noticed })
 
 -- numbers of at most so many sum up to at most that for each
 sum-≤ : (xs : List ℕ) (a : ℕ) → All (λ n. n ≤ max_requests) xs → fold (λ s n. s + n) a xs ≤ a + length xs * max_requests

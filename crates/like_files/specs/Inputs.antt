@@ -1,5 +1,5 @@
 -- What the files of a run or a replay give, as far as their bytes are known.
-use Rattle.std.specs.Prelude.{◌≡◌, ◌-◌, ◌^◌, ℕ, Bool, if◌then◌else◌, false, true, List, [], map, min, take, slice_get, Option, Some, None, IsSomeAnd, option_map, Result, MatchResult, Vec}
+use Rattle.std.specs.Prelude.{◌≡◌, ◌-◌, ◌^◌, ℕ, false, true, List, [], map, min, take, slice_get, Option, Some, None, IsSomeAnd, option_map, Result, MatchResult, Vec}
 use Rattle.std.specs.declared.alloc.Global.{Global}
 use Rattle.std.specs.Io.KnownBytes.{Appends}
 use Rattle.std.specs.List.{AllZip}
@@ -14,8 +14,8 @@ use Rattle.like_requests.specs.declared.requests_file.RequestsFault.{RequestsFau
 use Rattle.like_requests.specs.declared.setup.Setup.{Setup}
 use Rattle.like_service.specs.declared.report.Report.{Report}
 use Rattle.like_replies.specs.PlaceRows.{text_of}
-use Rattle.like_replies.specs.Summary.{summary_of}
-use Rattle.like_replies.specs.declared.summary.Summary.{Summary}
+use Rattle.like_replies.specs.Notices.{notice_of}
+use Rattle.like_replies.specs.declared.notice.Notice.{Notice}
 use Rattle.like_service.specs.EndToEnd.{IsRightReport}
 use Rattle.like_service.specs.places.Tiling.{HasNoPlaces, HasRightPlaces}
 use Rattle.like_requests.specs.ScriptFile.{IsScriptFault, IsScriptFile}
@@ -122,17 +122,13 @@ RefusesLists file files (driver.Pages fault) = RefusesPages file fault
 RefusesLists file files (driver.Requests submitter fault) = PlansRefused file files (driver.Requests submitter fault)
 RefusesLists file files fault = ⊥
 
--- the summary of a report, where one is asked for
-abbrev pub asked_summary : Bool → Report → Option Summary
-asked_summary asked report = if asked then Some (summary_of report) else None
-
 -- the text of a report was written that is right end to end; its places are right where they are asked for, and else there
--- are none; this is its summary, where one is asked for
+-- are none; this is what is said of it: its summary where one is asked for, or else its refused requests
 pub record WritesReport (options : Options) (setup : Setup) (plans : List (List Request))
-    (old new : Option (List ℕ)) (summary : Option Summary) : Type 0 where
+    (old new : Option (List ℕ)) (notice : Option Notice) : Type 0 where
   pub report : Report
   pub right : IsRightReport setup plans report
   pub placed : options.places ≡ true → HasRightPlaces setup plans report
   pub none : options.places ≡ false → HasNoPlaces report
   pub written : Appends old new (text_of options.places setup.pages report)
-  pub summed : summary ≡ asked_summary options.summary report
+  pub noticed : notice ≡ notice_of options.summary report

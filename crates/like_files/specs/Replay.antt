@@ -9,7 +9,7 @@ use Rattle.like_run.specs.declared.rounds.fault.ReplayFault.TheVariants as why
 use Rattle.like_requests.specs.declared.script_file.ScriptFault.{ScriptFault}
 use Rattle.like_requests.specs.declared.script.Turned.{Turned}
 use Rattle.like_files.specs.Inputs.{GivesLists, GivesScript, Inputs, RefusesLists, RefusesScript, WritesReport, setup_of}
-use Rattle.like_replies.specs.declared.summary.Summary.{Summary}
+use Rattle.like_replies.specs.declared.notice.Notice.{Notice}
 use Rattle.like_command.specs.declared.options.Options.{Options}
 use Rattle.like_files.specs.declared.fault.DriverFault.{DriverFault}
 use Rattle.like_files.specs.declared.fault.DriverFault.TheVariants.{Pages, Requests, Script, Settings, Start, Unfinished, Write, Memory}
@@ -20,28 +20,28 @@ pub record GivesAll (inputs : Inputs) (pages : List Page) (plans : List (List Re
   pub lists : GivesLists inputs.pages inputs.requests pages plans
   pub script_given : GivesScript inputs.script script
 
--- the values of the files were replayed, and the report was written, which has this summary
+-- the values of the files were replayed, and the report was written, of which this is said
 pub record HasReplayed (options : Options) (inputs : Inputs) (old new : Option (List ℕ))
-    (summary : Option Summary) : Type 0 where
+    (notice : Option Notice) : Type 0 where
   pub pages : List Page
   pub plans : List (List Request)
   pub script : List Turned
   pub given : GivesAll inputs pages plans script
   pub fits : replay.CanReplayScript (setup_of options pages) plans script
-  pub reported : WritesReport options (setup_of options pages) plans old new summary
+  pub reported : WritesReport options (setup_of options pages) plans old new notice
 
--- these values were replayed, and the report was written, which has this summary
+-- these values were replayed, and the report was written, of which this is said
 pub record HasReplayedLists (options : Options) (setup : Setup) (plans : List (List Request)) (script : List Turned)
-    (old new : Option (List ℕ)) (summary : Option Summary) : Type 0 where
+    (old new : Option (List ℕ)) (notice : Option Notice) : Type 0 where
   pub fits : replay.CanReplayScript setup plans script
-  pub reported : WritesReport options setup plans old new summary
+  pub reported : WritesReport options setup plans old new notice
 
 -- some files were replayed, as many request files as the options name, and with a script just where they name one
-pub record HasReplayedSome (options : Options) (old new : Option (List ℕ)) (summary : Option Summary) : Type 0 where
+pub record HasReplayedSome (options : Options) (old new : Option (List ℕ)) (notice : Option Notice) : Type 0 where
   pub inputs : Inputs
   pub all_requests : length inputs.requests ≡ length options.requests.items
   pub scripted : is_some inputs.script ≡ is_some options.script
-  pub replayed : HasReplayed options inputs old new summary
+  pub replayed : HasReplayed options inputs old new notice
 
 -- why a replay of these values ended: a fault of the settings, the replay or the output; want of memory is that of the replay
 -- or of its report

@@ -8,31 +8,31 @@ use Rattle.like_service.specs.RunFault as run
 use Rattle.like_service.specs.declared.run_fault.RunFault.{RunFault}
 use Rattle.like_service.specs.declared.run_fault.RunFault.TheVariants as why
 use Rattle.like_files.specs.Inputs.{GivesLists, Inputs, RefusesLists, WritesReport, setup_of}
-use Rattle.like_replies.specs.declared.summary.Summary.{Summary}
+use Rattle.like_replies.specs.declared.notice.Notice.{Notice}
 use Rattle.like_command.specs.declared.options.Options.{Options}
 use Rattle.like_files.specs.declared.fault.DriverFault.{DriverFault}
 use Rattle.like_files.specs.declared.fault.DriverFault.TheVariants.{Pages, Requests, Script, Settings, Start, Unfinished, Write, Memory}
 
--- the run that the files ask for was made, and its report was written, which has this summary
+-- the run that the files ask for was made, and its report was written, of which this is said
 pub record HasRun (options : Options) (inputs : Inputs) (old new : Option (List ℕ))
-    (summary : Option Summary) : Type 0 where
+    (notice : Option Notice) : Type 0 where
   pub pages : List Page
   pub plans : List (List Request)
   pub given : GivesLists inputs.pages inputs.requests pages plans
   pub within : IsWithinLimits (setup_of options pages) plans
-  pub reported : WritesReport options (setup_of options pages) plans old new summary
+  pub reported : WritesReport options (setup_of options pages) plans old new notice
 
--- the run of these values was made, and its report was written, which has this summary
+-- the run of these values was made, and its report was written, of which this is said
 pub record HasRunLists (options : Options) (setup : Setup) (plans : List (List Request))
-    (old new : Option (List ℕ)) (summary : Option Summary) : Type 0 where
+    (old new : Option (List ℕ)) (notice : Option Notice) : Type 0 where
   pub within : IsWithinLimits setup plans
-  pub reported : WritesReport options setup plans old new summary
+  pub reported : WritesReport options setup plans old new notice
 
 -- some files were run, as many request files as the options name
-pub record HasRunSome (options : Options) (old new : Option (List ℕ)) (summary : Option Summary) : Type 0 where
+pub record HasRunSome (options : Options) (old new : Option (List ℕ)) (notice : Option Notice) : Type 0 where
   pub inputs : Inputs
   pub all_requests : length inputs.requests ≡ length options.requests.items
-  pub run : HasRun options inputs old new summary
+  pub run : HasRun options inputs old new notice
 
 -- why a run of these values ended: a fault of the settings, the run or the output; want of memory is that of the run or of its
 -- report

@@ -16,5 +16,5 @@ pub use line::WRITE_FAILED;
 pub use opened::{Opened, open_files};
 pub use opener::{Disk, Opener};
 pub use progress::{NoProgress, Part, Progress};
-pub use replay::{replay_files, replay_files_summed};
-pub use run::{run_files, run_files_summed};
+pub use replay::{replay_files, replay_files_with_notice};
+pub use run::{run_files, run_files_with_notice};

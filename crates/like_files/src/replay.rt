@@ -6,14 +6,14 @@ ghost use Rattle.like_files.specs.FailedReads.{TellsRead};
 ghost use Rattle.like_files.specs.Faults.{IsBeforeOutput};
 ghost use Rattle.like_files.specs.Inputs.{GivesScript, RefusesScript, inputs_of};
 ghost use Rattle.like_files.specs.Replay.{HasReplayed, HasReplayedLists, IsReplayFilesFault, IsReplayListsFault};
-ghost use Rattle.like_replies.specs.declared.summary.Summary.{Summary};
+ghost use Rattle.like_replies.specs.declared.notice.Notice.{Notice};
 
-use crate::asked::{asked_summary, with_pages};
+use crate::asked::with_pages;
 use crate::fault::DriverFault;
 use crate::plans::read_lists;
 use crate::progress::{NoProgress, Part, Progress};
 use like_command::Options;
-use like_replies::{Summary, write_text};
+use like_replies::{Notice, write_text};
 use like_requests::{Request, Setup};
 use like_run::{ScriptFault, Turned, read_script, replay_noting};
 use std::alloc::Global;
@@ -33,14 +33,14 @@ pub fn replay_files<R: Read + Drop, W: Write>(
     requires request_names { length requests.items ≡ length options.now.requests.items }
     requires script_name { is_some script ≡ is_some options.now.script }
     ensures replayed { let inputs = inputs_of R.remaining pages requests.items script in
-        OnOk result ((summary : Option Summary)
-        × HasReplayed options.now inputs (W.contents out.old) (W.contents out.new) summary) }
+        OnOk result ((notice : Option Notice)
+        × HasReplayed options.now inputs (W.contents out.old) (W.contents out.new) notice) }
     ensures fault { let inputs = inputs_of R.remaining pages requests.items script in
         IfErr result (IsReplayFilesFault options.now inputs) }
     ensures read { IfErr result (TellsRead pages requests.items script) }
     ensures untouched { IfErr result (λ fault. IsBeforeOutput fault → out.new ≡ out.old) }
 {
-    replay_files_summed(
+    replay_files_with_notice(
         alloc,
         options,
         pages,
@@ -52,8 +52,8 @@ pub fn replay_files<R: Read + Drop, W: Write>(
     Ok(())
 }
 
-/// The same, with the report's summary where the options ask for one, while `progress` hears of each part.
-pub fn replay_files_summed<R: Read + Drop, W: Write, P: Progress>(
+/// The same, with what is said of the report (`Notice`), while `progress` hears of each part.
+pub fn replay_files_with_notice<R: Read + Drop, W: Write, P: Progress>(
     alloc: Global,
     options: &Options,
     pages: R,
@@ -61,7 +61,7 @@ pub fn replay_files_summed<R: Read + Drop, W: Write, P: Progress>(
     script: Option<R>,
     out: &mut W,
     progress: &mut P,
-) -> Result<Option<Summary>, DriverFault>
+) -> Result<Option<Notice>, DriverFault>
     requires request_names { length requests.items ≡ length options.now.requests.items }
     requires script_name { is_some script ≡ is_some options.now.script }
     ensures replayed { let inputs = inputs_of R.remaining pages requests.items script in
@@ -87,7 +87,7 @@ fn replay_lists<W: Write, P: Progress>(
     script: &[Turned],
     out: &mut W,
     progress: &mut P,
-) -> Result<Option<Summary>, DriverFault>
+) -> Result<Option<Notice>, DriverFault>
     requires { length script.now ≤ max_entries }
     ensures replayed { IfOk result (HasReplayedLists options.now setup.now (lists_of plans.items) script.now
         (W.contents out.old) (W.contents out.new)) }
@@ -98,7 +98,7 @@ fn replay_lists<W: Write, P: Progress>(
     progress.done(Part::Running);
     write_text(alloc, options.places, &report, &setup.pages, out)?;
     progress.done(Part::Writing);
-    Ok(asked_summary(options, &report))
+    Ok(Notice::of(&report, options.summary))
 }
 
 // The entries of the script, and none where there is no script.

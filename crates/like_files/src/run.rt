@@ -4,14 +4,14 @@ ghost use Rattle.like_files.specs.FailedReads.{TellsRead};
 ghost use Rattle.like_files.specs.Faults.{IsBeforeOutput};
 ghost use Rattle.like_files.specs.Inputs.{inputs_of};
 ghost use Rattle.like_files.specs.Run.{HasRun, HasRunLists, IsRunFilesFault, IsRunListsFault};
-ghost use Rattle.like_replies.specs.declared.summary.Summary.{Summary};
+ghost use Rattle.like_replies.specs.declared.notice.Notice.{Notice};
 
-use crate::asked::{asked_summary, with_pages};
+use crate::asked::with_pages;
 use crate::fault::DriverFault;
 use crate::plans::read_lists_at_once;
 use crate::progress::{NoProgress, Part, Progress};
 use like_command::Options;
-use like_replies::{Summary, write_text_at_once};
+use like_replies::{Notice, write_text_at_once};
 use like_requests::{Request, Setup};
 use like_roles::NoGate;
 use like_run::run_noting;
@@ -34,19 +34,24 @@ pub fn run_files<T: Threads + Wait + Sync, R: Read + Drop + Send, W: Write>(
 ) -> Result<(), DriverFault>
     requires { length requests.items ≡ length options.now.requests.items }
     ensures run { let inputs = inputs_of R.remaining pages requests.items None in
-        OnOk result ((summary : Option Summary)
-        × HasRun options.now inputs (W.contents out.old) (W.contents out.new) summary) }
+        OnOk result ((notice : Option Notice)
+        × HasRun options.now inputs (W.contents out.old) (W.contents out.new) notice) }
     ensures fault { let inputs = inputs_of R.remaining pages requests.items None in
         IfErr result (IsRunFilesFault options.now inputs) }
     ensures read { IfErr result (TellsRead pages requests.items None) }
     ensures untouched { IfErr result (λ fault. IsBeforeOutput fault → out.new ≡ out.old) }
 {
-    run_files_summed(rt, alloc, options, pages, requests, out, &mut NoProgress)?;
+    run_files_with_notice(rt, alloc, options, pages, requests, out, &mut NoProgress)?;
     Ok(())
 }
 
-/// The same, with the report's summary where the options ask for one, while `progress` hears of each part.
-pub fn run_files_summed<T: Threads + Wait + Sync, R: Read + Drop + Send, W: Write, P: Progress>(
+/// The same, with what is said of the report (`Notice`), while `progress` hears of each part.
+pub fn run_files_with_notice<
+    T: Threads + Wait + Sync,
+    R: Read + Drop + Send,
+    W: Write,
+    P: Progress,
+>(
     rt: &T,
     alloc: Global,
     options: &Options,
@@ -54,7 +59,7 @@ pub fn run_files_summed<T: Threads + Wait + Sync, R: Read + Drop + Send, W: Writ
     requests: Vec<R>,
     out: &mut W,
     progress: &mut P,
-) -> Result<Option<Summary>, DriverFault>
+) -> Result<Option<Notice>, DriverFault>
     requires { length requests.items ≡ length options.now.requests.items }
     ensures run { let inputs = inputs_of R.remaining pages requests.items None in
         IfOk result (HasRun options.now inputs (W.contents out.old) (W.contents out.new)) }
@@ -78,7 +83,7 @@ fn run_lists<T: Threads + Wait + Sync, W: Write, P: Progress>(
     plans: Vec<Vec<Request>>,
     out: &mut W,
     progress: &mut P,
-) -> Result<Option<Summary>, DriverFault>
+) -> Result<Option<Notice>, DriverFault>
     ensures run { IfOk result (HasRunLists options.now setup.now (lists_of plans.items)
         (W.contents out.old) (W.contents out.new)) }
     ensures fault { IfErr result (IsRunListsFault setup.now (lists_of plans.items)) }
@@ -88,5 +93,5 @@ fn run_lists<T: Threads + Wait + Sync, W: Write, P: Progress>(
     progress.done(Part::Running);
     write_text_at_once(rt, alloc, options.places, &report, &setup.pages, out)?;
     progress.done(Part::Writing);
-    Ok(asked_summary(options, &report))
+    Ok(Notice::of(&report, options.summary))
 }

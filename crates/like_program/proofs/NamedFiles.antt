@@ -5,7 +5,7 @@ use Rattle.std.specs.declared.alloc.Global.{Global}
 use Rattle.std.proofs.lemmas.List.{length-map}
 use Rattle.std.proofs.lemmas.Slice.Zip.{AllZip-long}
 use Rattle.like_command.specs.declared.options.Options.{Options}
-use Rattle.like_replies.specs.declared.summary.Summary.{Summary}
+use Rattle.like_replies.specs.declared.notice.Notice.{Notice}
 use Rattle.like_files.specs.FailedReads.{TellsRead}
 use Rattle.like_files.specs.Inputs.{inputs_of}
 use Rattle.like_files.specs.Opened.{AreNamed, IsOpenedIf}
@@ -39,34 +39,34 @@ module _ {R : Type 0} (Opens : List ℕ → R → Type 0) (left : R → Option (
     named-script = (opened_if Opens left options.script opened.script named.script).0
 
     -- what was opened was refused
-    pub run-refused : (Refuses : List ℕ → Type 0) (r : Result (Option Summary) DriverFault)
+    pub run-refused : (Refuses : List ℕ → Type 0) (r : Result (Option Notice) DriverFault)
         → IfErr r (IsRunFilesFault options (inputs_of left opened.pages opened.requests.items None))
         → IfErr r (TellsRead opened.pages opened.requests.items None)
         → IfErr r (IsRunNamedFault Opens left Refuses options)
-    run-refused Refuses (Ok summary) refused told = tt
+    run-refused Refuses (Ok notice) refused told = tt
     run-refused Refuses (Err fault) refused told =
         inr (record { opened = opened; named = named; refused = refused; told = told })
 
-    pub replay-refused : (Refuses : List ℕ → Type 0) (r : Result (Option Summary) DriverFault)
+    pub replay-refused : (Refuses : List ℕ → Type 0) (r : Result (Option Notice) DriverFault)
         → IfErr r (IsReplayFilesFault options (inputs_of left opened.pages opened.requests.items opened.script))
         → IfErr r (TellsRead opened.pages opened.requests.items opened.script)
         → IfErr r (IsReplayNamedFault Opens left Refuses options)
-    replay-refused Refuses (Ok summary) refused told = tt
+    replay-refused Refuses (Ok notice) refused told = tt
     replay-refused Refuses (Err fault) refused told =
         inr (record { opened = opened; named = named; refused = refused; told = told })
 
   -- named files are some files
-  pub some-run : (old new : Option (List ℕ)) (summary : Option Summary) → HasRunNamed Opens left options old new summary
-      → HasRunSome options old new summary
-  some-run old new summary done = record {
+  pub some-run : (old new : Option (List ℕ)) (notice : Option Notice) → HasRunNamed Opens left options old new notice
+      → HasRunSome options old new notice
+  some-run old new notice done = record {
     inputs = inputs_of left done.opened.pages done.opened.requests.items None;
     all_requests = length-map done.opened.requests.items left ∙ all_named Opens options done.opened done.named;
     run = done.run;
   }
 
-  pub some-replay : (old new : Option (List ℕ)) (summary : Option Summary)
-      → HasReplayedNamed Opens left options old new summary → HasReplayedSome options old new summary
-  some-replay old new summary done = record {
+  pub some-replay : (old new : Option (List ℕ)) (notice : Option Notice)
+      → HasReplayedNamed Opens left options old new notice → HasReplayedSome options old new notice
+  some-replay old new notice done = record {
     inputs = inputs_of left done.opened.pages done.opened.requests.items done.opened.script;
     all_requests = length-map done.opened.requests.items left ∙ all_named Opens options done.opened done.named;
     scripted = (opened_if Opens left options.script done.opened.script done.named.script).1;

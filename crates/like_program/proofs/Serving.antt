@@ -8,19 +8,19 @@ use Rattle.like_program.specs.Program.{HasDone, HasServed, IsFilesFault, IsServe
 use Rattle.like_command.specs.declared.asked.Asked.{Asked}
 use Rattle.like_command.specs.declared.asked.Asked.TheVariants.{Run, Replay}
 use Rattle.like_command.specs.declared.options.Options.{Options}
-use Rattle.like_replies.specs.declared.summary.Summary.{Summary}
+use Rattle.like_replies.specs.declared.notice.Notice.{Notice}
 use Rattle.like_files.specs.declared.fault.DriverFault.{DriverFault}
 use Rattle.like_program.specs.declared.fault.ProgramFault.{ProgramFault}
 use Rattle.like_program.specs.declared.fault.ProgramFault.TheVariants.{Files, Output}
 
 -- what is asked for by some words was done
-pub served : (words : Words) (old new : Option (List ℕ)) (asked : Asked) (summary : Option Summary)
+pub served : (words : Words) (old new : Option (List ℕ)) (asked : Asked) (notice : Option Notice)
     → ¬ (words ≡ [])
     → Asks words asked
-    → HasDone asked old new summary
-    → HasServed words old new summary
-served [] old new asked summary some asks done = absurd (some refl)
-served (w ∷ words) old new asked summary some asks done = (asked, asks, done)
+    → HasDone asked old new notice
+    → HasServed words old new notice
+served [] old new asked notice some asks done = absurd (some refl)
+served (w ∷ words) old new asked notice some asks done = (asked, asks, done)
 
 -- why it was not
 pub not_served : (words : Words) (old new : Option (List ℕ)) (fault : ProgramFault)

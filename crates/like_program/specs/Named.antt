@@ -2,7 +2,7 @@
 -- left what a reader has left to give.
 use Rattle.std.specs.Prelude.{◌⊎◌, ℕ, List, Option, None}
 use Rattle.like_command.specs.declared.options.Options.{Options}
-use Rattle.like_replies.specs.declared.summary.Summary.{Summary}
+use Rattle.like_replies.specs.declared.notice.Notice.{Notice}
 use Rattle.like_files.specs.FailedReads.{TellsRead}
 use Rattle.like_files.specs.Inputs.{inputs_of}
 use Rattle.like_files.specs.Opened.{AreNamed, IsUnopened}
@@ -13,16 +13,16 @@ use Rattle.like_files.specs.declared.opened.Opened.{Opened}
 
 module _ {R : Type 0} (Opens : List ℕ → R → Type 0) (left : R → Option (List ℕ)) where
   -- the files that the options name were run, each opened by its name
-  pub record HasRunNamed (options : Options) (old new : Option (List ℕ)) (summary : Option Summary) : Type 0 where
+  pub record HasRunNamed (options : Options) (old new : Option (List ℕ)) (notice : Option Notice) : Type 0 where
     pub opened : Opened R
     pub named : AreNamed Opens options opened
-    pub run : HasRun options (inputs_of left opened.pages opened.requests.items None) old new summary
+    pub run : HasRun options (inputs_of left opened.pages opened.requests.items None) old new notice
 
   -- the files that the options name were replayed, each opened by its name
-  pub record HasReplayedNamed (options : Options) (old new : Option (List ℕ)) (summary : Option Summary) : Type 0 where
+  pub record HasReplayedNamed (options : Options) (old new : Option (List ℕ)) (notice : Option Notice) : Type 0 where
     pub opened : Opened R
     pub named : AreNamed Opens options opened
-    pub replayed : HasReplayed options (inputs_of left opened.pages opened.requests.items opened.script) old new summary
+    pub replayed : HasReplayed options (inputs_of left opened.pages opened.requests.items opened.script) old new notice
 
   -- the files were opened, and their run was refused
   pub record NamedRunRefused (options : Options) (fault : DriverFault) : Type 0 where

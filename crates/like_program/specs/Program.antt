@@ -10,7 +10,7 @@ use Rattle.like_files.specs.Run.{HasRunSome}
 use Rattle.like_command.specs.declared.asked.Asked.{Asked}
 use Rattle.like_command.specs.declared.asked.Asked.TheVariants.{Run, Replay, Help}
 use Rattle.like_command.specs.declared.options.Options.{Options}
-use Rattle.like_replies.specs.declared.summary.Summary.{Summary}
+use Rattle.like_replies.specs.declared.notice.Notice.{Notice}
 use Rattle.like_program.specs.declared.fault.ProgramFault.{ProgramFault}
 use Rattle.like_program.specs.declared.fault.ProgramFault.TheVariants as program
 
@@ -31,8 +31,8 @@ pub record IsExample (o : Options) : Type 0 where
   pub places : o.places ≡ false
   pub summary : o.summary ≡ false
 
--- the example was replayed, with this summary
-pub record HasReplayedExample (old new : Option (List ℕ)) (summary : Option Summary) : Type 0 where
+-- the example was replayed, and this is said of its report
+pub record HasReplayedExample (old new : Option (List ℕ)) (notice : Option Notice) : Type 0 where
   pub options : Options
   pub numbers : IsExample options
   pub replayed :
@@ -40,19 +40,19 @@ pub record HasReplayedExample (old new : Option (List ℕ)) (summary : Option Su
         pages = Some example_pages;
         requests = Some example_requests ∷ [];
         script = None;
-      }) old new summary
+      }) old new notice
 
--- what was asked for was done, and this is the report's summary, where one was asked for
-abbrev pub HasDone : Asked → Option (List ℕ) → Option (List ℕ) → Option Summary → Type 0
-HasDone (Run options) old new summary = HasRunSome options old new summary
-HasDone (Replay options) old new summary = HasReplayedSome options old new summary
-HasDone (Help text) old new summary = Appends old new (string_bytes text) × (summary ≡ None)
+-- what was asked for was done, and this is said of its report, if there is one
+abbrev pub HasDone : Asked → Option (List ℕ) → Option (List ℕ) → Option Notice → Type 0
+HasDone (Run options) old new notice = HasRunSome options old new notice
+HasDone (Replay options) old new notice = HasReplayedSome options old new notice
+HasDone (Help text) old new notice = Appends old new (string_bytes text) × (notice ≡ None)
 
--- the program has done what its words ask for, with this summary: without any word it has replayed its example
-abbrev pub HasServed : Words → Option (List ℕ) → Option (List ℕ) → Option Summary → Type 0
-HasServed [] old new summary = HasReplayedExample old new summary
-HasServed (word ∷ words) old new summary =
-    (asked : Asked) × Asks (word ∷ words) asked × HasDone asked old new summary
+-- the program has done what its words ask for, of which this is said: without any word it has replayed its example
+abbrev pub HasServed : Words → Option (List ℕ) → Option (List ℕ) → Option Notice → Type 0
+HasServed [] old new notice = HasReplayedExample old new notice
+HasServed (word ∷ words) old new notice =
+    (asked : Asked) × Asks (word ∷ words) asked × HasDone asked old new notice
 
 -- why the example was not replayed
 abbrev pub IsExampleFault : Option (List ℕ) → Option (List ℕ) → ProgramFault → Type 0
@@ -80,5 +80,5 @@ IsServeFault (word ∷ words) old new fault = IsWordsFault (word ∷ words) old 
 
 -- the program ends with 0 where it has done what its words ask for, or else with the status of a fault
 abbrev pub Ends : Words → Option (List ℕ) → Option (List ℕ) → ℕ → Type 0
-Ends words old new status = ((status ≡ 0) × (summary : Option Summary) × HasServed words old new summary)
+Ends words old new status = ((status ≡ 0) × (notice : Option Notice) × HasServed words old new notice)
     ⊎ ((fault : ProgramFault) × (status ≡ program_status fault) × IsServeFault words old new fault)

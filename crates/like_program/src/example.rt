@@ -3,8 +3,8 @@ ghost use Rattle.like_program.specs.Program.{HasReplayedExample, IsExample, IsEx
 
 use crate::fault::{ProgramFault, with_options};
 use like_command::Options;
-use like_files::{NoProgress, replay_files_summed};
-use like_replies::Summary;
+use like_files::{NoProgress, replay_files_with_notice};
+use like_replies::Notice;
 use std::alloc::{AllocError, Global};
 use std::io::Write;
 
@@ -15,14 +15,22 @@ const PAGES: &str = "name,count,split\na,10,no\n";
 const REQUESTS: &str = "op,user,page\nlike,0,a\nlike,1,a\nlike,0,a\n";
 
 /// Replays the example that the program holds onto `out`.
-pub fn replay_example<W: Write>(alloc: Global, out: &mut W) -> Result<Option<Summary>, ProgramFault>
+pub fn replay_example<W: Write>(alloc: Global, out: &mut W) -> Result<Option<Notice>, ProgramFault>
     ensures replayed { IfOk result (HasReplayedExample (W.contents out.old) (W.contents out.new)) }
     ensures fault { IfErr result (IsExampleFault (W.contents out.old) (W.contents out.new)) }
 {
     let options = example_options(alloc)?;
     let requests = request_files(alloc)?;
     let pages = PAGES.as_bytes();
-    let done = replay_files_summed(alloc, &options, pages, requests, None, out, &mut NoProgress);
+    let done = replay_files_with_notice(
+        alloc,
+        &options,
+        pages,
+        requests,
+        None,
+        out,
+        &mut NoProgress,
+    );
     with_options(done, options)
 }
 

@@ -4,16 +4,17 @@ ghost use Rattle.like_program.specs.Named.{HasReplayedNamed, HasRunNamed, IsRepl
 
 use like_command::Options;
 use like_files::{
-    DriverFault, Opened, Opener, Progress, open_files, replay_files_summed, run_files_summed,
+    DriverFault, Opened, Opener, Progress, open_files, replay_files_with_notice,
+    run_files_with_notice,
 };
-use like_replies::Summary;
+use like_replies::Notice;
 use std::alloc::Global;
 use std::io::{Read, Write};
 use std::sync::Wait;
 use std::thread::Threads;
 
-/// Opens the files that the options name, and makes the run that they ask for, on threads, onto `out`. Gives the report's
-/// summary where the options ask for one. After `Write` and `Memory` nothing is said of how much was written.
+/// Opens the files that the options name, and makes the run that they ask for, on threads, onto `out`. Gives what is
+/// said of the report. After `Write` and `Memory` nothing is said of how much was written.
 pub fn run_named<T: Threads + Wait + Sync, O: Opener, W: Write, P: Progress>(
     rt: &T,
     opener: &O,
@@ -21,7 +22,7 @@ pub fn run_named<T: Threads + Wait + Sync, O: Opener, W: Write, P: Progress>(
     options: &Options,
     out: &mut W,
     progress: &mut P,
-) -> Result<Option<Summary>, DriverFault>
+) -> Result<Option<Notice>, DriverFault>
 where
     O::Reader: Read + Drop + Send,
     ensures run { IfOk result (HasRunNamed (O.opens opener.now) O.Reader.remaining options.now
@@ -35,18 +36,18 @@ where
         requests,
         ..
     } = open_files(opener, alloc, options)?;
-    run_files_summed(rt, alloc, options, pages, requests, out, progress)
+    run_files_with_notice(rt, alloc, options, pages, requests, out, progress)
 }
 
-/// Opens the files that the options name, and replays them onto `out`. Gives the report's summary where the options ask
-/// for one. After `Write` and `Memory` nothing is said of how much was written.
+/// Opens the files that the options name, and replays them onto `out`. Gives what is said of the report. After `Write` and
+/// `Memory` nothing is said of how much was written.
 pub fn replay_named<O: Opener, W: Write, P: Progress>(
     opener: &O,
     alloc: Global,
     options: &Options,
     out: &mut W,
     progress: &mut P,
-) -> Result<Option<Summary>, DriverFault>
+) -> Result<Option<Notice>, DriverFault>
 where
     O::Reader: Read + Drop,
     ensures replayed { IfOk result (HasReplayedNamed (O.opens opener.now) O.Reader.remaining options.now
@@ -60,5 +61,5 @@ where
         requests,
         script,
     } = open_files(opener, alloc, options)?;
-    replay_files_summed(alloc, options, pages, requests, script, out, progress)
+    replay_files_with_notice(alloc, options, pages, requests, script, out, progress)
 }

@@ -13,7 +13,7 @@ use crate::named::{replay_named, run_named};
 use crate::stopwatch::Stopwatch;
 use like_command::{Asked, Options, parse};
 use like_files::{Disk, Progress};
-use like_replies::Summary;
+use like_replies::Notice;
 use std::alloc::Global;
 use std::fs::Files;
 use std::io;
@@ -24,7 +24,7 @@ use std::thread::Threads;
 
 /// Does what the words after the program's name ask for: runs or replays the files that they name or prints help, onto
 /// `out`.
-/// Without any word it replays the example that the program holds. A fault or a summary is told on `errors`.
+/// Without any word it replays the example that the program holds. A fault, a summary or the refused requests are told on `errors`.
 /// Answers the status with which the program ends.
 pub fn serve_words<R: Files + Threads + Wait + Clock + Sync, W: Write, E: Write>(
     rt: &R,
@@ -40,23 +40,26 @@ where
     let mut watch = Stopwatch::new(rt);
     match serve(rt, alloc, words, out, &mut watch) {
         Ok(None) => 0,
-        Ok(Some(summary)) => {
+        Ok(Some(notice)) => {
             // Where this can't be written, the report stands without it.
-            let _ = summarize(&summary, &watch, errors);
+            let _ = give_notice(&notice, &watch, errors);
             0
         }
         Err(fault) => tell(&fault, errors),
     }
 }
 
-// Writes a summary, and behind it how long each part took.
-fn summarize<C: Clock, E: Write>(
-    summary: &Summary,
+// Writes what is said of a report, and behind a summary how long each part took.
+fn give_notice<C: Clock, E: Write>(
+    notice: &Notice,
     watch: &Stopwatch<'_, C>,
     errors: &mut E,
 ) -> io::Result<()> {
-    summary.write(errors)?;
-    watch.write(errors)
+    notice.write(errors)?;
+    match notice {
+        Notice::Summed(_) => watch.write(errors),
+        Notice::Refused(_) => Ok(()),
+    }
 }
 
 /// Tells a fault, and answers the status with which the program ends.
@@ -68,14 +71,14 @@ pub fn tell<E: Write>(fault: &ProgramFault, errors: &mut E) -> u8
     fault.status()
 }
 
-// Does what the words ask for, and gives the report's summary where they ask for one.
+// Does what the words ask for, and gives what is said of the report.
 fn serve<R: Files + Threads + Wait + Sync, W: Write, P: Progress>(
     rt: &R,
     alloc: Global,
     words: &[String],
     out: &mut W,
     progress: &mut P,
-) -> Result<Option<Summary>, ProgramFault>
+) -> Result<Option<Notice>, ProgramFault>
 where
     R::File: Read + Drop + Send,
     ensures served { IfOk result (HasServed (map string_bytes words.now) (W.contents out.old) (W.contents out.new)) }
@@ -102,7 +105,7 @@ fn run_asked<R: Files + Threads + Wait + Sync, W: Write, P: Progress>(
     options: Options,
     out: &mut W,
     progress: &mut P,
-) -> Result<Option<Summary>, ProgramFault>
+) -> Result<Option<Notice>, ProgramFault>
 where
     R::File: Read + Drop + Send,
     ensures run { IfOk result (HasRunSome options (W.contents out.old) (W.contents out.new)) }
@@ -119,7 +122,7 @@ fn replay_asked<R: Files, W: Write, P: Progress>(
     options: Options,
     out: &mut W,
     progress: &mut P,
-) -> Result<Option<Summary>, ProgramFault>
+) -> Result<Option<Notice>, ProgramFault>
 where
     R::File: Read + Drop,
     ensures replayed { IfOk result (HasReplayedSome options (W.contents out.old) (W.contents out.new)) }

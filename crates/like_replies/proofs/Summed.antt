@@ -1,9 +1,10 @@
--- How many replies a report has of one answer: no more than there are.
+-- How many replies a report has of one answer, or of refused requests: no more than there are.
 use Rattle.std.proofs.Common.{ℕ, ◌+◌, ◌<◌, ◌≤◌, ◌^◌, Bool, true, false, cond, List, [], ◌∷◌, length, arith}
 use Rattle.std.specs.List.{fold}
 use Rattle.std.specs.Str.{bytes_eq}
 use Rattle.like_service.specs.declared.answer.Answer.{Answer}
 use Rattle.like_service.specs.declared.replies.Replies.{Replies}
+use Rattle.like_replies.specs.Refusals.{is_refusal, refused_in, refused_of}
 use Rattle.like_replies.specs.Rows.{answer_word}
 use Rattle.like_replies.specs.Summary.{answered, answered_in, requests_in}
 
@@ -31,4 +32,13 @@ answered-fits word replies few =
       few,
       sum-≤ (λ row. answered_in word row.items) (λ row. length row.items) replies.rows.items 0 0
           (λ row. row-≤ word row.items) (omega arith),
+    )
+
+pub refused-fits : (replies : Replies) → requests_in replies < 2 ^ 64 → refused_in replies < 2 ^ 64
+refused-fits replies few =
+    omega (
+      arith,
+      few,
+      sum-≤ (λ row. refused_of row.items) (λ row. length row.items) replies.rows.items 0 0
+          (λ row. omega (arith, count-≤ (λ a. is_refusal a.reply) row.items 0)) (omega arith),
     )

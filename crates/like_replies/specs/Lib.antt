@@ -1,4 +1,6 @@
+pub mod Notices
 pub mod PlaceRows
+pub mod Refusals
 pub mod Reported
 pub mod RowParts
 pub mod Rows

@@ -2,12 +2,16 @@
 //! too.
 #![tactic(auto)]
 
+mod notice;
+mod refusals;
 mod report;
 mod summary;
 mod write_fault;
 
 pub use like_collection::{CollectFault, collect, places};
 pub use like_service::{Answer, Place, Replies, Report};
+pub use notice::Notice;
+pub use refusals::Refusals;
 pub use report::text::{write_places, write_report, write_text, write_text_at_once};
 pub use summary::Summary;
 pub use write_fault::WriteFault;

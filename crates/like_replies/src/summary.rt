@@ -67,16 +67,16 @@ fn write_line<W: Write>(out: &mut W, name: &str, number: u64) -> io::Result<()>
     writeln!(out, "{name}: {number}")
 }
 
-// How many requests have a reply.
-fn requests_in(replies: &Replies) -> u64
+/// How many requests have a reply.
+pub fn requests_in(replies: &Replies) -> u64
     requires { requests_in replies.now < 2 ^ 64 }
     ensures { result ≡ requests_in replies.now }
 {
     replies.rows.iter().map(|row| row.len() as u64).sum()
 }
 
-// How many replies have this word as their answer.
-fn answered(replies: &Replies, word: &str) -> u64
+/// How many replies have this word as their answer.
+pub fn answered(replies: &Replies, word: &str) -> u64
     requires { answered word.now replies.now < 2 ^ 64 }
     ensures { result ≡ answered word.now replies.now }
 {

@@ -7,6 +7,7 @@ use std::alloc::Global;
 use std::process::Abort;
 
 mod collection;
+mod notices;
 mod place_rows;
 mod places;
 mod texts;

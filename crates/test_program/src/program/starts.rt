@@ -9,7 +9,7 @@
 ///   phases.
 /// - `runs-files`: of three submitters, of whom each has the likes of its own user: in another order, they would be
 ///   refused. And `plain-likes`, which is done in phase 0 long before the coordinator has counted a million turns.
-/// - `writes-a-summary`: each number but the seconds.
+/// - `writes-a-summary`: each number but the seconds. And `tells-refused-requests`: those files without a summary.
 /// - `opens-in-order`: all files are opened before one is read, and the first that can't be opened is told.
 ///
 /// A function that takes them from here has none of their text in its proof.
@@ -23,7 +23,8 @@ replays-p.csv>name,count,split\na,10,no\n&replays-0.csv>op,user,page\nlike,0,a\n
 replays-1.csv>op,user,page\nlike,1,a\n&replays-2.csv>op,user,page\nlook,2,a\n&|\
 replay --users 3 replays-p.csv replays-0.csv replays-1.csv replays-2.csv|0|\
 row,id,number,phase,answer,page,count\nreply,0,1,0,liked,,\nreply,0,2,0,other-home,,\nreply,1,1,0,liked,,\n\
-reply,2,1,0,seen,,12\npage,0,,,,a,12\nuser,0,,,,a,\nuser,1,,,,a,\n|;\
+reply,2,1,0,seen,,12\npage,0,,,,a,12\nuser,0,,,,a,\nuser,1,,,,a,\n|\
+likes: refused 1 of 4 requests: 0 unknown-user, 1 other-home, 0 unknown-page\n;\
 replays-by-the-options|\
 late-p.csv>name,count,split\na,0,yes\n&late-0.csv>op,user,page\n&\
 late-1.csv>op,user,page\nlook,1,a\nlook,1,a\nlook,3,a\n&\
@@ -31,12 +32,14 @@ late-s.csv>turn,index\nopen,1\nopen,1\ncoordinator,0\nworker,0\nworker,1\ncoordi
 coordinator,0\nworker,0\nworker,1\ncoordinator,0\ncoordinator,0\nworker,1\nworker,1\nworker,1\n&|\
 replay --workers 2 --users 2 --turns 0 --script late-s.csv late-p.csv late-0.csv late-1.csv|0|\
 row,id,number,phase,answer,page,count\nreply,1,1,2,seen,,0\nreply,1,2,2,seen,,0\nreply,1,3,3,unknown-user,,\n\
-page,0,,,,a,0\n|;\
+page,0,,,,a,0\n|\
+likes: refused 1 of 3 requests: 1 unknown-user, 0 other-home, 0 unknown-page\n;\
 runs-files|\
 runs-p.csv>name,count,split\na,10,no\n&runs-0.csv>op,user,page\nlike,0,a\nlook,1,b\n&\
 runs-1.csv>op,user,page\nlike,1,a\n&runs-2.csv>op,user,page\nlike,2,a\n&|\
 run --users 3 runs-p.csv runs-0.csv runs-1.csv runs-2.csv|0|\
-..page,0,,,,a,13\nuser,0,,,,a,\nuser,1,,,,a,\nuser,2,,,,a,\n|;\
+..page,0,,,,a,13\nuser,0,,,,a,\nuser,1,,,,a,\nuser,2,,,,a,\n|\
+likes: refused 1 of 4 requests: 0 unknown-user, 1 other-home, 0 unknown-page\n;\
 runs-files|\
 plain-p.csv>name,count,split\na,10,no\n&plain-r.csv>op,user,page\nlike,0,a\nlike,1,a\nlike,0,a\n&|\
 run --workers 1 --users 2 --turns 1000000 plain-p.csv plain-r.csv|0|\
@@ -50,6 +53,13 @@ replay --summary --users 3 summary-p.csv summary-0.csv summary-1.csv|0|\
 ..page,0,,,,a,12\nuser,0,,,,a,\n|\
 requests: 8\nliked: 2\nseen: 1\nunknown-user: 3\nother-home: 1\nunknown-page: 1\nphases: 1\n\
 phases with hot pages: 0\nhot pages: 0\nreading: 0...;\
+tells-refused-requests|\
+refused-p.csv>name,count,split\na,10,no\n&\
+refused-0.csv>op,user,page\nlike,0,a\nlook,0,a\nlike,0,a\nlook,1,a\n&\
+refused-1.csv>op,user,page\nlook,3,a\nlike,9,a\nlike,9,a\nlook,1,b\n&|\
+replay --users 3 refused-p.csv refused-0.csv refused-1.csv|0|\
+..page,0,,,,a,12\nuser,0,,,,a,\n|\
+likes: refused 5 of 8 requests: 3 unknown-user, 1 other-home, 1 unknown-page\n;\
 opens-in-order|opens-bad.csv>no,header\n&|replay none-p.csv none-r.csv|3||likes: none-p.csv: read failed\n;\
 opens-in-order|opens-bad.csv>no,header\n&|run opens-bad.csv none-r.csv|3||likes: none-r.csv: read failed\n;\
 opens-in-order|opens-bad.csv>no,header\n&|replay opens-bad.csv opens-bad.csv none-r.csv --script none-s.csv|3||\

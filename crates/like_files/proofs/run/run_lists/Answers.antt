@@ -18,8 +18,8 @@ write_text_at_once-requires-clause-placed g c κs lives wanted =
     one_list_a_page c.args.setup.now (lists_of c.args.plans.items) c.in_ok-report.report
     (c.in_ok-report.ensures.places wanted)
 
-pub asked_summary-requires : goal.asked_summary-requires
-asked_summary-requires g c =
+pub of-requires : goal.of-requires
+of-requires g c =
     few_requests c.args.setup.now
     (lists_of c.args.plans.items) c.in_ok-report.report c.in_ok-report.ensures.within c.in_ok-report.ensures.report
 
@@ -47,6 +47,6 @@ returns-clause-run g c = record {
     placed = c.in_ok-report.ensures.places;
     none = c.in_ok-report.ensures.none;
     written = c.in_ok-write_text_at_once.ensures;
-    summed = c.asked_summary.ensures;
+    noticed = c.of.ensures;
   };
 }

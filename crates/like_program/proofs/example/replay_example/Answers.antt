@@ -7,13 +7,13 @@ pub returns-clause-replayed : goal.returns-clause-replayed
 returns-clause-replayed g c =
     let numbers = c.in_ok-options.ensures.numbers in
     rw c.with_options.ensures
-    (of_files-ok (HasReplayedExample _ _) c.in_ok-options.options c.replay_files_summed-done.result
-    (IfOk-weaker c.replay_files_summed-done.result _ _
-    (λ summary done. record {
+    (of_files-ok (HasReplayedExample _ _) c.in_ok-options.options c.replay_files_with_notice-done.result
+    (IfOk-weaker c.replay_files_with_notice-done.result _ _
+    (λ notice done. record {
       options =
           c.in_ok-options.options;
       numbers =
           numbers;
       replayed = rw (c.as_bytes-pages.ensures.value, c.in_ok-requests.ensures) at done;
     })
-    c.replay_files_summed-done.ensures.replayed))
+    c.replay_files_with_notice-done.ensures.replayed))

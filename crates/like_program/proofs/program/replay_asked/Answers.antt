@@ -8,7 +8,7 @@ returns-clause-replayed g c =
     rw c.with_options.ensures
     (of_files-ok _ c.args.options c.replay_named-done.result
     (IfOk-weaker c.replay_named-done.result _ _
-    (λ summary done. some-replay _ _ c.args.options _ _ summary done) c.replay_named-done.ensures.replayed))
+    (λ notice done. some-replay _ _ c.args.options _ _ notice done) c.replay_named-done.ensures.replayed))
 
 pub returns-clause-fault : goal.returns-clause-fault
 returns-clause-fault g c =

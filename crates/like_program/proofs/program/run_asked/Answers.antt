@@ -8,7 +8,7 @@ returns-clause-run g c =
     rw c.with_options.ensures
     (of_files-ok _ c.args.options c.run_named-done.result
     (IfOk-weaker c.run_named-done.result _ _
-    (λ summary done. some-run _ _ c.args.options _ _ summary done) c.run_named-done.ensures.run))
+    (λ notice done. some-run _ _ c.args.options _ _ notice done) c.run_named-done.ensures.run))
 
 pub returns-clause-fault : goal.returns-clause-fault
 returns-clause-fault g c =

@@ -20,7 +20,7 @@ returns-in-Run-clause-served g c =
     let some = some-words string_bytes c.args.words.now (sym c.is_empty.ensures ∙ c.if-is_empty.false) in
     let asks = rw c.in-Run.is at c.in_ok-options.ensures.asked in
     IfOk-weaker c.run_asked.result _ _
-    (λ summary done. served words _ _ (Run c.in-Run.options) summary some asks done) c.run_asked.ensures.run
+    (λ notice done. served words _ _ (Run c.in-Run.options) notice some asks done) c.run_asked.ensures.run
 
 pub returns-in-Run-clause-fault : goal.returns-in-Run-clause-fault
 returns-in-Run-clause-fault g c =
@@ -35,7 +35,7 @@ returns-in-Replay-clause-served g c =
     let some = some-words string_bytes c.args.words.now (sym c.is_empty.ensures ∙ c.if-is_empty.false) in
     let asks = rw c.in-Replay.is at c.in_ok-options.ensures.asked in
     IfOk-weaker c.replay_asked.result _ _
-    (λ summary done. served words _ _ (Replay c.in-Replay.options) summary some asks done) c.replay_asked.ensures.replayed
+    (λ notice done. served words _ _ (Replay c.in-Replay.options) notice some asks done) c.replay_asked.ensures.replayed
 
 pub returns-in-Replay-clause-fault : goal.returns-in-Replay-clause-fault
 returns-in-Replay-clause-fault g c =

@@ -4,31 +4,31 @@ use Rattle.like_requests.specs.Pages.{Page}
 use Rattle.like_requests.specs.declared.request.Request.{Request}
 use Rattle.like_requests.specs.declared.script.Turned.{Turned}
 use Rattle.like_service.specs.Asked.{lists_of}
-use Rattle.like_replies.specs.declared.summary.Summary.{Summary}
+use Rattle.like_replies.specs.declared.notice.Notice.{Notice}
 use Rattle.like_command.specs.declared.options.Options.{Options}
 use Rattle.like_files.specs.declared.fault.DriverFault.{DriverFault}
 use Rattle.like_files.specs.Inputs.{Inputs, inputs_of, setup_of}
 use Rattle.like_files.specs.Replay.{GivesAll, HasReplayed, HasReplayedLists, IsReplayFilesFault, IsReplayListsFault}
 use Rattle.like_files.proofs.Ended.{replay-fault, replay-unread}
 use Rattle.like_files.proofs.FailedReads.{lists-told, replay-told}
-use Rattle.like_files.proofs.replay.replay_files_summed.Goals as goal
+use Rattle.like_files.proofs.replay.replay_files_with_notice.Goals as goal
 
 -- what was replayed of these values was replayed of the files
 replayed : (options : Options) (inputs : Inputs) (pages : List Page) (plans : List (List Request))
-    (script : List Turned) (old new : Option (List ℕ)) (r : Result (Option Summary) DriverFault)
+    (script : List Turned) (old new : Option (List ℕ)) (r : Result (Option Notice) DriverFault)
     → GivesAll inputs pages plans script
     → IfOk r (HasReplayedLists options (setup_of options pages) plans script old new)
     → IfOk r (HasReplayed options inputs old new)
-replayed options inputs pages plans script old new (Ok summary) given done =
+replayed options inputs pages plans script old new (Ok notice) given done =
     record { pages = pages; plans = plans; script = script; given = given; fits = done.fits; reported = done.reported }
 replayed options inputs pages plans script old new (Err fault) given done = tt
 
 -- and so is why it was not
 refused : (options : Options) (inputs : Inputs) (pages : List Page) (plans : List (List Request)) (script : List Turned)
-    (r : Result (Option Summary) DriverFault)
+    (r : Result (Option Notice) DriverFault)
     → GivesAll inputs pages plans script
     → IfErr r (IsReplayListsFault (setup_of options pages) plans script) → IfErr r (IsReplayFilesFault options inputs)
-refused options inputs pages plans script (Ok summary) given why = tt
+refused options inputs pages plans script (Ok notice) given why = tt
 refused options inputs pages plans script (Err fault) given why =
     replay-fault options inputs pages plans script given fault why
 

@@ -3,31 +3,31 @@ use Rattle.std.proofs.lemmas.Result.{err_from_is_err_and}
 use Rattle.like_requests.specs.Pages.{Page}
 use Rattle.like_requests.specs.declared.request.Request.{Request}
 use Rattle.like_service.specs.Asked.{lists_of}
-use Rattle.like_replies.specs.declared.summary.Summary.{Summary}
+use Rattle.like_replies.specs.declared.notice.Notice.{Notice}
 use Rattle.like_command.specs.declared.options.Options.{Options}
 use Rattle.like_files.specs.declared.fault.DriverFault.{DriverFault}
 use Rattle.like_files.specs.Inputs.{GivesLists, Inputs, inputs_of, setup_of}
 use Rattle.like_files.specs.Run.{HasRun, HasRunLists, IsRunFilesFault, IsRunListsFault}
 use Rattle.like_files.proofs.Ended.{run-fault, run-unread}
 use Rattle.like_files.proofs.FailedReads.{run-told}
-use Rattle.like_files.proofs.run.run_files_summed.Goals as goal
+use Rattle.like_files.proofs.run.run_files_with_notice.Goals as goal
 
 -- what was run of these values was run of the files
 was-run : (options : Options) (inputs : Inputs) (pages : List Page) (plans : List (List Request))
-    (old new : Option (List ℕ)) (r : Result (Option Summary) DriverFault)
+    (old new : Option (List ℕ)) (r : Result (Option Notice) DriverFault)
     → GivesLists inputs.pages inputs.requests pages plans
     → IfOk r (HasRunLists options (setup_of options pages) plans old new)
     → IfOk r (HasRun options inputs old new)
-was-run options inputs pages plans old new (Ok summary) given done =
+was-run options inputs pages plans old new (Ok notice) given done =
     record { pages = pages; plans = plans; given = given; within = done.within; reported = done.reported }
 was-run options inputs pages plans old new (Err fault) given done = tt
 
 -- and so is why it was not
 refused : (options : Options) (inputs : Inputs) (pages : List Page) (plans : List (List Request))
-    (r : Result (Option Summary) DriverFault)
+    (r : Result (Option Notice) DriverFault)
     → GivesLists inputs.pages inputs.requests pages plans
     → IfErr r (IsRunListsFault (setup_of options pages) plans) → IfErr r (IsRunFilesFault options inputs)
-refused options inputs pages plans (Ok summary) given why = tt
+refused options inputs pages plans (Ok notice) given why = tt
 refused options inputs pages plans (Err fault) given why = run-fault options inputs pages plans given fault why
 
 pub returns-in_err-pages-clause-fault : goal.returns-in_err-pages-clause-fault

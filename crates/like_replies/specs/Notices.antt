@@ -1,0 +1,18 @@
+-- What is said of a report beside it.
+use Rattle.std.specs.Prelude.{ℕ, Bool, if◌then◌else◌, List, Option, None, Some, ◌==◌}
+use Rattle.like_service.specs.declared.report.Report.{Report}
+use Rattle.like_replies.specs.Refusals.{refusals_line, refusals_of, refused_in}
+use Rattle.like_replies.specs.Summary.{summary_of, summary_text}
+use Rattle.like_replies.specs.declared.notice.Notice.{Notice}
+use Rattle.like_replies.specs.declared.notice.Notice.TheVariants.{Summed, Refused}
+
+-- the summary of a report if it is asked for, else its refused requests if there are any
+abbrev pub notice_of : Bool → Report → Option Notice
+notice_of is_asked r =
+    if is_asked then Some (Summed (summary_of r))
+    else (if refused_in r.replies == 0 then None else Some (Refused (refusals_of r)))
+
+-- the text of what is said
+abbrev pub notice_text : Notice → List ℕ
+notice_text (Summed summary) = summary_text summary
+notice_text (Refused refusals) = refusals_line refusals

@@ -1,0 +1,45 @@
+ghost use Rattle.std.specs.Prelude.{◌≡◌, ◌<◌, ◌^◌, OnOk};
+ghost use Rattle.std.specs.Io.KnownBytes.{Appends};
+ghost use Rattle.like_replies.specs.Notices.{notice_of, notice_text};
+ghost use Rattle.like_replies.specs.Summary.{requests_in};
+
+use crate::refusals::{Refusals, refused_in};
+use crate::summary::Summary;
+use like_service::Report;
+use std::io;
+use std::io::Write;
+
+/// What is said of a report beside it.
+#[derive(Clone, Copy, PartialEq, Eq)]
+pub enum Notice {
+    /// Its summary, which was asked for.
+    Summed(Summary),
+    /// Its refused requests, so that they don't go unseen.
+    Refused(Refusals),
+}
+
+impl Notice {
+    /// The summary of a report if it is asked for, else its refused requests if there are any.
+    pub fn of(report: &Report, is_asked: bool) -> Option<Self>
+        requires { requests_in report.now.replies < 2 ^ 64 }
+        ensures { result ≡ notice_of is_asked report.now }
+    {
+        if is_asked {
+            return Some(Notice::Summed(Summary::of(report)));
+        }
+        if refused_in(&report.replies) == 0 {
+            return None;
+        }
+        Some(Notice::Refused(Refusals::of(report)))
+    }
+
+    /// Writes its text.
+    pub fn write<W: Write>(&self, out: &mut W) -> io::Result<()>
+        ensures { OnOk result (Appends (W.contents out.old) (W.contents out.new) (notice_text self.now)) }
+    {
+        match self {
+            Notice::Summed(summary) => summary.write(out),
+            Notice::Refused(refusals) => refusals.write(out),
+        }
+    }
+}

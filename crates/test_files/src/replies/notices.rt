@@ -1,0 +1,21 @@
+//! The line on refused requests.
+use crate::files::assert_bytes;
+use like_replies::{Notice, Refusals};
+
+#[test]
+fn refused_requests(rt: HostRuntime) {
+    let refusals = Refusals {
+        requests: 2_968_476,
+        refused: 2_948_303,
+        unknown_user: 2_948_303,
+        other_home: 0,
+        unknown_page: 0,
+    };
+    let mut out = Vec::new(rt.alloc());
+    Notice::Refused(refusals)
+        .write(&mut out)
+        .expect(&rt, "memory");
+    let line =
+        "likes: refused 2948303 of 2968476 requests: 2948303 unknown-user, 0 other-home, 0 unknown-page\n";
+    assert_bytes(&rt, out, line.as_bytes());
+}
