@@ -7,8 +7,8 @@ use Rattle.std.proofs.lemmas.Map.Views.{Contains-from_any}
 use Rattle.like_limits.specs.Limits.{hot_pages}
 use Rattle.like_core.specs.Functions.{has_bit}
 use Rattle.like_core.specs.Slots.{IsChoice}
-use Rattle.like_choice.specs.Slots.{AreSlots, Chooses, IsInUse, SlotsView}
-use Rattle.like_choice.specs.Steps.{Fills, stays}
+use Rattle.like_choice.specs.Slots.{AreSlots, CameBefore, Chooses, IsInUse, SlotsView}
+use Rattle.like_choice.specs.Steps.{CameBy, Fills, stays}
 
 -- the bits of the slots that stay in use
 abbrev pub AreKept : SlotsView → List ℕ → ℕ → Type 0
@@ -68,6 +68,15 @@ keeps : (v : SlotsView) (proposed : List ℕ) (kept : ℕ) (slots : List ℕ) (b
 keeps v proposed kept slots bits are fills slot used why =
     fills.stay slot (used.0, kept-is v proposed kept are slot used why)
 
+-- what came by the slots that stayed, stayed
+came : (v : SlotsView) (proposed : List ℕ) (kept : ℕ) (slots : List ℕ) (bits : ℕ) → AreKept v proposed kept
+    → Fills v.factor v.pages proposed v.slots kept slots bits → (k slot : ℕ) → slot < hot_pages
+    → CameBy proposed k kept slots slot → CameBefore v proposed k (filled v slots bits) slot
+came v proposed kept slots bits are fills k slot small by = elim by [
+  | inl was ↦ inl ((kept-was v proposed kept are slot was).0, (fills.stay slot (small, was)).1)
+  | inr at ↦ inr at
+]
+
 pub Chooses-filled : (v : SlotsView) (proposed : List ℕ) (kept : ℕ) (slots : List ℕ) (bits : ℕ) → AreSlots v
     → AreKept v proposed kept → Fills v.factor v.pages proposed v.slots kept slots bits
     → Chooses v proposed (filled v slots bits)
@@ -83,7 +92,13 @@ Chooses-filled v proposed kept slots bits old are fills = record {
     ]
     | inr among ↦ inr among
   ];
-  left_out = fills.left_out;
+  left_out = λ k below there. elim (fills.left_out k below there) [
+    | inl at ↦ inl (at.0, at.1, at.2, came v proposed kept slots bits are fills k at.0 at.1.0 at.3)
+    | inr all ↦ inr (λ slot small. (
+      (all slot small).0,
+      came v proposed kept slots bits are fills k slot small (all slot small).1,
+    ))
+  ];
 }
 
 pub AreSlots-filled : (v : SlotsView) (proposed : List ℕ) (kept : ℕ) (slots : List ℕ) (bits : ℕ) → AreSlots v

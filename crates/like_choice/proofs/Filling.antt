@@ -1,14 +1,16 @@
 -- Pages put into free slots, one after another.
 use Rattle.std.proofs.Common.{◌≡◌, ℕ, zero, suc, ◌<◌, ◌==◌, ◌||◌, ◌⊎◌, inl, inr, true, false, List, [], ◌∷◌, ◌++◌, length, get_or, set, refl, sym, ap, ◌∙◌, subst, arith, get_or-set_same, get_or-set_other, slice_index}
 use Rattle.std.specs.List.{Contains}
-use Rattle.std.proofs.lemmas.Bool.{both_ways, or_left, or_right, eq-eqb}
+use Rattle.std.proofs.Common.{◌+◌, ◌-◌, ◌≤◌}
+use Rattle.std.proofs.lemmas.List.{get_or_append_left, get_or_default, get_or-append_right, length-append}
+use Rattle.std.proofs.lemmas.Bool.{both_ways, cases_lt, or_left, or_right, eq-eqb}
 use Rattle.std.proofs.lemmas.List.Elements.{Contains-append_cases, Contains-append_left, Contains-append_right}
 use Rattle.like_limits.specs.Limits.{hot_pages}
 use Rattle.like_limits.specs.Buckets.{bucket}
 use Rattle.like_core.specs.Functions.{has_bit}
 use Rattle.like_core.specs.Slots.{IsChoice}
 use Rattle.like_choice.specs.Slots.{IsFull, IsTaken}
-use Rattle.like_choice.specs.Steps.{Fills, StayInUse}
+use Rattle.like_choice.specs.Steps.{CameBy, Fills, IsServedBy, StayInUse}
 use Rattle.like_choice.proofs.Masks.{in_use-set}
 
 -- a list of one page has no other
@@ -22,8 +24,19 @@ Fills-none factor pages slots bits = record {
   stay = λ slot used. (used.1, refl);
   asked = λ slot used. inl used.1;
   lawful = λ choice. choice;
-  left_out = λ page among below. absurd (omega (arith, among.1));
+  left_out = λ k below there. absurd (omega (arith, below));
 }
+
+-- the only page of a list finds its bucket or all slots taken
+left-only : (factor pages page : ℕ) (slots : List ℕ) (bits : ℕ)
+    → (page < pages → IsTaken factor slots bits page ⊎ IsFull bits)
+    → (k : ℕ) → k < length (page ∷ []) → get_or (page ∷ []) k 0 < pages
+    → IsServedBy factor (page ∷ []) k bits slots bits
+left-only factor pages page slots bits out zero below there = elim (out there) [
+  | inl taken ↦ inl (taken.0, taken.1, taken.2, inl taken.1.1)
+  | inr full ↦ inr (λ slot small. (full slot small, inl (full slot small)))
+]
+left-only factor pages page slots bits out (suc k) below there = absurd (omega (arith, below))
 
 -- a page is left out
 pub Fills-left : (factor pages page : ℕ) (slots : List ℕ) (bits : ℕ)
@@ -33,9 +46,7 @@ Fills-left factor pages page slots bits out = record {
   stay = λ slot used. (used.1, refl);
   asked = λ slot used. inl used.1;
   lawful = λ choice. choice;
-  left_out = λ other among below.
-      let same = only page other among in
-      subst (λ p. IsTaken factor slots bits p ⊎ IsFull bits) (sym same) (out (subst (λ p. p < pages) same below));
+  left_out = left-only factor pages page slots bits out;
 }
 
 -- a slot that is free, and the page in it after it was put there
@@ -100,6 +111,18 @@ put-apart {factor} {page} {slots} {bits} {after} {slot} put choice i j i_small j
       ]
     ]
 
+-- the only page of a list is in
+put-left : {factor page : ℕ} {slots : List ℕ} {bits after slot : ℕ} → IsPut factor page slots bits after slot
+    → (pages k : ℕ) → k < length (page ∷ []) → get_or (page ∷ []) k 0 < pages
+    → IsServedBy factor (page ∷ []) k bits (set slots slot page) after
+put-left {factor} {page} {slots} {bits} {after} {slot} put pages zero below there = inl (
+  slot,
+  (put.there, put-used put),
+  ap (bucket factor) (new-page put slot refl),
+  inr (0, omega arith, sym (new-page put slot refl)),
+)
+put-left put pages (suc k) below there = absurd (omega (arith, below))
+
 -- a page is put into a free slot
 pub Fills-put : (factor pages page : ℕ) (slots : List ℕ) (bits after slot : ℕ) → length slots ≡ hot_pages
     → slot < hot_pages → has_bit bits slot ≡ false
@@ -122,11 +145,7 @@ Fills-put factor pages page slots bits after slot all there free sets below apar
         ];
         apart = put-apart put choice;
       };
-      left_out = λ other among small. inl (
-        slot,
-        (there, put-used put),
-        ap (bucket factor) (new-page put slot refl ∙ sym (only page other among)),
-      );
+      left_out = put-left put pages;
     }
 
 -- a bucket that is taken stays so
@@ -135,6 +154,43 @@ taken-stays : (factor : ℕ) (slots : List ℕ) (bits : ℕ) (after : List ℕ) 
 taken-stays factor slots bits after bits_after page stay (slot, used, same) =
     let kept = stay slot used in
     (slot, (used.0, kept.0), ap (bucket factor) kept.1 ∙ same)
+
+-- what came by the first list
+came-first : (some more : List ℕ) (k bits slot : ℕ) (between after : List ℕ) → k < length some
+    → get_or after slot 0 ≡ get_or between slot 0 → CameBy some k bits between slot
+    → CameBy (some ++ more) k bits after slot
+came-first some more k bits slot between after early stay by = elim by [
+  | inl was ↦ inl was
+  | inr at ↦ inr (
+    at.0,
+    at.1,
+    get_or_append_left some more 0 at.0 (omega (arith, at.1, early)) ∙ at.2 ∙ sym stay,
+  )
+]
+
+-- what came by the second, or by the first before it
+came-second : (factor pages : ℕ) (some more slots : List ℕ) (bits : ℕ) (between : List ℕ) (bits_between : ℕ)
+    (after : List ℕ) (k slot : ℕ) → Fills factor pages some slots bits between bits_between
+    → length some ≤ k → slot < hot_pages
+    → (has_bit bits_between slot ≡ true → get_or after slot 0 ≡ get_or between slot 0)
+    → CameBy more (k - length some) bits_between after slot → CameBy (some ++ more) k bits after slot
+came-second factor pages some more slots bits between bits_between after k slot first late small stay by = elim by [
+  | inl was ↦ elim (first.asked slot (small, was)) [
+    | inl had ↦ inl had
+    | inr among ↦ inr (
+      among.0,
+      omega (arith, among.1, late),
+      get_or_append_left some more 0 among.0 among.1
+      ∙ get_or_default some among.0 0 (get_or between slot 0) among.1 ∙ among.2 ∙ sym (stay was),
+    )
+  ]
+  | inr at ↦ inr (
+    length some + at.0,
+    omega (arith, at.1, late),
+    get_or-append_right some more (length some) (length some + at.0) 0 refl (omega arith)
+    ∙ ap (λ i. get_or more i 0) (omega arith) ∙ at.2,
+  )
+]
 
 -- one list of pages after another
 pub Fills-more : (factor pages : ℕ) (some more slots : List ℕ) (bits : ℕ) (between : List ℕ) (bits_between : ℕ)
@@ -155,11 +211,40 @@ Fills-more factor pages some more slots bits between bits_between after bits_aft
     | inr among ↦ inr (Contains-append_right some more _ among)
   ];
   lawful = λ choice. second.lawful (first.lawful choice);
-  left_out = λ page among below. elim (Contains-append_cases some more page among) [
-    | inl early ↦ elim (first.left_out page early below) [
-      | inl taken ↦ inl (taken-stays factor between bits_between after bits_after page second.stay taken)
-      | inr full ↦ inr (λ slot small. (second.stay slot (small, full slot small)).0)
-    ]
-    | inr late ↦ second.left_out page late below
+  left_out = λ k below there. elim (cases_lt k (length some)) [
+    | inl early ↦
+        let is : get_or (some ++ more) k 0 ≡ get_or some k 0 = get_or_append_left some more 0 k early in
+        elim (first.left_out k early (subst (λ p. p < pages) is there)) [
+          | inl at ↦
+              let kept = second.stay at.0 at.1 in
+              inl (
+                at.0,
+                (at.1.0, kept.0),
+                ap (bucket factor) kept.1 ∙ at.2 ∙ ap (bucket factor) (sym is),
+                came-first some more k bits at.0 between after early kept.1 at.3,
+              )
+          | inr all ↦ inr (λ slot small.
+              let kept = second.stay slot (small, (all slot small).0) in
+              (kept.0, came-first some more k bits slot between after early kept.1 (all slot small).1))
+        ]
+    | inr late ↦
+        let past : length some ≤ k = omega (arith, late) in
+        let is : get_or (some ++ more) k 0 ≡ get_or more (k - length some) 0 =
+        get_or-append_right some more (length some) k 0 refl past in
+        let small : k - length some < length more = omega (arith, below, past, length-append some more) in
+        elim (second.left_out (k - length some) small (subst (λ p. p < pages) is there)) [
+          | inl at ↦ inl (
+            at.0,
+            at.1,
+            at.2 ∙ ap (bucket factor) (sym is),
+            came-second factor pages some more slots bits between bits_between after k at.0 first past at.1.0
+            (λ was. (second.stay at.0 (at.1.0, was)).1) at.3,
+          )
+          | inr all ↦ inr (λ slot there. (
+            (all slot there).0,
+            came-second factor pages some more slots bits between bits_between after k slot first past there
+            (λ was. (second.stay slot (there, was)).1) (all slot there).1,
+          ))
+        ]
   ];
 }

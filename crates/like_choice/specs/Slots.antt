@@ -69,6 +69,20 @@ abbrev pub KeepsSlot : SlotsView → SlotsView → ℕ → Type 0
 KeepsSlot old new slot =
     (has_bit new.bits slot ≡ true) × (slice_index new.slots slot ≡ slice_index old.slots slot)
 
+-- the page of a slot stayed there, or it is proposed at this place or an earlier one
+abbrev pub CameBefore : SlotsView → List ℕ → ℕ → SlotsView → ℕ → Type 0
+CameBefore old proposed k new slot =
+    ((has_bit old.bits slot ≡ true) × (slice_index new.slots slot ≡ slice_index old.slots slot))
+    ⊎ ((j : ℕ) × (j ≤ k) × (slice_index proposed j ≡ slice_index new.slots slot))
+
+-- the page that is proposed at this place is in, or one that came before it has its bucket, or such have all slots
+abbrev pub IsServed : SlotsView → List ℕ → ℕ → SlotsView → Type 0
+IsServed old proposed k new =
+    ((slot : ℕ) × IsInUse new.bits slot
+    × (bucket new.factor (slice_index new.slots slot) ≡ bucket new.factor (slice_index proposed k))
+    × CameBefore old proposed k new slot)
+    ⊎ ((slot : ℕ) → slot < hot_pages → (has_bit new.bits slot ≡ true) × CameBefore old proposed k new slot)
+
 -- what a choice makes of the slots, where these pages are proposed
 pub record Chooses (old : SlotsView) (proposed : List ℕ) (new : SlotsView) : Type 0 where
   -- the service is the same
@@ -82,5 +96,4 @@ pub record Chooses (old : SlotsView) (proposed : List ℕ) (new : SlotsView) : T
   pub asked : (slot : ℕ) → IsInUse new.bits slot
       → (slot < new.marks) ⊎ Contains proposed (slice_index new.slots slot)
   -- a page of the service that is proposed is in, unless another one has its bucket or no slot is left
-  pub left_out : (page : ℕ) → Contains proposed page → page < new.pages
-      → IsTaken new.factor new.slots new.bits page ⊎ IsFull new.bits
+  pub left_out : (k : ℕ) → k < length proposed → slice_index proposed k < new.pages → IsServed old proposed k new
