@@ -1,3 +1,5 @@
+ghost use Rattle.std.specs.Prelude.{◌≡◌, ◌≢◌, ℕ, List, []};
+
 use crate::proposal::Proposal;
 use crate::samples::sampler::Sampler;
 use crate::slots::Slots;
@@ -7,8 +9,13 @@ use std::alloc::AllocError;
 ///
 /// The driver calls it before it ends a phase. Any proposal is lawful: `Slots::choose` takes of it what it can.
 pub trait Choice {
+    /// The pages that it is told to propose; none where it finds them itself.
+    ghost told: { Self → List ℕ };
+
     /// Writes a new proposal over the old one, the most popular page first. The slots are those of the last choice.
-    fn propose(&mut self, slots: &Slots, proposed: &mut Proposal);
+    fn propose(&mut self, slots: &Slots, proposed: &mut Proposal)
+        ensures told { told self.old ≢ [] → proposed.new ≡ told self.old }
+        ensures keeps { told self.new ≡ told self.old };
 
     /// What a seat samples its requests with: made for each seat once, when its service is opened. A choice that needs no
     /// samples leaves it as it is.

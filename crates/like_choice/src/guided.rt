@@ -36,10 +36,9 @@ impl Guided {
 }
 
 impl Choice for Guided {
-    fn propose(&mut self, slots: &Slots, proposed: &mut Proposal)
-        ensures asked { self.old.asked ≢ [] → proposed.new ≡ self.old.asked }
-        ensures keeps { self.new.asked ≡ self.old.asked }
-    {
+    ghost told = { λ g. g.asked };
+
+    fn propose(&mut self, slots: &Slots, proposed: &mut Proposal) {
         if self.asked.pages().is_empty() {
             self.samples.propose(slots, proposed);
         } else {

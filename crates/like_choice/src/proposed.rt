@@ -43,6 +43,8 @@ impl Proposed {
 }
 
 impl Choice for Proposed {
+    ghost told = { λ p. p };
+
     fn propose(&mut self, _slots: &Slots, proposed: &mut Proposal)
         ensures proposes { proposed.new ≡ self.old }
         ensures keeps { self.new ≡ self.old }
@@ -52,6 +54,8 @@ impl Choice for Proposed {
 }
 
 impl Choice for NoProposal {
+    ghost told = { λ _. [] };
+
     fn propose(&mut self, _slots: &Slots, proposed: &mut Proposal)
         ensures { proposed.new ≡ [] }
     {

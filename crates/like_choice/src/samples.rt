@@ -77,6 +77,10 @@ impl Samples {
 }
 
 impl Choice for Samples {
+    ghost use Rattle.std.specs.Prelude.{[]};
+
+    ghost told = { λ _. [] };
+
     fn propose(&mut self, slots: &Slots, proposed: &mut Proposal) {
         proposed.clear();
         if self.hot == 0 {

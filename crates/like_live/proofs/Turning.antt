@@ -310,7 +310,7 @@ case-keeps : (v w : DriverView) (sight : CoordSight) (end : End) (answer : Drive
     → Keeps v w
 case-keeps v w sight end answer (waiting _ _ _ is) = subst (Keeps v) (sym is) (still-keeps v v (still v.lead) refl)
 case-keeps v w sight end answer (releases _ _ _ next) = release-keeps v w next
-case-keeps v w sight end answer (announces now _ _ proposes _ _ is) =
+case-keeps v w sight end answer (announces now _ _ proposes _ _ _ is) =
     subst (Keeps v) (sym is)
     (announces-keeps v now (subst (Keeps v) (sym proposes) (proposes-keeps v now.splits.proposed)))
 case-keeps v w sight end answer (running _ _ proposes _ _) =
@@ -352,14 +352,14 @@ same-room back v w is room = record {
 }
 
 -- those of a new service are its board's
-pub new-splits : (c : CoordSeatView) (factor pages : ℕ) (marks : List ℕ)
-    → AreSlots (new_splits factor pages marks).slots
+pub new-splits : (c : CoordSeatView) (factor pages : ℕ) (marks told : List ℕ)
+    → AreSlots (new_splits factor pages marks told).slots
     → c.opening.factor ≡ factor
     → length c.opening.counts ≡ pages
     → c.slots ≡ replicate hot_pages 0
     → c.phase ≡ 0
-    → AreSplitsOf c (new_splits factor pages marks)
-new-splits c factor pages marks lawful by many held first = record {
+    → AreSplitsOf c (new_splits factor pages marks told)
+new-splits c factor pages marks told lawful by many held first = record {
   lawful = lawful;
   factor = sym by;
   pages = sym many;

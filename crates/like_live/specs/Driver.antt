@@ -13,7 +13,7 @@ use Rattle.like_core.specs.views.Shows.{IsKnown, IsLastMoment}
 use Rattle.like_seat.specs.Lead.{LeadView, PublishesChoice, Sees, announced, new_lead, released, with_counts}
 use Rattle.like_choice.specs.Slots.{AreSlots, Chooses}
 use Rattle.like_live.specs.Opening.{board_opening}
-use Rattle.like_live.specs.Splits.{AreSplitsOf, KeepsMarked, SplitsView, new_splits, would_split}
+use Rattle.like_live.specs.Splits.{AreSplitsOf, KeepsMarked, Proposes, SplitsView, new_splits, would_split}
 use Rattle.like_live.specs.declared.opening.Opening.{Opening}
 use Rattle.like_live.specs.declared.driver_answer.DriverAnswer.{DriverAnswer}
 use Rattle.like_live.specs.declared.driver_answer.DriverAnswer.TheVariants.{Announced, Waiting, Released, Running, Ended}
@@ -68,6 +68,10 @@ pub record IsDue (v : DriverView) (end : End) : Type 0 where
 abbrev pub ProposesPages : DriverView → DriverView → Type 0
 ProposesPages v after = after ≡ record v { splits = record v.splits { proposed = after.splits.proposed } }
 
+-- it asks its choice before it ends a split phase, and before it ends a joined one in which nothing is proposed yet
+abbrev pub MustPropose : DriverView → Type 0
+MustPropose v = IsSplit v.lead.seat.phase ⊎ (would_split v.splits ≡ false)
+
 -- all seats have left a joined phase
 pub record IsLeft (v : LeadView) (sight : CoordSight) : Type 0 where
   pub joined : IsJoined v.seat.phase
@@ -83,6 +87,7 @@ pub data DriverCase (v : DriverView) (sight : CoordSight) (end : End)
   releases : sight.ending ≡ true → sight.all_in ≡ true
       → answer ≡ Released → ReleasesNext v after → DriverCase v sight end answer after
   announces : (now : DriverView) → sight.ending ≡ false → ¬ IsLeft v.lead sight → ProposesPages v now → IsDue now end
+      → (MustPropose v → Proposes v.splits now.splits)
       → answer ≡ Announced → after ≡ record now { lead = announced now.lead } → DriverCase v sight end answer after
   running : sight.ending ≡ false → sight.all_gone ≡ false → ProposesPages v after
       → (asks_end end after ≡ true → v.lead.seat.phase ≡ service_limits.last_phase)
@@ -206,9 +211,9 @@ pub record HasRoom (back : Vec WorkerSeat Global) (v : DriverView) : Type 0 wher
   pub enough : v.lead.seat.opening.workers ≤ vec_capacity back
 
 -- a new driver at this board, by this factor: it has done nothing yet
-abbrev pub new_driver : Opening → ℕ → BoardId → DriverView
-new_driver o factor board = record {
+abbrev pub new_driver : Opening → ℕ → BoardId → List ℕ → DriverView
+new_driver o factor board told = record {
   lead = new_lead board (opened_coord (board_opening o factor)) None o.counts.items;
-  splits = new_splits factor (length o.counts.items) o.marks.items;
+  splits = new_splits factor (length o.counts.items) o.marks.items told;
   is_over = false;
 }

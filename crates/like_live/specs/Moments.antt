@@ -79,6 +79,6 @@ SlicesAreSlots =
 -- marked pages keep slots: whatever calls a driver was asked, each marked page is in a slot in use
 abbrev pub MarkedKeepSlots : Type 0
 MarkedKeepSlots =
-    (o : Asked) (factor : ℕ) (board : BoardId) (v : DriverView)
-    → IsSameDriver (new_driver o factor board) v → IsService v
+    (o : Asked) (factor : ℕ) (board : BoardId) (told : List ℕ) (v : DriverView)
+    → IsSameDriver (new_driver o factor board told) v → IsService v
     → (page : ℕ) → Contains o.marks.items page → IsSlotted v.splits.slots page

@@ -3,6 +3,7 @@ ghost use Rattle.std.specs.Arc.{arc_value};
 ghost use Rattle.like_board.specs.Rule.{opened_coord};
 ghost use Rattle.like_board.specs.Seats.{board_id, coord_board, coord_view};
 ghost use Rattle.like_choice.specs.Slots.{AreApart, pages_in_use};
+ghost use Rattle.like_limits.specs.Limits.{hot_pages};
 ghost use Rattle.like_live.specs.Driver.{DriverTurns, IsSameDriver, IsService, TakesLast, TakesSnapshot, new_driver};
 ghost use Rattle.like_live.specs.Opening.{IsWithinLimits, board_opening};
 ghost use Rattle.like_live.specs.Service.{AreGone, AreItsSeats, IsClosedService};
@@ -80,7 +81,8 @@ impl<C: Choice + Drop> Driver<C> {
         requires factor { AreApart factor opening.now.marks.items }
         requires here { coord_board coord ≡ board_id (arc_value board) }
         requires new { coord_view coord ≡ opened_coord (board_opening opening.now factor) }
-        ensures { IfOk result (λ driver. driver ≡ new_driver opening.now factor (board_id (arc_value board))) }
+        ensures { IfOk result (λ driver. driver
+            ≡ new_driver opening.now factor (board_id (arc_value board)) (C.told choice)) }
     {
         let back = Vec::with_capacity(alloc, opening.seats as usize)?;
         let phase_now = PhaseNow::new(alloc)?;
@@ -222,7 +224,9 @@ impl Driver<Guided> {
     /// Proposes these pages for slots from now on, the first 64 of them, in place of those found by sampling. If there are
     /// none, it samples again. The split phase after the present or next joined one is the first that can have them.
     pub fn propose(&mut self, pages: &[u32])
-        ensures { self.new ≡ self.old }
+        ensures { self.new ≡ record self.old {
+            splits = record self.old.splits { told = take hot_pages pages.now };
+        } }
     {
         self.splits.ask(pages);
     }

@@ -6,7 +6,7 @@ ghost use Rattle.like_core.specs.Phase.{IsJoined};
 ghost use Rattle.like_core.specs.views.Views.{SawAllIn};
 ghost use Rattle.like_seat.specs.Lead.{PublishesChoice};
 ghost use Rattle.like_choice.specs.Slots.{AreApart, AreSlots, Chooses, pages_in_use};
-ghost use Rattle.like_live.specs.Splits.{AreSplitsOf, Proposes, new_splits, would_split};
+ghost use Rattle.like_live.specs.Splits.{AreSplitsOf, Proposes, SawRunning, new_splits, would_split};
 
 use like_board::Board;
 use like_choice::{Choice, Guided, Proposal, Slots};
@@ -30,7 +30,12 @@ impl<C: Choice> Model for Splits<C> {
 
     ghost Value = { SplitsView };
 
-    ghost view = { λ s. record { slots = s.slots; proposed = s.proposed; held = s.held } };
+    ghost view = { λ s. record {
+      slots = s.slots;
+      told = C.told s.choice;
+      proposed = s.proposed;
+      held = s.held;
+    } };
 }
 
 impl<C: Choice> Splits<C> {
@@ -39,7 +44,7 @@ impl<C: Choice> Splits<C> {
         requires few { length marks.now ≤ hot_pages }
         requires there { All (λ page. page < pages) marks.now }
         requires apart { AreApart factor marks.now }
-        ensures new { result ≡ new_splits factor pages marks.now }
+        ensures new { result ≡ new_splits factor pages marks.now (C.told choice) }
         ensures lawful { AreSlots result.slots }
     {
         Splits {
@@ -58,7 +63,8 @@ impl<C: Choice> Splits<C> {
     }
 
     /// Asks the choice for a new proposal.
-    pub fn propose(&mut self)
+    pub fn propose(&mut self, _lead: &Lead)
+        requires running { SawRunning _lead.now.seat }
         ensures { Proposes self.old self.new }
     {
         self.choice.propose(&self.slots, &mut self.proposed);
@@ -76,6 +82,7 @@ impl<C: Choice> Splits<C> {
         ensures lawful { AreSlots self.new.slots }
         ensures publishes { PublishesChoice lead.old self.new.slots.slots self.new.slots.bits lead.new }
         ensures held { self.new.held ≡ lead.new.seat.slots }
+        ensures told { self.new.told ≡ self.old.told }
         ensures proposed { self.new.proposed ≡ self.old.proposed }
     {
         self.slots.choose(self.proposed.pages());
@@ -96,7 +103,7 @@ impl<C: Choice> Splits<C> {
 impl Splits<Guided> {
     /// Asks the choice to propose these pages from now on.
     pub fn ask(&mut self, pages: &[u32])
-        ensures { self.new ≡ self.old }
+        ensures { self.new ≡ record self.old { told = take hot_pages pages.now } }
     {
         self.choice.ask(pages);
     }

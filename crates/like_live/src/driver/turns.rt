@@ -3,8 +3,8 @@ ghost use Rattle.like_board.specs.Seats.{board_id};
 ghost use Rattle.like_core.specs.OpeningLimits.{service_limits};
 ghost use Rattle.like_core.specs.Phase.{IsSplit};
 ghost use Rattle.like_core.specs.views.Views.{SawAllIn};
-ghost use Rattle.like_live.specs.Driver.{Acts, IsLeft, ReleasesNext, asks_end, drives};
-ghost use Rattle.like_live.specs.Splits.{AreSplitsOf, Proposes};
+ghost use Rattle.like_live.specs.Driver.{Acts, IsLeft, MustPropose, ReleasesNext, asks_end, drives};
+ghost use Rattle.like_live.specs.Splits.{AreSplitsOf, MayPropose, Proposes, SawRunning};
 
 use super::splits::Splits;
 use crate::driver_answer::DriverAnswer;
@@ -59,7 +59,9 @@ fn is_due<C: Choice>(
     sight: CoordSight,
     end: End,
 ) -> bool
-    ensures proposes { Proposes splits.old splits.new }
+    requires running { SawRunning lead.now.seat }
+    ensures proposes { MayPropose splits.old splits.new }
+    ensures asks { result ≡ true → MustPropose (drives lead.now splits.old) → Proposes splits.old splits.new }
     ensures goes_on { result ≡ true → lead.now.seat.phase < service_limits.last_phase }
     ensures left { result ≡ true → ¬ IsLeft lead.now sight }
     ensures by { result ≡ true → (asks_end end (drives lead.now splits.new) ≡ true) ⊎ IsSplit lead.now.seat.phase }
@@ -83,7 +85,9 @@ pub(crate) fn is_left(lead: &Lead, sight: CoordSight) -> bool
 // wait in these alone. Before that, pages are proposed for the next split phase: in a split phase, and in a joined one as
 // long as nothing would be split in the next.
 fn is_asked<C: Choice>(lead: &Lead, splits: &mut Splits<C>, hint: &Hint, end: End) -> bool
-    ensures proposes { Proposes splits.old splits.new }
+    requires running { SawRunning lead.now.seat }
+    ensures proposes { MayPropose splits.old splits.new }
+    ensures asks { result ≡ true → MustPropose (drives lead.now splits.old) → Proposes splits.old splits.new }
     ensures by { result ≡ true → (asks_end end (drives lead.now splits.new) ≡ true) ⊎ IsSplit lead.now.seat.phase }
     ensures told { asks_end end (drives lead.now splits.new) ≡ true → result ≡ true }
 {
@@ -92,7 +96,7 @@ fn is_asked<C: Choice>(lead: &Lead, splits: &mut Splits<C>, hint: &Hint, end: En
         return false;
     }
     if is_split || !splits.would_split() {
-        splits.propose();
+        splits.propose(lead);
     }
     match end {
         End::Always => true,

@@ -1,4 +1,6 @@
-use Rattle.std.proofs.Common.{◌<◌, ◌≤◌, inl, inr, refl, ap, sym, ◌∙◌, arith}
+use Rattle.std.proofs.Common.{◌≡◌, ◌<◌, ◌≤◌, inl, inr, true, false, refl, ap, sym, ◌∙◌, subst, arith}
+use Rattle.std.specs.Prelude.{IsSomeAnd, Option}
+use Rattle.like_core.specs.declared.sight.CoordSight.{CoordSight}
 use Rattle.std.proofs.lemmas.Bool.{cases_eq, false≢true, not-false}
 use Rattle.like_core.specs.OpeningLimits.{service_limits}
 use Rattle.like_core.specs.declared.limits.Limits.{Limits}
@@ -33,7 +35,7 @@ returns-then-is_due g c =
       seen = seen;
       sees = c.look-sight.ensures;
       case = announces now c.if-sight.false (due.left c.if-is_due.true) (λ m. drives seen (due.proposes m))
-          (record { goes_on = due.goes_on c.if-is_due.true; asked = due.by c.if-is_due.true }) refl
+          (record { goes_on = due.goes_on c.if-is_due.true; asked = due.by c.if-is_due.true }) (due.asks c.if-is_due.true) refl
           (λ m. drives (c.announce.ensures m) c.is_due.new.splits);
     }
 

@@ -46,6 +46,7 @@ returns g c =
             publishes = w.publish.ensures.publishes;
             rest = λ m. drives w.publish.new.lead (record {
               slots = w.publish.new.self.slots;
+              told = w.publish.ensures.told m;
               proposed = w.publish.ensures.proposed m;
               held = w.publish.ensures.held m;
             });

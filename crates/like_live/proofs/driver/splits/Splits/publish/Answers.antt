@@ -24,7 +24,7 @@ publish_choice-requires-clause-may g c =
     let new = c.choose.new.self in
     let same = c.choose.ensures.chooses.same in
     let inside : SplitsView =
-    record { slots = c.self.inside.slots; proposed = c.self.inside.proposed; held = c.self.inside.held } in
+    record { slots = c.self.inside.slots; told = _; proposed = c.self.inside.proposed; held = c.self.inside.held } in
     let splits : AreSplitsOf seat inside =
     subst (λ (s : SplitsView). AreSplitsOf seat s) (sym c.self.view_is) c.requires.splits in
     let may : MayPublishChoice seat new.slots new.bits =
