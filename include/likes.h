@@ -34,9 +34,9 @@
 extern "C" {
 #endif
 
-/* The version of this file and of the library, 0.3: 1,000 times the number of the ABI, plus a number within it.
+/* The version of this file and of the library, 0.4: 1,000 times the number of the ABI, plus a number within it.
  * docs/EMBEDDING.md says when it changes. */
-#define LIKES_VERSION 3
+#define LIKES_VERSION 4
 
 /* The version of the library that the program runs with. A shared library may be newer than this file. */
 uint32_t likes_version(void);
@@ -59,6 +59,7 @@ typedef struct likes_phase {
 #define LIKES_MAX_SEATS 64u
 #define LIKES_MAX_PAGES 16777216u
 #define LIKES_MAX_MARKS 64u
+#define LIKES_MAX_SPLIT 64u /* how many pages are split at a time, marked ones among them */
 #define LIKES_MAX_ROOM 4096u
 #define LIKES_MAX_HOT 1000000u
 #define LIKES_MAX_COUNT UINT64_C(1000000000000000000)
@@ -70,8 +71,9 @@ typedef struct likes_options {
     uint32_t seats; /* 1 to LIKES_MAX_SEATS */
     uint32_t users; /* 1 to 2^32 - 1. Users are numbered from 0, and take 4 bytes each. */
     uint32_t room;  /* how many looks a seat keeps, waiting and found ones together: 1 to LIKES_MAX_ROOM */
-    uint32_t hot;   /* 1 to LIKES_MAX_HOT: a page that gets about this many likes between two choices is split; 1 to
-                       511 act as 512. 0: only marked pages are, and those of likes_driver_propose */
+    uint32_t hot;   /* 1 to LIKES_MAX_HOT: a page that gets about this many likes between two choices is split. The
+                       library samples likes to find these pages; 1 to 511 act as 512. 0: none is found so, and only
+                       marked pages are split, and those of likes_driver_propose. */
     uint64_t reserved[6]; /* 0 */
 } likes_options;
 
@@ -100,7 +102,7 @@ enum likes_status {
     LIKES_NOT_ENDED = 16,  /* nothing written: a seat isn't gone yet, or a split phase goes on */
     LIKES_ALL_TAKEN = 17,  /* all seats are taken; or the phase is */
 
-    /* errors: nothing was done */
+    /* errors: what was asked for isn't done. A seat may have done its phase work. */
     LIKES_EMPTY = 100,  /* the handle is empty */
     LIKES_IN_USE = 101, /* the handle that was to be filled isn't empty */
     LIKES_NO_MEMORY = 102,
@@ -112,7 +114,8 @@ enum likes_status {
     LIKES_WRONG_RANGE = 108,    /* the range goes past the last page, or past the seat's last user */
     LIKES_WRONG_RESERVED = 109, /* a reserved field of the options isn't 0 */
     LIKES_WRONG_PAGES = 110,    /* there are no pages, or more than LIKES_MAX_PAGES */
-    LIKES_WRONG_MARKS = 111,    /* more than LIKES_MAX_MARKS, a mark of no page, or two of the same */
+    LIKES_WRONG_MARKS = 111,    /* more than LIKES_MAX_MARKS, a mark of no page, two of the same, or marks that can't
+                                   all have buckets of their own, which is so of very few lists, of about 64 */
     LIKES_WRONG_COUNT = 112,    /* an initial count is over LIKES_MAX_COUNT */
     LIKES_WRONG_SEATS = 113,
     LIKES_WRONG_USERS = 114,
@@ -236,7 +239,7 @@ uint64_t likes_seat_phase(likes_seat *seat);
 /* Whether a turn may end the phase. */
 enum likes_end {
     LIKES_NO_END = 0,
-    LIKES_END_IF_IT_SERVES = 1, /* a joined phase goes on if nothing would be split in the next one */
+    LIKES_END_IF_IT_SERVES = 1, /* a joined phase goes on if no page would be split in the next one */
     LIKES_END = 2               /* in any case, for a snapshot */
 };
 
@@ -255,14 +258,19 @@ uint32_t likes_driver_turn(likes_driver *driver, uint32_t end);
  * written: the first that applies of LIKES_EMPTY, WRONG_RANGE and NO_MOMENT. */
 static inline uint32_t likes_driver_snapshot(likes_driver *driver, uint32_t from, uint64_t *counts, size_t counts_len);
 
-/* Writes the pages that are split in the present split phase, or were in the last one, as many as the array has room for,
- * and answers how many. With room for 64 these are all. Before the first split phase they are the marked ones. An empty
- * handle has none. */
+/* Writes the pages that are split in the present split phase, or were in the last one, no two alike and the marked ones
+ * among them. It answers how many it wrote: as many as the array has room for, and with room for LIKES_MAX_SPLIT all of
+ * them. Before the first split phase they are the marked ones. Of an empty handle it writes none. */
 static inline size_t likes_driver_split_pages(likes_driver *driver, uint32_t *pages, size_t pages_len);
 
-/* From now on these pages are proposed for split phases, the first 64 of them, in place of those that the library finds by
- * itself; none: it finds them again. They are split beside the marked ones, but for those that are no pages or share a
- * bucket of a seat's table with another one. LIKES_OK, or LIKES_EMPTY. */
+/* Proposes pages to be split beside the marked ones, the first LIKES_MAX_SPLIT of the array, in place of those that the
+ * library finds by itself: LIKES_OK, or LIKES_EMPTY. They hold for all split phases from the next one or the one after
+ * it on, until the next call. An array of no entries: the library finds pages by itself again.
+ *
+ * A turn that ends a split phase takes what is proposed then for the next one. So does a turn that may end a joined
+ * phase, as long as no page would be split in the next one. Numbers that are no pages, and doubled and marked ones, do
+ * nothing. A page is left out if it shares one of the 1,024 buckets of a seat's table with a page that is split, or if
+ * LIKES_MAX_SPLIT others are split. */
 static inline uint32_t likes_driver_propose(likes_driver *driver, const uint32_t *pages, size_t pages_len);
 
 /* The present phase. Phases with odd numbers are split. */
@@ -382,12 +390,14 @@ static inline void likes_phase_free(likes_phase *phase) {
         likes_phase_free_nonnull(phase);
 }
 
-/* The sizes and places that are part of the ABI. */
+/* The sizes and places that are part of the ABI, and the order of bytes: the library reads a request's op and its reserved
+ * field as one number, of which op is the lower half. */
 #ifdef __cplusplus
-#define LIKES_PIN(holds) static_assert(holds, "a size or a place is not that of the library")
+#define LIKES_PIN(holds) static_assert(holds, "a size, a place or the order of bytes is not that of the library")
 #else
-#define LIKES_PIN(holds) _Static_assert(holds, "a size or a place is not that of the library")
+#define LIKES_PIN(holds) _Static_assert(holds, "a size, a place or the order of bytes is not that of the library")
 #endif
+LIKES_PIN(__BYTE_ORDER__ == __ORDER_LITTLE_ENDIAN__);
 LIKES_PIN(sizeof(likes_driver) == 8 && sizeof(likes_seat) == 8 && sizeof(likes_phase) == 8);
 LIKES_PIN(sizeof(likes_options) == 64 && offsetof(likes_options, seats) == 0 && offsetof(likes_options, users) == 4);
 LIKES_PIN(offsetof(likes_options, room) == 8 && offsetof(likes_options, hot) == 12);

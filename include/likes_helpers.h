@@ -40,14 +40,14 @@ extern "C" {
 #endif
 
 /* What the helpers' calls answer, beside the statuses of likes.h. They are errors: likes_is_error holds of them, and
- * likes_status_text has their texts. */
+ * likes_status_text has their texts. But for LIKES_LOOK_LOST, nothing was done. */
 enum likes_helper_status {
     LIKES_NO_THREAD = 1000,    /* the driver's thread can't be started */
     LIKES_WRONG_PERIOD = 1001, /* the period is 0 */
     LIKES_NOT_STARTED = 1002,  /* the service isn't started, or it was stopped */
     LIKES_MOVED = 1003,        /* the service is a copy */
     LIKES_UNKNOWN_SEAT = 1004, /* the service has fewer seats */
-    LIKES_LOOK_LOST = 1005     /* the look was found, but somebody took it by likes_seat_take_found */
+    LIKES_LOOK_LOST = 1005     /* the look was made, but somebody took what was found by likes_seat_take_found */
 };
 
 /* So often a call tries again at once while its seat is between phases, before it yields the processor. */
@@ -378,6 +378,29 @@ static inline uint64_t likes_service_phase(likes_service *service) {
     uint64_t phase = likes_phase_now(&service->phase);
     pthread_mutex_unlock(&service->reading);
     return phase;
+}
+
+/* Proposes pages to be split, as likes_driver_propose does: LIKES_OK. Any thread may call it. It waits for a turn of the
+ * driver, and where another thread asks for counts, until that has them. */
+static inline uint32_t likes_service_propose(likes_service *service, const uint32_t *pages, size_t pages_len) {
+    uint32_t fault = likes_service_fault(service);
+    if (fault != LIKES_OK)
+        return fault;
+    pthread_mutex_lock(&service->driving);
+    uint32_t status = likes_driver_propose(&service->driver, pages, pages_len);
+    pthread_mutex_unlock(&service->driving);
+    return status;
+}
+
+/* Writes the pages that are split, as likes_driver_split_pages does, and gives their number: 0 where
+ * likes_service_fault isn't LIKES_OK. Any thread may call it. It waits as likes_service_propose does. */
+static inline size_t likes_service_split_pages(likes_service *service, uint32_t *pages, size_t pages_len) {
+    if (likes_service_fault(service) != LIKES_OK)
+        return 0;
+    pthread_mutex_lock(&service->driving);
+    size_t written = likes_driver_split_pages(&service->driver, pages, pages_len);
+    pthread_mutex_unlock(&service->driving);
+    return written;
 }
 
 /* Takes a seat's lock. Until likes_service_rest, the seat is this thread's, which may make any call on it. NULL, and
