@@ -14,7 +14,7 @@ static int wrong;
 
 #define IS(call, expected)                                                                             \
     do {                                                                                               \
-        uint64_t is = (call), should = (expected);                                                     \
+        uint64_t is = (uint64_t)(call), should = (uint64_t)(expected);                                 \
         if (is != should) {                                                                            \
             printf("line %d: %s is %llu (%s), and not %llu\n", __LINE__, #call, (unsigned long long)is, \
                    likes_status_text((uint32_t)is), (unsigned long long)should);                       \
@@ -129,15 +129,38 @@ static void two_seats(void) {
     free_service(&it);
 }
 
+/* Which pages are split: as many as are told, in any order, and no others. Less room has the first of them. */
+static void is_split(likes_driver *driver, const uint32_t *pages, size_t pages_len) {
+    uint32_t told[LIKES_MAX_SPLIT + 1], few[LIKES_MAX_SPLIT + 1];
+    memset(told, 0xa5, sizeof told);
+    IS(likes_driver_split_pages(driver, told, LIKES_MAX_SPLIT + 1), pages_len);
+    IS(told[pages_len], UINT32_C(0xa5a5a5a5));
+    for (size_t n = 0; n < pages_len; n++) {
+        int times = 0;
+        for (size_t i = 0; i < pages_len; i++)
+            times += told[i] == pages[n];
+        IS(times, 1);
+    }
+    for (size_t room = 0; room <= pages_len; room++) {
+        memset(few, 0xa5, sizeof few);
+        IS(likes_driver_split_pages(driver, few, room), room);
+        IS(memcmp(few, told, room * sizeof *few), 0);
+        IS(few[room], UINT32_C(0xa5a5a5a5));
+    }
+    IS(likes_driver_split_pages(driver, NULL, 0), 0);
+}
+
 /* A million pages, of which the last is marked: a split phase, and all counts after it. */
-static void million_pages(void) {
+static void slots(void) {
     enum { PAGES = 1000000, LAST = PAGES - 1 };
     static const uint64_t counts[PAGES];
     static uint64_t last[PAGES];
     const uint32_t marks[] = {LAST};
     likes_answer answer;
     opened it = open_service((likes_options){.seats = 2, .users = 2, .room = 1}, counts, PAGES, marks, 1);
+    is_split(&it.driver, marks, 1);
     change_phase(&it, 2);
+    is_split(&it.driver, marks, 1);
     IS(likes_seat_like(&it.seats[0], 0, LAST), LIKES_LIKED);
     IS(likes_seat_like(&it.seats[0], 0, LAST), LIKES_LIKED);
     IS(likes_seat_like(&it.seats[1], 1, LAST), LIKES_LIKED);
@@ -157,6 +180,172 @@ static void million_pages(void) {
     IS(likes_driver_last_counts(&it.driver, 0, last, PAGES), LIKES_COUNTED);
     for (uint32_t page = 0; page < PAGES; page++)
         IS(last[page], page == LAST ? 3 : page == 5 ? 2 : 0);
+    free_service(&it);
+}
+
+/* Page 7 has the slot in phase 1, and page 8 in phase 3: likes of both in both phases. */
+static void moves(void) {
+    enum { PAGES = 10 };
+    static const uint64_t counts[PAGES];
+    const uint32_t in_slot[] = {7, 8};
+    uint64_t last[PAGES];
+    likes_answer answer;
+    likes_found found;
+    opened it = open_service((likes_options){.seats = 2, .users = 2, .room = 2}, counts, PAGES, NULL, 0);
+    IS(likes_driver_turn(&it.driver, LIKES_END_IF_IT_SERVES), LIKES_GOES_ON);
+    is_split(&it.driver, in_slot, 0);
+    IS(likes_driver_propose(&it.driver, &in_slot[0], 1), LIKES_OK);
+    for (uint32_t round = 0; round < 2; round++) {
+        const uint32_t *split = &in_slot[round], *joined = &in_slot[1 - round];
+        change_phase(&it, 2);
+        is_split(&it.driver, split, 1);
+        IS(likes_driver_propose(&it.driver, &in_slot[1], 1), LIKES_OK);
+        is_split(&it.driver, split, 1);
+        for (uint32_t i = 0; i < 2; i++) {
+            IS(likes_seat_like(&it.seats[i], i, 7), LIKES_LIKED);
+            IS(likes_seat_like(&it.seats[i], i, 8), LIKES_LIKED);
+            IS(likes_seat_look(&it.seats[i], i, *joined, 0, &answer), LIKES_SEEN);
+            IS(answer.count, 2 * round + i + 1);
+            IS(likes_seat_look(&it.seats[i], i, *split, 5, &answer), LIKES_WAITS);
+            IS(likes_seat_glance(&it.seats[i], i, *split, &answer), LIKES_SEEN);
+            IS(answer.count, 2 * round + 1);
+        }
+        change_phase(&it, 2);
+        is_split(&it.driver, split, 1);
+        for (uint32_t i = 0; i < 2; i++) {
+            IS(likes_seat_turn(&it.seats[i]), LIKES_RUNS);
+            IS(likes_seat_take_found(&it.seats[i], &found), true);
+            IS(found.page, *split);
+            IS(found.count, 2 * round + 2);
+        }
+    }
+    for (uint32_t i = 0; i < 2; i++)
+        IS(likes_seat_retire(&it.seats[i]), LIKES_GONE);
+    IS(likes_driver_last_counts(&it.driver, 0, last, PAGES), LIKES_COUNTED);
+    for (uint32_t page = 0; page < PAGES; page++)
+        IS(last[page], page == 7 || page == 8 ? 4 : 0);
+    free_service(&it);
+}
+
+/* What is proposed: when a turn takes it, how many pages, and which numbers do nothing. */
+static void proposals(void) {
+    enum { PAGES = 100 };
+    static const uint64_t counts[PAGES];
+    const uint32_t marks[] = {50}, far[] = {PAGES, UINT32_MAX}, mixed[] = {PAGES, 3, 3, 50, UINT32_MAX},
+                   both[] = {50, 3}, other[] = {4}, late[] = {50, 4};
+    uint32_t all[LIKES_MAX_SPLIT + 1];
+    opened it = open_service((likes_options){.seats = 1, .users = 1, .room = 1}, counts, PAGES, NULL, 0);
+    /* Without a page that is one, nothing is split. A phase that ends in any case has none then. */
+    IS(likes_driver_propose(&it.driver, far, 2), LIKES_OK);
+    IS(likes_driver_turn(&it.driver, LIKES_END_IF_IT_SERVES), LIKES_GOES_ON);
+    IS(likes_driver_turn(&it.driver, LIKES_END), LIKES_ANNOUNCED);
+    IS(likes_driver_propose(&it.driver, other, 1), LIKES_OK);
+    IS(likes_seat_turn(&it.seats[0]), LIKES_BETWEEN);
+    IS(likes_driver_turn(&it.driver, LIKES_END), LIKES_RELEASED);
+    is_split(&it.driver, marks, 0);
+    /* A split phase's end takes what is proposed, until the next one's. A turn that can't end a phase takes nothing. */
+    change_phase(&it, 1);
+    IS(likes_driver_propose(&it.driver, mixed, 5), LIKES_OK);
+    change_phase(&it, 1);
+    is_split(&it.driver, other, 1);
+    IS(likes_driver_propose(&it.driver, NULL, 0), LIKES_OK);
+    IS(likes_driver_turn(&it.driver, LIKES_NO_END), LIKES_GOES_ON);
+    change_phase(&it, 1);
+    is_split(&it.driver, other, 1);
+    IS(likes_driver_turn(&it.driver, LIKES_END_IF_IT_SERVES), LIKES_GOES_ON);
+    IS(likes_driver_propose(&it.driver, other, 1), LIKES_OK);
+    IS(likes_driver_turn(&it.driver, LIKES_NO_END), LIKES_GOES_ON);
+    change_phase(&it, 1);
+    is_split(&it.driver, other, 1);
+    free_service(&it);
+    /* A marked page is split from the first on, and what is proposed beside it from the second. */
+    it = open_service((likes_options){.seats = 1, .users = 1, .room = 1}, counts, PAGES, marks, 1);
+    IS(likes_driver_propose(&it.driver, mixed, 5), LIKES_OK);
+    change_phase(&it, 1);
+    is_split(&it.driver, marks, 1);
+    change_phase(&it, 1);
+    IS(likes_driver_propose(&it.driver, other, 1), LIKES_OK);
+    change_phase(&it, 1);
+    if (likes_driver_split_pages(&it.driver, all, 2) == 2)
+        is_split(&it.driver, both, 2);
+    else
+        is_split(&it.driver, marks, 1); /* the two share a bucket */
+    change_phase(&it, 1);
+    change_phase(&it, 1);
+    if (likes_driver_split_pages(&it.driver, all, 2) == 2)
+        is_split(&it.driver, late, 2);
+    else
+        is_split(&it.driver, marks, 1);
+    free_service(&it);
+}
+
+/* Of a longer array the first 64 are proposed: the 65th isn't split, even where it alone is a page. */
+static void many_proposed(void) {
+    static const uint64_t counts[1000];
+    uint32_t all[LIKES_MAX_SPLIT + 1], told[LIKES_MAX_SPLIT + 1];
+    size_t most = 0;
+    opened it = open_service((likes_options){.seats = 1, .users = 1, .room = 1}, counts, 1000, NULL, 0);
+    memset(all, 0xff, sizeof all);
+    all[LIKES_MAX_SPLIT] = 0;
+    IS(likes_driver_propose(&it.driver, all, LIKES_MAX_SPLIT + 1), LIKES_OK);
+    IS(likes_driver_turn(&it.driver, LIKES_END_IF_IT_SERVES), LIKES_GOES_ON);
+    all[LIKES_MAX_SPLIT - 1] = 0;
+    IS(likes_driver_propose(&it.driver, all, LIKES_MAX_SPLIT + 1), LIKES_OK);
+    change_phase(&it, 1);
+    is_split(&it.driver, all + LIKES_MAX_SPLIT, 1);
+    for (uint32_t n = 0; n <= LIKES_MAX_SPLIT; n++)
+        all[n] = 11 * n;
+    IS(likes_driver_propose(&it.driver, all, LIKES_MAX_SPLIT + 1), LIKES_OK);
+    change_phase(&it, 1);
+    change_phase(&it, 1);
+    most = likes_driver_split_pages(&it.driver, told, LIKES_MAX_SPLIT + 1);
+    IS(0 < most && most <= LIKES_MAX_SPLIT, true);
+    for (size_t n = 0; n < most; n++)
+        IS(told[n] % 11 == 0 && told[n] < 11 * LIKES_MAX_SPLIT, true);
+    is_split(&it.driver, told, most);
+    free_service(&it);
+}
+
+enum { MILLION = 1000000, HOT = 777777, LIKES = 20000, CHOICES = 40 };
+
+static opened open_million(uint32_t hot) {
+    static const uint64_t counts[MILLION];
+    return open_service((likes_options){.seats = 2, .users = 2, .room = 1, .hot = hot}, counts, MILLION, NULL, 0);
+}
+
+/* Makes likes of one page, or of pages that are drawn, and a turn that may end the phase, until one does: at most as
+ * many times as choices. Gives the turn's answer. */
+static uint32_t like_until_end(opened *it, bool is_one) {
+    uint32_t turn = LIKES_GOES_ON;
+    uint64_t random = 1;
+    for (int choice = 0; choice < CHOICES && turn == LIKES_GOES_ON; choice++) {
+        for (uint32_t i = 0; i < LIKES; i++) {
+            random = random * UINT64_C(6364136223846793005) + 1442695040888963407u;
+            uint32_t page = is_one ? HOT : (uint32_t)(random >> 33) % MILLION;
+            IS(likes_seat_like(&it->seats[i % 2], i % 2, page), LIKES_LIKED);
+        }
+        turn = likes_driver_turn(&it->driver, LIKES_END_IF_IT_SERVES);
+    }
+    return turn;
+}
+
+/* A page with many likes is found and split, and a phase ends by itself for that. It isn't where pages are alike, none
+ * may get hot, or others are proposed. */
+static void hot_pages(void) {
+    const uint32_t right[] = {HOT}, other[] = {3};
+    for (uint32_t is_proposed = 0; is_proposed < 2; is_proposed++) {
+        opened it = open_million(512);
+        IS(like_until_end(&it, false), LIKES_GOES_ON);
+        IS(likes_driver_propose(&it.driver, other, is_proposed), LIKES_OK);
+        IS(like_until_end(&it, true), LIKES_ANNOUNCED);
+        for (uint32_t i = 0; i < 2; i++)
+            IS(likes_seat_turn(&it.seats[i]), LIKES_BETWEEN);
+        IS(likes_driver_turn(&it.driver, LIKES_NO_END), LIKES_RELEASED);
+        is_split(&it.driver, is_proposed ? other : right, 1);
+        free_service(&it);
+    }
+    opened it = open_million(0);
+    IS(like_until_end(&it, true), LIKES_GOES_ON);
     free_service(&it);
 }
 
@@ -221,7 +410,6 @@ static void openings(void) {
     IS(likes_open(&right, counts, 1, NULL, 0, NULL, 0, &driver), LIKES_IN_USE);
     likes_driver_free(&driver);
     IS(driver.at == NULL, true);
-    right.seats = 1; /* each takes 9 bytes a page */
     IS(likes_open(&right, counts, LIKES_MAX_PAGES, NULL, 0, NULL, 0, &driver), LIKES_OK);
     likes_driver_free(&driver);
 }
@@ -340,6 +528,11 @@ static void empty_handles(void) {
     IS(likes_driver_phase(&driver), 0);
     IS(likes_driver_last_counts(&driver, 0, counts, 1), LIKES_EMPTY);
     IS(likes_driver_last_counts(&driver, UINT32_MAX, NULL, 0), LIKES_EMPTY);
+    IS(likes_driver_split_pages(&driver, &page, 1), 0);
+    IS(likes_driver_split_pages(&driver, NULL, 0), 0);
+    IS(page, 7);
+    IS(likes_driver_propose(&driver, &page, 1), LIKES_EMPTY);
+    IS(likes_driver_propose(&driver, NULL, 0), LIKES_EMPTY);
     IS(driver.at == NULL && seat.at == NULL && phase.at == NULL, true);
 }
 
@@ -779,13 +972,15 @@ static void last_of_ending(void) {
     free_service(&it);
 }
 
-/* A driver's answers, with hot pages, and counts of one moment. */
+/* A driver's answers, with a page that is proposed, and counts of one moment. */
 static void driving(void) {
     const uint64_t counts[] = {5, 5};
+    const uint32_t one[] = {1};
     uint64_t now[3] = {0};
     likes_answer answer;
-    opened it = open_service((likes_options){.seats = 1, .users = 1, .room = 2, .hot = 3}, counts, 2, NULL, 0);
+    opened it = open_service((likes_options){.seats = 1, .users = 1, .room = 2, .hot = 0}, counts, 2, NULL, 0);
     likes_seat *seat = &it.seats[0];
+    IS(likes_driver_propose(&it.driver, one, 1), LIKES_OK);
     IS(likes_driver_turn(&it.driver, LIKES_NO_END), LIKES_GOES_ON);
     IS(likes_driver_snapshot(&it.driver, 0, now, 3), LIKES_WRONG_RANGE);
     IS(likes_driver_snapshot(&it.driver, 3, NULL, 0), LIKES_WRONG_RANGE);
@@ -812,7 +1007,7 @@ static void driving(void) {
     IS(now[1], 8);
     IS(likes_driver_turn(&it.driver, LIKES_NO_END), LIKES_RELEASED);
     IS(likes_driver_phase(&it.driver), 1);
-    IS(likes_seat_look(seat, 0, 0, 1, &answer), LIKES_SEEN); /* page 0 isn't hot */
+    IS(likes_seat_look(seat, 0, 0, 1, &answer), LIKES_SEEN); /* page 0 isn't split */
     IS(answer.count, 6);
     IS(likes_seat_look(seat, 0, 1, 1, &answer), LIKES_WAITS);
     /* The seat's room is half taken: the phase ends early. No counts are given at the end of a split phase. */
@@ -823,7 +1018,7 @@ static void driving(void) {
     IS(likes_driver_turn(&it.driver, LIKES_NO_END), LIKES_RELEASED);
     IS(likes_driver_turn(&it.driver, LIKES_NO_END), LIKES_GOES_ON);
     free_service(&it);
-    /* Where nothing can be split, the first phase goes on. */
+    /* Where nothing is split, the first phase goes on. */
     it = open_service((likes_options){.seats = 1, .users = 1, .room = 2, .hot = 0}, counts, 2, NULL, 0);
     IS(likes_driver_turn(&it.driver, LIKES_END_IF_IT_SERVES), LIKES_GOES_ON);
     free_service(&it);
@@ -868,7 +1063,7 @@ static void still_handles(void) {
     likes_answer answers[4];
     likes_found found;
     uint64_t last[2];
-    uint32_t page;
+    uint32_t page, split[2];
     likes_seat extra = {0};
     likes_phase another = {0};
     still.it = open_service((likes_options){.seats = 2, .users = 2, .room = 2, .hot = 0}, counts, 2, marks, 1);
@@ -885,7 +1080,9 @@ static void still_handles(void) {
             IS(likes_seat_lasts(&still.it.seats[i], 0, &page, 1), LIKES_OK);
         }
         IS(likes_seat_run(&still.it.seats[0], row, 4, answers, 4), 4);
+        IS(likes_driver_propose(&still.it.driver, &page, 1), LIKES_OK);
         change_phase(&still.it, 2);
+        IS(likes_driver_split_pages(&still.it.driver, split, 2), 1);
         IS(likes_driver_snapshot(&still.it.driver, 0, last, 2), LIKES_NO_MOMENT);
         IS(likes_phase_now(&still.it.phase), phase + 1);
     }
@@ -977,7 +1174,11 @@ int main(int count, char **words) {
     statuses();
     plain();
     two_seats();
-    million_pages();
+    slots();
+    moves();
+    proposals();
+    many_proposed();
+    hot_pages();
     room();
     openings();
     order_of_openings();

@@ -97,10 +97,11 @@ int main(int count, char **words) {
     const uint32_t marks[] = {0};
     uint64_t totals[PAGES], phases, likes = 0, looks = 0;
     likes_options options = {.seats = SEATS, .users = USERS, .room = LIKES_MAX_ROOM, .hot = 1000};
-    hold(likes_service_start(&service, &options, counts, PAGES, marks, 1, NULL, 0, 1000) == LIKES_OK, "no service was started");
+    uint32_t status = likes_service_start(&service, &options, counts, PAGES, marks, 1, NULL, 0, 1000);
+    hold(status == LIKES_OK, "no service was started");
     until = likes_clock() + strtoull(words[1], NULL, 10) * UINT64_C(1000000000);
     for (uint32_t i = 0; i < SEATS; i++) {
-        workers[i].number = workers[i].random = i;
+        workers[i].random = workers[i].number = i;
         memset(workers[i].last, 0xff, sizeof workers[i].last);
         hold(pthread_create(&workers[i].thread, NULL, work, &workers[i]) == 0, "no thread was started");
     }

@@ -62,6 +62,22 @@ uint32_t likes_driver_last_counts_nonnull(likes_driver *driver, uint32_t from, u
     return see_counts(driver, from, counts, counts_len) + 1;
 }
 
+static void see_pages(const likes_driver *driver, const uint32_t *pages, size_t pages_len) {
+    seen.calls += driver != NULL;
+    seen.first = pages;
+    seen.first_len = pages_len;
+}
+
+size_t likes_driver_split_pages_nonnull(likes_driver *driver, uint32_t *pages, size_t pages_len) {
+    see_pages(driver, pages, pages_len);
+    return 46;
+}
+
+uint32_t likes_driver_propose_nonnull(likes_driver *driver, const uint32_t *pages, size_t pages_len) {
+    see_pages(driver, pages, pages_len);
+    return 47;
+}
+
 void likes_seat_free_nonnull(likes_seat *seat) {
     seen.calls++;
     seen.first = seat;
@@ -115,18 +131,22 @@ int main(void) {
         HOLD(has_passed(counts, 3 * first, answers, 4 * second) && seen.from == 8);
         HOLD(likes_seat_lasts(&seat, 9, first ? lasts : NULL, 6 * first) == 45);
         HOLD(has_passed(lasts, 6 * first, answers, 4 * second) && seen.from == 9);
+        HOLD(likes_driver_split_pages(&driver, first ? lasts : NULL, 6 * first) == 46);
+        HOLD(has_passed(lasts, 6 * first, answers, 4 * second));
+        HOLD(likes_driver_propose(&driver, first ? marks : NULL, 2 * first) == 47);
+        HOLD(has_passed(marks, 2 * first, answers, 4 * second));
     }
-    HOLD(seen.calls == 40);
+    HOLD(seen.calls == 56);
     likes_seat_free(NULL);
     likes_driver_free(NULL);
     likes_phase_free(NULL);
-    HOLD(seen.calls == 40);
+    HOLD(seen.calls == 56);
     likes_seat_free(&seat);
     HOLD(seen.first == &seat);
     likes_driver_free(&driver);
     HOLD(seen.first == &driver);
     likes_phase_free(&phase);
-    HOLD(seen.first == &phase && seen.calls == 43);
+    HOLD(seen.first == &phase && seen.calls == 59);
     HOLD(likes_seat_of(7, 3) == 1 && likes_seat_of(UINT32_MAX, 16) == 15);
     puts("all passed on as it should be");
     return 0;

@@ -206,7 +206,7 @@ static void change(void) {
 
 /* Four requests and four answers: where each of them begins. */
 static void arrays(void) {
-    static const uint32_t users[] = {10, 13, 16, 10}, pages[] = {6, 5, 3, 0}, lasts[] = {6, 3, UINT32_MAX, 6}, op = 2;
+    static const uint32_t users[] = {10, 13, 16, 10}, pages[] = {6, 5, 3, 0}, last[] = {6, 3, UINT32_MAX, 6}, op = 2;
     static const uint64_t shown[] = {701, 600, 401, 100};
     uint64_t requests[4 * REQUEST / 8] = {0}, answers[4 * ANSWER / 8] = {0};
     IS(likes_seat_like((likes_seat *)&seats[1], 13, 3), 1); /* LIKES_LIKED */
@@ -222,7 +222,7 @@ static void arrays(void) {
     for (int n = 0; n < 4; n++) {
         row answer;
         memcpy(&answer, (unsigned char *)answers + n * ANSWER, ANSWER);
-        ANSWERS(shown[n], lasts[n], 2); /* LIKES_SEEN */
+        ANSWERS(shown[n], last[n], 2); /* LIKES_SEEN */
     }
 }
 
@@ -265,42 +265,76 @@ static void found(void) {
 /* Last likes, those of the opening too: numbers of 4 bytes, one behind the other. */
 static void last_likes(void) {
     static const uint32_t shown[] = {UINT32_MAX, 4, 6, 3, 5};
-    uint32_t row[7];
-    memset(row, 0xa5, sizeof row);
-    IS(likes_seat_lasts_nonnull((likes_seat *)&seats[1], 1, row + 1, 5), 0);
-    IS(row[0], 0xa5a5a5a5);
-    IS(row[6], 0xa5a5a5a5);
+    uint32_t pages[7];
+    memset(pages, 0xa5, sizeof pages);
+    IS(likes_seat_lasts_nonnull((likes_seat *)&seats[1], 1, pages + 1, 5), 0);
+    IS(pages[0], 0xa5a5a5a5);
+    IS(pages[6], 0xa5a5a5a5);
     for (uint32_t n = 0; n < 5; n++) {
-        IS(row[n + 1], shown[n]);
-        IS(likes_seat_last((likes_seat *)&seats[1], 3 * n + 4, row + n + 1), 0);
-        IS(row[n + 1], shown[n]);
+        IS(pages[n + 1], shown[n]);
+        IS(likes_seat_last((likes_seat *)&seats[1], 3 * n + 4, pages + n + 1), 0);
+        IS(pages[n + 1], shown[n]);
     }
-    IS(row[6], 0xa5a5a5a5);
-    IS(likes_seat_last((likes_seat *)&seats[1], 3, row), 104); /* LIKES_OTHER_SEAT */
-    IS(row[0], 0xa5a5a5a5);
+    IS(pages[6], 0xa5a5a5a5);
+    IS(likes_seat_last((likes_seat *)&seats[1], 3, pages), 104); /* LIKES_OTHER_SEAT */
+    IS(pages[0], 0xa5a5a5a5);
 }
 
-/* A page that gets as many likes as the last option says becomes hot. */
-static void hot(void) {
+/* The pages that are split, and those that are proposed: numbers of 4 bytes, one behind the other. */
+static void split_pages(void) {
+    static const uint32_t proposed[] = {UINT32_MAX, 5, UINT32_MAX};
+    uint32_t pages[4];
+    memset(pages, 0xa5, sizeof pages);
+    IS(likes_driver_split_pages_nonnull((likes_driver *)&driver, pages + 1, 2), 1);
+    IS(pages[0], 0xa5a5a5a5);
+    IS(pages[1], 2);
+    IS(pages[2], 0xa5a5a5a5);
+    void *other_driver = NULL, *seat = NULL;
+    row it = right_options();
+    put32(&it, SEATS, 1);
+    IS(likes_open_nonnull((likes_options *)&it, counts, 7, marks, 0, lasts, 0, (likes_driver *)&other_driver), 0);
+    IS(likes_driver_take_seat((likes_driver *)&other_driver, (likes_seat *)&seat), 0);
+    IS(likes_driver_propose_nonnull((likes_driver *)&other_driver, proposed, 1), 0);
+    IS(likes_driver_turn((likes_driver *)&other_driver, 1), 9); /* LIKES_GOES_ON */
+    IS(likes_driver_propose_nonnull((likes_driver *)&other_driver, proposed, 3), 0);
+    IS(likes_driver_turn((likes_driver *)&other_driver, 1), 10); /* LIKES_ANNOUNCED */
+    IS(likes_seat_turn((likes_seat *)&seat), 5);                 /* LIKES_BETWEEN */
+    IS(likes_driver_turn((likes_driver *)&other_driver, 0), 12); /* LIKES_RELEASED */
+    IS(likes_driver_split_pages_nonnull((likes_driver *)&other_driver, pages + 1, 2), 1);
+    IS(pages[1], 5);
+    IS(pages[2], 0xa5a5a5a5);
+    likes_seat_free_nonnull((likes_seat *)&seat);
+    likes_driver_free_nonnull((likes_driver *)&other_driver);
+}
+
+/* Makes many likes of page 1 and one of page 0, of a service in which so many make a page hot. Whether one gets hot. */
+static bool gets_hot(uint32_t likes) {
     void *hot_driver = NULL, *seat = NULL;
     row it = right_options(), answer = {{0}};
+    uint32_t turn = 9; /* LIKES_GOES_ON */
     put32(&it, SEATS, 1);
-    put32(&it, HOT, 2);
+    put32(&it, HOT, likes);
     IS(likes_open_nonnull((likes_options *)&it, counts, 7, marks, 0, lasts, 0, (likes_driver *)&hot_driver), 0);
     IS(likes_driver_take_seat((likes_driver *)&hot_driver, (likes_seat *)&seat), 0);
-    for (uint32_t page = 0; page < 2; page++)
-        for (uint32_t n = 0; n <= page; n++)
-            IS(likes_seat_like((likes_seat *)&seat, 0, page), 1); /* LIKES_LIKED */
-    IS(likes_driver_turn((likes_driver *)&hot_driver, 1), 10);    /* LIKES_ANNOUNCED */
-    IS(likes_seat_turn((likes_seat *)&seat), 5);                  /* LIKES_BETWEEN */
-    IS(likes_driver_turn((likes_driver *)&hot_driver, 0), 12);    /* LIKES_RELEASED */
-    IS(likes_seat_look((likes_seat *)&seat, 0, 0, 0, (likes_answer *)&answer), 2); /* LIKES_SEEN */
-    ANSWERS(101, 1, 2);
-    IS(likes_seat_look((likes_seat *)&seat, 0, 1, 0, (likes_answer *)&answer), 3); /* LIKES_WAITS */
-    ANSWERS(0, 0, 3);
+    IS(likes_seat_like((likes_seat *)&seat, 0, 0), 1); /* LIKES_LIKED */
+    for (int choice = 0; choice < 20 && turn == 9; choice++) {
+        for (uint32_t n = 0; n < 20000; n++)
+            IS(likes_seat_like((likes_seat *)&seat, 0, 1), 1);
+        turn = likes_driver_turn((likes_driver *)&hot_driver, 1);
+    }
+    if (turn != 9) {
+        IS(turn, 10);                                              /* LIKES_ANNOUNCED */
+        IS(likes_seat_turn((likes_seat *)&seat), 5);               /* LIKES_BETWEEN */
+        IS(likes_driver_turn((likes_driver *)&hot_driver, 0), 12); /* LIKES_RELEASED */
+        IS(likes_seat_look((likes_seat *)&seat, 0, 0, 0, (likes_answer *)&answer), 2); /* LIKES_SEEN */
+        ANSWERS(101, 1, 2);
+        IS(likes_seat_look((likes_seat *)&seat, 0, 1, 0, (likes_answer *)&answer), 3); /* LIKES_WAITS */
+        ANSWERS(0, 0, 3);
+    }
     likes_seat_free_nonnull((likes_seat *)&seat);
     likes_driver_free_nonnull((likes_driver *)&hot_driver);
     IS(seat == NULL && hot_driver == NULL, true);
+    return turn != 9;
 }
 
 static void end(void) {
@@ -319,8 +353,11 @@ int main(void) {
     arrays();
     found();
     last_likes();
+    split_pages();
     end();
-    hot();
+    IS(gets_hot(512), true);
+    IS(gets_hot(1000000), false);
+    IS(gets_hot(0), false);
     puts("all fields in their places");
     return 0;
 }

@@ -144,10 +144,10 @@ static void request(uint64_t phase) {
     likes_answer answer, answers[ROW];
     likes_request row[ROW];
     likes_found found;
-    uint32_t last, lasts[ROW];
+    uint32_t page, lasts[ROW];
     for (uint32_t i = 0; i < 300; i++) {
         likes_seat *seat = &seats[i % SEATS];
-        IS(likes_seat_last(seat, i, &last), LIKES_OK);
+        IS(likes_seat_last(seat, i, &page), LIKES_OK);
         uint32_t own = (USERS - i % SEATS + SEATS - 1) / SEATS;
         IS(likes_seat_lasts(seat, 2 * i, lasts, ROW), 2 * i + ROW <= own ? LIKES_OK : LIKES_WRONG_RANGE);
         STILL(likes_seat_like(seat, i, i % PAGES));
@@ -163,15 +163,24 @@ static void request(uint64_t phase) {
         IS(likes_seat_phase(&seats[i]), phase);
 }
 
-/* A phase with requests, and its end. */
+/* A phase with requests, and its end. In two of four phases all pages are proposed, and in the others none. */
 static void play(uint64_t phase) {
     uint64_t counts[PAGES];
+    uint32_t pages[PAGES];
+    for (uint32_t page = 0; page < PAGES; page++)
+        pages[page] = PAGES - 1 - page;
     IS(likes_version(), LIKES_VERSION);
     IS(likes_driver_phase(&driver), phase);
     IS(likes_phase_now(&phase_now), phase);
     IS(likes_driver_turn(&driver, LIKES_NO_END), LIKES_GOES_ON);
     IS(likes_driver_turn(&driver, 3), LIKES_UNKNOWN_END);
     request(phase);
+    IS(likes_driver_propose(&driver, pages, phase % 4 < 2 ? PAGES : 0), LIKES_OK);
+    size_t split;
+    STILL(split = likes_driver_split_pages(&driver, pages, PAGES));
+    if (split < 1 || split > LIKES_MAX_SPLIT)
+        fail(__LINE__, "likes_driver_split_pages", "is answered otherwise");
+    IS(likes_driver_split_pages(&driver, NULL, 0), 0);
     IS(likes_driver_turn(&driver, phase % 4 < 2 ? LIKES_END_IF_IT_SERVES : LIKES_END), LIKES_ANNOUNCED);
     IS(likes_driver_snapshot(&driver, 0, counts, PAGES), LIKES_NO_MOMENT);
     IS(likes_driver_turn(&driver, LIKES_END_IF_IT_SERVES), LIKES_NOT_ALL_IN);
@@ -204,7 +213,7 @@ static void refused(void) {
     likes_seat seat = {0};
     likes_phase empty = {0};
     likes_answer answer;
-    uint32_t last;
+    uint32_t page = 0;
     STILL(likes_seat_free(&seat));
     STILL(likes_driver_free(&none));
     STILL(likes_phase_free(&empty));
@@ -214,12 +223,15 @@ static void refused(void) {
     IS(likes_phase_now(&empty), 0);
     IS(likes_seat_like(&seat, 0, 0), LIKES_EMPTY);
     IS(likes_seat_look(&seat, 0, 0, 0, &answer), LIKES_EMPTY);
-    IS(likes_seat_last(&seat, 0, &last), LIKES_EMPTY);
-    IS(likes_seat_lasts(&seat, 0, &last, 1), LIKES_EMPTY);
+    IS(likes_seat_last(&seat, 0, &page), LIKES_EMPTY);
+    IS(likes_seat_lasts(&seat, 0, &page, 1), LIKES_EMPTY);
+    IS(likes_driver_split_pages(&none, &page, 1), 0);
+    IS(likes_driver_propose(&none, &page, 1), LIKES_EMPTY);
     IS(likes_driver_turn(&none, LIKES_END_IF_IT_SERVES), LIKES_EMPTY);
     IS(likes_open(&options, counts, 1, NULL, 0, NULL, 0, &driver), LIKES_IN_USE);
     size_t held = blocks;
-    if (likes_open(&options, counts, 1, NULL, 0, NULL, 0, &none) != LIKES_WRONG_COUNT || none.at != NULL || blocks != held)
+    uint32_t status = likes_open(&options, counts, 1, NULL, 0, NULL, 0, &none);
+    if (status != LIKES_WRONG_COUNT || none.at != NULL || blocks != held)
         fail(__LINE__, "an opening with wrong numbers", "is answered otherwise, or leaves blocks behind");
 }
 

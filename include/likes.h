@@ -390,8 +390,8 @@ static inline void likes_phase_free(likes_phase *phase) {
         likes_phase_free_nonnull(phase);
 }
 
-/* The sizes and places that are part of the ABI, and the order of bytes: the library reads a request's op and its reserved
- * field as one number, of which op is the lower half. */
+/* The sizes and places that are part of the ABI, and the order of bytes: the library reads a request's op and its
+ * reserved field as one number, of which op is the lower half. */
 #ifdef __cplusplus
 #define LIKES_PIN(holds) static_assert(holds, "a size, a place or the order of bytes is not that of the library")
 #else

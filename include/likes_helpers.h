@@ -380,8 +380,8 @@ static inline uint64_t likes_service_phase(likes_service *service) {
     return phase;
 }
 
-/* Proposes pages to be split, as likes_driver_propose does: LIKES_OK. Any thread may call it. It waits for a turn of the
- * driver, and where another thread asks for counts, until that has them. */
+/* Proposes pages to be split, as likes_driver_propose does: LIKES_OK. Any thread may call it. It waits for a turn of
+ * the driver, and where another thread asks for counts, until that has them. */
 static inline uint32_t likes_service_propose(likes_service *service, const uint32_t *pages, size_t pages_len) {
     uint32_t fault = likes_service_fault(service);
     if (fault != LIKES_OK)
