@@ -7,6 +7,8 @@
 
 #include <stdarg.h>
 
+enum { STOCK = 200 };
+
 enum kind { LIKED, LOOKED, GLANCED, FOUND, WAITED, LACKED_ROOM, WAS_BETWEEN };
 
 /* A call that did something, or was refused by its phase or for want of room. Times are numbers that grow with each
@@ -37,6 +39,8 @@ typedef struct {
 typedef struct {
     span release, announcement;
     bool is_unasked; /* its end was announced by a turn that didn't ask for it */
+    uint32_t split[LIKES_MAX_SPLIT], found[LIKES_MAX_SPLIT]; /* its pages, and those of them that nobody proposed */
+    size_t split_len, found_len;
 } phase_span;
 
 /* Counts that were written: of a range of pages, at the end of a phase. */
@@ -54,6 +58,7 @@ typedef struct {
     uint64_t *counts;                /* the initial ones */
     uint32_t marks[LIKES_MAX_MARKS]; /* in random order */
     size_t marks_len;
+    uint32_t stock[STOCK]; /* pages that are proposed, and asked for more often */
     uint32_t *last;  /* each user's last like, or LIKES_NO_PAGE; used under the lock of its seat */
     size_t last_len; /* with how many of these the service was opened: all or none */
     bool is_timed;   /* whether calls are timed: a clock that all share slows them down */
@@ -105,7 +110,7 @@ static void note(history *to, event it) {
 
 static void note_release(record *it, uint64_t start, uint64_t end) {
     it->phases = (phase_span *)grown(it->phases, it->phases_len, &it->phases_room, sizeof *it->phases);
-    it->phases[it->phases_len++] = (phase_span){{start, end}, {NEVER, NEVER}, false};
+    it->phases[it->phases_len++] = (phase_span){.release = {start, end}, .announcement = {NEVER, NEVER}};
 }
 
 static void note_announcement(record *it, uint64_t start, uint64_t end, bool is_unasked) {
@@ -120,21 +125,20 @@ static void note_moment(record *it, uint32_t from, uint64_t *counts, size_t leng
     it->moments[it->moments_len++] = (moment){it->phases_len - 1, counts, from, length};
 }
 
-static bool is_marked(const record *it, uint32_t page) {
-    for (size_t i = 0; i < it->marks_len; i++)
-        if (it->marks[i] == page)
+static bool is_among(uint32_t page, const uint32_t *pages, size_t length) {
+    for (size_t i = 0; i < length; i++)
+        if (pages[i] == page)
             return true;
     return false;
 }
 
-/* Whether a page is sliced in a phase for certain. */
-static bool is_split(const record *it, uint32_t page, uint64_t phase) {
-    return phase % 2 == 1 && is_marked(it, page);
+static bool is_marked(const record *it, uint32_t page) {
+    return is_among(page, it->marks, it->marks_len);
 }
 
-/* Whether a page may be sliced in a phase: it is marked, or one of those that get hot. */
-static bool may_be_split(const record *it, uint32_t page, uint64_t phase) {
-    return phase % 2 == 1 && (is_marked(it, page) || (it->options.hot > 0 && page < 64));
+/* Whether a page is sliced in a phase, as the driver told it. */
+static bool is_split(const record *it, uint32_t page, uint64_t phase) {
+    return is_among(page, it->phases[phase].split, it->phases[phase].split_len);
 }
 
 /* The likes of some seats, each as its page and a number of it, in order. */
@@ -216,7 +220,7 @@ static void check_count(const record *it, const tallies *of, uint32_t number, co
     uint64_t done = likes_below(&of->by_end, page, look->start);
     if (begun < most)
         most = begun;
-    if (done > least && (look->kind != GLANCED || !may_be_split(it, look->page, phase)))
+    if (done > least && (look->kind != GLANCED || !is_split(it, look->page, phase)))
         least = done;
     if (look->count < first + least || look->count > first + most)
         fail(it, "seat %u, phase %llu: a look (%d) at page %u showed %llu, and not from %llu to %llu", number,
@@ -242,7 +246,7 @@ static void check_time(const record *it, uint32_t number, const event *made) {
 /* A look waits where its page is split, and nowhere else. */
 static void check_wait(const record *it, uint32_t number, const event *made) {
     bool waits = made->kind == WAITED || made->kind == LACKED_ROOM;
-    if (waits && !may_be_split(it, made->page, made->phase))
+    if (waits && !is_split(it, made->page, made->phase))
         fail(it, "seat %u: a look at page %u waits in phase %llu", number, made->page, (unsigned long long)made->phase);
     if (made->kind == LOOKED && is_split(it, made->page, made->phase))
         fail(it, "seat %u: a look at page %u doesn't wait in phase %llu", number, made->page,
@@ -309,6 +313,14 @@ static void check_hints(const record *it) {
     free(is_half_full);
 }
 
+/* A page that is split, and that nobody has marked or proposed, was liked before. */
+static void check_found(const record *it, const tally *by_phase) {
+    for (size_t phase = 0; phase < it->phases_len; phase++)
+        for (size_t n = 0; n < it->phases[phase].found_len; n++)
+            if (likes_below(by_phase, it->phases[phase].found[n], phase) == 0)
+                fail(it, "page %u is split in phase %zu, and nobody has liked it", it->phases[phase].found[n], phase);
+}
+
 /* Checks all that was noted in a round. */
 static void check_events(const record *it) {
     uint32_t seats = it->options.seats;
@@ -320,6 +332,7 @@ static void check_events(const record *it) {
     for (size_t n = 0; n < it->moments_len; n++)
         check_moment(it, &of.by_phase, &it->moments[n]);
     check_hints(it);
+    check_found(it, &of.by_phase);
     free(of.by_phase.points);
     free(of.by_start.points);
     free(of.by_end.points);

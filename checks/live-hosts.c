@@ -6,7 +6,10 @@
  *
  * Of each call, the model knows what it may answer: the first refusal that applies, NO_ROOM exactly where the room is
  * full, each user's last like, also of the opening, and each look that waited once, with its tag, in the order of
- * asking, in the next phase. A call writes nothing beside its answers. After the round:
+ * asking, in the next phase. A call writes nothing beside its answers. When a split phase begins, the driver is asked
+ * which pages are split: at most 64, no two alike, the marked ones among them, and the others proposed before by the
+ * round. Where it proposes none, the library may find pages that were liked. After the round:
+ *   - looks at split pages waited, and no others did
  *   - each page's final count is its initial count and its likes, and a snapshot's the likes of the phases up to it
  *   - each count has all likes of earlier phases and the seat's own before it, none of later phases and none of the
  *     seat's own after it. In half of the rounds calls are timed: a count has no like that began after it and, where
@@ -21,11 +24,11 @@ typedef struct {
     uint32_t end_share; /* in how many of 100 turns the end may be asked for; 0: the first phase never ends */
     bool is_shared;     /* whether the seats' threads make turns of the driver too */
     bool is_abandoned;  /* whether the driver is freed while seats go on */
-} plan;
+} schedule;
 
 typedef struct {
     game *game;
-    const plan *plan;
+    const schedule *plan;
     uint64_t random, tag;
     pthread_t thread;
 } player;
@@ -62,16 +65,16 @@ static void pause_for(uint64_t *random, uint32_t longest) {
         likes_sleep(below(random, 1000 * (uint64_t)longest + 1));
 }
 
-/* A marked page, one of the last, one of the first, one of a few of the round, or any. */
+/* A marked page, one of the round's stock, one of the last, one of the first, or any. */
 static uint32_t draw_page(const record *it, uint64_t *random) {
-    uint64_t choice = below(random, 8), few = it->pages < 64 ? it->pages : 64, favourite = it->seed + below(random, 8);
-    if (choice < 3 && it->marks_len > 0)
+    uint64_t choice = below(random, 8), few = it->pages < 64 ? it->pages : 64;
+    if (choice < 2 && it->marks_len > 0)
         return it->marks[low(random, it->marks_len)];
-    if (choice < 4)
-        return (uint32_t)(it->pages - 1 - low(random, few));
+    if (choice < 5)
+        return it->stock[low(random, STOCK)];
     if (choice < 6)
-        return (uint32_t)low(random, few);
-    return (uint32_t)below(choice < 7 ? &favourite : random, it->pages);
+        return (uint32_t)(it->pages - 1 - low(random, few));
+    return (uint32_t)(choice < 7 ? low(random, few) : below(random, it->pages));
 }
 
 /* A request at a seat, mostly of a user of its own. In a row it may have an unknown operation. */
@@ -213,17 +216,37 @@ static void draw_range(const record *it, uint64_t *random, uint32_t *from, size_
         *length = it->pages - *from;
 }
 
+/* Proposes pages: none, one, some, 64, or more than that. There may be marked ones among them, doubled ones, and
+ * numbers of no page. */
+static void propose_some(game *it, uint64_t *random) {
+    enum { MOST = 80 };
+    uint32_t pages[MOST];
+    const size_t lengths[] = {0, 1, 1, low(random, 8), low(random, LIKES_MAX_SPLIT), LIKES_MAX_SPLIT,
+                              LIKES_MAX_SPLIT + 1, LIKES_MAX_SPLIT + below(random, MOST - LIKES_MAX_SPLIT + 1)};
+    size_t length = lengths[below(random, 8)];
+    for (size_t n = 0; n < length; n++) {
+        pages[n] = it->record.stock[low(random, STOCK)];
+        if (one_in(random, 8))
+            pages[n] = draw_page(&it->record, random);
+        if (one_in(random, 16))
+            pages[n] = one_in(random, 2) ? (uint32_t)it->record.pages : (uint32_t)drawn(random);
+        if (n > 0 && one_in(random, 16))
+            pages[n] = pages[below(random, n)];
+    }
+    propose(it, pages, length);
+}
+
 /* Has the counts of a range written, and sometimes those of all pages, by ranges that meet. */
-static void take_counts(game *it, uint64_t *random, ranged *call) {
+static void take_counts(game *it, uint64_t *random, ranged *write) {
     uint32_t from;
     size_t length;
     draw_range(&it->record, random, &from, &length);
-    bool is_told = write_counts(it, call, from, length) == LIKES_COUNTED;
+    bool is_told = write_counts(it, write, from, length) == LIKES_COUNTED;
     if (!is_told || (it->record.pages > MANY_PAGES && !one_in(random, 32)))
         return;
     for (from = 0; from < it->record.pages; from += (uint32_t)length) {
         length = 1 + low(random, it->record.pages - from);
-        write_counts(it, call, from, length);
+        write_counts(it, write, from, length);
     }
 }
 
@@ -239,8 +262,10 @@ static void check_all_lasts(game *it) {
 
 /* Ends a phase, has every seat answer, and then releases the next. A seat that was freed before it was gone never
  * answers. */
-static void change_phase(game *it, const plan *plan, uint64_t *random) {
-    turn_driver(it, LIKES_END_IF_IT_SERVES);
+static void change_phase(game *it, const schedule *plan, uint64_t *random) {
+    turn_driver(it, one_in(random, 4) ? LIKES_END : LIKES_END_IF_IT_SERVES);
+    if (one_in(random, 4))
+        propose_some(it, random);
     for (uint32_t i = 0; i < it->record.options.seats && it->is_ending; i++) {
         pthread_mutex_lock(&it->seats[i].lock);
         if (turn_seat(it, i) == LIKES_RUNS)
@@ -269,7 +294,7 @@ static void hold_up(game *it, uint64_t *random) {
 }
 
 /* What a thread does with the driver that it holds. It holds no seat. */
-static void lead(game *it, const plan *plan, uint64_t *random) {
+static void lead(game *it, const schedule *plan, uint64_t *random) {
     uint64_t choice = below(random, 64);
     bool may_end = below(random, 100) < plan->end_share;
     if (choice < 8 && it->record.moments_len < 256)
@@ -282,11 +307,15 @@ static void lead(game *it, const plan *plan, uint64_t *random) {
         change_phase(it, plan, random);
     else if (choice == 14 && may_end)
         hold_up(it, random);
+    else if (choice < 18)
+        propose_some(it, random);
+    else if (choice < 20)
+        check_told(it, below(random, LIKES_MAX_SPLIT + 3));
     else
         turn_driver(it, !may_end ? LIKES_NO_END : one_in(random, 8) ? LIKES_END : LIKES_END_IF_IT_SERVES);
 }
 
-static void try_to_lead(game *it, const plan *plan, uint64_t *random) {
+static void try_to_lead(game *it, const schedule *plan, uint64_t *random) {
     if (pthread_mutex_trylock(&it->driving) != 0)
         return;
     if (it->driver.at != NULL)
@@ -313,7 +342,7 @@ static void *play(void *at) {
 }
 
 /* Changes phases after random times, and makes the turns of seats whose lock is free, until all seats are done. */
-static void drive(game *it, const plan *plan, uint64_t *random) {
+static void drive(game *it, const schedule *plan, uint64_t *random) {
     uint64_t abandoned = likes_clock() + 1000 * low(random, 20000);
     while (load(&it->done) < it->record.options.seats) {
         try_to_lead(it, plan, random);
@@ -380,6 +409,13 @@ static void draw_marks(record *it, uint64_t *random) {
     }
 }
 
+/* Draws the stock: any pages, more of them that are near each other, or both. */
+static void draw_stock(record *it, uint64_t *random) {
+    uint64_t near = below(random, it->pages), far = 1 + below(random, 4);
+    for (size_t n = 0; n < STOCK; n++)
+        it->stock[n] = (uint32_t)(below(random, 4) < far ? below(random, it->pages) : (near + n) % it->pages);
+}
+
 /* Draws last likes, or none, with which the service is opened. */
 static void draw_lasts(record *it, uint64_t *random) {
     size_t users = it->options.users;
@@ -424,13 +460,14 @@ static void draw_record(record *it, uint64_t *random) {
     for (size_t page = 0; page < it->pages; page++)
         it->counts[page] = one_in(random, 4) ? LIKES_MAX_COUNT : low(random, 1000000);
     draw_marks(it, random);
+    draw_stock(it, random);
     draw_lasts(it, random);
     it->is_timed = one_in(random, 2);
     note_release(it, 0, 0);
 }
 
 /* Opens a service, and takes its handles. */
-static void open_game(game *it, const plan *plan, uint64_t *random) {
+static void open_game(game *it, const schedule *plan, uint64_t *random) {
     record *of = &it->record;
     const uint32_t *lasts = of->last_len == 0 ? NULL : of->last;
     if (likes_open(&of->options, of->counts, of->pages, of->marks, of->marks_len, lasts, of->last_len, &it->driver))
@@ -451,6 +488,12 @@ static void open_game(game *it, const plan *plan, uint64_t *random) {
         if (at->waits == NULL)
             abort();
     }
+    it->asked.is_sampled = of->options.hot > 0;
+    note_told(it);
+    if (it->told_len != of->marks_len)
+        fail(of, "%zu pages are told as split, of which %zu are marked", it->told_len, of->marks_len);
+    if (one_in(random, 2))
+        propose_some(it, random);
 }
 
 static void close_game(game *it) {
@@ -470,9 +513,9 @@ static void close_game(game *it) {
     rounds++;
 }
 
-static plan draw_plan(const game *it, uint64_t *random) {
+static schedule draw_plan(const game *it, uint64_t *random) {
     static const uint32_t shares[] = {0, 2, 50, 100};
-    plan made = {.threads = 1 + (uint32_t)low(random, one_in(random, 8) ? MOST_THREADS : 12)};
+    schedule made = {.threads = 1 + (uint32_t)low(random, one_in(random, 8) ? MOST_THREADS : 12)};
     made.calls = 1 + (uint32_t)low(random, 1 + 20000 / (1 + it->record.options.seats / 4));
     made.longest = 1 + (uint32_t)low(random, 500);
     made.end_share = shares[one_in(random, 4) ? below(random, 4) : 3];
@@ -488,7 +531,7 @@ static void play_round(uint64_t seed) {
     memset(&it, 0, sizeof it);
     it.record.seed = seed;
     draw_record(&it.record, &random);
-    plan plan = draw_plan(&it, &random);
+    schedule plan = draw_plan(&it, &random);
     open_game(&it, &plan, &random);
     for (uint32_t i = 0; i < plan.threads; i++) {
         players[i] = (player){&it, &plan, seed * 1000 + i, (uint64_t)i << 32, 0};
@@ -514,8 +557,15 @@ int main(int count, char **words) {
     do
         play_round(seed++);
     while (likes_clock() < until);
-    printf("%llu rounds held, with %llu events, %llu phases, %llu looks that waited, %llu ranges of counts\n",
+    if (all_proposed > 1000 && all_split < all_proposed / 2) {
+        printf("of %llu pages that were proposed %llu were split\n", (unsigned long long)all_proposed,
+               (unsigned long long)all_split);
+        return 1;
+    }
+    printf("%llu rounds held, with %llu events, %llu phases, %llu looks that waited, %llu ranges of counts, %llu pages "
+           "that were proposed, of which %llu were split, and %llu that were found\n",
            (unsigned long long)rounds, (unsigned long long)all_events, (unsigned long long)all_phases,
-           (unsigned long long)all_waits, (unsigned long long)all_moments);
+           (unsigned long long)all_waits, (unsigned long long)all_moments, (unsigned long long)all_proposed,
+           (unsigned long long)all_split, (unsigned long long)all_found);
     return 0;
 }

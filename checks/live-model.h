@@ -29,6 +29,13 @@ typedef struct {
     uint32_t calls, late_calls; /* how many it has left, until it retires and after that */
 } seat;
 
+/* Pages that are proposed for split phases. */
+typedef struct {
+    uint32_t pages[LIKES_MAX_SPLIT];
+    size_t length;
+    bool is_sampled; /* the library may find others by itself */
+} proposal;
+
 /* A round with its service. */
 typedef struct {
     record record;
@@ -39,9 +46,16 @@ typedef struct {
     bool is_ending, is_over;
     bool is_all_in;  /* every seat has answered the phase that is ending, for certain */
     bool is_held_up; /* a seat has not */
+    proposal asked;  /* what is proposed now */
+    proposal taken;  /* what a turn has taken for the next split phase */
+    uint32_t told[LIKES_MAX_SPLIT]; /* the pages that are split, or were last */
+    size_t told_len;
     pthread_mutex_t reading;
     likes_phase phase; /* used under `reading` */
 } game;
+
+/* How many pages were proposed, of these how many were split, and how many the library has found. */
+static uint64_t all_proposed, all_split, all_found;
 
 static void spoil(void *at, size_t size) {
     memset(at, UNWRITTEN, size);
@@ -363,10 +377,24 @@ static uint32_t retire_seat(game *it, uint32_t number) {
     return status;
 }
 
+/* Whether a page of a proposal is one of the service. */
+static bool has_page(const game *it, const proposal *of) {
+    for (size_t n = 0; n < of->length; n++)
+        if (of->pages[n] < it->record.pages)
+            return true;
+    return false;
+}
+
+/* Whether a page would be split in the next split phase for certain, whatever is proposed now. */
+static bool would_split(const game *it) {
+    return it->record.marks_len > 0 || (!it->taken.is_sampled && has_page(it, &it->taken));
+}
+
 /* Whether a turn of the driver may give this answer. All seats may be gone, or are for certain. */
 static bool may_turn(const game *it, uint32_t end, bool are_gone, uint32_t status) {
     const record *of = &it->record;
-    bool is_split = of->phases_len % 2 == 0, splits = of->marks_len > 0 || of->options.hot > 0;
+    bool is_split = of->phases_len % 2 == 0;
+    bool splits = would_split(it) || has_page(it, &it->asked), finds = it->taken.is_sampled || it->asked.is_sampled;
     if (end > LIKES_END)
         return status == LIKES_UNKNOWN_END;
     if (it->is_over)
@@ -379,8 +407,95 @@ static bool may_turn(const game *it, uint32_t end, bool are_gone, uint32_t statu
     if (are_gone && !is_split)
         return false;
     if (status == LIKES_ANNOUNCED)
-        return is_asked || is_split;
+        return is_asked || is_split || (end == LIKES_END_IF_IT_SERVES && finds);
     return status == LIKES_GOES_ON && !is_asked && !are_gone;
+}
+
+/* Takes what is proposed, where a turn does: it has ended a split phase, or it may end a joined one, and no page would
+ * be split in the next. The library alone knows whether it has found pages before: then these may stay. */
+static void take_proposal(game *it, uint32_t end, uint32_t status) {
+    bool is_split = it->record.phases_len % 2 == 0, may_end = end == LIKES_END_IF_IT_SERVES || end == LIKES_END;
+    if (is_split ? status != LIKES_ANNOUNCED : it->is_ending || !may_end || would_split(it))
+        return;
+    bool may_stay = !is_split && it->taken.is_sampled && status == LIKES_ANNOUNCED;
+    it->taken = it->asked;
+    it->taken.is_sampled |= may_stay;
+}
+
+/* Asks which pages are split, with some room. What is told stays the same until the next split phase. */
+static void check_told(game *it, size_t room) {
+    uint32_t pages[LIKES_MAX_SPLIT + 4];
+    spoil(pages, sizeof pages);
+    size_t right = room < it->told_len ? room : it->told_len;
+    size_t told = likes_driver_split_pages(&it->driver, room == 0 ? NULL : pages + 1, room);
+    if (told != right || memcmp(pages + 1, it->told, right * sizeof *pages) != 0)
+        fail(&it->record, "phase %zu: %zu pages are told as split, with room for %zu, and not %zu",
+             it->record.phases_len - 1, told, room, right);
+    size_t beside = (LIKES_MAX_SPLIT + 3 - right) * sizeof *pages;
+    if (!is_spoilt(pages, sizeof *pages) || !is_spoilt(pages + 1 + right, beside))
+        fail(&it->record, "pages were written beside the %zu that are split", right);
+}
+
+/* Asks which pages are split now: no two alike, and all marked ones among them. */
+static void note_told(game *it) {
+    const record *of = &it->record;
+    it->told_len = likes_driver_split_pages(&it->driver, it->told, LIKES_MAX_SPLIT);
+    if (it->told_len > LIKES_MAX_SPLIT)
+        fail(of, "phase %zu: %zu pages are split", of->phases_len - 1, it->told_len);
+    for (size_t n = 0; n < it->told_len; n++)
+        if (it->told[n] >= of->pages || is_among(it->told[n], it->told, n))
+            fail(of, "phase %zu: page %u is told as split, or twice so", of->phases_len - 1, it->told[n]);
+    for (size_t n = 0; n < of->marks_len; n++)
+        if (!is_among(of->marks[n], it->told, it->told_len))
+            fail(of, "phase %zu: the marked page %u is not told as split", of->phases_len - 1, of->marks[n]);
+    check_told(it, LIKES_MAX_SPLIT + 2);
+}
+
+/* Counts the pages that are proposed and aren't marked, each once, where there is a slot for all. */
+static void count_proposed(const game *it) {
+    uint64_t proposed = 0, split = 0;
+    for (size_t n = 0; n < it->taken.length; n++) {
+        uint32_t page = it->taken.pages[n];
+        if (page < it->record.pages && !is_marked(&it->record, page) && !is_among(page, it->taken.pages, n)) {
+            proposed++;
+            split += is_among(page, it->told, it->told_len);
+        }
+    }
+    if (it->record.marks_len + proposed > LIKES_MAX_SPLIT || it->taken.is_sampled)
+        return;
+    if (proposed > 0 && split == 0 && it->record.marks_len == 0)
+        fail(&it->record, "phase %zu: no page is split", it->record.phases_len - 1);
+    all_proposed += proposed;
+    all_split += split;
+}
+
+/* A split phase has begun: its pages are marked, or were proposed, or the library may have found them. */
+static void note_split(game *it) {
+    record *of = &it->record;
+    phase_span *phase = &of->phases[of->phases_len - 1];
+    note_told(it);
+    phase->split_len = it->told_len;
+    for (size_t n = 0; n < it->told_len; n++) {
+        uint32_t page = phase->split[n] = it->told[n];
+        if (is_marked(of, page) || is_among(page, it->taken.pages, it->taken.length))
+            continue;
+        if (!it->taken.is_sampled)
+            fail(of, "phase %zu: page %u is split, and nobody has proposed it", of->phases_len - 1, page);
+        phase->found[phase->found_len++] = page;
+    }
+    all_found += phase->found_len;
+    count_proposed(it);
+}
+
+/* Proposes pages. */
+static void propose(game *it, const uint32_t *pages, size_t length) {
+    uint32_t status = likes_driver_propose(&it->driver, length == 0 ? NULL : pages, length);
+    if (status != LIKES_OK)
+        fail(&it->record, "a proposal of %zu pages was answered %s", length, likes_status_text(status));
+    it->asked.length = length < LIKES_MAX_SPLIT ? length : LIKES_MAX_SPLIT;
+    it->asked.is_sampled = length == 0 && it->record.options.hot > 0;
+    for (size_t n = 0; n < it->asked.length; n++)
+        it->asked.pages[n] = pages[n];
 }
 
 /* Makes a turn of the driver. */
@@ -393,12 +508,15 @@ static uint32_t turn_driver(game *it, uint32_t end) {
     if (!may_turn(it, end, are_gone, status))
         fail(of, "phase %zu: a turn of the driver, for end %u, was answered %s", of->phases_len - 1, end,
              likes_status_text(status));
+    take_proposal(it, end, status);
     if (status == LIKES_ANNOUNCED) {
         note_announcement(of, start, after, end == LIKES_NO_END);
         it->is_ending = true;
     } else if (status == LIKES_RELEASED) {
         note_release(of, start, after);
         it->is_ending = it->is_all_in = false;
+        if (of->phases_len % 2 == 0)
+            note_split(it);
     }
     if (likes_driver_phase(&it->driver) != of->phases_len - 1)
         fail(of, "the driver tells phase %llu in phase %zu", (unsigned long long)likes_driver_phase(&it->driver),
