@@ -52,6 +52,23 @@ static void again() {
          "last likes of two users of three");
 }
 
+// A page that is proposed is split after a while, and no other.
+static void proposals() {
+    likes::Service service({2, 9, 4, 0}, {5, 7}, 100);
+    hold(service.split_pages().empty(), "a page is split that nobody proposed");
+    for (std::uint32_t page : {1u, 0u}) {
+        service.propose({page, 2, UINT32_MAX});
+        while (service.split_pages() != std::vector<std::uint32_t>{page})
+            likes_sleep(100000);
+        service.like(4, page);
+    }
+    service.propose({});
+    hold(service.look(4, 1).count == 8, "a look after a page was split");
+    hold(service.stop() == std::vector<std::uint64_t>{6, 8}, "final counts of pages that were split");
+    hold(thrown([&] { service.propose({1}); }) == LIKES_NOT_STARTED, "a proposal after the end");
+    hold(service.split_pages().empty(), "split pages after the end");
+}
+
 // Only seats 0 and 1 can be held.
 static void seats(likes::Service &service) {
     for (std::uint32_t number : {2u, 15u, 16u, 1000u, UINT32_MAX})
@@ -79,6 +96,7 @@ static void late(likes::Service &service) {
 int main() {
     openings();
     again();
+    proposals();
     likes::Service service({2, 9, 4, 0}, {5, 7});
     service.like(4, 1);
     hold(thrown([&] { service.like(9, 1); }) == LIKES_UNKNOWN_USER, "a user too many");

@@ -1,8 +1,22 @@
 /* Wrong uses of likes_helpers.h, each of which has to be answered by a status: calls of a service that isn't started,
  * was stopped or is a copy; wrong seats and periods; seats that have all left; looks with tags of the host's at a seat
- * of which likes_service_look is asked too; and arrays of no entries. Threads read the phase while it changes.
+ * of which likes_service_look is asked too; and arrays of no entries. Threads read the phase while it changes, and a
+ * service can't start its thread. Pages are proposed and split.
  *
  * It ends with status 1 and a line where a call is answered otherwise, and by a signal after 30 seconds. */
+#define _POSIX_C_SOURCE 200809L
+#include <errno.h>
+#include <pthread.h>
+#include <stdbool.h>
+
+/* In place of pthread_create: while this is set, it refuses. */
+static bool has_no_threads;
+
+static int create_thread(pthread_t *thread, const pthread_attr_t *attributes, void *(*begin)(void *), void *at) {
+    return has_no_threads ? EAGAIN : pthread_create(thread, attributes, begin, at);
+}
+
+#define pthread_create create_thread
 #include "likes_helpers.h"
 
 #include <unistd.h>
@@ -14,7 +28,7 @@ static bool is_over;
 
 #define IS(call, expected)                                                                                      \
     do {                                                                                                        \
-        uint64_t is = (call), should = (expected);                                                              \
+        uint64_t is = (uint64_t)(call), should = (uint64_t)(expected);                                          \
         if (is != should) {                                                                                     \
             printf("line %d: %s is %llu (%s), and not %llu\n", __LINE__, #call, (unsigned long long)is,          \
                    likes_status_text((uint32_t)is), (unsigned long long)should);                                \
@@ -56,6 +70,8 @@ static void all_refused(likes_service *it, uint32_t status) {
     IS(likes_service_counts(it, counts, 2), status);
     IS(likes_service_last(it, 0, &last), status);
     IS(likes_service_lasts(it, &last, 1), status);
+    IS(likes_service_propose(it, &last, 1), status);
+    IS(likes_service_split_pages(it, &last, 1), 0);
     IS(last, 7);
     IS(likes_service_retire(it), status);
     IS(likes_service_stop(it, counts, 2), status);
@@ -76,6 +92,42 @@ static void not_started(void) {
     IS(likes_service_stop(&service, totals, 2), LIKES_OK);
     IS(totals[0], 11);
     all_refused(&service, LIKES_NOT_STARTED);
+}
+
+/* The driver's thread can't be started: nothing is left of the service, which can be started later. */
+static void no_thread(void) {
+    uint64_t totals[2];
+    has_no_threads = true;
+    IS(start(2, 4, 1000), LIKES_NO_THREAD);
+    all_refused(&service, LIKES_NOT_STARTED);
+    has_no_threads = false;
+    IS(start(2, 4, 1000), LIKES_OK);
+    IS(likes_service_stop(&service, totals, 2), LIKES_OK);
+    IS(totals[0], 10);
+}
+
+/* Pages that are proposed one after the other: each is split after a while, and no other. */
+static void proposals(void) {
+    static const uint64_t counts[] = {10, 20, 30};
+    uint64_t totals[3];
+    uint32_t split[LIKES_MAX_SPLIT];
+    likes_options options = {.seats = 2, .users = 2, .room = 1};
+    IS(likes_service_start(&service, &options, counts, 3, NULL, 0, NULL, 0, 100), LIKES_OK);
+    IS(likes_service_split_pages(&service, NULL, 0), 0);
+    IS(likes_service_split_pages(&service, split, LIKES_MAX_SPLIT), 0);
+    for (uint32_t page = 0; page < 3; page++) {
+        IS(likes_service_propose(&service, &page, 1), LIKES_OK);
+        do {
+            likes_sleep(100000);
+            split[0] = UINT32_MAX;
+            IS(likes_service_split_pages(&service, split, LIKES_MAX_SPLIT) <= 1, true);
+        } while (split[0] != page);
+        IS(likes_service_like(&service, 1, page), LIKES_LIKED);
+    }
+    IS(likes_service_propose(&service, NULL, 0), LIKES_OK);
+    IS(likes_service_stop(&service, totals, 3), LIKES_OK);
+    for (uint32_t page = 0; page < 3; page++)
+        IS(totals[page], counts[page] + 1);
 }
 
 /* A copy is refused, and the service goes on. */
@@ -329,6 +381,8 @@ static void last_likes(void) {
 int main(void) {
     alarm(30);
     not_started();
+    no_thread();
+    proposals();
     moved();
     unknown_seats();
     all_gone();

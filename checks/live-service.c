@@ -1,5 +1,6 @@
 /* Many threads at one service of likes_helpers.h: single calls by user, rows at seats that are awake, counts of one
- * moment, and threads that sleep meanwhile. Each thread has users of its own, so it knows their last likes.
+ * moment, pages that are proposed, and threads that sleep meanwhile. Each thread has users of its own, so it knows
+ * their last likes.
  *
  * usage: live-service SEED SECONDS
  *
@@ -103,10 +104,21 @@ static void *work(void *at) {
     return NULL;
 }
 
+/* Proposes a page, or none. The two that are marked stay among those that are split. */
+static void propose(uint32_t page) {
+    uint32_t split[LIKES_MAX_SPLIT], marked = 0;
+    hold(likes_service_propose(&service, &page, page <= PAGES) == LIKES_OK, "a proposal was refused");
+    size_t length = likes_service_split_pages(&service, split, LIKES_MAX_SPLIT);
+    for (size_t n = 0; n < length; n++)
+        marked += split[n] < 2;
+    hold(marked == 2 && length <= PAGES, "other pages are split");
+}
+
 /* Counts of one moment, which never fall from one to the next. */
 static void take_counts(void) {
     uint64_t earlier[PAGES] = {0}, now[PAGES];
-    while (likes_clock() < until) {
+    for (uint32_t times = 0; likes_clock() < until; times++) {
+        propose(times % (PAGES + 2));
         hold(likes_service_counts(&service, now, PAGES) == LIKES_COUNTED, "there are no counts");
         for (uint32_t page = 0; page < PAGES; page++)
             hold(now[page] >= earlier[page], "a count fell");

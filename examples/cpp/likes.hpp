@@ -116,6 +116,19 @@ public:
         return likes_service_lasts(service_.get(), now.data(), now.size()) == LIKES_OK ? now : lasts_;
     }
 
+    // Proposes pages to be split, the first 64, in place of those that the service finds by itself. If there are none,
+    // it finds them again.
+    void propose(const std::vector<std::uint32_t> &pages) {
+        check(likes_service_propose(service_.get(), pages.data(), pages.size()), LIKES_OK);
+    }
+
+    // The pages that are split in the present split phase, or were in the last one.
+    std::vector<std::uint32_t> split_pages() {
+        std::vector<std::uint32_t> pages(LIKES_MAX_SPLIT);
+        pages.resize(likes_service_split_pages(service_.get(), pages.data(), pages.size()));
+        return pages;
+    }
+
     std::uint32_t seats() const { return service_->seats; }
 
     // A seat below seats().

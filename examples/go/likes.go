@@ -133,6 +133,26 @@ func (s *Service) Last(user uint32) (uint32, error) {
 	return uint32(page), nil
 }
 
+// Propose proposes pages to be split, the first 64, in place of those that the service finds by itself. Without pages it
+// finds them again.
+func (s *Service) Propose(pages ...uint32) error {
+	var first *C.uint32_t
+	if len(pages) > 0 {
+		first = (*C.uint32_t)(unsafe.Pointer(&pages[0]))
+	}
+	if told := C.likes_service_propose(s.c, first, C.size_t(len(pages))); told != C.LIKES_OK {
+		return status(told)
+	}
+	return nil
+}
+
+// SplitPages gives the pages that are split in the present split phase, or were in the last one.
+func (s *Service) SplitPages() []uint32 {
+	pages := make([]uint32, C.LIKES_MAX_SPLIT)
+	first := (*C.uint32_t)(unsafe.Pointer(&pages[0]))
+	return pages[:C.likes_service_split_pages(s.c, first, C.size_t(len(pages)))]
+}
+
 // Counts gives the counts of all pages at one moment.
 func (s *Service) Counts() []uint64 {
 	counts := make([]uint64, s.pages)

@@ -38,6 +38,9 @@ func run() error {
 	if err != nil {
 		return err
 	}
+	if err := service.Propose(0); err != nil {
+		return err
+	}
 	errs := make(chan error, goroutines)
 	var pool sync.WaitGroup
 	for number := uint32(0); number < goroutines; number++ {
@@ -50,6 +53,9 @@ func run() error {
 		}(number)
 	}
 	pool.Wait()
+	if split := service.SplitPages(); len(split) > 1 {
+		return fmt.Errorf("other pages than 0 are split: %v", split)
+	}
 	fmt.Println("a like of page 4:", service.Like(0, 4))
 	fmt.Println("totals:", service.Close())
 	close(errs)
