@@ -96,12 +96,38 @@ def requests(service):
         refused(f"seat {number}", ValueError, service.run, number, [(LIKE, 4, 0)])
 
 
+def proposals():
+    """A page that is proposed is split after a while, and no other."""
+    with Likes(counts=[5, 7, 0], users=3, seats=2, period=0.0001) as service:
+        told = [service.split_pages()]
+        for page in (1, 0):
+            service.propose([3, page, page, 2**32 - 1])
+            while service.split_pages() != [page]:
+                service.turns()
+            service.like(2, page)
+            told.append(service.split_pages())
+        service.propose(())
+        for kind, values in ((ValueError, OUTSIDE), (TypeError, NO_NUMBERS)):
+            for value in values:
+                refused(f"a proposal of page {value!r}", kind, service.propose, [0, value])
+    if told != [[], [1], [0]] or service.close() != [6, 8, 0]:
+        wrong.append(f"split pages: {told}, {service.close()}")
+
+
 def closed(service):
     """Calls after the end."""
     for call in (service.like, service.look, service.glance):
         refused("a call after close", Closed, call, 4, 0)
     refused("a row after close", Closed, service.run, 0, [(LIKE, 4, 0)])
     refused("no row after close", Closed, service.run, 0, [])
+    refused("a turn of the driver after close", Closed, service.drive)
+    refused("turns after close", Closed, service.turns)
+    refused("a user's seat after close", Closed, service.seat_of, 4)
+    refused("a last like after close", Closed, service.last, 4)
+    refused("all last likes after close", Closed, service.last_likes)
+    refused("a proposal after close", Closed, service.propose, [0])
+    refused("no proposal after close", Closed, service.propose, [])
+    refused("split pages after close", Closed, service.split_pages)
 
 
 def statuses(header):
@@ -128,6 +154,7 @@ def structures(header):
 def main():
     openings()
     again()
+    proposals()
     with Likes(counts=[5, 0], users=9, seats=2) as service:
         requests(service)
         service.like(4, 1)
@@ -140,6 +167,8 @@ def main():
         wrong.append(f"final counts: {service.close()}")
     with open(f"{ROOT}/include/likes.h", encoding="ascii") as file:
         header = re.sub(r"/\*.*?\*/", "", file.read(), flags=re.S)
+    if f"#define LIKES_MAX_SPLIT {likes.MAX_SPLIT}u" not in header:
+        wrong.append(f"at most {likes.MAX_SPLIT} split pages")
     statuses(header)
     structures(header)
     for line in wrong[:20]:

@@ -33,6 +33,7 @@ OK, LIKED, SEEN, WAITS = list(Status)[:4]
 LIKE, LOOK, GLANCE = range(3)
 NO_END, END_IF_IT_SERVES, END = range(3)
 MOST = NO_PAGE = 2**32 - 1
+MAX_SPLIT = 64
 
 
 class Handle(Structure):
@@ -66,9 +67,9 @@ class Found(Structure):
 
 
 def load():
-    """The library: the file that LIKES_LIBRARY names, or liblikes.so.0. Where likes.h has a call that takes NULL, the
+    """The library: the file that LIKES_LIBRARY names, or liblikes.so.0.4. Where likes.h has a call that takes NULL, the
     library has one that takes none, with _nonnull in its name."""
-    library = ctypes.CDLL(os.environ.get("LIKES_LIBRARY", "liblikes.so.0"))
+    library = ctypes.CDLL(os.environ.get("LIKES_LIBRARY", "liblikes.so.0.4"))
     handle, number, size = POINTER(Handle), c_uint32, c_size_t
     counts, pages = POINTER(c_uint64), POINTER(c_uint32)
     calls = {
@@ -76,6 +77,8 @@ def load():
         "driver_take_seat": ([handle, handle], number),
         "driver_turn": ([handle, number], number),
         "driver_phase": ([handle], c_uint64),
+        "driver_split_pages_nonnull": ([handle, pages, size], size),
+        "driver_propose_nonnull": ([handle, pages, size], number),
         "driver_last_counts_nonnull": ([handle, number, counts, size], number),
         "driver_free_nonnull": ([handle], None),
         "seat_run_nonnull": ([handle, c_void_p, size, c_void_p, size], size),
@@ -158,8 +161,9 @@ def shown(look):
 
 class Likes:
     """A service. Its methods may be called by any thread. marks has the numbers of the pages that are split in every
-    split phase. lasts has the page of each user's last like, or None; if it is empty, nobody has one. A service that
-    is given the final counts and `lasts` of a closed one goes on where that has ended."""
+    split phase; hot and `propose` say which others are. lasts has the page of each user's last like, or None; if it is
+    empty, nobody has one. A service that is given the final counts and `lasts` of a closed one goes on where that has
+    ended."""
 
     def __init__(self, counts, users, seats=1, room=4096, hot=0, marks=(), period=0.001, lasts=()):
         if not period > 0:
@@ -190,14 +194,23 @@ class Likes:
         if status != wanted:
             raise Refused(status)
 
+    def check_open(self):
+        """Raises Closed if the service is closed. For a call of the library, the thread holds the lock of what it
+        calls."""
+        if self.totals is not None:
+            raise Closed
+
     def seat_of(self, user):
+        self.check_open()
         return whole("user", user) % len(self.seats)
 
     def drive(self):
         """Makes a turn of the driver, unless another thread is making one."""
+        self.check_open()
         if not self.driving.acquire(blocking=False):
             return
         try:
+            self.check_open()
             now = time.monotonic()
             end = END_IF_IT_SERVES if now >= self.due else NO_END
             status = self.library.likes_driver_turn(byref(self.driver), end)
@@ -208,11 +221,28 @@ class Likes:
 
     def turns(self):
         """Makes the turns of the driver and of the seats that nobody holds."""
+        self.check_open()
         for seat, lock in self.seats:
             if lock.acquire(blocking=False):
                 self.library.likes_seat_turn(byref(seat))
                 lock.release()
         self.drive()
+
+    def propose(self, pages):
+        """Proposes pages to be split, the first 64, in place of those that the library finds by itself. If there are
+        none, it finds them again."""
+        row = (c_uint32 * max(1, len(pages)))(*(whole("page", page) for page in pages))
+        with self.driving:
+            self.check_open()
+            self.check(self.library.likes_driver_propose_nonnull(byref(self.driver), row, len(pages)), OK)
+
+    def split_pages(self):
+        """The pages that are split in the present split phase, or were in the last one."""
+        row = (c_uint32 * MAX_SPLIT)()
+        with self.driving:
+            self.check_open()
+            told = self.library.likes_driver_split_pages_nonnull(byref(self.driver), row, MAX_SPLIT)
+        return row[:told]
 
     def run(self, number, requests):
         """Runs rows of (op, user, page) at a seat. Gives an answer for each: for a look the tuple (page of the user's
@@ -220,8 +250,7 @@ class Likes:
         row = Row(requests)
         seat, lock = self.seats[whole("seat", number, len(self.seats) - 1)]
         with lock:
-            if self.totals is not None:
-                raise Closed
+            self.check_open()
             while not row.go_on(self.library, byref(seat)):
                 self.turns()
         return row.told
@@ -247,13 +276,13 @@ class Likes:
         seat, lock = self.seats[self.seat_of(user)]
         page = c_uint32()
         with lock:
-            if self.totals is not None:
-                raise Closed
+            self.check_open()
             self.check(self.library.likes_seat_last(byref(seat), user, byref(page)), OK)
         return None if page.value == NO_PAGE else page.value
 
     def last_likes(self):
         """The page of each user's last like, or None, of seats that have retired."""
+        self.check_open()
         lasts = [None] * self.users
         for number, (seat, _) in enumerate(self.seats):
             own = range(number, self.users, len(self.seats))
