@@ -195,8 +195,7 @@ class Likes:
             raise Refused(status)
 
     def check_open(self):
-        """Raises Closed if the service is closed. For a call of the library, the thread holds the lock of what it
-        calls."""
+        """Raises Closed if the service is closed."""
         if self.totals is not None:
             raise Closed
 
@@ -210,7 +209,6 @@ class Likes:
         if not self.driving.acquire(blocking=False):
             return
         try:
-            self.check_open()
             now = time.monotonic()
             end = END_IF_IT_SERVES if now >= self.due else NO_END
             status = self.library.likes_driver_turn(byref(self.driver), end)

@@ -7,7 +7,7 @@ if(NOT TARGET likes::likes)
   add_library(likes::likes SHARED IMPORTED)
   set_target_properties(likes::likes PROPERTIES
     IMPORTED_LOCATION "${likes_PREFIX}/lib/liblikes.so.@VERSION@"
-    IMPORTED_SONAME "liblikes.so.@ABI@")
+    IMPORTED_SONAME "@SONAME@")
   add_library(likes::static STATIC IMPORTED)
   set_target_properties(likes::static PROPERTIES IMPORTED_LOCATION "${likes_PREFIX}/lib/liblikes.a")
   set_target_properties(likes::likes likes::static PROPERTIES
