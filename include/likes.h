@@ -71,9 +71,9 @@ typedef struct likes_options {
     uint32_t seats; /* 1 to LIKES_MAX_SEATS */
     uint32_t users; /* 1 to 2^32 - 1. Users are numbered from 0, and take 4 bytes each. */
     uint32_t room;  /* how many looks a seat keeps, waiting and found ones together: 1 to LIKES_MAX_ROOM */
-    uint32_t hot;   /* 1 to LIKES_MAX_HOT: a page that gets about this many likes between two choices is split. The
-                       library samples likes to find these pages; 1 to 511 act as 512. 0: none is found so, and only
-                       marked pages are split, and those of likes_driver_propose. */
+    uint32_t hot;   /* 1 to LIKES_MAX_HOT: a page is split from about this many likes of late on ("Hot pages" of
+                       docs/EMBEDDING.md). The library finds these pages by samples; 1 to 511 act as 512. 0: it finds
+                       none, and only marked pages are split, and those of likes_driver_propose. */
     uint64_t reserved[6]; /* 0 */
 } likes_options;
 

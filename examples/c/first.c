@@ -5,7 +5,7 @@
 
 int main(void) {
     const uint64_t counts[] = {10, 0};                                         /* two pages, and what they have */
-    likes_options options = {.seats = 2, .users = 1000, .room = 64, .hot = 100}; /* users 0 to 999 */
+    likes_options options = {.seats = 2, .users = 1000, .room = 64, .hot = 512}; /* users 0 to 999 */
     likes_service service;
     likes_answer answer;
     uint64_t totals[2];

@@ -32,7 +32,7 @@ void call_in_rows(likes::Service &service, std::uint32_t number) {
 
 int main() {
     try {
-        likes::Service service({threads, users, 64, 100}, {0, 0, 0, 0});
+        likes::Service service({threads, users, 64, 512}, {0, 0, 0, 0});
         std::vector<std::thread> all;
         for (std::uint32_t number = 0; number < threads; number++)
             all.emplace_back(number % 2 ? call_in_rows : call_singly, std::ref(service), number);

@@ -21,7 +21,7 @@ def in_rows(service, number, wrong):
 
 def main():
     wrong = []
-    service = Likes(counts=[10, 0, 0], users=USERS, seats=SEATS, hot=100)
+    service = Likes(counts=[10, 0, 0], users=USERS, seats=SEATS, hot=512)
     service.like(7, 1)
     print(service.look(7, 1), service.glance(8, 0))
     threads = [threading.Thread(target=in_rows, args=(service, number, wrong)) for number in range(SEATS)]

@@ -34,7 +34,7 @@ func work(service *likes.Service, number uint32) error {
 }
 
 func run() error {
-	service, err := likes.Open(likes.Options{Seats: 4, Users: users, Room: 64, Hot: 100, Period: time.Millisecond}, make([]uint64, 4))
+	service, err := likes.Open(likes.Options{Seats: 4, Users: users, Room: 64, Hot: 512, Period: time.Millisecond}, make([]uint64, 4))
 	if err != nil {
 		return err
 	}
