@@ -86,7 +86,7 @@ typedef struct likes_service {
     uint32_t seats, users;
     size_t pages;
     uint64_t period; /* in nanoseconds */
-    uint64_t due;    /* when the split phase may end, by likes_clock; atomic */
+    uint64_t due;    /* when the phase may end, by likes_clock; atomic */
     uint64_t next;   /* when the driver's next turn is worth making, by likes_clock; atomic */
     char apart[128];
     pthread_mutex_t driving;
@@ -139,24 +139,27 @@ static inline uint32_t likes_refuse(likes_answer *answer, uint32_t status) {
 
 /* The driver's turn, with `driving` held. From the end of one split phase to that of the next is a period, or less
  * where the looks that wait at a seat take half of its room: the driver hears of that within an eighth of a period. A
- * joined phase ends as soon as every seat has run what waited. */
+ * joined phase ends as soon as every seat has run what waited. Where no page is split it goes on, and the driver looks
+ * for hot pages each quarter of a period: more often, and a page would need more likes to get hot. */
 static inline uint32_t likes_service_driver_turn(likes_service *service) {
     uint64_t now = likes_clock(), left = likes_time_left(&service->due, now), next = now;
     bool was_split = likes_driver_phase(&service->driver) % 2 == 1;
-    uint32_t end = was_split && left > 0 ? LIKES_NO_END : LIKES_END_IF_IT_SERVES;
-    uint32_t status = likes_driver_turn(&service->driver, end);
-    if (status == LIKES_ANNOUNCED && was_split) {
+    uint32_t status = likes_driver_turn(&service->driver, left > 0 ? LIKES_NO_END : LIKES_END_IF_IT_SERVES);
+    if (status == LIKES_ANNOUNCED && was_split)
         likes_set_time(&service->due, now + service->period);
-    } else if (status == LIKES_RELEASED && was_split) {
-        status = likes_driver_turn(&service->driver, LIKES_END_IF_IT_SERVES);
-    } else if (status == LIKES_RELEASED && left < service->period / 2) {
+    if (status == LIKES_RELEASED && !was_split && left < service->period / 2)
         likes_set_time(&service->due, now + service->period / 2);
-    } else if (status == LIKES_GOES_ON) {
-        uint64_t soon = service->period / 8;
-        if (!was_split)
-            likes_set_time(&service->due, now + service->period);
-        next = now + (was_split && left < soon ? left : soon);
+    if (status == LIKES_RELEASED && was_split) {
+        was_split = false;
+        left = 0;
+        status = likes_driver_turn(&service->driver, LIKES_END_IF_IT_SERVES);
     }
+    if (status == LIKES_GOES_ON && !was_split && left == 0) {
+        left = service->period / 4;
+        likes_set_time(&service->due, now + left);
+    }
+    if (status == LIKES_GOES_ON)
+        next = now + (was_split && left > service->period / 8 ? service->period / 8 : left);
     likes_set_time(&service->next, next);
     return status;
 }
@@ -380,14 +383,19 @@ static inline uint64_t likes_service_phase(likes_service *service) {
     return phase;
 }
 
-/* Proposes pages to be split, as likes_driver_propose does: LIKES_OK. Any thread may call it. It waits for a turn of
- * the driver, and where another thread asks for counts, until that has them. */
+/* Proposes pages to be split, as likes_driver_propose does: LIKES_OK. The driver takes them at its next turn where no
+ * page would be split, and else when the present or the next split phase ends. Any thread may call it. It waits for a
+ * turn of the driver, and where another thread asks for counts, until that has them. */
 static inline uint32_t likes_service_propose(likes_service *service, const uint32_t *pages, size_t pages_len) {
     uint32_t fault = likes_service_fault(service);
     if (fault != LIKES_OK)
         return fault;
     pthread_mutex_lock(&service->driving);
     uint32_t status = likes_driver_propose(&service->driver, pages, pages_len);
+    if (likes_driver_phase(&service->driver) % 2 == 0) {
+        likes_set_time(&service->due, 0);
+        likes_set_time(&service->next, 0);
+    }
     pthread_mutex_unlock(&service->driving);
     return status;
 }
