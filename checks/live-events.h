@@ -59,6 +59,7 @@ typedef struct {
     uint32_t marks[LIKES_MAX_MARKS]; /* in random order */
     size_t marks_len;
     uint32_t stock[STOCK]; /* pages that are proposed, and asked for more often */
+    uint32_t rush;         /* so many of 16 requests are of the first of these */
     uint32_t *last;  /* each user's last like, or LIKES_NO_PAGE; used under the lock of its seat */
     size_t last_len; /* with how many of these the service was opened: all or none */
     bool is_timed;   /* whether calls are timed: a clock that all share slows them down */

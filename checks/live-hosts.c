@@ -68,6 +68,8 @@ static void pause_for(uint64_t *random, uint32_t longest) {
 /* A marked page, one of the round's stock, one of the last, one of the first, or any. */
 static uint32_t draw_page(const record *it, uint64_t *random) {
     uint64_t choice = below(random, 8), few = it->pages < 64 ? it->pages : 64;
+    if (below(random, 16) < it->rush)
+        return it->stock[0];
     if (choice < 2 && it->marks_len > 0)
         return it->marks[low(random, it->marks_len)];
     if (choice < 5)
@@ -409,11 +411,12 @@ static void draw_marks(record *it, uint64_t *random) {
     }
 }
 
-/* Draws the stock: any pages, more of them that are near each other, or both. */
+/* Draws the stock: any pages, pages that are near each other, or both. In some rounds its first page gets hot. */
 static void draw_stock(record *it, uint64_t *random) {
     uint64_t near = below(random, it->pages), far = 1 + below(random, 4);
     for (size_t n = 0; n < STOCK; n++)
         it->stock[n] = (uint32_t)(below(random, 4) < far ? below(random, it->pages) : (near + n) % it->pages);
+    it->rush = one_in(random, 4) ? (uint32_t)below(random, 16) : 0;
 }
 
 /* Draws last likes, or none, with which the service is opened. */
