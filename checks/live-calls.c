@@ -412,6 +412,16 @@ static void openings(void) {
     IS(driver.at == NULL, true);
     IS(likes_open(&right, counts, LIKES_MAX_PAGES, NULL, 0, NULL, 0, &driver), LIKES_OK);
     likes_driver_free(&driver);
+    /* Marks that can't all have buckets of their own. Without the last of them they can. */
+    static const uint32_t near[] = {4526848,  16248423, 9389577,  13904108, 14600504, 14252306, 1819795,  16059784,
+                                    15711586, 13792929, 6334326,  5986128,  6269147,  10848857, 11828272, 13287552,
+                                    16393321, 8338505,  13499067, 15641171, 9646610,  11384982, 13908995};
+    enum { NEAR = sizeof near / sizeof *near };
+    IS(likes_open(&right, counts, LIKES_MAX_PAGES, near, NEAR, NULL, 0, &driver), LIKES_WRONG_MARKS);
+    IS(driver.at == NULL, true);
+    IS(likes_open(&right, counts, LIKES_MAX_PAGES, near, NEAR - 1, NULL, 0, &driver), LIKES_OK);
+    is_split(&driver, near, NEAR - 1);
+    likes_driver_free(&driver);
 }
 
 /* An opening in which everything is wrong is put right in the order in which it is refused. */

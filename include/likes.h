@@ -115,7 +115,7 @@ enum likes_status {
     LIKES_WRONG_RESERVED = 109, /* a reserved field of the options isn't 0 */
     LIKES_WRONG_PAGES = 110,    /* there are no pages, or more than LIKES_MAX_PAGES */
     LIKES_WRONG_MARKS = 111,    /* more than LIKES_MAX_MARKS, a mark of no page, two of the same, or marks that can't
-                                   all have buckets of their own, which is so of very few lists, of about 64 */
+                                   all have buckets of their own, as very few lists of many marks */
     LIKES_WRONG_COUNT = 112,    /* an initial count is over LIKES_MAX_COUNT */
     LIKES_WRONG_SEATS = 113,
     LIKES_WRONG_USERS = 114,
