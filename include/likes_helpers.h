@@ -140,7 +140,8 @@ static inline uint32_t likes_refuse(likes_answer *answer, uint32_t status) {
 /* The driver's turn, with `driving` held. From the end of one split phase to that of the next is a period, or less
  * where the looks that wait at a seat take half of its room: the driver hears of that within an eighth of a period. A
  * joined phase ends as soon as every seat has run what waited. Where no page is split it goes on, and the driver looks
- * for hot pages each quarter of a period: more often, and a page would need more likes to get hot. */
+ * for hot pages once in a period, and at least once in a millisecond. Each choice forgets a part of what it knows, so
+ * with more of them a page would need more likes to get hot. */
 static inline uint32_t likes_service_driver_turn(likes_service *service) {
     uint64_t now = likes_clock(), left = likes_time_left(&service->due, now), next = now;
     bool was_split = likes_driver_phase(&service->driver) % 2 == 1;
@@ -155,7 +156,7 @@ static inline uint32_t likes_service_driver_turn(likes_service *service) {
         status = likes_driver_turn(&service->driver, LIKES_END_IF_IT_SERVES);
     }
     if (status == LIKES_GOES_ON && !was_split && left == 0) {
-        left = service->period / 4;
+        left = service->period < 1000000 ? service->period : 1000000;
         likes_set_time(&service->due, now + left);
     }
     if (status == LIKES_GOES_ON)
