@@ -527,12 +527,12 @@ static uint32_t turn_driver(game *it, uint32_t end) {
 /* A call that writes the counts of a range of pages: likes_driver_snapshot or likes_driver_last_counts. */
 typedef uint32_t ranged(likes_driver *driver, uint32_t from, uint64_t *counts, size_t counts_len);
 
-/* Whether a call may be answered so about a range that is there. */
-static bool may_be_told(const game *it, ranged *call, uint32_t status) {
+/* Whether a call may be answered so about a range that is there. All seats may have been gone before it for certain. */
+static bool may_be_told(const game *it, ranged *call, bool are_gone, uint32_t status) {
     bool is_joined = it->record.phases_len % 2 == 1;
     uint32_t seats = it->record.options.seats;
     if (call == likes_driver_last_counts) {
-        bool must = it->is_over || (is_joined && load(&it->gone) == seats);
+        bool must = it->is_over || (is_joined && are_gone);
         bool may = it->is_over || (is_joined && load(&it->leaving) == seats && !it->is_held_up);
         return status == LIKES_COUNTED ? may : status == LIKES_NOT_ENDED && !must;
     }
@@ -546,9 +546,10 @@ static uint32_t write_counts(game *it, ranged *call, uint32_t from, size_t lengt
     if (room == NULL)
         abort();
     spoil(room, (length + 2) * sizeof *room);
+    bool are_gone = load(&it->gone) == it->record.options.seats;
     uint32_t status = call(&it->driver, from, length == 0 ? NULL : room + 1, length);
     bool is_there = from <= it->record.pages && length <= it->record.pages - from;
-    if (is_there ? !may_be_told(it, call, status) : status != LIKES_WRONG_RANGE)
+    if (is_there ? !may_be_told(it, call, are_gone, status) : status != LIKES_WRONG_RANGE)
         fail(&it->record, "phase %zu: the counts of %zu pages from %u are answered %s", it->record.phases_len - 1,
              length, from, likes_status_text(status));
     size_t written = status == LIKES_COUNTED ? length : 0;
