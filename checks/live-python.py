@@ -2,7 +2,8 @@
 """Gives the class Likes of examples/python what C would cut or misread, and calls it after its end.
 
 Each has to be refused with the right exception, and nothing of it counted. It also compares the names and numbers of
-the statuses and the fields of the structures with likes.h. The library is the file that LIKES_LIBRARY names.
+the statuses, the fields of the structures and the library's name with likes.h. The library is the file that
+LIKES_LIBRARY names.
 """
 
 import ctypes
@@ -130,6 +131,15 @@ def closed(service):
     refused("split pages after close", Closed, service.split_pages)
 
 
+def names(header):
+    """The shared library's name, and how many pages are split at most, as likes.h has them."""
+    abi, minor = divmod(int(re.search(r"#define LIKES_VERSION (\d+)", header)[1]), 1000)
+    if likes.SHARED != f"liblikes.so.{abi or f'0.{minor}'}":
+        wrong.append(f"the shared library is {likes.SHARED}, in version {abi}.{minor}")
+    if f"#define LIKES_MAX_SPLIT {likes.MAX_SPLIT}u" not in header:
+        wrong.append(f"at most {likes.MAX_SPLIT} split pages")
+
+
 def statuses(header):
     """The statuses, as likes.h has them."""
     text = re.search(r"enum likes_status \{(.*?)\n\};", header, re.S)[1]
@@ -167,8 +177,7 @@ def main():
         wrong.append(f"final counts: {service.close()}")
     with open(f"{ROOT}/include/likes.h", encoding="ascii") as file:
         header = re.sub(r"/\*.*?\*/", "", file.read(), flags=re.S)
-    if f"#define LIKES_MAX_SPLIT {likes.MAX_SPLIT}u" not in header:
-        wrong.append(f"at most {likes.MAX_SPLIT} split pages")
+    names(header)
     statuses(header)
     structures(header)
     for line in wrong[:20]:

@@ -34,6 +34,7 @@ LIKE, LOOK, GLANCE = range(3)
 NO_END, END_IF_IT_SERVES, END = range(3)
 MOST = NO_PAGE = 2**32 - 1
 MAX_SPLIT = 64
+SHARED = "liblikes.so.0.4"
 
 
 class Handle(Structure):
@@ -67,9 +68,9 @@ class Found(Structure):
 
 
 def load():
-    """The library: the file that LIKES_LIBRARY names, or liblikes.so.0.4. Where likes.h has a call that takes NULL, the
-    library has one that takes none, with _nonnull in its name."""
-    library = ctypes.CDLL(os.environ.get("LIKES_LIBRARY", "liblikes.so.0.4"))
+    """The library: the file that LIKES_LIBRARY names, or the one of this version. Where likes.h has a call that takes
+    NULL, the library has one that takes none, with _nonnull in its name."""
+    library = ctypes.CDLL(os.environ.get("LIKES_LIBRARY", SHARED))
     handle, number, size = POINTER(Handle), c_uint32, c_size_t
     counts, pages = POINTER(c_uint64), POINTER(c_uint32)
     calls = {
