@@ -3,6 +3,7 @@ use Rattle.std.specs.Prelude.{◌≡◌, ◌≢◌, ◌⊎◌, ℕ, ◌+◌, ◌
 use Rattle.std.specs.Global.{Global}
 use Rattle.std_alloc.specs.declared.boxed.Box.{Box}
 use Rattle.like_choice.specs.Slots.{pages_in_use}
+use Rattle.like_limits.specs.Limits.{hot_pages}
 use Rattle.like_live.specs.LiveView.{LiveView, RanNext}
 use Rattle.like_live.specs.declared.answer.GlanceAnswer.{GlanceAnswer}
 use Rattle.like_live.specs.declared.answer.LikeAnswer.{LikeAnswer}
@@ -82,9 +83,14 @@ pub record TellsSplit (old : List ℕ) (many : ℕ) (pages : List ℕ) (o p : Op
 abbrev pub SplitPagesAt : Option Opened → List ℕ → ℕ → List ℕ → Option Opened → Type 0
 SplitPagesAt at old many pages after = At ((many ≡ 0) × (pages ≡ old)) (TellsSplit old many pages) at after
 
--- pages are proposed, of which no more is known
-abbrev pub ProposesAt : Option Opened → ℕ → Option Opened → Type 0
-ProposesAt at result after = At (result ≡ status.empty) (λ o p. (result ≡ status.ok) × (p ≡ o)) at after
+-- the service with a choice that is told to propose these pages
+abbrev pub told_pages : Opened → List ℕ → Opened
+told_pages o pages = record o { driver = record o.driver { splits = record o.driver.splits { told = pages } } }
+
+-- the first 64 of these pages are proposed from now on
+abbrev pub ProposesAt : List ℕ → Option Opened → ℕ → Option Opened → Type 0
+ProposesAt pages at result after =
+    At (result ≡ status.empty) (λ o p. (result ≡ status.ok) × (p ≡ told_pages o (take hot_pages pages))) at after
 
 -- a found look is taken, and its row is written: it ran in the phase after the one in which it was asked. If there is
 -- none, the row stays as it was

@@ -1,5 +1,5 @@
 -- What a service is opened with from C.
-use Rattle.std.specs.Prelude.{◌≡◌, ◌==◌, if◌then◌else◌, ℕ, List, map, reverse, IsSome, Option, Some, None}
+use Rattle.std.specs.Prelude.{◌≡◌, ◌==◌, if◌then◌else◌, ℕ, List, [], map, reverse, IsSome, Option, Some, None}
 use Rattle.like_live.specs.declared.opening.Opening.{Opening}
 use Rattle.like_live.specs.Opening.{Asking, asking}
 use Rattle.like_live.specs.Service.{AreOpened}
@@ -36,4 +36,5 @@ pub record IsOpenedAs (asked : Asking) (it : Opened) : Type 0 where
   pub opening : Opening
   pub asks : asking opening ≡ asked
   pub opened : AreOpened opening it.driver (reverse (map seat_in it.seats.items))
+  pub told : it.driver.splits.told ≡ []
   pub phase : IsSome it.phase

@@ -174,7 +174,7 @@ pub extern "C" fn likes_driver_split_pages_nonnull(
 /// Proposes these pages for slots from now on. If there are none, the service finds them by sampling.
 #[unsafe(no_mangle)]
 pub extern "C" fn likes_driver_propose_nonnull(driver: &mut DriverHandle, pages: &[u32]) -> u32
-    ensures { ProposesAt driver.old.home result driver.new.home }
+    ensures { ProposesAt pages.now driver.old.home result driver.new.home }
 {
     let Some(opened) = driver.get() else {
         return status::EMPTY;

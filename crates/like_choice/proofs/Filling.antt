@@ -181,14 +181,14 @@ came-second factor pages some more slots bits between bits_between after k slot 
       among.0,
       omega (arith, among.1, late),
       get_or_append_left some more 0 among.0 among.1
-      ∙ get_or_default some among.0 0 (get_or between slot 0) among.1 ∙ among.2 ∙ sym (stay was),
+          ∙ get_or_default some among.0 0 (get_or between slot 0) among.1 ∙ among.2 ∙ sym (stay was),
     )
   ]
   | inr at ↦ inr (
     length some + at.0,
     omega (arith, at.1, late),
     get_or-append_right some more (length some) (length some + at.0) 0 refl (omega arith)
-    ∙ ap (λ i. get_or more i 0) (omega arith) ∙ at.2,
+        ∙ ap (λ i. get_or more i 0) (omega arith) ∙ at.2,
   )
 ]
 
@@ -238,12 +238,12 @@ Fills-more factor pages some more slots bits between bits_between after bits_aft
             at.1,
             at.2 ∙ ap (bucket factor) (sym is),
             came-second factor pages some more slots bits between bits_between after k at.0 first past at.1.0
-            (λ was. (second.stay at.0 (at.1.0, was)).1) at.3,
+                (λ was. (second.stay at.0 (at.1.0, was)).1) at.3,
           )
           | inr all ↦ inr (λ slot there. (
             (all slot there).0,
             came-second factor pages some more slots bits between bits_between after k slot first past there
-            (λ was. (second.stay slot (there, was)).1) (all slot there).1,
+                (λ was. (second.stay slot (there, was)).1) (all slot there).1,
           ))
         ]
   ];

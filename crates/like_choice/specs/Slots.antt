@@ -95,5 +95,5 @@ pub record Chooses (old : SlotsView) (proposed : List ℕ) (new : SlotsView) : T
   -- each page that is in is marked or proposed
   pub asked : (slot : ℕ) → IsInUse new.bits slot
       → (slot < new.marks) ⊎ Contains proposed (slice_index new.slots slot)
-  -- a page of the service that is proposed is in, unless another one has its bucket or no slot is left
+  -- a page of the service that is proposed is in, unless one that came before it has its bucket, or such have all slots
   pub left_out : (k : ℕ) → k < length proposed → slice_index proposed k < new.pages → IsServed old proposed k new

@@ -225,7 +225,7 @@ impl Driver<Guided> {
     /// none, it samples again. The split phase after the present or next joined one is the first that can have them.
     pub fn propose(&mut self, pages: &[u32])
         ensures { self.new ≡ record self.old {
-            splits = record self.old.splits { told = take hot_pages pages.now };
+          splits = record self.old.splits { told = take hot_pages pages.now };
         } }
     {
         self.splits.ask(pages);

@@ -1,4 +1,4 @@
-ghost use Rattle.std.specs.Prelude.{◌≡◌, IfErr, IfOk, OnOk, length};
+ghost use Rattle.std.specs.Prelude.{◌≡◌, [], IfErr, IfOk, OnOk, length};
 ghost use Rattle.like_live.specs.Opening.{IsRefused};
 ghost use Rattle.like_live.specs.Service.{AreGone, AreItsSeats, CallsKeepSeats, AreOpened, IsClosedService};
 
@@ -38,6 +38,7 @@ impl Service<Guided> {
     /// number of the opening is tested, and nothing takes memory after this.
     pub fn open(alloc: Global, opening: &Opening) -> Result<Service<Guided>, OpenError>
         ensures opened { IfOk result (λ s. AreOpened opening.now s.driver s.seats.items) }
+        ensures told { IfOk result (λ s. s.driver.splits.told ≡ []) }
         ensures whole { IfOk result (λ s. AreItsSeats s.driver s.seats.items) }
         ensures refused { IfErr result (IsRefused opening.now) }
     {
@@ -55,6 +56,7 @@ impl<C: Choice + Drop> Service<C> {
     /// is tested, and nothing takes memory after this but the choice.
     pub fn open_with(alloc: Global, opening: &Opening, choice: C) -> Result<Service<C>, OpenError>
         ensures opened { IfOk result (λ s. AreOpened opening.now s.driver s.seats.items) }
+        ensures told { IfOk result (λ s. s.driver.splits.told ≡ C.told choice) }
         ensures whole { IfOk result (λ s. AreItsSeats s.driver s.seats.items) }
         ensures refused { IfErr result (IsRefused opening.now) }
     {

@@ -160,10 +160,10 @@ fn live_moves(rt: HostRuntime) -> Result<(), Fail> {
     Ok(())
 }
 
-// A service of 1,000 pages in which a page gets hot by itself.
-fn opened_hot(alloc: Global) -> Result<Service<Guided>, Fail> {
+// A service of 1,000 pages in which pages get hot by themselves, or none does.
+fn opened_hot(alloc: Global, hot: Option<u32>) -> Result<Service<Guided>, Fail> {
     let mut opening = opening_of(alloc, 1_000, &[])?;
-    opening.hot = Some(1);
+    opening.hot = hot;
     match Service::open(alloc, &opening) {
         Ok(service) => Ok(service),
         Err(_) => Err(Fail::new("no service")),
@@ -172,12 +172,26 @@ fn opened_hot(alloc: Global) -> Result<Service<Guided>, Fail> {
 
 #[test]
 fn live_hot(rt: HostRuntime) -> Result<(), Fail> {
-    let mut service = opened_hot(rt.alloc())?;
+    let mut service = opened_hot(rt.alloc(), Some(1))?;
     assert!(rt; service.driver.turn(End::IfItServes) == DriverAnswer::Running);
-    if let Some(first) = service.seats.first_mut() {
-        likes(&rt, first, 0, 500, 2_000);
+    if let Some(second) = service.seats.last_mut() {
+        likes(&rt, second, 1, 500, 2_000);
     }
     ends_phase(&rt, &mut service);
     assert!(rt; is_split(&service.driver, 500));
+    Ok(())
+}
+
+#[test]
+fn none_gets_hot(rt: HostRuntime) -> Result<(), Fail> {
+    let mut service = opened_hot(rt.alloc(), None)?;
+    if let Some(first) = service.seats.first_mut() {
+        likes(&rt, first, 0, 500, 2_000);
+    }
+    assert!(rt; service.driver.turn(End::IfItServes) == DriverAnswer::Running);
+    // A host can have pages split all the same.
+    service.driver.propose(&[999]);
+    ends_phase(&rt, &mut service);
+    assert!(rt; is_split(&service.driver, 999));
     Ok(())
 }

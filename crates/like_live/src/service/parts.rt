@@ -34,7 +34,8 @@ pub(crate) fn new_service<C: Choice + Drop>(
     choice: C,
 ) -> Result<Service<C>, AllocError>
     requires within { IsWithinLimits opening.now }
-    ensures { IfOk result (λ s. AreOpened opening.now s.driver s.seats.items) }
+    ensures opened { IfOk result (λ s. AreOpened opening.now s.driver s.seats.items) }
+    ensures told { IfOk result (λ s. s.driver.splits.told ≡ C.told choice) }
 {
     let factor = opening.factor();
     let (board, coord, workers) = Board::for_service(

@@ -20,6 +20,7 @@ returns-in-Ok-new-clause-opened c =
       asks = c.in-Ok.ensures;
       opened = subst (λ (d : DriverView). AreOpened o d (reverse (map seat_in c.in-Ok-new.opened.value.seats.items))) (sym driver)
           (subst (λ (s : List LiveView). AreOpened o service.driver s) (sym seats) c.in_ok-driver.ensures.opened);
+      told = ap (λ (d : DriverView). d.splits.told) driver ∙ c.in_ok-driver.ensures.told;
       phase = subst (λ (o : Opened). IsSome o.phase) (sym c.in-Ok-new.ensures.ok) refl;
     }
 
