@@ -1,5 +1,5 @@
 -- Which pages are split in a service, and which are proposed for the next split phase.
-use Rattle.std.specs.Prelude.{◌≡◌, ◌≢◌, false, IsSomeAnd, ℕ, ◌+◌, ◌-◌, ◌%◌, ◌<◌, ◌≤◌, ◌==◌, if◌then◌else◌, Bool, List, [], length, replicate, slice_index}
+use Rattle.std.specs.Prelude.{◌≡◌, ◌≢◌, false, IsSomeAnd, ℕ, ◌-◌, ◌%◌, ◌<◌, ◌≤◌, ◌==◌, if◌then◌else◌, Bool, List, [], length, replicate, slice_index}
 use Rattle.like_limits.specs.Limits.{hot_pages}
 use Rattle.like_core.specs.PhaseMasks.{mask_of}
 use Rattle.like_core.specs.Slots.{IsInSlot, mask_of_slots}

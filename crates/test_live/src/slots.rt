@@ -109,6 +109,10 @@ struct Moving {
 }
 
 impl Choice for Moving {
+    ghost use Rattle.std.specs.Prelude.{[]};
+
+    ghost told = { λ _. [] };
+
     fn propose(&mut self, _slots: &Slots, proposed: &mut Proposal) {
         proposed.clear();
         proposed.push(if self.is_asked { 8 } else { 7 });
