@@ -16,8 +16,8 @@ _likes() {
     done
 
     case $command in
-        run) local options="--workers --users --stash --turns --hot --places --summary --help" ;;
-        replay) local options="--workers --users --stash --turns --hot --places --summary --script --help" ;;
+        run) local options="--workers --users --stash --turns --hot --places --totals --summary --help" ;;
+        replay) local options="--workers --users --stash --turns --hot --places --totals --summary --script --help" ;;
         *)
             COMPREPLY=($(compgen -W "run replay --help" -- "$cur"))
             return

@@ -11,5 +11,6 @@ complete -c likes -n $works -l stash -x -d 'How many looks a worker puts off at 
 complete -c likes -n $works -l turns -x -d 'How many turns the coordinator counts in a phase'
 complete -c likes -n $works -l hot -x -d 'How many likes make a page hot'
 complete -c likes -n $works -l places -d 'Also report each addition to a count'
+complete -c likes -n $works -l totals -d 'Leave the replies out of the report'
 complete -c likes -n $works -l summary -d 'Also write a summary to standard error'
 complete -c likes -n '__fish_seen_subcommand_from replay' -l script -r -d 'A file of turns'

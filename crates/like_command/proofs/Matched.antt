@@ -258,8 +258,11 @@ run_rules_fit = (
             (
               record { own = refl; some = tt },
               (
-                record { own = refl; some = refl },
-                (record { own = refl; some = refl }, (record { own = refl; some = tt }, tt)),
+                record { own = refl; some = tt },
+                (
+                  record { own = refl; some = refl },
+                  (record { own = refl; some = refl }, (record { own = refl; some = tt }, tt)),
+                ),
               ),
             ),
           ),
@@ -294,10 +297,13 @@ replay_rules_fit = (
             (
               record { own = refl; some = tt },
               (
-                record { own = refl; some = refl },
+                record { own = refl; some = tt },
                 (
                   record { own = refl; some = refl },
-                  (record { own = refl; some = refl }, (record { own = refl; some = tt }, tt)),
+                  (
+                    record { own = refl; some = refl },
+                    (record { own = refl; some = refl }, (record { own = refl; some = tt }, tt)),
+                  ),
                 ),
               ),
             ),
@@ -329,8 +335,8 @@ run_found words none =
     let good = good_defaults run_rules run_rules start run_rules_fit settled_good c.0 in
     let rows = rows_after run_rules [] words in
     let given = both_given (is_given (codes "pages") rows) (is_given (codes "requests") rows) c.1 in
-    let pages = text_found run_rules (run_rule_at 7) rows good refl (given_row _ rows given.0) in
-    let requests = text_found run_rules (run_rule_at 8) rows good refl (given_row _ rows given.1) in
+    let pages = text_found run_rules (run_rule_at 8) rows good refl (given_row _ rows given.0) in
+    let requests = text_found run_rules (run_rule_at 9) rows good refl (given_row _ rows given.1) in
     record {
       workers = number_found run_rules (run_rule_at 0) 1 16 rows good refl
           (has_default [] (run_rule_at 0) (drop 1 run_rules) (codes "4") start refl) refl;
@@ -343,8 +349,10 @@ run_found words none =
       hot = may_be_found run_rules (run_rule_at 4) 1 1000000 rows good refl refl;
       places = flag_found run_rules (run_rule_at 5) rows good refl
           (has_default (take 5 run_rules) (run_rule_at 5) (drop 6 run_rules) (codes "false") start refl) refl;
-      summary = flag_found run_rules (run_rule_at 6) rows good refl
+      totals = flag_found run_rules (run_rule_at 6) rows good refl
           (has_default (take 6 run_rules) (run_rule_at 6) (drop 7 run_rules) (codes "false") start refl) refl;
+      summary = flag_found run_rules (run_rule_at 7) rows good refl
+          (has_default (take 7 run_rules) (run_rule_at 7) (drop 8 run_rules) (codes "false") start refl) refl;
       pages = (pages.0, pages.3);
       requests = (requests.0 ∷ requests.1, requests.2, omega arith);
     }
@@ -363,8 +371,8 @@ replay_found words none =
     let good = good_defaults replay_rules replay_rules start replay_rules_fit settled_good c.0 in
     let rows = rows_after replay_rules [] words in
     let given = both_given (is_given (codes "pages") rows) (is_given (codes "requests") rows) c.1 in
-    let pages = text_found replay_rules (replay_rule_at 8) rows good refl (given_row _ rows given.0) in
-    let requests = text_found replay_rules (replay_rule_at 9) rows good refl (given_row _ rows given.1) in
+    let pages = text_found replay_rules (replay_rule_at 9) rows good refl (given_row _ rows given.0) in
+    let requests = text_found replay_rules (replay_rule_at 10) rows good refl (given_row _ rows given.1) in
     record {
       workers = number_found replay_rules (replay_rule_at 0) 1 16 rows good refl
           (has_default [] (replay_rule_at 0) (drop 1 replay_rules) (codes "4") start refl) refl;
@@ -377,8 +385,10 @@ replay_found words none =
       hot = may_be_found replay_rules (replay_rule_at 4) 1 1000000 rows good refl refl;
       places = flag_found replay_rules (replay_rule_at 5) rows good refl
           (has_default (take 5 replay_rules) (replay_rule_at 5) (drop 6 replay_rules) (codes "false") start refl) refl;
-      summary = flag_found replay_rules (replay_rule_at 6) rows good refl
+      totals = flag_found replay_rules (replay_rule_at 6) rows good refl
           (has_default (take 6 replay_rules) (replay_rule_at 6) (drop 7 replay_rules) (codes "false") start refl) refl;
+      summary = flag_found replay_rules (replay_rule_at 7) rows good refl
+          (has_default (take 7 replay_rules) (replay_rule_at 7) (drop 8 replay_rules) (codes "false") start refl) refl;
       pages = (pages.0, pages.3);
       requests = (requests.0 ∷ requests.1, requests.2, omega arith);
     }

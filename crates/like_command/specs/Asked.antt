@@ -49,6 +49,7 @@ pub record HasAll (rows : List Row) : Type 0 where
   pub turns : HasNumber rows (codes "turns") 0 max_turns
   pub hot : MayHaveNumber rows (codes "hot") 1 max_hot
   pub places : HasFlag rows (codes "places")
+  pub totals : HasFlag rows (codes "totals")
   pub summary : HasFlag rows (codes "summary")
   pub pages : (name : Text) × (first_of (codes "pages") rows ≡ Some name)
   pub requests : (names : List Text) × (all_of (codes "requests") rows ≡ Some names) × (0 < length names)
@@ -61,6 +62,7 @@ pub record HasValues (rows : List Row) (o : Options) : Type 0 where
   pub turns : IsNumber rows (codes "turns") 0 max_turns (Some o.turns)
   pub hot : IsNumber rows (codes "hot") 1 max_hot o.hot
   pub places : IsFlag rows (codes "places") o.places
+  pub totals : IsFlag rows (codes "totals") o.totals
   pub summary : IsFlag rows (codes "summary") o.summary
   pub pages : first_of (codes "pages") rows ≡ Some (string_bytes o.pages)
   pub requests : all_of (codes "requests") rows ≡ Some (map string_bytes o.requests.items)

@@ -52,7 +52,8 @@ number_rules = number_rule (codes "workers") (codes "4") 1 max_workers
 -- all options of runs and replays
 abbrev pub option_rules : List Rule
 option_rules = number_rules
-    ++ bounded_rule (codes "hot") 1 max_hot ∷ flag_rule (codes "places") ∷ flag_rule (codes "summary") ∷ []
+    ++ bounded_rule (codes "hot") 1 max_hot ∷ flag_rule (codes "places") ∷ flag_rule (codes "totals")
+    ∷ flag_rule (codes "summary") ∷ []
 
 -- the names of the files of a run
 abbrev pub files_rules : List Rule

@@ -53,6 +53,11 @@ count: its worker, its phase, the count it found, and how
 many likes it added. With these rows every count can be
 checked";
 
+pub const TOTALS: &str = "\
+Leaves the replies out of the report. The rows of pages
+and users stay, and so do those that --hot and --places
+add";
+
 pub const SUMMARY: &str = "\
 After the report, also writes to standard error how many
 requests were liked, seen and refused, how many phases
@@ -95,9 +100,10 @@ counts. In the next joined phase they first run the looks that waited. With
 --hot, the pages that are most popular at the moment are split too.
 
 The report is CSV with the header row,id,number,phase,answer,page,count:
-  row     reply for each request, then page for each page, then user for each
-          user with a last like, then hot for each page that was hot in a phase,
-          and with --places a place for each addition to a page's count
+  row     reply for each request, unless --totals leaves them out, then page for
+          each page, then user for each user with a last like, then hot for each
+          page that was hot in a phase, and with --places a place for each
+          addition to a page's count
   id      of a reply, its submitter; of a page, a hot page or a place, the
           page's number; of a user, its number: all from 0
   number  of a reply, the number of the request in its file, from 1; of a place,
@@ -136,6 +142,7 @@ Example:
   printf 'op,user,page\\nlike,0,news\\nlook,0,news\\n' > requests.csv
   likes run pages.csv requests.csv
   likes run --summary pages.csv requests.csv > report.csv
+  likes run --totals pages.csv requests.csv
   likes replay --workers 1 pages.csv requests.csv
   likes replay --workers 1 --turns 0 --hot 1 pages.csv requests.csv
   likes replay --workers 1 --places pages.csv requests.csv";

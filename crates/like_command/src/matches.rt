@@ -40,6 +40,7 @@ fn options(
     let turns = number(matches, "turns");
     let hot = optional_number(matches, "hot");
     let places = flag(matches, "places");
+    let totals = flag(matches, "totals");
     let summary = flag(matches, "summary");
     let pages = pages_file(alloc, matches)?;
     let requests = request_files(alloc, matches)?;
@@ -50,6 +51,7 @@ fn options(
         turns,
         hot,
         places,
+        totals,
         summary,
         pages,
         requests,

@@ -9,6 +9,8 @@ pub struct Options {
     pub hot: Option<u32>,
     /// Whether the report's places are written behind it.
     pub places: bool,
+    /// Whether the report has no rows of replies.
+    pub totals: bool,
     /// Whether a summary of the report is written on standard error.
     pub summary: bool,
     /// The name of the pages file.

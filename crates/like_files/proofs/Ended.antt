@@ -30,7 +30,7 @@ use Rattle.like_replies.specs.Notices.{notice_of}
 use Rattle.like_replies.specs.Summary.{requests_in}
 use Rattle.like_replies.specs.declared.notice.Notice.{Notice}
 use Rattle.like_files.specs.Faults.{fault_of, fault_of_replay, fault_of_run}
-use Rattle.like_files.specs.Inputs.{GivesLists, GivesPages, Inputs, RefusesLists, RefusesPlans, WritesReport, setup_of}
+use Rattle.like_files.specs.Inputs.{GivesLists, GivesPages, Inputs, RefusesLists, RefusesPlans, WritesReport, extent_of, setup_of}
 use Rattle.like_files.specs.Replay.{GivesAll, IsReplayFilesFault, IsReplayListsFault}
 use Rattle.like_files.specs.Run.{IsRunFilesFault, IsRunListsFault}
 use Rattle.like_files.specs.declared.fault.DriverFault.{DriverFault}
@@ -50,7 +50,7 @@ pub writes : (options : Options) (setup asked : Setup) (plans : List (List Reque
     → IsRightReport setup plans report
     → (options.places ≡ true → HasRightPlaces setup plans report)
     → (options.places ≡ false → HasNoPlaces report)
-    → Appends old new (text_of options.places setup.pages report)
+    → Appends old new (text_of (extent_of options) setup.pages report)
     → notice ≡ notice_of options.summary report → WritesReport options asked plans old new notice
 writes options setup asked plans report old new {notice} same right placed none written noticed =
     subst (λ (s : Setup). WritesReport options s plans old new notice) same

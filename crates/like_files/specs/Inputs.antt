@@ -14,6 +14,7 @@ use Rattle.like_requests.specs.declared.requests_file.RequestsFault.{RequestsFau
 use Rattle.like_requests.specs.declared.setup.Setup.{Setup}
 use Rattle.like_service.specs.declared.report.Report.{Report}
 use Rattle.like_replies.specs.PlaceRows.{text_of}
+use Rattle.like_replies.specs.declared.extent.Extent.{Extent}
 use Rattle.like_replies.specs.Notices.{notice_of}
 use Rattle.like_replies.specs.declared.notice.Notice.{Notice}
 use Rattle.like_service.specs.EndToEnd.{IsRightReport}
@@ -49,6 +50,10 @@ setup_of o pages = record {
   hot = o.hot;
   pages = pages;
 }
+
+-- how much of a report options ask for
+abbrev pub extent_of : Options → Extent
+extent_of o = record { totals = o.totals; places = o.places }
 
 -- a fact of the records of a file, where its bytes are known
 abbrev pub OfRecords : Option (List ℕ) → (List Record → Type 0) → Type 0
@@ -130,5 +135,5 @@ pub record WritesReport (options : Options) (setup : Setup) (plans : List (List 
   pub right : IsRightReport setup plans report
   pub placed : options.places ≡ true → HasRightPlaces setup plans report
   pub none : options.places ≡ false → HasNoPlaces report
-  pub written : Appends old new (text_of options.places setup.pages report)
+  pub written : Appends old new (text_of (extent_of options) setup.pages report)
   pub noticed : notice ≡ notice_of options.summary report

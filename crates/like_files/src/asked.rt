@@ -1,7 +1,8 @@
 ghost use Rattle.std.specs.Prelude.{◌≡◌};
-ghost use Rattle.like_files.specs.Inputs.{setup_of};
+ghost use Rattle.like_files.specs.Inputs.{extent_of, setup_of};
 
 use like_command::Options;
+use like_replies::Extent;
 use like_requests::{Pages, Setup};
 
 /// The settings that options ask for with these pages.
@@ -15,5 +16,15 @@ pub fn with_pages(options: &Options, pages: Pages) -> Setup
         turns: options.turns,
         hot: options.hot,
         pages,
+    }
+}
+
+/// How much of a report the options ask for.
+pub fn extent_of(options: &Options) -> Extent
+    ensures { result ≡ extent_of options.now }
+{
+    Extent {
+        totals: options.totals,
+        places: options.places,
     }
 }

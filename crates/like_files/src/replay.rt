@@ -8,7 +8,7 @@ ghost use Rattle.like_files.specs.Inputs.{GivesScript, RefusesScript, inputs_of}
 ghost use Rattle.like_files.specs.Replay.{HasReplayed, HasReplayedLists, IsReplayFilesFault, IsReplayListsFault};
 ghost use Rattle.like_replies.specs.declared.notice.Notice.{Notice};
 
-use crate::asked::with_pages;
+use crate::asked::{extent_of, with_pages};
 use crate::fault::DriverFault;
 use crate::plans::read_lists;
 use crate::progress::{NoProgress, Part, Progress};
@@ -20,7 +20,7 @@ use std::alloc::Global;
 use std::io::{Read, Write};
 
 /// Reads the pages file, the request files in their order and the script file, replays the run that they ask for, and
-/// writes its report, with its places where the options ask for them. Where there is no script, no turn is taken before
+/// writes its report, or its totals alone, with its places where the options ask for them. Where there is no script, no turn is taken before
 /// the rounds. After `Write` and `Memory` nothing is said of how much was written.
 pub fn replay_files<R: Read + Drop, W: Write>(
     alloc: Global,
@@ -96,7 +96,7 @@ fn replay_lists<W: Write, P: Progress>(
 {
     let report = replay_noting(alloc, setup, plans, script, options.places)?;
     progress.done(Part::Running);
-    write_text(alloc, options.places, &report, &setup.pages, out)?;
+    write_text(alloc, extent_of(options), &report, &setup.pages, out)?;
     progress.done(Part::Writing);
     Ok(Notice::of(&report, options.summary))
 }

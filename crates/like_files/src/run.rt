@@ -6,7 +6,7 @@ ghost use Rattle.like_files.specs.Inputs.{inputs_of};
 ghost use Rattle.like_files.specs.Run.{HasRun, HasRunLists, IsRunFilesFault, IsRunListsFault};
 ghost use Rattle.like_replies.specs.declared.notice.Notice.{Notice};
 
-use crate::asked::with_pages;
+use crate::asked::{extent_of, with_pages};
 use crate::fault::DriverFault;
 use crate::plans::read_lists_at_once;
 use crate::progress::{NoProgress, Part, Progress};
@@ -21,7 +21,7 @@ use std::sync::Wait;
 use std::thread::Threads;
 
 /// Reads the pages file and then the request files, each on a thread where one can be had, makes the run that they ask
-/// for, on threads, and writes its report, with its places where the options ask for them. The fault of the first file at
+/// for, on threads, and writes its report, or its totals alone, with its places where the options ask for them. The fault of the first file at
 /// fault stands, though later request files may have been read by then. Threads take the readers, so they are `Send`. After
 /// `Write` and `Memory` nothing is said of how much was written.
 pub fn run_files<T: Threads + Wait + Sync, R: Read + Drop + Send, W: Write>(
@@ -91,7 +91,7 @@ fn run_lists<T: Threads + Wait + Sync, W: Write, P: Progress>(
 {
     let report = run_noting(rt, alloc, setup, plans, &NoGate, options.places)?;
     progress.done(Part::Running);
-    write_text_at_once(rt, alloc, options.places, &report, &setup.pages, out)?;
+    write_text_at_once(rt, alloc, extent_of(options), &report, &setup.pages, out)?;
     progress.done(Part::Writing);
     Ok(Notice::of(&report, options.summary))
 }

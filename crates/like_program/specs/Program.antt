@@ -21,7 +21,7 @@ example_pages = codes "name,count,split\na,10,no\n"
 abbrev pub example_requests : List ℕ
 example_requests = codes "op,user,page\nlike,0,a\nlike,1,a\nlike,0,a\n"
 
--- options have the numbers of the example, and ask for no places and no summary
+-- options have the numbers of the example, and ask for all replies, no places and no summary
 pub record IsExample (o : Options) : Type 0 where
   pub workers : o.workers ≡ 1
   pub users : o.users ≡ 2
@@ -29,6 +29,7 @@ pub record IsExample (o : Options) : Type 0 where
   pub turns : o.turns ≡ 1000
   pub hot : o.hot ≡ None
   pub places : o.places ≡ false
+  pub totals : o.totals ≡ false
   pub summary : o.summary ≡ false
 
 -- the example was replayed, and this is said of its report

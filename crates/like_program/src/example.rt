@@ -49,6 +49,7 @@ fn example_options(alloc: Global) -> Result<Options, AllocError>
         turns: 1_000,
         hot: None,
         places: false,
+        totals: false,
         summary: false,
         pages: String::from_str(alloc, "pages.csv")?,
         requests,

@@ -1,11 +1,12 @@
 -- The rows of places, and the text of a report with them.
-use Rattle.std.specs.Prelude.{ℕ, Bool, if◌then◌else◌, List, [], ◌∷◌, ◌++◌, map, codes, decimal}
+use Rattle.std.specs.Prelude.{ℕ, if◌then◌else◌, List, [], ◌∷◌, ◌++◌, map, codes, decimal}
 use Rattle.std.specs.List.{enumerate_from, flat_map}
 use Rattle.like_requests.specs.Pages.{Page}
 use Rattle.like_service.specs.declared.place.Place.{Place}
 use Rattle.like_service.specs.declared.report.Report.{Report}
 use Rattle.like_service.specs.places.Places.{lists_in}
-use Rattle.like_replies.specs.Reported.{reported}
+use Rattle.like_replies.specs.Reported.{shown_of}
+use Rattle.like_replies.specs.declared.extent.Extent.{Extent}
 use Rattle.like_replies.specs.Rows.{name_of, report_text, rows_text}
 
 -- the row of a place of a page: the page's number, the worker, the phase, the count before, the page's name, the likes
@@ -22,8 +23,8 @@ page_place_rows pages page places = map (place_row pages page) places
 abbrev pub place_rows : List Page → List (List Place) → List (List (List ℕ))
 place_rows pages rows = flat_map (λ p. page_place_rows pages p.0 p.1) (enumerate_from 0 rows)
 
--- the text of a report, and behind it, where they are asked for, the rows of its places
-abbrev pub text_of : Bool → List Page → Report → List ℕ
-text_of places pages report =
-    report_text pages (reported report)
-    ++ (if places then rows_text (place_rows pages (lists_in report.places.items)) else [])
+-- the text of a report, or of its totals alone, and behind it, where they are asked for, the rows of its places
+abbrev pub text_of : Extent → List Page → Report → List ℕ
+text_of extent pages report =
+    report_text pages (shown_of extent.totals report)
+    ++ (if extent.places then rows_text (place_rows pages (lists_in report.places.items)) else [])

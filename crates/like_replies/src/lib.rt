@@ -2,12 +2,14 @@
 //! too.
 #![tactic(auto)]
 
+mod extent;
 mod notice;
 mod refusals;
 mod report;
 mod summary;
 mod write_fault;
 
+pub use extent::Extent;
 pub use like_collection::{CollectFault, collect, places};
 pub use like_service::{Answer, Place, Replies, Report};
 pub use notice::Notice;

@@ -20,19 +20,19 @@ fn asked(alloc: Global, text: &str) -> Result<Asked, ParseFault> {
 // Words and what they ask for, as `Debug` shows it: all of it where a point ends it, and otherwise how it begins. The
 // least and the greatest value of each option are among them.
 const ASKED: &str = "\
-replay p.csv r.csv => Ok(Replay(Options { workers: 4, users: 1000, stash: 256, turns: 1000, hot: None, places: false, summary: false, \
+replay p.csv r.csv => Ok(Replay(Options { workers: 4, users: 1000, stash: 256, turns: 1000, hot: None, places: false, totals: false, summary: false, \
 pages: \"p.csv\", requests: [\"r.csv\"], script: None })).
 replay --stash 7 --workers 2 p.csv a.csv b.csv => \
-Ok(Replay(Options { workers: 2, users: 1000, stash: 7, turns: 1000, hot: None, places: false, summary: false, \
+Ok(Replay(Options { workers: 2, users: 1000, stash: 7, turns: 1000, hot: None, places: false, totals: false, summary: false, \
 pages: \"p.csv\", requests: [\"a.csv\", \"b.csv\"], script: None })).
 replay p.csv --turns=0 a.csv --places --users=9 --script s.csv => \
-Ok(Replay(Options { workers: 4, users: 9, stash: 256, turns: 0, hot: None, places: true, summary: false, \
+Ok(Replay(Options { workers: 4, users: 9, stash: 256, turns: 0, hot: None, places: true, totals: false, summary: false, \
 pages: \"p.csv\", requests: [\"a.csv\"], script: Some(\"s.csv\") })).
 run p.csv r.csv => \
-Ok(Run(Options { workers: 4, users: 1000, stash: 256, turns: 1000, hot: None, places: false, summary: false, \
+Ok(Run(Options { workers: 4, users: 1000, stash: 256, turns: 1000, hot: None, places: false, totals: false, summary: false, \
 pages: \"p.csv\", requests: [\"r.csv\"], script: None })).
-run --workers=16 --places p.csv --turns 0 a.csv --hot 9 b.csv --summary => \
-Ok(Run(Options { workers: 16, users: 1000, stash: 256, turns: 0, hot: Some(9), places: true, summary: true, \
+run --workers=16 --places p.csv --turns 0 a.csv --hot 9 b.csv --totals --summary => \
+Ok(Run(Options { workers: 16, users: 1000, stash: 256, turns: 0, hot: Some(9), places: true, totals: true, summary: true, \
 pages: \"p.csv\", requests: [\"a.csv\", \"b.csv\"], script: None })).
 replay --workers=1 p.csv r.csv => Ok(Replay(
 replay --workers=16 p.csv r.csv => Ok(Replay(
@@ -77,6 +77,8 @@ const WRONG: &[&str] = &[
     "replay --places --places p.csv r.csv",
     "run --places p.csv r.csv --places",
     "run --places=yes p.csv r.csv",
+    "replay --totals --totals p.csv r.csv",
+    "run p.csv r.csv --totals=yes",
     "replay --summary --summary p.csv r.csv",
     "run p.csv r.csv --summary=yes",
     "replay --speed 9 p.csv r.csv",

@@ -1,9 +1,9 @@
-ghost use Rattle.std.specs.Prelude.{◌≡◌, ◌<◌, ◌++◌, ℕ, All, IfOk, List, OnOk, length};
+ghost use Rattle.std.specs.Prelude.{◌≡◌, ◌<◌, ◌++◌, ℕ, All, IfOk, List, OnOk, length, map};
 ghost use Rattle.std.specs.Option.{ForSome};
 ghost use Rattle.like_requests.specs.Pages.{Page};
 ghost use Rattle.like_service.specs.places.Places.{lists_in};
 ghost use Rattle.like_replies.specs.PlaceRows.{page_place_rows, place_rows};
-ghost use Rattle.like_replies.specs.Reported.{reported};
+ghost use Rattle.like_replies.specs.Reported.{shown_with};
 ghost use Rattle.like_replies.specs.Rows.{IsShowable, IsWritable, report_rows, submitter_rows, user_rows};
 ghost use Rattle.like_replies.specs.Sections.{AreSections};
 
@@ -14,14 +14,19 @@ use std::alloc::{AllocError, Global};
 // How many requests, users or places a section has rows of at most.
 const MOST: usize = 16_384;
 
-/// The sections of a report.
-pub fn report_sections(alloc: Global, report: &Report) -> Result<Vec<Section<'_>>, AllocError>
-    ensures { (pages : List Page) → IsWritable pages (reported report.now)
-        → IfOk result (λ all. AreSections pages (report_rows pages (reported report.now)) all.items) }
+/// The sections of a report, with the rows of these replies in place of its own.
+pub fn report_sections<'a>(
+    alloc: Global,
+    replies: &'a [Vec<Answer>],
+    report: &'a Report,
+) -> Result<Vec<Section<'a>>, AllocError>
+    ensures { (pages : List Page) → IsWritable pages (shown_with (map (λ row. row.items) replies.now) report.now)
+        → IfOk result (λ all. AreSections pages
+        (report_rows pages (shown_with (map (λ row. row.items) replies.now) report.now)) all.items) }
 {
     let mut all = Vec::new(alloc);
     all.push(Section::Header)?;
-    for (submitter, answers) in report.replies.rows.iter().enumerate() {
+    for (submitter, answers) in replies.iter().enumerate() {
         push_answers(&mut all, submitter as u64, answers)?;
     }
     all.push(Section::Counts(&report.counts))?;

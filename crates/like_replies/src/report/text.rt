@@ -1,16 +1,18 @@
-ghost use Rattle.std.specs.Prelude.{◌≡◌, if◌then◌else◌, true, [], OnOk, length};
+ghost use Rattle.std.specs.Prelude.{◌≡◌, if◌then◌else◌, true, [], OnOk, length, map};
+ghost use Rattle.like_service.specs.Collected.{rows_of};
 ghost use Rattle.std.specs.Io.KnownBytes.{Appends};
 ghost use Rattle.like_service.specs.places.Places.{lists_in};
 ghost use Rattle.like_replies.specs.PlaceRows.{place_rows, text_of};
-ghost use Rattle.like_replies.specs.Reported.{reported};
+ghost use Rattle.like_replies.specs.Reported.{reported, shown_of};
 ghost use Rattle.like_replies.specs.Rows.{IsWritable, report_text, rows_text};
 
+use crate::extent::Extent;
 use crate::report::names::Names;
 use crate::report::sections::{place_sections, report_sections};
 use crate::report::sheets::{write_rows, write_rows_at_once};
 use crate::write_fault::WriteFault;
 use like_requests::Pages;
-use like_service::Report;
+use like_service::{Answer, Report};
 use std::alloc::Global;
 use std::io::Write;
 use std::thread::Threads;
@@ -29,23 +31,35 @@ pub fn write_report<W: Write>(
         (report_text pages.now (reported report.now))) }
 {
     let names = Names::new(alloc, pages)?;
-    write_report_rows(alloc, &names, report, out)
+    write_report_rows(alloc, false, &names, report, out)
 }
 
-// The same, with the pages' names at hand.
+// The same, or with totals alone without its replies, with the pages' names at hand.
 fn write_report_rows<W: Write>(
     alloc: Global,
+    totals: bool,
     names: &Names,
     report: &Report,
     out: &mut W,
 ) -> Result<(), WriteFault>
-    requires { IsWritable names.now (reported report.now) }
+    requires { IsWritable names.now (shown_of totals report.now) }
     ensures { OnOk result (Appends
         (W.contents out.old)
         (W.contents out.new)
-        (report_text names.now (reported report.now))) }
+        (report_text names.now (shown_of totals report.now))) }
 {
-    write_rows(alloc, names, &report_sections(alloc, report)?, out)
+    let replies = shown_replies(totals, report);
+    write_rows(alloc, names, &report_sections(alloc, replies, report)?, out)
+}
+
+// The replies of a report, or none with totals alone.
+fn shown_replies(totals: bool, report: &Report) -> &[Vec<Answer>]
+    ensures { map (λ row. row.items) result.now ≡ (if totals then [] else rows_of report.now.replies) }
+{
+    if totals {
+        return &[];
+    }
+    &report.replies.rows
 }
 
 /// Writes a row for each place of each page, with no header. After a fault nothing is said of how much was written.
@@ -82,25 +96,25 @@ fn write_place_rows<W: Write>(
     write_rows(alloc, names, &sections, out)
 }
 
-/// Writes the text of a report, and behind it, where they are asked for, the rows of its places. After a fault nothing is
-/// said of how much was written.
+/// Writes the text of a report, or of its totals alone, and behind it, where they are asked for, the rows of its places.
+/// After a fault nothing is said of how much was written.
 pub fn write_text<W: Write>(
     alloc: Global,
-    places: bool,
+    extent: Extent,
     report: &Report,
     pages: &Pages,
     out: &mut W,
 ) -> Result<(), WriteFault>
     requires writable { IsWritable pages.now (reported report.now) }
-    requires placed { places ≡ true → length report.now.places.items ≡ length pages.now }
+    requires placed { extent.places ≡ true → length report.now.places.items ≡ length pages.now }
     ensures { OnOk result (Appends
         (W.contents out.old)
         (W.contents out.new)
-        (text_of places pages.now report.now)) }
+        (text_of extent pages.now report.now)) }
 {
     let names = Names::new(alloc, pages)?;
-    write_report_rows(alloc, &names, report, out)?;
-    write_asked_rows(alloc, places, &names, report, out)
+    write_report_rows(alloc, extent.totals, &names, report, out)?;
+    write_asked_rows(alloc, extent.places, &names, report, out)
 }
 
 // Writes the rows of the places where they are asked for.
@@ -128,38 +142,46 @@ fn write_asked_rows<W: Write>(
 pub fn write_text_at_once<T: Threads + Sync, W: Write>(
     rt: &T,
     alloc: Global,
-    places: bool,
+    extent: Extent,
     report: &Report,
     pages: &Pages,
     out: &mut W,
 ) -> Result<(), WriteFault>
     requires writable { IsWritable pages.now (reported report.now) }
-    requires placed { places ≡ true → length report.now.places.items ≡ length pages.now }
+    requires placed { extent.places ≡ true → length report.now.places.items ≡ length pages.now }
     ensures { OnOk result (Appends
         (W.contents out.old)
         (W.contents out.new)
-        (text_of places pages.now report.now)) }
+        (text_of extent pages.now report.now)) }
 {
     let names = Names::new(alloc, pages)?;
-    write_report_rows_at_once(rt, alloc, &names, report, out)?;
-    write_asked_rows_at_once(rt, alloc, places, &names, report, out)
+    write_report_rows_at_once(rt, alloc, extent.totals, &names, report, out)?;
+    write_asked_rows_at_once(rt, alloc, extent.places, &names, report, out)
 }
 
-// Writes the rows of the report, some of them made side by side.
+// Writes the rows of the report, or with totals alone without its replies, some of them made side by side.
 fn write_report_rows_at_once<T: Threads + Sync, W: Write>(
     rt: &T,
     alloc: Global,
+    totals: bool,
     names: &Names,
     report: &Report,
     out: &mut W,
 ) -> Result<(), WriteFault>
-    requires { IsWritable names.now (reported report.now) }
+    requires { IsWritable names.now (shown_of totals report.now) }
     ensures { OnOk result (Appends
         (W.contents out.old)
         (W.contents out.new)
-        (report_text names.now (reported report.now))) }
+        (report_text names.now (shown_of totals report.now))) }
 {
-    write_rows_at_once(rt, alloc, names, &report_sections(alloc, report)?, out)
+    let replies = shown_replies(totals, report);
+    write_rows_at_once(
+        rt,
+        alloc,
+        names,
+        &report_sections(alloc, replies, report)?,
+        out,
+    )
 }
 
 // Writes the rows of the places where they are asked for, some of them made side by side.

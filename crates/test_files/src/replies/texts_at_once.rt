@@ -9,7 +9,7 @@ ghost use Rattle.like_replies.specs.Rows.{IsShowable, IsWritable};
 use super::places::place;
 use super::texts::{HEADER, answer, one_page};
 use crate::files::{assert_bytes, list};
-use like_replies::{Place, Replies, Report, write_text_at_once};
+use like_replies::{Extent, Place, Replies, Report, write_text_at_once};
 use like_roles::Reply;
 use std::alloc::{AllocError, Global};
 use std::process::Abort;
@@ -97,12 +97,12 @@ fn push_rows(text: &mut String, count: usize, places: usize) -> Result<(), Alloc
     push_places(text, places)
 }
 
-// Stops the test unless this is written of a report, with its places where they are asked for.
+// Stops the test unless this is written of a report, as much of it as is asked for.
 fn assert_text(
     rt: &(impl Abort + Threads + Sync),
     alloc: Global,
     report: &Report,
-    places: bool,
+    extent: Extent,
     text: &str,
 )
     requires written { (pages : List Page) → length pages ≡ 1 → IsWritable pages (reported report.now) }
@@ -110,7 +110,7 @@ fn assert_text(
 {
     let pages = one_page(rt, alloc, "name,count,split\na,0,no\n");
     let mut out = Vec::new(alloc);
-    write_text_at_once(rt, alloc, places, report, &pages, &mut out).expect(rt, "memory");
+    write_text_at_once(rt, alloc, extent, report, &pages, &mut out).expect(rt, "memory");
     assert_bytes(rt, out, text.as_bytes());
 }
 
@@ -119,11 +119,15 @@ fn assert_written(
     rt: &(impl Abort + Threads + Sync),
     alloc: Global,
     count: usize,
-    places: bool,
+    extent: Extent,
     text: &str,
 ) {
     let report = report_of_likes(rt, alloc, count);
-    assert_text(rt, alloc, &report, places, text);
+    assert_text(rt, alloc, &report, extent, text);
+}
+
+fn extent(totals: bool, places: bool) -> Extent {
+    Extent { totals, places }
 }
 
 // 40,000 requests, users and places have three sections each, the last of them shorter than the others: more than are
@@ -132,12 +136,22 @@ fn assert_written(
 fn all_sections_in_order(rt: HostRuntime) {
     for count in [0, 1, 16_384, 40_000] {
         let text = text_of_likes(rt.alloc(), count, count).expect(&rt, "memory");
-        assert_written(&rt, rt.alloc(), count, true, &text);
+        assert_written(&rt, rt.alloc(), count, extent(false, true), &text);
     }
 }
 
 #[test]
 fn no_places_unasked(rt: HostRuntime) {
     let text = text_of_likes(rt.alloc(), 1, 0).expect(&rt, "memory");
-    assert_written(&rt, rt.alloc(), 1, false, &text);
+    assert_written(&rt, rt.alloc(), 1, extent(false, false), &text);
+}
+
+// The rows of the replies are left out, and those of the places are not.
+#[test]
+fn no_replies_in_totals(rt: HostRuntime) {
+    let text = "row,id,number,phase,answer,page,count\npage,0,,,,a,7\nuser,0,,,,a,\nuser,1,,,,a,\n";
+    assert_written(&rt, rt.alloc(), 2, extent(true, false), text);
+    let text =
+        "row,id,number,phase,answer,page,count\npage,0,,,,a,7\nuser,0,,,,a,\nplace,0,0,1,7,a,1\n";
+    assert_written(&rt, rt.alloc(), 1, extent(true, true), text);
 }

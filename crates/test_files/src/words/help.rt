@@ -55,6 +55,7 @@ const COLUMNS: &[&str] = &[
     "--turns <T>",
     "--hot <H>",
     "--places",
+    "--totals",
 ];
 
 // What a script is, of a replay alone.

@@ -1,5 +1,5 @@
 //! The cases of replays as data, with `;` between them. Each has six cells with `|` between them: its name; its workers,
-//! users, places of the stash and turns, likes that make a page hot (`-`: no page is hot), and whether places are written;
+//! users, places of the stash and turns, likes that make a page hot (`-`: no page is hot), and whether places, or totals alone, are written;
 //! the pages file; the request files, each with `&` behind it; the script (`-`: there is none); and what it ends in.
 
 /// The worked examples. Each ends in a report, whose header row is left out.
@@ -12,6 +12,7 @@
 /// - `two-slices`: two workers like one page in their slices, and a look sees both likes.
 /// - `place-rows`: of `plain-likes` and of `two-slices`, a place for each like that was added at once; then three likes in
 ///   phase 1, which the worker merges at once, and one place for all of them.
+/// - `totals`: `answers` and the first of `place-rows` with totals alone, so without the rows of their replies.
 /// - `idle-workers`: three of four workers have no submitter.
 /// - `filled-stash` and `stash-with-room`: a like behind two looks that wait. Where they fill the stash it is taken after
 ///   the merge, else before it.
@@ -43,6 +44,11 @@ answers|1 2 256 1000|name,count,split\na,10,no\nb,7,yes\n|\
 op,user,page\nlook,1,a\nlike,2,a\nlike,0,zz\nlike,1,b\nlook,1,a\n&|-|\
 reply,0,1,0,seen,,10\nreply,0,2,0,unknown-user,,\nreply,0,3,0,unknown-page,,\nreply,0,4,0,liked,,\n\
 reply,0,5,0,seen,b,10\npage,0,,,,a,10\npage,1,,,,b,8\nuser,1,,,,b,\n;\
+totals|1 2 256 1000 - totals|name,count,split\na,10,no\nb,7,yes\n|\
+op,user,page\nlook,1,a\nlike,2,a\nlike,0,zz\nlike,1,b\nlook,1,a\n&|-|\
+page,0,,,,a,10\npage,1,,,,b,8\nuser,1,,,,b,\n;\
+totals|1 2 256 1000 - places totals|name,count,split\na,10,no\n|op,user,page\nlike,0,a\nlike,1,a\nlike,0,a\n&|-|\
+page,0,,,,a,13\nuser,0,,,,a,\nuser,1,,,,a,\nplace,0,0,0,10,a,1\nplace,0,0,0,11,a,1\nplace,0,0,0,12,a,1\n;\
 split-and-stash|1 2 256 0|name,count,split\na,10,yes\n|op,user,page\nlike,0,a\nlook,0,a\n&|\
 turn,index\nopen,0\nopen,0\ncoordinator,0\nworker,0\ncoordinator,0\nworker,0\nworker,0\ncoordinator,0\n\
 worker,0\ncoordinator,0\nworker,0\n|reply,0,1,1,liked,,\nreply,0,2,2,seen,a,11\npage,0,,,,a,11\nuser,0,,,,a,\n;\

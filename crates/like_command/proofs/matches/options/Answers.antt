@@ -17,6 +17,7 @@ returns-clause-values c =
       turns = c.number-turns.ensures 0 1000000 (omega arith) c.requires.turns;
       hot = c.optional_number-hot.ensures 1 1000000 (omega arith) c.requires.hot;
       places = c.flag-places.ensures;
+      totals = c.flag-totals.ensures;
       summary = c.flag-summary.ensures;
       pages = c.in_ok-pages.ensures;
       requests = c.in_ok-requests.ensures;

@@ -16,7 +16,7 @@ write_text_at_once-requires-clause-writable g c κs lives =
 pub write_text_at_once-requires-clause-placed : goal.write_text_at_once-requires-clause-placed
 write_text_at_once-requires-clause-placed g c κs lives wanted =
     one_list_a_page c.args.setup.now (lists_of c.args.plans.items) c.in_ok-report.report
-    (c.in_ok-report.ensures.places wanted)
+    (c.in_ok-report.ensures.places (rw c.extent_of.ensures at wanted))
 
 pub of-requires : goal.of-requires
 of-requires g c =
@@ -46,7 +46,7 @@ returns-clause-run g c = record {
     right = c.in_ok-report.ensures.report;
     placed = c.in_ok-report.ensures.places;
     none = c.in_ok-report.ensures.none;
-    written = c.in_ok-write_text_at_once.ensures;
+    written = rw c.extent_of.ensures at c.in_ok-write_text_at_once.ensures;
     noticed = c.of.ensures;
   };
 }

@@ -16,11 +16,10 @@ answers_in row = row.items
 pub loop-submitter-preserved : goal.loop-submitter-preserved
 loop-submitter-preserved c = λ pages writable.
     let n = c.loop-submitter.submitter in
-    let row = c.answers-item.result in
-    let rows = c.args.report.now.replies.rows.items in
-    let same = c.deref-answers-items.ensures.value in
-    let there : n < length rows = rw same at c.loop-submitter-test.true in
-    let is : row ≡ get_or rows n row = rw same at c.answers-item.is in
+    let row = c.index-replies-submitter.result in
+    let rows = c.args.replies.now in
+    let there : n < length rows = c.loop-submitter-test.true in
+    let is : row ≡ get_or rows n row = c.index-replies-submitter.is in
     let done : List (List Answer) = map answers_in (take n rows) in
     let size : length done ≡ n = simp length-map (length-take-le n rows (omega arith)) in
     let more : map answers_in (take (n + 1) rows) ≡ done ++ answers_in row ∷ [] =
@@ -36,9 +35,8 @@ loop-submitter-preserved c = λ pages writable.
 
 pub returns : goal.returns
 returns c = λ pages writable.
-    let rows = c.args.report.now.replies.rows.items in
-    let same = c.deref-answers-items.ensures.value in
-    let past : length rows ≤ c.loop-submitter.submitter = rw same at c.loop-submitter-test.false in
+    let rows = c.args.replies.now in
+    let past : length rows ≤ c.loop-submitter.submitter = c.loop-submitter-test.false in
     let whole : take c.loop-submitter.submitter rows ≡ rows = take_all c.loop-submitter.submitter rows past in
     let replies = header_row ∷ reply_rows pages (map answers_in rows) in
     let counts = replies ++ page_rows pages c.deref-2.result.now in

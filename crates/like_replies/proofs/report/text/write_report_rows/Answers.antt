@@ -1,8 +1,23 @@
+use Rattle.std.proofs.Common.{map}
+use Rattle.std.specs.Prelude.{if◌then◌else◌, []}
+use Rattle.like_service.specs.Collected.{rows_of}
+use Rattle.like_replies.proofs.Shown.{shown_sections}
 use Rattle.like_replies.proofs.report.text.write_report_rows.Goals as goal
 
 pub write_rows-requires : goal.write_rows-requires
-write_rows-requires g c = rw c.deref.ensures.value (c.in_ok-report_sections.ensures c.args.names.now c.requires).each
+write_rows-requires g c =
+    let report = c.args.report.now in
+    let replies = map (λ row. row.items) c.shown_replies-replies.result.now in
+    let asked = if c.args.totals then [] else rows_of report.replies in
+    rw c.deref.ensures.value
+    (shown_sections c.args.names.now replies asked report c.in_ok-report_sections.field-0.items
+    c.shown_replies-replies.ensures (c.in_ok-report_sections.ensures c.args.names.now) c.requires).each
 
 pub returns : goal.returns
-returns g c = rw (c.deref.ensures.value, (c.in_ok-report_sections.ensures c.args.names.now c.requires).same) at
-    c.write_rows.ensures
+returns g c =
+    let report = c.args.report.now in
+    let replies = map (λ row. row.items) c.shown_replies-replies.result.now in
+    let asked = if c.args.totals then [] else rows_of report.replies in
+    let sections = shown_sections c.args.names.now replies asked report c.in_ok-report_sections.field-0.items
+    c.shown_replies-replies.ensures (c.in_ok-report_sections.ensures c.args.names.now) c.requires in
+    rw (c.deref.ensures.value, sections.same) at c.write_rows.ensures

@@ -6,12 +6,15 @@ use Rattle.std.specs.Io.KnownBytes.{Appends}
 use Rattle.like_requests.specs.Pages.{Page}
 use Rattle.like_service.specs.places.Places.{lists_in}
 use Rattle.like_replies.specs.PlaceRows.{place_rows}
-use Rattle.like_replies.specs.Reported.{reported}
+use Rattle.like_replies.specs.Reported.{shown_of}
 use Rattle.like_replies.specs.Rows.{report_text, rows_text}
+use Rattle.like_replies.proofs.Shown.{IsWritable-shown}
 use Rattle.like_replies.proofs.report.text.write_text.Goals as goal
 
 pub write_report_rows-requires : goal.write_report_rows-requires
-write_report_rows-requires g c = rw c.in_ok-names.ensures c.requires.writable
+write_report_rows-requires g c =
+    rw c.in_ok-names.ensures
+    (IsWritable-shown c.args.extent.totals c.args.pages.now c.args.report.now c.requires.writable)
 
 pub write_asked_rows-requires : goal.write_asked_rows-requires
 write_asked_rows-requires g c = rw c.in_ok-names.ensures c.requires.placed
@@ -19,9 +22,9 @@ write_asked_rows-requires g c = rw c.in_ok-names.ensures c.requires.placed
 pub returns : goal.returns
 returns g c =
     let report = c.args.report.now in
-    let rows : List Page → List ℕ = λ pages. report_text pages (reported report) in
+    let rows : List Page → List ℕ = λ pages. report_text pages (shown_of c.args.extent.totals report) in
     let places : List Page → List ℕ =
-    λ pages. if c.args.places then rows_text (place_rows pages (lists_in report.places.items)) else [] in
+    λ pages. if c.args.extent.places then rows_text (place_rows pages (lists_in report.places.items)) else [] in
     let old = g.W.Write.contents c.args.out.now in
     let middle = g.W.Write.contents c.write_report_rows.new.out in
     let new = g.W.Write.contents c.write_asked_rows.new.out in
