@@ -1,5 +1,5 @@
 -- What is shown of a report: all of it, or its totals alone.
-use Rattle.std.proofs.Common.{◌≡◌, ℕ, Bool, true, false, List, subst}
+use Rattle.std.proofs.Common.{◌≡◌, Bool, true, false, List, subst}
 use Rattle.std.proofs.lemmas.List.Elements.{All-nil}
 use Rattle.like_requests.specs.Pages.{Page}
 use Rattle.like_service.specs.declared.answer.Answer.{Answer}

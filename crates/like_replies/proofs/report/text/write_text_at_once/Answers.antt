@@ -8,7 +8,6 @@ use Rattle.like_service.specs.places.Places.{lists_in}
 use Rattle.like_replies.specs.PlaceRows.{place_rows}
 use Rattle.like_replies.specs.Reported.{shown_of}
 use Rattle.like_replies.specs.Rows.{report_text, rows_text}
-use Rattle.like_replies.proofs.Shown.{IsWritable-shown}
 use Rattle.like_replies.proofs.report.text.write_text_at_once.Goals as goal
 
 pub returns : goal.returns
