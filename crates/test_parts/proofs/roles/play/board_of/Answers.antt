@@ -29,6 +29,7 @@ returns-clause-seats c =
         is_his = ap (λ v. v.worker) is.1;
         marks = ap (λ v. v.opening.marks) is.1 ∙ (c.as_slice-2.ensures.value ∙ c.in_ok-marks.ensures.marks);
         limits = ap (λ v. v.opening.limits) is.1;
+        factor = ap (λ v. v.opening.factor) is.1;
         fresh = is.2;
       },
     ))
