@@ -127,7 +127,7 @@ fn limits_are_these_numbers(rt: HostRuntime) -> Result<(), Fail> {
         last_phase: 281_474_976_710_654,
         likes: 72_057_594_037_927_936,
         pages: 16_777_216,
-        hot: 64,
+        hot: 16_777_216,
         seats: 64,
         form: Form::Counts,
     };
