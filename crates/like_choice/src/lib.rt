@@ -3,7 +3,6 @@
 #![tactic(auto)]
 
 mod bits;
-mod bucket;
 mod choice;
 mod guided;
 mod proposal;

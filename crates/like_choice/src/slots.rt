@@ -5,18 +5,14 @@ ghost use Rattle.like_choice.specs.Slots.{AreApart, AreSlots, Chooses, new_slots
 
 mod fill;
 mod kept;
-mod known;
-mod marked;
+mod pages;
 mod taken;
-mod written;
 
 use self::fill::fill;
 use self::kept::kept;
-use self::known::has_page;
-use self::marked::marked_first;
-use self::written::write_used;
+use self::pages::{has_page, marked_first, write_used};
+use self::taken::bucket_of;
 use crate::bits::low_bits;
-use crate::bucket::bucket_of;
 use std::marker::Model;
 
 /// The slots of a service: 64 places for the pages that are split in its split phases.

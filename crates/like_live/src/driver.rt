@@ -1,4 +1,4 @@
-ghost use Rattle.std.specs.Prelude.{◌≡◌, ◌↔◌, ◌+◌, ◌≤◌, IfOk, IsTrue, drop, length, take};
+ghost use Rattle.std.specs.Prelude.{◌≡◌, ◌↔◌, ◌+◌, ◌≤◌, [], All, IfOk, IsTrue, drop, length, take, vec_capacity};
 ghost use Rattle.std.specs.Arc.{arc_value};
 ghost use Rattle.like_board.specs.Rule.{opened_coord};
 ghost use Rattle.like_board.specs.Seats.{board_id, coord_board, coord_view};
@@ -6,17 +6,13 @@ ghost use Rattle.like_choice.specs.Slots.{AreApart, pages_in_use};
 ghost use Rattle.like_limits.specs.Limits.{hot_pages};
 ghost use Rattle.like_live.specs.Driver.{DriverTurns, IsSameDriver, IsService, TakesLast, TakesSnapshot, new_driver};
 ghost use Rattle.like_live.specs.Opening.{IsWithinLimits, board_opening};
-ghost use Rattle.like_live.specs.Service.{AreGone, AreItsSeats, IsClosedService};
+ghost use Rattle.like_live.specs.Service.{AreBackFrom, AreGone, AreItsSeats, HasMergedOnceGone, IsClosedService};
 
-mod back;
-mod boundary;
-mod last;
+mod counts;
 mod splits;
 mod turns;
 
-use self::back::give_back;
-use self::boundary::read_boundary;
-use self::last::read_last;
+use self::counts::{read_boundary, read_last};
 use self::splits::Splits;
 use self::turns::act;
 use crate::driver_answer::DriverAnswer;
@@ -229,5 +225,17 @@ impl Driver<Guided> {
         } }
     {
         self.splits.ask(pages);
+    }
+}
+
+// Gives the workers' seats of all these seats back, in order.
+fn give_back(seats: Vec<LiveSeat<SharedPost>>, back: &mut Vec<WorkerSeat>)
+    requires none { back.old.items ≡ [] }
+    requires room { length seats.items ≤ vec_capacity back.old }
+    ensures back { AreBackFrom seats.items back.new.items }
+    ensures merged { All HasMergedOnceGone seats.items }
+{
+    for seat in seats {
+        back.push_reserved(seat.leave().back());
     }
 }

@@ -33,7 +33,7 @@ pub struct Opening {
     pub lasts: Vec<u32>,
     /// How many looks a seat has room for, those that wait and those that were found together: 1 to 4,096.
     pub room: u32,
-    /// How many likes since the last choice make one of the first 64 pages hot, if any do: 1 to 1,000,000.
+    /// From about how many likes of late on a page is hot, if any gets hot: 1 to 1,000,000. 1 to 511 act as 512.
     pub hot: Option<u32>,
 }
 

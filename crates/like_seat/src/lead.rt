@@ -9,11 +9,9 @@ ghost use Rattle.like_core.specs.views.Views.{MayAnnounce, MayPublish, MayReleas
 ghost use Rattle.like_seat.specs.Lead.{ChoosesRisen, MayPublishChoice, PublishesChoice, Sees, announced, new_lead, published, released, with_counts};
 
 mod counts;
-mod risen;
 mod slots;
 
-use self::counts::read_range;
-use self::risen::count_risen;
+use self::counts::{count_risen, read_range};
 use self::slots::put_pages;
 use like_board::{Board, CoordSeat};
 use like_core::{CoordSight, HOT_PAGES};

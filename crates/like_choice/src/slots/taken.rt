@@ -1,11 +1,17 @@
 ghost use Rattle.std.specs.Prelude.{◌≡◌, ◌<◌, ◌==◌, ◌&&◌, length, slice_index, MatchBool};
-ghost use Rattle.like_limits.specs.Limits.{hot_pages};
 ghost use Rattle.like_limits.specs.Buckets.{bucket};
+ghost use Rattle.like_limits.specs.Limits.{hot_pages};
 ghost use Rattle.like_core.specs.Functions.{has_bit};
 ghost use Rattle.like_choice.specs.Slots.{IsTaken};
 
 use crate::bits::is_set;
-use crate::bucket::bucket_of;
+
+// The bucket of a page, a number below 1,024.
+pub(crate) fn bucket_of(factor: u32, page: u32) -> u32
+    ensures { result ≡ bucket factor page }
+{
+    page.wrapping_mul(factor) >> 22
+}
 
 // Whether the page of a slot in use has the same bucket.
 pub(crate) fn is_taken(slots: &[u32], bits: u64, factor: u32, page: u32) -> bool

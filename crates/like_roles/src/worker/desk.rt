@@ -2,8 +2,7 @@ ghost use Rattle.std.specs.Prelude.{◌≡◌};
 ghost use Rattle.like_core.specs.OpeningLimits.{run_limits};
 ghost use Rattle.like_seat.specs.StationView.{phase_at};
 
-mod addition;
-mod merge;
+mod additions;
 mod new_desk;
 mod request;
 mod taken;

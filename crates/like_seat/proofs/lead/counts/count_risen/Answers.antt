@@ -1,0 +1,68 @@
+use Rattle.std.proofs.Common.{◌≡◌, ◌+◌, ◌-◌, ◌*◌, ◌^◌, ◌<◌, true, false, leb, length, take, get_or, set, sym, ap, ◌∙◌, subst, arith}
+use Rattle.std.proofs.lemmas.Bool.{lt-leb, le-leb}
+use Rattle.std.proofs.lemmas.List.{get_or-set_other, length-set, length-take-le, take_more_set}
+use Rattle.like_core.specs.declared.view.CoordSeatView.{CoordSeatView}
+use Rattle.like_core.specs.Functions.{weight}
+use Rattle.like_core.specs.views.Views.{counted_coord, MayCount}
+use Rattle.like_board.specs.Seats.{coord_view}
+use Rattle.like_seat.specs.Lead.{counted_from, has_risen}
+use Rattle.like_seat.proofs.Leading.{bit-fits, bit-is, counted-more, mask-more, may-count}
+use Rattle.like_seat.proofs.lead.counts.count_risen.Goals as goal
+use Rattle.like_seat.proofs.lead.counts.count_risen.Goals.{then-saturating_sub-from, else-saturating_sub-from}
+
+pub count-count-requires-clause-may : goal.count-count-requires-clause-may
+count-count-requires-clause-may c =
+    let l = c.loop-page in
+    subst (λ (v : CoordSeatView). MayCount v l.page) (sym l.invariant.view)
+    (may-count (coord_view c.args.seat.now) 0 (take l.page l.counts) l.page
+    (c.requires.saw, c.requires.joined, omega (arith, c.loop-page-test.true, l.invariant.len, c.requires.there)))
+
+pub overflow_add-mask : goal.overflow_add-mask
+overflow_add-mask c =
+    let l = c.loop-page in
+    omega (
+      arith,
+      bit-fits (has_risen c.args.least c.args.counts.now l.counts) l.page l.mask
+          (omega (arith, c.loop-page-test.true, l.invariant.len, c.requires.few)) l.invariant.risen,
+    )
+
+pub loop-page-preserved : goal.loop-page-preserved
+loop-page-preserved c =
+    let l = c.loop-page in
+    let count = c.count-count.result in
+    let first = c.args.counts.now in
+    let there : l.page < length l.counts = omega (arith, c.loop-page-test.true) in
+    let few : l.page < 64 = omega (arith, there, l.invariant.len, c.requires.few) in
+    let by : c.saturating_sub.result ≡ count - get_or first l.page 0 =
+    c.saturating_sub.ensures ∙ ap (λ n. count - n) (l.invariant.rest l.page (omega arith)) in
+    let rose : c.if-saturating_sub-from.mask
+    ≡ l.mask + weight (leb c.args.least (count - get_or first l.page 0)) * 2 ^ l.page =
+    elim c.if-saturating_sub-from.branch [
+      | then-saturating_sub-from w ↦
+          let yes_ : leb c.args.least (count - get_or first l.page 0) ≡ true =
+          le-leb c.args.least (count - get_or first l.page 0)
+          (omega (arith, w.if-saturating_sub-from.true, c.from.ensures, by)) in
+          w.mask-is ∙ ap (λ n. l.mask + n) (bit-is l.page few ∙ omega (arith, ap (λ b. weight b * 2 ^ l.page) yes_))
+      | else-saturating_sub-from w ↦
+          let no : leb c.args.least (count - get_or first l.page 0) ≡ false =
+          lt-leb c.args.least (count - get_or first l.page 0)
+          (omega (arith, w.if-saturating_sub-from.false, c.from.ensures, by)) in
+          w.mask-is ∙ omega (arith, ap (λ b. weight b * 2 ^ l.page) no)
+    ]
+    in
+    let view : coord_view c.count-count.new.self
+    ≡ counted_from (coord_view c.args.seat.now) 0 (take (l.page + 1) (set l.counts l.page count)) =
+    c.count-count.ensures.view ∙ ap (λ (v : CoordSeatView). counted_coord v l.page count) l.invariant.view
+    ∙ ap (λ p. counted_coord (counted_from (coord_view c.args.seat.now) 0 (take l.page l.counts)) p count)
+    (omega (arith, length-take-le l.page l.counts (omega (arith, there))))
+    ∙ sym (counted-more (coord_view c.args.seat.now) 0 (take l.page l.counts) count)
+    ∙ ap (counted_from (coord_view c.args.seat.now) 0) (sym (take_more_set l.counts l.page count there))
+    in
+    record {
+      board = c.count-count.ensures.board ∙ l.invariant.board;
+      view = view;
+      len = length-set l.counts l.page count ∙ l.invariant.len;
+      rest = λ k past. get_or-set_other l.counts l.page k count 0 (omega (arith, past))
+          ∙ l.invariant.rest k (omega (arith, past));
+      risen = rose ∙ mask-more c.args.least l.page count l.mask first l.counts there l.invariant.risen;
+    }
