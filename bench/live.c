@@ -1,4 +1,4 @@
-/* Measures the live core beside four plain ways to count likes, all in one process. bench/live and bench/live-counts
+/* Measures the live core beside six plain ways to count likes, all in one process. bench/live and bench/live-counts
  * build and run it.
  *
  * usage: live [OPTION...]
@@ -10,27 +10,11 @@
  *
  * In the second form, the first of four threads goes through so many rows by itself, in `counted_rows`, so that a tool
  * can count what they cost. A live service is then in a split phase, and no page's count is compared. */
-#include <likes_helpers.h>
-
-#include "live-options.h"
+#include "live-peers.h"
 
 #include <math.h>
 
-enum { ROW = 64, STRIDE = 16, PADDED = 64, COUNTED_THREADS = 4, TIMED = 5 };
-
-/* A page's number among the words of a peer: as at the board of the live core, the first 64 have a line each. */
-#define WORD(page) ((page) < PADDED ? (size_t)(page) * STRIDE : (size_t)PADDED * STRIDE + (page)-PADDED)
-enum { MOST_WORDS_OF_PAGES = PADDED * STRIDE + MOST_PAGES };
-
-typedef struct player player;
-
-typedef struct {
-    const char *name;
-    void (*row)(player *, const likes_request *, likes_answer *);
-    uint32_t period; /* of the live core: in microseconds, from the end of a split phase to that of the next */
-    uint32_t look;   /* what its looks are */
-    bool drives;     /* whether its seats make turns of the driver */
-} kind;
+enum { COUNTED_THREADS = 4, TIMED = 5 };
 
 typedef struct {
     char name[24];
@@ -38,34 +22,13 @@ typedef struct {
     uint32_t looks;  /* in a hundred */
 } load;
 
-/* How many looks waited how long: in place 16 * p + n those of n * 2^p nanoseconds and a little more. */
+/* What part of the likes was of the pages that a live service had split last, and of the most popular ones. */
 typedef struct {
-    uint64_t counts[64 * 16], worst, all, asked;
-} waits;
+    size_t split_pages;
+    double of_split, of_popular;
+} parts;
 
-struct player {
-    const kind *of;
-    uint32_t number, threads;
-    bool is_timed;
-    likes_request *ring;
-    uint32_t *last;
-    uint64_t *shard;
-    uint64_t done, rows, *began;
-    waits waits;
-    pthread_t thread;
-    char apart[128];
-};
-
-/* The counts of the peers. */
-static union {
-    uint64_t words[MOST_WORDS_OF_PAGES];
-    struct {
-        pthread_mutex_t lock;
-        uint64_t count;
-        char apart[64];
-    } locked[MOST_PAGES];
-} counts;
-static uint64_t shards[MOST_THREADS][MOST_WORDS_OF_PAGES];
+enum { SPLIT_PAGES = 64 };
 
 static options asked;
 static uint64_t ring; /* how many requests a thread goes through, a power of two */
@@ -73,48 +36,6 @@ static likes_service service;
 static player players[MOST_THREADS];
 static pthread_barrier_t begin;
 static bool is_over;
-
-/* A peer: how it adds a like to `page`, and how it reads the page's count. */
-#define PEER(name, add, read)                                                             \
-    static void name(player *it, const likes_request *row, likes_answer *answers) {       \
-        for (size_t i = 0; i < ROW; i++) {                                                \
-            uint32_t page = row[i].page, *last = &it->last[row[i].user / it->threads];    \
-            if (row[i].op == LIKES_LIKE) {                                                \
-                add;                                                                      \
-                *last = page;                                                             \
-                answers[i].status = LIKES_LIKED;                                          \
-            } else {                                                                      \
-                answers[i].count = read;                                                  \
-                answers[i].last = *last;                                                  \
-                answers[i].status = LIKES_SEEN;                                           \
-            }                                                                             \
-        }                                                                                 \
-    }
-
-static uint64_t locked_count(uint32_t page, uint64_t more) {
-    pthread_mutex_lock(&counts.locked[page].lock);
-    uint64_t count = counts.locked[page].count += more;
-    pthread_mutex_unlock(&counts.locked[page].lock);
-    return count;
-}
-
-static uint64_t sum_of_shards(uint32_t page, uint32_t threads) {
-    uint64_t sum = 0;
-    for (uint32_t i = 0; i < threads; i++)
-        sum += __atomic_load_n(&shards[i][WORD(page)], __ATOMIC_RELAXED);
-    return sum;
-}
-
-static void add_to_shard(uint64_t *shard, uint32_t page) {
-    __atomic_store_n(&shard[WORD(page)], shard[WORD(page)] + 1, __ATOMIC_RELAXED);
-}
-
-PEER(relaxed, __atomic_fetch_add(&counts.words[WORD(page)], 1, __ATOMIC_RELAXED),
-     __atomic_load_n(&counts.words[WORD(page)], __ATOMIC_RELAXED))
-PEER(sequential, __atomic_fetch_add(&counts.words[WORD(page)], 1, __ATOMIC_SEQ_CST),
-     __atomic_load_n(&counts.words[WORD(page)], __ATOMIC_SEQ_CST))
-PEER(mutex, locked_count(page, 1), locked_count(page, 0))
-PEER(sharded, add_to_shard(it->shard, page), sum_of_shards(page, it->threads))
 
 static likes_seat *seat_of(const player *it) {
     return &service.places[it->number].seat;
@@ -183,6 +104,8 @@ static const kind kinds[] = {
     {"seqcst", sequential, 0, LIKES_LOOK, false},
     {"mutex", mutex, 0, LIKES_LOOK, false},
     {"sharded", sharded, 0, LIKES_LOOK, false},
+    {"2pl", locking, 0, LIKES_LOOK, false},
+    {"occ", optimistic, 0, LIKES_LOOK, false},
     {"look", live, 1000, LIKES_LOOK, true},
     {"look,thread", live, 1000, LIKES_LOOK, false},
     {"glance", live, 1000, LIKES_GLANCE, true},
@@ -269,11 +192,7 @@ static void start(const kind *of, uint32_t threads) {
     /* A page is hot that gets a like each 10 microseconds. */
     likes_options options = {.seats = threads, .users = asked.users, .room = 4096, .hot = of->period / 10};
     size_t words = PADDED * STRIDE + asked.pages;
-    memset(counts.words, 0, words * sizeof *counts.words);
-    for (uint32_t page = 0; of->row == mutex && page < asked.pages; page++) {
-        pthread_mutex_init(&counts.locked[page].lock, NULL);
-        counts.locked[page].count = 0;
-    }
+    clear_counts(of, asked.pages);
     if (of->period > 0 &&
         likes_service_start(&service, &options, none, asked.pages, NULL, 0, NULL, 0, of->period) != LIKES_OK)
         fail("no service was started");
@@ -287,12 +206,34 @@ static void start(const kind *of, uint32_t threads) {
         it->rows = 0;
         memset(&it->waits, 0, sizeof it->waits);
         memset(it->last, 0xff, (asked.users / threads + 1) * sizeof *it->last);
+        if (has_records(of))
+            memset(it->users, 0, (asked.users / threads + 1) * sizeof *it->users);
     }
     set_looks(of, threads);
 }
 
-/* Compares each page's count with the likes that the threads have made. */
-static void check(const kind *of, uint32_t threads) {
+static uint64_t likes_of(const uint64_t *made, const uint32_t *pages, size_t many) {
+    uint64_t sum = 0;
+    for (size_t n = 0; n < many; n++)
+        sum += made[pages[n]];
+    return sum;
+}
+
+/* What part of so many likes a live service slices, if it splits those pages that it has split last. */
+static parts parts_of(const uint64_t *made) {
+    uint32_t split[SPLIT_PAGES], popular[SPLIT_PAGES], many = asked.pages < SPLIT_PAGES ? asked.pages : SPLIT_PAGES;
+    size_t split_pages = likes_service_split_pages(&service, split, SPLIT_PAGES);
+    uint64_t all = 0;
+    for (uint32_t page = 0; page < asked.pages; page++)
+        all += made[page];
+    for (uint32_t rank = 0; rank < many; rank++)
+        popular[rank] = page_of(rank);
+    double whole = all > 0 ? (double)all : 1;
+    return (parts){split_pages, likes_of(made, split, split_pages) / whole, likes_of(made, popular, many) / whole};
+}
+
+/* Compares each page's count with the likes that the threads have made, of which it tells the parts. */
+static parts check(const kind *of, uint32_t threads) {
     static uint64_t made[MOST_PAGES], now[MOST_PAGES];
     memset(made, 0, asked.pages * sizeof *made);
     for (uint32_t i = 0; i < threads; i++) {
@@ -304,20 +245,20 @@ static void check(const kind *of, uint32_t threads) {
                 players[i].waits.asked += times;
         }
     }
+    parts told = of->period > 0 ? parts_of(made) : (parts){0, 0, 0};
     if (of->period > 0 && likes_service_stop(&service, now, asked.pages) != LIKES_OK)
         fail("the service was not stopped");
     for (uint32_t page = 0; page < asked.pages; page++) {
         if (of->period == 0)
-            now[page] = of->row == mutex     ? locked_count(page, 0)
-                        : of->row == sharded ? sum_of_shards(page, threads)
-                                             : counts.words[WORD(page)];
+            now[page] = last_count(of, page, threads);
         if (now[page] != made[page])
             fail("a count is wrong");
     }
+    return told;
 }
 
 /* Measures a system once, in millions of requests a second. Where looks are timed, it takes five times as long. */
-static double measure(const kind *of, uint32_t threads, bool is_timed) {
+static double measure(const kind *of, uint32_t threads, bool is_timed, parts *to) {
     start(of, threads);
     pthread_barrier_init(&begin, NULL, threads + 1);
     is_over = false;
@@ -336,7 +277,7 @@ static double measure(const kind *of, uint32_t threads, bool is_timed) {
         done += players[i].done;
     }
     pthread_barrier_destroy(&begin);
-    check(of, threads);
+    *to = check(of, threads);
     return done * 1000.0 / took;
 }
 
@@ -369,6 +310,7 @@ typedef struct {
     double times[MOST_WORDS][MOST_TIMES];
     double millions[MOST_WORDS], ratio[MOST_WORDS];
     waits waits[MOST_WORDS];
+    parts parts[MOST_WORDS];
 } measured;
 
 /* Whether looks of a system may wait. */
@@ -404,11 +346,11 @@ static void measure_all(const load *at, uint32_t threads, measured *to) {
     draw(at, threads);
     for (uint32_t time = 0; time < asked.times; time++)
         for (uint32_t n = 0; n < asked.kinds.length; n++)
-            to->times[n][time] = measure(kinds_asked[n], threads, false);
+            to->times[n][time] = measure(kinds_asked[n], threads, false, &to->parts[n]);
     sum_up(to);
     for (uint32_t n = 0; n < asked.kinds.length; n++) {
         if (may_wait(kinds_asked[n], at)) {
-            measure(kinds_asked[n], threads, true);
+            measure(kinds_asked[n], threads, true, &to->parts[n]);
             to->waits[n] = all_waits(threads);
         }
     }
@@ -430,6 +372,11 @@ static void print_row(const load *at, const measured *it) {
     for (uint32_t n = 0; n < asked.kinds.length; n++)
         printf(" %10.2fx", it->ratio[n]);
     puts("");
+    for (uint32_t n = 0; n < asked.kinds.length; n++)
+        if (kinds_asked[n]->period > 0)
+            printf("%16s %-11s %zu pages split, with %.1f%% of the likes; the most popular have %.1f%%\n", "",
+                   kinds_asked[n]->name, it->parts[n].split_pages, 100 * it->parts[n].of_split,
+                   100 * it->parts[n].of_popular);
     for (uint32_t n = 0; n < asked.kinds.length; n++)
         if (it->waits[n].all > 0)
             printf("%16s %-11s %5.1f%% waited: median %.0f us, 99%% %.0f us, worst %.0f us\n", "",
@@ -511,7 +458,9 @@ static void make_room(uint32_t threads) {
         players[i].ring = (likes_request *)calloc(ring, sizeof *players[i].ring);
         players[i].began = (uint64_t *)calloc(ring / ROW, sizeof *players[i].began);
         players[i].last = (uint32_t *)calloc(asked.users + 1, sizeof *players[i].last);
-        if (players[i].ring == NULL || players[i].began == NULL || players[i].last == NULL)
+        players[i].users = (user_record *)calloc(asked.users + 1, sizeof *players[i].users);
+        if (players[i].ring == NULL || players[i].began == NULL || players[i].last == NULL ||
+            players[i].users == NULL)
             fail("out of memory");
     }
 }
