@@ -1,11 +1,14 @@
 pub mod Apart
+pub mod AtHome
 pub mod ByPage
 pub mod Dealt
 pub mod Homes
+pub mod Inverses
 pub mod Owned
 pub mod PageSets
 pub mod Places
 pub mod Rows
 pub mod Sliced
 pub mod Tagged
+pub mod Turned
 pub mod Walk

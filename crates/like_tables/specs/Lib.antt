@@ -1,4 +1,5 @@
 pub mod Factors
+pub mod Home
 pub mod Homes
 pub mod LastLike
 pub mod Liked

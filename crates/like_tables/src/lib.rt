@@ -4,6 +4,7 @@
 
 mod buckets;
 mod held;
+mod home;
 mod last_like;
 mod page_set;
 mod share;
@@ -15,6 +16,7 @@ mod users;
 
 pub use buckets::{BUCKETS, bucket, factor_for};
 pub use held::Held;
+pub use home::Home;
 pub use last_like::NO_PAGE;
 pub use slice::Slice;
 pub use split_pages::SplitPages;
