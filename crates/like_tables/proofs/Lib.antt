@@ -7,6 +7,7 @@ pub mod Inverses
 pub mod Owned
 pub mod PageSets
 pub mod Places
+pub mod Placing
 pub mod Rows
 pub mod Sliced
 pub mod Tagged

@@ -5,7 +5,9 @@ use Rattle.std.proofs.lemmas.Bool.{cases_lt, cases_eq, and_parts, ltb-true, le-l
 use Rattle.std.proofs.lemmas.List.{get_or_past, get_or_read, get_or-replicate, length-replicate, same_lists}
 use Rattle.std.proofs.lemmas.List.FromFn.{get_or-map-range_with_len, length-map-range_with_len}
 use Rattle.like_tables.specs.Share.{IsShare, Share, owned_below, owns, serves_home}
+use Rattle.like_tables.specs.Placed.{IsPlaced}
 use Rattle.like_tables.specs.Places.{AreTaken, HoldsUsers, last_at, table_of}
+use Rattle.like_tables.specs.declared.placed.Placed.{Placed}
 use Rattle.like_tables.specs.UserTable.{IsUserTable, UserTable, last_in, last_of, table_with_lasts, table_without_likes, with_last}
 use Rattle.like_tables.proofs.Owned.{owned_below-lt, owned_below-other}
 
@@ -27,6 +29,13 @@ pub owns-inside : (s : Share) (pages : List (Option ℕ)) (t : UserTable) (user 
     → owns t.share user ≡ true
     → owns s user ≡ true
 owns-inside s pages t user e owned = subst (λ (t : UserTable). owns t.share user ≡ true) (sym e) owned
+
+-- so is the place of a user
+pub placed-inside : (s : Share) (pages : List (Option ℕ)) (t : UserTable) (placed : Placed)
+    → table_of s pages ≡ t
+    → IsPlaced t.share placed
+    → IsPlaced s placed
+placed-inside s pages t placed e p = subst (λ (t : UserTable). IsPlaced t.share placed) (sym e) p
 
 -- a user that the worker owns has a place
 pub place-lt : (s : Share) (pages : List (Option ℕ)) (user : ℕ) → HoldsUsers s pages → owns s user ≡ true

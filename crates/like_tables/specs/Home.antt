@@ -1,5 +1,6 @@
 -- Which users have their home at one seat of a service, and how they are found without a division.
 use Rattle.std.specs.Prelude.{◌≡◌, ℕ, ◌+◌, ◌*◌, ◌/◌, ◌%◌, ◌^◌, ◌<◌}
+use Rattle.like_tables.specs.Share.{Share}
 
 -- how many seats there are, and the number of one of them
 pub record Home : Type 0 where
@@ -29,3 +30,9 @@ pub record IsTurned (h : Home) (inverse turn : ℕ) : Type 0 where
   pub few : turn < 32
   pub whole : odd_part h.seats turn * 2 ^ turn ≡ h.seats
   pub undoes : odd_part h.seats turn * inverse % 2 ^ 32 ≡ 1
+
+-- the share is the seat's: each seat is a worker, and serves the submitter with its number
+pub record IsHomeOf (h : Home) (s : Share) : Type 0 where
+  pub submitters : s.submitters ≡ h.seats
+  pub workers : s.workers ≡ h.seats
+  pub worker : s.worker ≡ h.seat

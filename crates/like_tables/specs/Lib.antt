@@ -4,6 +4,7 @@ pub mod Homes
 pub mod LastLike
 pub mod Liked
 pub mod PageSet
+pub mod Placed
 pub mod Places
 pub mod Ring
 pub mod Share

@@ -46,6 +46,7 @@ impl Home {
     pub fn place(&self, user: u32) -> u32
         ensures there { IsAtHome self.now user → result ≡ user / self.now.seats }
         ensures back { user_at self.now result < 2 ^ 32 → user ≡ user_at self.now result }
+        ensures seat { self.now.seat < self.now.seats }
     {
         user.wrapping_sub(self.seat)
             .wrapping_mul(self.inverse)

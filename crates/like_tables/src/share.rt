@@ -1,8 +1,12 @@
 ghost use Rattle.std.specs.Prelude.{◌≡◌, ◌<◌, ◌≤◌, IfOk, length};
+ghost use Rattle.like_tables.specs.Home.{IsHomeOf};
+ghost use Rattle.like_tables.specs.Placed.{placed_in};
 ghost use Rattle.like_tables.specs.Places.{AreTaken, HoldsUsers, IsGiven};
 ghost use Rattle.like_tables.specs.Share.{owned_below, owns, share_of, submitter_of};
 
+use crate::home::Home;
 use crate::last_like::LastLike;
+use crate::placed::Placed;
 use std::alloc::{AllocError, Global};
 use std::marker::Model;
 
@@ -81,6 +85,22 @@ impl UserShare {
     {
         let (rounds, submitter) = (user / self.submitters, user % self.submitters);
         rounds * self.homes_below[self.submitters as usize] + self.homes_below[submitter as usize]
+    }
+
+    // The user with its place, if it is one of the worker's, of which there are so many. It costs no division.
+    #[inline(always)]
+    pub fn find(&self, home: &Home, user: u32, many: usize) -> Option<Placed>
+        requires home { IsHomeOf home.now self.now }
+        requires many { many ≡ owned_below self.now self.now.users }
+        ensures { result ≡ placed_in self.now user }
+    {
+        // (the proof needs what is true of every share: its users are below 2^32)
+        let _ = &self.users;
+        let place = home.place(user);
+        if place as usize >= many {
+            return None;
+        }
+        Some(Placed { user, place })
     }
 
     // Writes the pages at the places of the worker's users to the places of all users. It walks over the users

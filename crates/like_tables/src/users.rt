@@ -1,11 +1,15 @@
 ghost use Rattle.std.specs.Prelude.{◌≡◌, ◌≢◌, ◌+◌, ◌<◌, ◌≤◌, ◌↔◌, ℕ, None, Some, IfOk, IsTrue, false, length, slice_index_or};
 ghost use Rattle.like_requests.specs.Verdict.{is_accepted, verdict_of};
+ghost use Rattle.like_tables.specs.Home.{IsHomeOf};
 ghost use Rattle.like_tables.specs.LastLike.{no_page};
+ghost use Rattle.like_tables.specs.Placed.{IsPlaced, placed_at, placed_in};
 ghost use Rattle.like_tables.specs.Share.{owns, share_of, submitter_of};
 ghost use Rattle.like_tables.specs.Places.{AreLastsFrom};
 ghost use Rattle.like_tables.specs.UserTable.{IsForUsers, IsUserTable, last_of, table_with_lasts, table_without_likes, with_last};
 
+use crate::home::Home;
 use crate::last_like::LastLike;
+use crate::placed::Placed;
 use crate::share::UserShare;
 use like_requests::{Request, Verdict, judge};
 use std::alloc::{AllocError, Global};
@@ -115,13 +119,52 @@ impl Users {
         judge(request, submitter, self.share.submitters, self.share.users)
     }
 
+    /// Where its users have their places, if each worker serves the submitter with its number.
+    pub fn home(&self) -> Home
+        requires alone { self.now.share.submitters ≡ self.now.share.workers }
+        requires there { self.now.share.worker < self.now.share.workers }
+        ensures { IsHomeOf result self.now.share }
+    {
+        Home::new(self.share.submitters, self.share.worker)
+    }
+
+    /// The user with its place.
+    #[inline(always)]
+    pub fn placed(&self, user: u32) -> Placed
+        requires { IsTrue (owns self.now.share user) }
+        ensures { result ≡ placed_at self.now.share user }
+    {
+        Placed {
+            user,
+            place: self.share.owned_below(user),
+        }
+    }
+
+    /// The user with its place, if the worker serves it. With the home of the worker's users this costs no division.
+    #[inline(always)]
+    pub fn find(&self, home: &Home, user: u32) -> Option<Placed>
+        requires { IsHomeOf home.now self.now.share }
+        ensures { result ≡ placed_in self.now.share user }
+    {
+        self.share.find(home, user, self.pages.len())
+    }
+
     /// The page of the user's last like, if any.
     #[inline(always)]
     pub fn last(&self, user: u32) -> Option<u32>
         requires { IsTrue (owns self.now.share user) }
         ensures { result ≡ last_of self.now user }
     {
-        self.pages[self.share.owned_below(user) as usize].page()
+        self.last_at(self.placed(user))
+    }
+
+    /// The same, for a user whose place is known.
+    #[inline(always)]
+    pub fn last_at(&self, placed: Placed) -> Option<u32>
+        requires { IsPlaced self.now.share placed }
+        ensures { result ≡ last_of self.now placed.user }
+    {
+        self.pages[placed.place as usize].page()
     }
 
     /// Notes that the user's last like is of this page.
@@ -134,8 +177,21 @@ impl Users {
         ensures others { (other : ℕ) → other ≢ user
             → last_of self.new other ≡ last_of self.old other }
     {
-        let place = self.share.owned_below(user) as usize;
-        self.pages[place] = LastLike::of(page);
+        let placed = self.placed(user);
+        self.set_at(placed, page);
+    }
+
+    /// The same, for a user whose place is known.
+    #[inline(always)]
+    pub fn set_at(&mut self, placed: Placed, page: u32)
+        requires placed { IsPlaced self.old.share placed }
+        requires page { page < no_page }
+        ensures table { self.new ≡ with_last self.old placed.user page }
+        ensures user { last_of self.new placed.user ≡ Some page }
+        ensures others { (other : ℕ) → other ≢ placed.user
+            → last_of self.new other ≡ last_of self.old other }
+    {
+        self.pages[placed.place as usize] = LastLike::of(page);
     }
 
     /// Whether the worker serves so many users from a place on, where its users are in the order of their numbers.
