@@ -1,6 +1,7 @@
 ghost use Rattle.std.specs.Prelude.{◌≡◌, ◌<◌, false, true, IsTrue};
 ghost use Rattle.like_core.specs.Post.{pages_of, slices};
 ghost use Rattle.like_core.specs.WorkerState.{IsRunning};
+ghost use Rattle.like_tables.specs.Placed.{IsPlaced};
 ghost use Rattle.like_tables.specs.Share.{owns};
 ghost use Rattle.like_seat.specs.StationView.{IsStation, likes_of};
 ghost use Rattle.like_seat.specs.Steps.{CountsLike, Glances, Reads};
@@ -8,6 +9,7 @@ ghost use Rattle.like_seat.specs.Steps.{CountsLike, Glances, Reads};
 use crate::seen::Seen;
 use crate::station::Station;
 use like_core::Post;
+use like_tables::Placed;
 
 impl<P: Post, W: Copy> Station<P, W> {
     /// Whether a page is split in the phase that it runs.
@@ -31,8 +33,22 @@ impl<P: Post, W: Copy> Station<P, W> {
         ensures counts { CountsLike self.old user page result self.new }
         ensures seat { IsStation self.new }
     {
+        let placed = self.users().placed(user);
+        self.count_like_at(placed, page)
+    }
+
+    /// The same, for a user whose place is known.
+    #[inline(always)]
+    pub fn count_like_at(&mut self, placed: Placed, page: u32) -> Option<u64>
+        requires running { IsRunning self.old.post.state }
+        requires there { page < pages_of self.old.post }
+        requires placed { IsPlaced self.old.last.share placed }
+        requires fits { likes_of self.old < self.old.post.limits.likes }
+        ensures counts { CountsLike self.old placed.user page result self.new }
+        ensures seat { IsStation self.new }
+    {
         let sliced = self.tables.slice.has(page);
-        self.tables.last.set(user, page);
+        self.tables.last.set_at(placed, page);
         self.tables.likes += 1;
         if sliced {
             self.tables.slice.add(page);
@@ -52,8 +68,22 @@ impl<P: Post, W: Copy> Station<P, W> {
         ensures reads { Reads self.old user page result self.new }
         ensures seat { IsStation self.new }
     {
+        let placed = self.users().placed(user);
+        self.read_at(placed, page)
+    }
+
+    /// The same, for a user whose place is known.
+    #[inline(always)]
+    pub fn read_at(&mut self, placed: Placed, page: u32) -> Seen
+        requires running { IsRunning self.old.post.state }
+        requires there { page < pages_of self.old.post }
+        requires plain { slices self.old.post page ≡ false }
+        requires placed { IsPlaced self.old.last.share placed }
+        ensures reads { Reads self.old placed.user page result self.new }
+        ensures seat { IsStation self.new }
+    {
         Seen {
-            last: self.tables.last.last(user),
+            last: self.tables.last.last_at(placed),
             count: self.post.read(page),
         }
     }
@@ -61,15 +91,15 @@ impl<P: Post, W: Copy> Station<P, W> {
     /// Shows a user at once what the seat knows of a sliced page: the page's count with the seat's own slice of it. It
     /// lacks what the slices of others have.
     #[inline(always)]
-    pub fn glance(&mut self, user: u32, page: u32) -> Seen
+    pub fn glance(&mut self, placed: Placed, page: u32) -> Seen
         requires running { IsRunning self.old.post.state }
         requires there { page < pages_of self.old.post }
         requires sliced { slices self.old.post page ≡ true }
-        requires owned { IsTrue (owns self.old.last.share user) }
-        ensures glances { Glances self.old user page result self.new }
+        requires placed { IsPlaced self.old.last.share placed }
+        ensures glances { Glances self.old placed.user page result self.new }
         ensures seat { IsStation self.new }
     {
-        let last = self.tables.last.last(user);
+        let last = self.tables.last.last_at(placed);
         let own = self.tables.slice.likes(page);
         Seen {
             last,

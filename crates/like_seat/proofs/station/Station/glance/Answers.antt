@@ -17,12 +17,12 @@ returns-clause-glances g c =
     subst (λ (v : StationView g.row.W.Denot). page < pages_of v.post) (sym c.self.view_is) c.requires.there in
     let own : c.likes-own.result ≡ get_or (by_page t.slice (pages_of p)) page 0 =
     c.likes-own.ensures ∙ sym (get_or-by_page t.slice (pages_of p) page 0 there) in
-    let shown : Seen = record { last = c.last-last.result; count = c.glance.result + c.likes-own.result } in
-    subst (λ (v : StationView g.row.W.Denot). Glances v c.args.user page shown (view_of (g.P.Post.view c.glance.new.self) t))
+    let shown : Seen = record { last = c.last_at-last.result; count = c.glance.result + c.likes-own.result } in
+    subst (λ (v : StationView g.row.W.Denot). Glances v c.args.placed.user page shown (view_of (g.P.Post.view c.glance.new.self) t))
     c.self.view_is
     (record {
       count = c.glance.result;
-      last = c.last-last.ensures;
+      last = c.last_at-last.ensures;
       counts = omega (arith, own);
       own = omega (arith, own, c.glance.ensures.own);
       glanced = ap (λ (q : PostView). view_of q t) c.glance.ensures.view;

@@ -9,7 +9,7 @@ use Rattle.like_seat.specs.StationView.{StationView, likes_of}
 use Rattle.like_seat.specs.Steps.{liked_last, sliced}
 use Rattle.like_seat.proofs.Keeping.{Kept-written, has_split-slices, sum-written}
 use Rattle.like_seat.proofs.MergedLikes.{all_added-push}
-use Rattle.like_seat.proofs.station.Station.count_like.Goals as goal
+use Rattle.like_seat.proofs.station.Station.count_like_at.Goals as goal
 
 pub invariant_of-self : goal.invariant_of-self
 invariant_of-self g c =
@@ -21,7 +21,7 @@ invariant_of-self g c =
     let there : page < n =
     subst (λ (v : StationView g.row.W.Denot). page < pages_of v.post) (sym c.self.view_is) c.requires.there in
     let room : likes_of (view_of p t) < p.limits.likes =
-    subst (λ (v : StationView g.row.W.Denot). likes_of v < v.post.limits.likes) (sym c.self.view_is) c.requires.room in
+    subst (λ (v : StationView g.row.W.Denot). likes_of v < v.post.limits.likes) (sym c.self.view_is) c.requires.fits in
     let split : has_split t.slice page ≡ true = sym c.has-sliced.ensures ∙ c.if-sliced.true in
     let sums : sum (by_page c.add.new.self n) ≡ sum c.add.new.self.counts =
     ap (λ (s : SplitSlice). sum (by_page s n)) c.add.ensures.counted
@@ -48,14 +48,14 @@ returns-then-sliced-clause-counts g c =
     ap (λ (s : SplitSlice). by_page s n) c.add.ensures.counted
     ∙ by_page-with_likes t.slice n page (likes_in t.slice page + 1) k.slice split there
     ∙ ap (λ (x : ℕ). set (by_page t.slice n) page (x + 1)) (sym had) in
-    let counted = λ (v : StationView g.row.W.Denot). liked_last (sliced v page) c.args.user page in (
+    let counted = λ (v : StationView g.row.W.Denot). liked_last (sliced v page) c.args.placed.user page in (
       subst (λ (v : StationView g.row.W.Denot). slices v.post page ≡ true) c.self.view_is
           (sym (has_split-slices p t.slice page k.splits runs there) ∙ split),
       ◌∙◌ {b = counted (view_of p t)}
           (λ i. record (view_of p t) {
             slice = likes i;
             sliced = c.then-self-inside.ensures i;
-            last = c.set.ensures.table i;
+            last = c.set_at.ensures.table i;
           })
           (ap counted c.self.view_is),
     )
@@ -70,10 +70,10 @@ invariant_of-self-2 g c =
     let k = c.self.invariant in
     let page : ℕ = c.args.page in
     let room : likes_of (view_of p t) < p.limits.likes =
-    subst (λ (v : StationView g.row.W.Denot). likes_of v < v.post.limits.likes) (sym c.self.view_is) c.requires.room in
+    subst (λ (v : StationView g.row.W.Denot). likes_of v < v.post.limits.likes) (sym c.self.view_is) c.requires.fits in
     let one = addition (phase_of p.state) page c.add-2.result 1 in
     let more = all_added-push p.additions one in
-    subst (λ (q : PostView). IsKept q (record t { likes = t.likes + 1; last = c.set.new.self }))
+    subst (λ (q : PostView). IsKept q (record t { likes = t.likes + 1; last = c.set_at.new.self }))
     (sym c.add-2.ensures.view)
-    (Kept-written p (p.additions ++ one ∷ []) p.reads p.glances t (record t { likes = t.likes + 1; last = c.set.new.self })
+    (Kept-written p (p.additions ++ one ∷ []) p.reads p.glances t (record t { likes = t.likes + 1; last = c.set_at.new.self })
     k refl refl refl refl k.slice k.sums (omega (arith, k.likes, more)) (omega (arith, k.likes, room)))
