@@ -1,6 +1,6 @@
 -- What clap reads of a command that is built up.
 use Rattle.std.specs.Borrow.{Bor}
-use Rattle.std.proofs.Common.{◌≡◌, ◌∙◌, ◌||◌, Option, Some, false, true, length, ap, ap₂}
+use Rattle.std.proofs.Common.{◌≡◌, ◌∙◌, ◌||◌, ℕ, Option, Some, false, true, length, ap, ap₂}
 use Rattle.clap.specs.Walk.{texts}
 use Rattle.clap.specs.Words.{AddsArg, AddsSubcommand, App, Rule, Shape, Text, app_of, items_of, rule_of, with_rule, with_subcommand}
 use Rattle.clap.specs.declared.builder.action.ArgAction.{ArgAction}
@@ -56,6 +56,15 @@ pub defaulted : (old new : Arg) (r : Rule) (values : Texts)
     → IsArgument (record r { defaults = texts (items_of values) }) new
 defaulted old new r values is was = record {
   rule_is = ap rule_of is ∙ ap (λ (x : Rule). record x { defaults = texts (items_of values) }) was.rule_is;
+  local = ap (λ (a : Arg). a.global) is ∙ was.local;
+}
+
+pub lettered : (old new : Arg) (r : Rule) (letter : ℕ)
+    → new ≡ record old { short = Some letter }
+    → IsArgument r old
+    → IsArgument (record r { short = Some letter }) new
+lettered old new r letter is was = record {
+  rule_is = ap rule_of is ∙ ap (λ (x : Rule). record x { short = Some letter }) was.rule_is;
   local = ap (λ (a : Arg). a.global) is ∙ was.local;
 }
 

@@ -29,7 +29,7 @@ use Rattle.clap.specs.declared.parser.matches.ValueSource.{ValueSource}
 use Rattle.clap.specs.declared.parser.matches.ValueSource.TheVariants.{DefaultValue}
 use Rattle.like_command.specs.declared.asked.Asked.{Asked}
 use Rattle.like_command.specs.declared.asked.Asked.TheVariants.{Run, Replay, Help}
-use Rattle.like_command.specs.Asked.{Asks, MeansAsked, GivesReplay, GivesRun, HasAll, HasFlag, HasNumber, IsEntered, MayHaveNumber}
+use Rattle.like_command.specs.Asked.{Asks, MeansAsked, entered_of, faults_of, spelled_out, GivesReplay, GivesRun, HasAll, HasFlag, HasNumber, IsEntered, MayHaveNumber}
 use Rattle.like_command.specs.CommandLine.{likes_app, replay_command, run_command}
 use Rattle.like_command.proofs.Walked.{AllFit, FirstPasses, Good, IsGood, good_defaults, good_settled, good_walk, neither, some_kind}
 
@@ -495,8 +495,8 @@ one_named m rows (inr e) no_run = named m (codes "replay") rows e
 
 -- what a subcommand gives is what the words ask for
 pub asks : (words : List Text) (m : ArgMatches) (asked : Asked)
-    → fault_of likes_app words ≡ []
-    → subcommand_rows_of m ≡ subcommand_of likes_app words
+    → faults_of words ≡ []
+    → subcommand_rows_of m ≡ entered_of words
     → MeansAsked (subcommand_rows_of m) asked
     → Asks words asked
 asks words m (Run options) none same h = (none, subst (λ found. GivesRun found options) same h)
@@ -506,24 +506,30 @@ asks words m (Help text) none same h = absurd h
 -- ---- a parse
 
 -- a parse that succeeds met no fault, and entered a subcommand with what it needs
-pub parsed : (command : Command) (words : List Text) (m : ArgMatches) → app_of command ≡ likes_app
-    → (is_simple_and_free (app_of command) ≡ true → fault_of (app_of command) words ≡ [])
-    → HasMatchesOf (app_of command) words m
-    → (fault_of likes_app words ≡ []) × (subcommand_rows_of m ≡ subcommand_of likes_app words) × (rows : List Row)
+pub parsed : (command : Command) (spelled words : List Text) (m : ArgMatches)
+    → app_of command ≡ likes_app
+    → (is_simple_and_free (app_of command) ≡ true → fault_of (app_of command) spelled ≡ [])
+    → HasMatchesOf (app_of command) spelled m
+    → spelled ≡ spelled_out words
+    → (faults_of words ≡ []) × (subcommand_rows_of m ≡ entered_of words) × (rows : List Row)
     × IsEntered (subcommand_rows_of m) rows × HasAll rows
-parsed command words m same kinds matches =
-    let none : fault_of likes_app words ≡ [] =
-    subst (λ (a : App). fault_of a words ≡ []) same (kinds (ap is_simple_and_free same)) in
-    let found = enters words none in
-    let entered_is = (matches (ap is_simple same)).1 ∙ ap (λ (a : App). subcommand_of a words) same in
+parsed command spelled words m same kinds matches spells =
+    let none : faults_of words ≡ [] =
+    subst (λ list. fault_of likes_app list ≡ []) spells
+    (subst (λ (a : App). fault_of a spelled ≡ []) same (kinds (ap is_simple_and_free same))) in
+    let found = enters (spelled_out words) none in
+    let entered_is = (matches (ap is_simple same)).1 ∙ ap₂ subcommand_of same spells in
     (none, entered_is, found.0, subst (λ e. IsEntered e found.0) (sym entered_is) found.1, found.2)
 
 -- the kinds of fault of a parse that fails
-pub failed : (command : Command) (words : List Text) (e : Error) → app_of command ≡ likes_app
-    → (is_simple_and_free (app_of command) ≡ true → HasKind (fault_of (app_of command) words) e)
-    → HasKind (fault_of likes_app words) e
-failed command words e same kinds =
-    subst (λ (a : App). HasKind (fault_of a words) e) same (kinds (ap is_simple_and_free same))
+pub failed : (command : Command) (spelled words : List Text) (e : Error)
+    → app_of command ≡ likes_app
+    → (is_simple_and_free (app_of command) ≡ true → HasKind (fault_of (app_of command) spelled) e)
+    → spelled ≡ spelled_out words
+    → HasKind (faults_of words) e
+failed command spelled words e same kinds spells =
+    subst (λ list. HasKind (fault_of likes_app list) e) spells
+    (subst (λ (a : App). HasKind (fault_of a spelled) e) same (kinds (ap is_simple_and_free same)))
 
 pub when_ok : {T E : Type 0} (r : Result T E) (P : T → Type 0) (Q : E → Type 0) → MatchResult r P Q → IfOk r P
 when_ok (Ok x) P Q h = h

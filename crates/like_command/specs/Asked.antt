@@ -1,12 +1,13 @@
 -- What words ask for.
-use Rattle.std.specs.Prelude.{◌≡◌, ◌≢◌, ◌≤◌, ◌<◌, ◌⊎◌, ℕ, Bool, List, [], length, map, codes, pos, Option, None, Some, option_map, IsSomeAnd, string_bytes, MatchOption, MatchResult, Result, ⊤}
+use Rattle.std.specs.Prelude.{◌≡◌, ◌≢◌, ◌≤◌, ◌<◌, ◌⊎◌, ◌++◌, ℕ, Bool, if◌then◌else◌, List, [], ◌∷◌, length, map, codes, pos, Option, None, Some, option_map, IsSomeAnd, string_bytes, MatchOption, MatchResult, Result, ⊤}
+use Rattle.std.specs.Str.{bytes_eq}
 use Rattle.std.specs.Str.Parse.{IsNumeral, digits_value, without_leading_plus}
-use Rattle.clap.specs.Kinds.{IsAmong}
+use Rattle.clap.specs.Kinds.{IsAmong, Kinds}
 use Rattle.clap.specs.Lexer.{without_minus}
 use Rattle.clap.specs.Values.{IsSignedIn, bool_text}
 use Rattle.clap.specs.Words.{Row, Text, all_of, fault_of, first_of, one_of, subcommand_of}
 use Rattle.clap.specs.declared.error.kind.ErrorKind.{ErrorKind}
-use Rattle.clap.specs.declared.error.kind.ErrorKind.TheVariants.{DisplayHelp}
+use Rattle.clap.specs.declared.error.kind.ErrorKind.TheVariants.{DisplayHelp, DisplayVersion}
 use Rattle.like_command.specs.CommandLine.{likes_app}
 use Rattle.like_limits.specs.Limits.{max_hot, max_stash, max_turns, max_users, max_workers}
 use Rattle.like_command.specs.declared.asked.Asked.{Asked}
@@ -96,19 +97,36 @@ MeansAsked entered (Help text) = ⊥
 abbrev pub Words : Type 0
 Words = List Text
 
--- the words ask for help
+-- `help` in front is another spelling of `--help` at the end: `help run` is `run --help`
+abbrev pub spelled_out : Words → Words
+spelled_out [] = []
+spelled_out (word ∷ rest) = if bytes_eq word (codes "help") then rest ++ codes "--help" ∷ [] else word ∷ rest
+
+-- the faults that clap finds in the words
+abbrev pub faults_of : Words → Kinds
+faults_of words = fault_of likes_app (spelled_out words)
+
+-- the subcommand that clap enters for the words, with what it finds there
+abbrev pub entered_of : Words → Option (Text × List Row)
+entered_of words = subcommand_of likes_app (spelled_out words)
+
+-- the words ask for help, or for the program's version
 abbrev pub AsksForHelp : Words → Type 0
-AsksForHelp words = IsAmong DisplayHelp (fault_of likes_app words)
+AsksForHelp words = IsAmong DisplayHelp (faults_of words) ⊎ IsAmong DisplayVersion (faults_of words)
 
 -- what the words ask for: a run or a replay where they have no fault
 abbrev pub Asks : Words → Asked → Type 0
-Asks words (Run options) = (fault_of likes_app words ≡ []) × GivesRun (subcommand_of likes_app words) options
-Asks words (Replay options) = (fault_of likes_app words ≡ []) × GivesReplay (subcommand_of likes_app words) options
+Asks words (Run options) = (faults_of words ≡ []) × GivesRun (entered_of words) options
+Asks words (Replay options) = (faults_of words ≡ []) × GivesReplay (entered_of words) options
 Asks words (Help text) = AsksForHelp words
 
--- why the words ask for nothing: they have a fault that is no request for help, or want of memory
+-- a fault that is no request for help or for the version
+abbrev pub IsMistake : ErrorKind → Type 0
+IsMistake kind = (kind ≢ DisplayHelp) × (kind ≢ DisplayVersion)
+
+-- why the words ask for nothing: they have a mistake, or want of memory
 abbrev pub IsParseFault : Words → ParseFault → Type 0
-IsParseFault words (Usage text) = (kind : ErrorKind) × IsAmong kind (fault_of likes_app words) × (kind ≢ DisplayHelp)
+IsParseFault words (Usage text) = (kind : ErrorKind) × IsAmong kind (faults_of words) × IsMistake kind
 IsParseFault words Memory = ⊤
 
 -- what words are answered that clap gives no matches

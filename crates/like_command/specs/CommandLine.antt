@@ -20,6 +20,10 @@ bounded_rule name least most = record (new_rule name) {
 abbrev pub number_rule : Text → Text → ℕ → ℕ → Rule
 number_rule name default least most = record (bounded_rule name least most) { defaults = default ∷ [] }
 
+-- an argument with a short name of this letter too
+abbrev pub with_letter : ℕ → Rule → Rule
+with_letter letter rule = record rule { short = Some letter }
+
 -- an option without a value
 abbrev pub flag_rule : Text → Rule
 flag_rule name = record (new_rule name) { long = Some name; action = Some SetTrue }
@@ -41,12 +45,12 @@ required_list_rule name = record (new_rule name) {
   range = Some (record { start_inclusive = 1; end_inclusive = usize_max });
 }
 
--- the options of runs and replays with a number and a default
+-- the options of runs and replays with a number and a default, which are -w, -u, -s and -t too
 abbrev pub number_rules : List Rule
-number_rules = number_rule (codes "workers") (codes "4") 1 max_workers
-    ∷ number_rule (codes "users") (codes "1000") 1 max_users
-    ∷ number_rule (codes "stash") (codes "256") 1 max_stash
-    ∷ number_rule (codes "turns") (codes "1000") 0 max_turns
+number_rules = with_letter 119 (number_rule (codes "workers") (codes "4") 1 max_workers)
+    ∷ with_letter 117 (number_rule (codes "users") (codes "1000") 1 max_users)
+    ∷ with_letter 115 (number_rule (codes "stash") (codes "256") 1 max_stash)
+    ∷ with_letter 116 (number_rule (codes "turns") (codes "1000") 0 max_turns)
     ∷ []
 
 -- all options of runs and replays
@@ -67,7 +71,8 @@ replay_command = record (new_shape (codes "replay")) {
   rules = option_rules ++ text_rule (codes "script") ∷ files_rules;
 }
 
--- the command line of the program: one of its subcommands is required, and the words have no name of the program
+-- the command line of the program: one of its subcommands is required, and the words have no name of the program. It
+-- has a version.
 abbrev pub likes_app : App
 likes_app = record {
   top = record (new_shape (codes "likes")) {
@@ -75,6 +80,7 @@ likes_app = record {
     no_binary_name = true;
     disable_help_subcommand = true;
     subcommand_required = true;
+    has_version = true;
   };
   subs = run_command ∷ replay_command ∷ [];
 }

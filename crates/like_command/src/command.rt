@@ -88,10 +88,26 @@ fn with_numbers<'a>(alloc: Global, name: &'a str, about: &'a str) -> Result<Comm
     Command::new(alloc, name)
         .about(about)
         .after_help(help::REPORT)
-        .arg(number_option(alloc, "workers", "N", "4", 1, 16).help(help::WORKERS))?
-        .arg(number_option(alloc, "users", "U", "1000", 1, 1_000_000).help(help::USERS))?
-        .arg(number_option(alloc, "stash", "C", "256", 1, 4_096).help(help::STASH))?
-        .arg(number_option(alloc, "turns", "T", "1000", 0, 1_000_000).help(help::TURNS))
+        .arg(
+            number_option(alloc, "workers", "N", "4", 1, 16)
+                .short('w')
+                .help(help::WORKERS),
+        )?
+        .arg(
+            number_option(alloc, "users", "U", "1000", 1, 1_000_000)
+                .short('u')
+                .help(help::USERS),
+        )?
+        .arg(
+            number_option(alloc, "stash", "C", "256", 1, 4_096)
+                .short('s')
+                .help(help::STASH),
+        )?
+        .arg(
+            number_option(alloc, "turns", "T", "1000", 0, 1_000_000)
+                .short('t')
+                .help(help::TURNS),
+        )
 }
 
 // A subcommand with all options of runs and replays.
@@ -133,6 +149,7 @@ pub fn likes_command<'a>(alloc: Global) -> Result<Command<'a>, AllocError>
         .no_binary_name(true)
         .subcommand_required(true)
         .disable_help_subcommand(true)
+        .version(help::VERSION)
         .about(help::LIKES)
         .after_help(help::STATUSES)
         .subcommand(run(alloc)?)?

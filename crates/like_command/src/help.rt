@@ -1,5 +1,8 @@
 //! The texts of help.
 
+/// The program's version, which is that of the repository and its library, and the logic hash of the kit that proves it.
+pub const VERSION: &str = "0.4 (logic dac8208d650f15bf)";
+
 pub const LIKES: &str = "\
 Counts likes and looks from CSV files, exactly, on several threads. Reads a file
 of pages and files of requests, and prints a reply to each request, each page's
@@ -152,8 +155,8 @@ Use run to use all processors, and replay to get the same report every time.
 Final counts and last likes are the same from both. Without any word, the
 program replays a built-in example.
 
-'likes run --help' and 'likes replay --help' explain the files, the options and
-the report.
+'likes help run' and 'likes help replay' explain the files, the options and the
+report, as 'likes run --help' and 'likes replay --help' do.
 
 Example:
   printf 'name,count,split\\nnews,10,yes\\n' > pages.csv

@@ -1,7 +1,8 @@
-use Rattle.std.proofs.Common.{◌≡◌, ◌∙◌, true, ap, codes}
+use Rattle.std.specs.Borrow.{Bor}
+use Rattle.std.proofs.Common.{◌≡◌, ◌∙◌, Some, true, ap, codes}
 use Rattle.std.proofs.lemmas.Result.{IfOk-weaker}
 use Rattle.clap.specs.Simple.{app_of_fields}
-use Rattle.clap.specs.Words.{App, app_of, new_app, with_subcommand}
+use Rattle.clap.specs.Words.{App, Text, app_of, new_app, with_subcommand}
 use Rattle.clap.specs.declared.builder.command.Command.{Command}
 use Rattle.clap.specs.declared.builder.command.Command.TheOpen.{Command-F}
 use Rattle.clap.specs.declared.builder.command.Command.TheViews.{out-Command}
@@ -14,8 +15,12 @@ app0 = new_app (codes "likes")
 
 abbrev app1 : App
 app1 = record app0 {
-  top =
-      record app0.top { no_binary_name = true; subcommand_required = true; disable_help_subcommand = true };
+  top = record app0.top {
+    no_binary_name = true;
+    subcommand_required = true;
+    disable_help_subcommand = true;
+    has_version = true;
+  };
 }
 
 -- each of these settings is one field of what the program's own words are read by
@@ -40,14 +45,22 @@ without_help : (old new : Command-F Command) (s : App)
 without_help old new s is was =
     ap app_of_fields is ∙ ap (λ (a : App). record a { top = record a.top { disable_help_subcommand = true } }) was
 
+with_version : (old new : Command-F Command) (s : App) (text : Bor Text)
+    → new ≡ record old { version = Some text }
+    → app_of_fields old ≡ s
+    → app_of_fields new ≡ record s { top = record s.top { has_version = true } }
+with_version old new s text is was =
+    ap app_of_fields is ∙ ap (λ (a : App). record a { top = record a.top { has_version = true } }) was
+
 pub returns : goal.returns
 returns c =
     let s0 : app_of c.in_ok-bin_name.field-0 ≡ app0 = ap app_of_fields c.in_ok-bin_name.ensures.0 ∙ c.new.ensures.app in
     let s1 = without_name _ (out-Command c.no_binary_name.result) app0 c.no_binary_name.ensures s0 in
     let s2 = with_one_needed _ (out-Command c.subcommand_required.result) _ c.subcommand_required.ensures s1 in
     let s3 = without_help _ (out-Command c.disable_help_subcommand.result) _ c.disable_help_subcommand.ensures s2 in
+    let s3v = with_version _ (out-Command c.version.result) _ _ c.version.ensures s3 in
     let s4 : app_of c.after_help.result ≡ app1 =
-    ap app_of_fields c.after_help.ensures ∙ (ap app_of_fields c.about.ensures ∙ s3) in
+    ap app_of_fields c.after_help.ensures ∙ (ap app_of_fields c.about.ensures ∙ s3v) in
     let s5 = sub_added c.after_help.result c.in_ok-run.field-0 c.in_ok-subcommand.field-0 run_command app1
     c.in_ok-subcommand.ensures c.in_ok-run.ensures s4 in
     IfOk-weaker c.subcommand-2.result _ _
