@@ -39,7 +39,7 @@ class Log:
         self.name, self.file, self.left_out = name, None, {}
 
     def fault(self, line, why):
-        return Fault(f"{rows.called(self.name)}: line {line}: {why}")
+        return rows.fault(self.name, line, why)
 
     def user(self, text):
         """A user, of what the log calls the user."""

@@ -66,7 +66,7 @@ def records_in(file, name, strict=False):
                 yield line, record
             line = reader.line_num + 1
     except csv.Error as error:
-        raise Fault(f"{called(name)}: line {line}: {QUOTES.get(str(error), error)}") from None
+        raise fault(name, line, QUOTES.get(str(error), error)) from None
 
 
 def records(name, strict=False):
@@ -75,24 +75,35 @@ def records(name, strict=False):
         yield from records_in(file, name, strict)
 
 
-def rows_of(name, header):
-    """The records of a CSV file behind its header, one by one."""
+def fault(name, line, why):
+    """A fault in a line of a file."""
+    return Fault(f"{called(name)}: line {line}: {why}")
+
+
+def lines_of(name, header):
+    """The records of a CSV file behind its header, each with the line on which it begins."""
     wanted = header.split(",")
     found = records(name)
     line, first = next(found, (1, []))
     if first != wanted:
-        raise Fault(f"{called(name)}: line {line}: the header is not {header}")
+        raise fault(name, line, f"the header is not {header}: {shown(','.join(first))}")
     for line, row in found:
         if len(row) != len(wanted):
-            raise Fault(f"{called(name)}: line {line}: {len(row)} fields, and not {len(wanted)}")
+            raise fault(name, line, f"{len(row)} fields, and not {len(wanted)}: {shown(','.join(row))}")
+        yield line, row
+
+
+def rows_of(name, header):
+    """The records of a CSV file behind its header, one by one."""
+    for _, row in lines_of(name, header):
         yield row
 
 
-def number(text, what):
-    """The whole number that a field has."""
+def number(text, what, name, line):
+    """The whole number that a field has, in a line of a file."""
     if text.isascii() and text.isdigit():
         return int(text)
-    raise Fault(f"{what} is {shown(text)}, and not a whole number")
+    raise fault(name, line, f"{what} is {shown(text)}, and not a whole number")
 
 
 def field(text):
