@@ -18,6 +18,3 @@ pub use samples::Samples;
 pub use samples::sample::Kind;
 pub use samples::sampler::Sampler;
 pub use slots::Slots;
-
-#[cfg(test)]
-mod tests;

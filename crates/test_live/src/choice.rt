@@ -1,14 +1,15 @@
-use super::*;
+//! Which pages get slots: what is proposed, and what is found by samples. No contract says which pages are popular.
+use like_choice::{Choice, Kind, NoProposal, Proposal, Proposed, Samples, Slots};
 use std::alloc::AllocError;
 
-/// How many pages the drawn services have.
+// How many pages the drawn services have.
 const PAGES: u32 = 1_000_000;
 
-/// How many requests there are between two choices.
+// How many requests there are between two choices.
 const REQUESTS: u32 = 120_000;
 
-/// Likes at Zipf 1.4: of 2^32 draws, those below each number are of one of the first pages by popularity: of the first
-/// one, two and so on to 64, and then of the first 128, 256 and so on.
+// Likes at Zipf 1.4: of 2^32 draws, those below each number are of one of the first pages by popularity: of the first
+// one, two and so on to 64, and then of the first 128, 256 and so on.
 static ZIPF: [u32; 78] = [
     1_387_445_015,
     1_913_188_363,
@@ -90,7 +91,7 @@ static ZIPF: [u32; 78] = [
     4_294_967_295,
 ];
 
-/// A fixed generator.
+// A fixed generator.
 #[derive(Drop)]
 struct Drawn {
     state: u64,
@@ -118,12 +119,12 @@ impl Drawn {
     }
 }
 
-/// The page with so many more popular ones: each page is one of these.
+// The page with so many more popular ones: each page is one of these.
 fn page_at(rank: u32) -> u32 {
     (u64::from(rank) * 611_953 % 1_000_000) as u32
 }
 
-/// Whether a page is in a slot.
+// Whether a page is in a slot.
 fn is_in(slots: &Slots, page: u32) -> bool {
     let bits = slots.bits();
     for slot in 0..64u32 {
