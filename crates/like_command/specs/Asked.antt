@@ -1,5 +1,5 @@
 -- What words ask for.
-use Rattle.std.specs.Prelude.{◌≡◌, ◌≢◌, ◌≤◌, ◌<◌, ◌⊎◌, ◌++◌, ℕ, Bool, if◌then◌else◌, List, [], ◌∷◌, length, map, codes, pos, Option, None, Some, option_map, IsSomeAnd, string_bytes, MatchOption, MatchResult, Result, ⊤}
+use Rattle.std.specs.Prelude.{◌≡◌, ◌≢◌, ◌≤◌, ◌<◌, ◌⊎◌, ◌++◌, ℕ, Bool, if◌then◌else◌, List, [], ◌∷◌, length, map, codes, pos, Option, None, Some, option_map, IsSomeAnd, string_bytes, take, MatchOption, MatchResult, Result, ⊤}
 use Rattle.std.specs.Str.{bytes_eq}
 use Rattle.std.specs.Str.Parse.{IsNumeral, digits_value, without_leading_plus}
 use Rattle.clap.specs.Kinds.{IsAmong, Kinds}
@@ -97,10 +97,10 @@ MeansAsked entered (Help text) = ⊥
 abbrev pub Words : Type 0
 Words = List Text
 
--- `help` in front is another spelling of `--help` at the end: `help run` is `run --help`
+-- `help` in front is another spelling of `--help`: `help run` is `run --help`
 abbrev pub spelled_out : Words → Words
 spelled_out [] = []
-spelled_out (word ∷ rest) = if bytes_eq word (codes "help") then rest ++ codes "--help" ∷ [] else word ∷ rest
+spelled_out (word ∷ rest) = if bytes_eq word (codes "help") then take 1 rest ++ codes "--help" ∷ [] else word ∷ rest
 
 -- the faults that clap finds in the words
 abbrev pub faults_of : Words → Kinds

@@ -33,7 +33,7 @@ fn spelled_out<'w, S: AsStr>(alloc: Global, words: &'w [S]) -> Result<Vec<&'w st
 {
     match words.split_first() {
         Some((first, rest)) if first.as_str() == "help" => {
-            let mut spelled = texts_of(alloc, rest)?;
+            let mut spelled = texts_of(alloc, &rest[..rest.len().min(1)])?;
             spelled.push("--help")?;
             Ok(spelled)
         }
