@@ -1,3 +1,4 @@
+pub mod Accepting
 pub mod Answering
 pub mod Batches
 pub mod Bounding
@@ -7,9 +8,9 @@ pub mod Closing
 pub mod Finding
 pub mod Gone
 pub mod Histories
-pub mod Moments
 pub mod Keeping
 pub mod Lasting
+pub mod Moments
 pub mod Moving
 pub mod Newly
 pub mod Requests

@@ -7,6 +7,7 @@ use Rattle.like_core.specs.declared.view.Addition.{Addition}
 use Rattle.like_requests.specs.Verdict.{is_accepted}
 use Rattle.like_requests.specs.declared.request.Request.{Request}
 use Rattle.like_seat.specs.StationView.{IsStation, StationView}
+use Rattle.like_tables.specs.Home.{Home}
 use Rattle.like_tables.specs.Share.{Share, owns}
 use Rattle.like_seat.specs.StationView.{likes_of}
 use Rattle.like_seat.specs.SlicedLike.{SlicedLike}
@@ -51,12 +52,12 @@ liked_in s additions slice likes lasts = record s {
 }
 
 -- a live seat's parts agree as before, where nothing changed but what a like changes and it is a seat still
-after-like : (s : StationView Asked) (found : Waiting Found) (pages room half : ℕ)
+after-like : (s : StationView Asked) (found : Waiting Found) (home : Home) (pages room half : ℕ)
     (additions : List Addition) (slice : List ℕ) (likes : List SlicedLike) (lasts : List (Option ℕ))
-    → AreLiveSeatParts s found pages room half
+    → AreLiveSeatParts s found home pages room half
     → IsStation (liked_in s additions slice likes lasts)
-    → AreLiveSeatParts (liked_in s additions slice likes lasts) found pages room half
-after-like s found pages room half additions slice likes lasts parts kept =
+    → AreLiveSeatParts (liked_in s additions slice likes lasts) found home pages room half
+after-like s found home pages room half additions slice likes lasts parts kept =
     let live = parts.live in
     record {
       live = record {
@@ -70,24 +71,28 @@ after-like s found pages room half additions slice likes lasts parts kept =
         room = live.room;
       };
       capacity = parts.capacity;
+      home_is = parts.home_is;
       pages_are = parts.pages_are;
       room_is = parts.room_is;
       half_is = parts.half_is;
     }
 
 -- so they do after a like that is counted
-pub after-counted : (s t : StationView Asked) (found : Waiting Found) (pages room half user page : ℕ) (old : Option ℕ)
-    → AreLiveSeatParts s found pages room half
+pub after-counted : (s t : StationView Asked) (found : Waiting Found) (home : Home)
+    (pages room half user page : ℕ) (old : Option ℕ)
+    → AreLiveSeatParts s found home pages room half
     → CountsLike s user page old t
     → IsStation t
-    → AreLiveSeatParts t found pages room half
-after-counted s t found pages room half user page None parts c kept =
+    → AreLiveSeatParts t found home pages room half
+after-counted s t found home pages room half user page None parts c kept =
     let lasts = (with_last s.last user page).last in
     let new : StationView Asked = liked_last (sliced s page) user page in
-    subst (λ x. AreLiveSeatParts x found pages room half) (sym c.1)
-    (after-like s found pages room half s.post.additions new.slice new.sliced lasts parts (subst (λ x. IsStation x) c.1 kept))
-after-counted s t found pages room half user page (Some count) parts c kept =
+    subst (λ x. AreLiveSeatParts x found home pages room half) (sym c.1)
+    (after-like s found home pages room half s.post.additions new.slice new.sliced lasts parts
+    (subst (λ x. IsStation x) c.1 kept))
+after-counted s t found home pages room half user page (Some count) parts c kept =
     let lasts = (with_last s.last user page).last in
     let new : StationView Asked = liked_last (with_addition s page count 1) user page in
-    subst (λ x. AreLiveSeatParts x found pages room half) (sym c.1)
-    (after-like s found pages room half new.post.additions s.slice s.sliced lasts parts (subst (λ x. IsStation x) c.1 kept))
+    subst (λ x. AreLiveSeatParts x found home pages room half) (sym c.1)
+    (after-like s found home pages room half new.post.additions s.slice s.sliced lasts parts
+    (subst (λ x. IsStation x) c.1 kept))

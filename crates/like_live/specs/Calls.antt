@@ -11,7 +11,9 @@ use Rattle.like_requests.specs.Verdict.{verdict_of}
 use Rattle.like_seat.specs.declared.seen.Seen.{Seen}
 use Rattle.like_seat.specs.StationView.{StationView, likes_of, phase_at}
 use Rattle.like_seat.specs.Steps.{CountsLike, Glances, Reads, holding}
+use Rattle.like_tables.specs.Placed.{IsPlaced}
 use Rattle.like_tables.specs.UserTable.{UserTable, with_last}
+use Rattle.like_tables.specs.declared.placed.Placed.{Placed}
 use Rattle.like_live.specs.declared.answer.GlanceAnswer.{GlanceAnswer}
 use Rattle.like_live.specs.declared.answer.GlanceAnswer.TheVariants as glance
 use Rattle.like_live.specs.declared.answer.LikeAnswer.{LikeAnswer}
@@ -35,6 +37,13 @@ abbrev pub verdict_at : StationView Asked → ℕ → ℕ → Verdict
 verdict_at s user page =
     verdict_of s.last.share.users s.last.share.submitters s.last.share.worker
     (record { op = Look; user = user; page = page_ref (pages_of s.post) page })
+
+-- a request of the user for the page is accepted at this seat, and this is the user with its place
+pub record IsAccepted (s : StationView Asked) (user page : ℕ) (placed : Placed) : Type 0 where
+  pub verdict : verdict_at s user page ≡ Accepted
+  pub there : page < pages_of s.post
+  pub user_is : placed.user ≡ user
+  pub place_is : IsPlaced s.last.share placed
 
 -- what a like does at a seat that runs a phase
 pub data LikesNow (v : LiveView) (user page : ℕ) (answer : LikeAnswer) (after : LiveView) : Type 0 where

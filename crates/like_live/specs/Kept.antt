@@ -5,16 +5,19 @@ use Rattle.like_core.specs.Phase.{IsJoined, IsSplit}
 use Rattle.like_core.specs.Post.{pages_of}
 use Rattle.like_core.specs.WorkerState.{IsRunning}
 use Rattle.like_seat.specs.StationView.{IsStation, StationView, phase_at}
+use Rattle.like_tables.specs.Home.{Home, IsHomeOf}
 use Rattle.like_tables.specs.Waiting.{Waiting}
 use Rattle.like_live.specs.declared.asked.Asked.{Asked}
 use Rattle.like_live.specs.declared.asked.Found.{Found}
 use Rattle.like_live.specs.LiveView.{IsLive, IsOwn, RanNext, live_of}
 
--- a live seat's parts agree: a worker's seat, a stash of found looks, the number of pages, how many more looks may
--- wait, and half of the room
-pub record AreLiveSeatParts (s : StationView Asked) (found : Waiting Found) (pages room half : ℕ) : Type 0 where
+-- a live seat's parts agree: a worker's seat, a stash of found looks, where its users have their places, the number of
+-- pages, how many more looks may wait, and half of the room
+pub record AreLiveSeatParts (s : StationView Asked) (found : Waiting Found) (home : Home) (pages room half : ℕ)
+    : Type 0 where
   pub live : IsLive (live_of s found)
   pub capacity : found.capacity ≡ s.held.capacity
+  pub home_is : IsHomeOf home s.last.share
   pub pages_are : pages ≡ pages_of s.post
   pub room_is : room + length s.held.held + length found.held ≡ s.held.capacity
   pub half_is : half ≡ s.held.capacity / 2

@@ -1,4 +1,4 @@
-ghost use Rattle.std.specs.Prelude.{◌≡◌, ◌^◌, ◌≤◌, ◌↔◌, ℕ, false, replicate, IfOk, IfSome, IsTrue};
+ghost use Rattle.std.specs.Prelude.{◌≡◌, ◌^◌, ◌<◌, ◌≤◌, ◌↔◌, ℕ, false, replicate, IfOk, IfSome, IsTrue};
 ghost use Rattle.like_core.specs.declared.worker_state.WorkerState.TheVariants.{Gone};
 ghost use Rattle.like_limits.specs.Limits.{max_stash};
 ghost use Rattle.like_core.specs.OpeningLimits.{service_limits};
@@ -19,7 +19,7 @@ use crate::asked::{Asked, Found};
 use crate::signals::Signals;
 use like_core::{Post, SlotPost};
 use like_seat::Station;
-use like_tables::{Stash, Users};
+use like_tables::{Home, Stash, Users};
 use moves::work_or_retire;
 pub use requests::MAX_LIKES;
 use std::alloc::{AllocError, Global};
@@ -33,6 +33,8 @@ pub struct LiveSeat<P: Post> {
     /// What waits is in its stash.
     seat: Station<P, Asked>,
     found: Stash<Found>,
+    /// Where its users have their places.
+    home: Home,
     /// How many pages there are.
     pages: u32,
     /// How many more looks may wait.
@@ -51,7 +53,7 @@ impl<P: Post> Model for LiveSeat<P> {
 
     ghost view = { λ s. live_of s.seat s.found };
 
-    ghost invariant = { λ s. AreLiveSeatParts s.seat s.found s.pages s.room s.half };
+    ghost invariant = { λ s. AreLiveSeatParts s.seat s.found s.home s.pages s.room s.half };
 }
 
 impl<P: Post + Drop> LiveSeat<P> {
@@ -76,14 +78,17 @@ impl<P: Post + Drop> LiveSeat<P> {
         requires some { 1 ≤ room }
         requires few { room ≤ max_stash }
         requires home { last.share.submitters ≡ last.share.workers }
+        requires there { last.share.worker < last.share.workers }
         ensures new { IfOk result (IsNewLive (P.view post) room last) }
         ensures live { IfOk result (λ seat. IsLive seat) }
     {
         let found = Stash::new(alloc, room)?;
+        let home = last.home();
         match Station::of_service(alloc, post, factor, room, last) {
             Ok(seat) => Ok(LiveSeat {
                 seat,
                 found,
+                home,
                 pages,
                 room,
                 half: room / 2,

@@ -16,15 +16,17 @@ multiple n (suc t) low =
     let less = multiple n t (λ i below. low i (omega arith)) in
     let last = low t (omega arith) in
     let half : n / 2 ^ t ≡ n / 2 ^ t / 2 * 2 = omega (arith, last) in
-    let next : n / 2 ^ suc t ≡ n / 2 ^ t / 2 = ap (λ k. n / 2 ^ k) (let z : suc t ≡ t + 1 = omega arith in z) ∙ sym (shr-shr n t 1) in
-    ap (λ k. k * 2 ^ suc t) next ∙ ap (λ k. n / 2 ^ t / 2 * k) (pow-suc 2 t)
-    ∙ (let z : n / 2 ^ t / 2 * (2 ^ t * 2) ≡ n / 2 ^ t / 2 * 2 * 2 ^ t = omega arith in z)
+    let more : suc t ≡ t + 1 = omega arith in
+    let next : n / 2 ^ suc t ≡ n / 2 ^ t / 2 = ap (λ k. n / 2 ^ k) more ∙ sym (shr-shr n t 1) in
+    let turned : n / 2 ^ t / 2 * (2 ^ t * 2) ≡ n / 2 ^ t / 2 * 2 * 2 ^ t = omega arith in
+    ap (λ k. k * 2 ^ suc t) next ∙ ap (λ k. n / 2 ^ t / 2 * k) (pow-suc 2 t) ∙ turned
     ∙ sym (ap (λ k. k * 2 ^ t) half) ∙ less
 
 -- the rest of a number without its factors of two is odd
 pub is-odd : (seats : ℕ) → 0 < seats → seats < 2 ^ 32 → odd_part seats (trailing_zeros w32 seats) % 2 ≡ 1
 is-odd seats some fits = (bit_at-trailing_zeros w32 seats some fits).1
 
+-- what a new home has
 pub IsTurned-new : (seats seat inverse : ℕ) → seat < seats → seats < 2 ^ 32
     → odd_part seats (trailing_zeros w32 seats) * inverse % 2 ^ 32 ≡ 1
     → IsTurned (home_of seats seat) inverse (trailing_zeros w32 seats)
@@ -84,7 +86,8 @@ place-back h inverse turn user place k fits is small =
     let turned = turned-back (d * inverse % 2 ^ 32) turn place k.few (mod_below (d * inverse) (2 ^ 32) (omega arith)) is
     (omega (arith, le, small)) in
     let product = ap (λ m. m * odd_part h.seats turn) turned ∙ times-seats h inverse turn place k in
+    let within : place * h.seats < 2 ^ 32 = omega (arith, small) in
     let far : d ≡ place * h.seats =
     sym (undone-times d (odd_part h.seats turn) inverse (2 ^ 32) k.undoes below) ∙ ap (λ m. m % 2 ^ 32) product
-    ∙ mod-eq_of_lt (let z : place * h.seats < 2 ^ 32 = omega (arith, small) in z) in
+    ∙ mod-eq_of_lt within in
     omega (arith, far, fits, small, k.there, k.fits)

@@ -16,7 +16,7 @@ undone-times d odd inverse M one small =
     mul-mod_first (d * inverse) odd M
     ∙ times-undone d inverse odd M (ap (λ k. k % M) (mul_comm inverse odd) ∙ one) small
 
--- a number that is 1 modulo a power, but not modulo the next one: with the bit of the power in the inverse it is
+-- where a product is 1 modulo a power, but not modulo twice the power, it is so with the power added to the inverse
 next-bit : (odd inverse power : ℕ) → odd % 2 ≡ 1 → 1 < power → odd * inverse % power ≡ 1
     → odd * inverse % (2 * power) ≢ 1 → odd * (inverse + power) % (2 * power) ≡ 1
 next-bit odd inverse power is_odd some one other =
@@ -35,7 +35,9 @@ next-bit odd inverse power is_odd some one other =
     ]
   where
     halves : (k j power : ℕ) → k ≡ 2 * j → k * power + 1 ≡ j * (2 * power) + 1
-    halves k j power twice = ap (λ n. n * power + 1) twice ∙ (let z : 2 * j * power + 1 ≡ j * (2 * power) + 1 = omega arith in z)
+    halves k j power twice =
+        let turned : 2 * j * power + 1 ≡ j * (2 * power) + 1 = omega arith in
+        ap (λ n. n * power + 1) twice ∙ turned
 
     carried : (odd inverse power k j h : ℕ) → k * power + 1 ≡ odd * inverse → k ≡ 2 * j + 1 → odd ≡ 2 * h + 1
         → odd * (inverse + power) ≡ (j + h + 1) * (2 * power) + 1

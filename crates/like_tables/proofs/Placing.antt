@@ -32,9 +32,9 @@ serves-home : (h : Home) (s : Share) (user : ℕ) → IsHomeOf h s → h.seat < 
     → serves_home s user ≡ true
 serves-home h s user k there home =
     let rest = ap (λ n. user % n) k.submitters ∙ home in
+    let less : h.seat < s.workers = omega (arith, k.workers, there) in
     eq-eqb (user % s.submitters % s.workers) s.worker
-    (ap (λ n. n % s.workers) rest ∙ mod-eq_of_lt (let z : h.seat < s.workers = omega (arith, k.workers, there) in z)
-    ∙ sym k.worker)
+    (ap (λ n. n % s.workers) rest ∙ mod-eq_of_lt less ∙ sym k.worker)
 
 -- and the other way round
 home-serves : (h : Home) (s : Share) (user : ℕ) → IsHomeOf h s → h.seat < h.seats → serves_home s user ≡ true

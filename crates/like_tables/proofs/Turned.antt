@@ -43,8 +43,8 @@ turned-whole q t few fits =
 -- what is left of a multiple is the multiple of what is left
 rest-times : (n a b : ℕ) → 0 < a → 0 < b → n * b % (a * b) ≡ n % a * b
 rest-times n a b some also =
-    let all = div-add-mod' n a in
-    let whole : n * b ≡ n / a * (a * b) + n % a * b = ap (λ k. k * b) (sym all) ∙ (let z : (n / a * a + n % a) * b ≡ n / a * (a * b) + n % a * b = omega arith in z) in
+    let spread : (n / a * a + n % a) * b ≡ n / a * (a * b) + n % a * b = omega arith in
+    let whole = ap (λ k. k * b) (sym (div-add-mod' n a)) ∙ spread in
     let less : n % a * b < a * b = mul-lt-mul_of_pos_right (mod_below n a some) also in
     ap (λ k. k % (a * b)) whole ∙ mod-mul-add (n / a) (a * b) (n % a * b) less
 
@@ -64,14 +64,15 @@ turned-back n t r few fits turned small =
     some_bits : (n t s r : ℕ) → t + s ≡ 32 → r ≡ bit_or (n / 2 ^ t) (n * 2 ^ s % 2 ^ 32) → r * 2 ^ t < 2 ^ 32
         → n ≡ r * 2 ^ t
     some_bits n t s r whole e small =
-        let low = ap (λ k. n * 2 ^ s % k) (sym (parts t s whole)) ∙ rest-times n (2 ^ t) (2 ^ s) (pow_pos t) (pow_pos s) in
+        let low = ap (λ k. n * 2 ^ s % k) (sym (parts t s whole))
+        ∙ rest-times n (2 ^ t) (2 ^ s) (pow_pos t) (pow_pos s) in
         let two = mul_comm (2 ^ s) (2 ^ t) ∙ parts t s whole in
         let below : r < 2 ^ s = lt_of_mul-lt-mul_right (2 ^ t) (omega (arith, small, two)) in
         let above = le_or_r (n / 2 ^ t) (n * 2 ^ s % 2 ^ 32) in
         let rest : n % 2 ^ t < 1 =
         lt_of_mul-lt-mul_right (2 ^ s) (omega (arith, below, above, e, low)) in
-        let zero_low : n * 2 ^ s % 2 ^ 32 ≡ 0 =
-        low ∙ ap (λ k. k * 2 ^ s) (let z : n % 2 ^ t ≡ 0 = omega arith in z) ∙ zero-mul (2 ^ s) in
+        let none : n % 2 ^ t ≡ 0 = omega arith in
+        let zero_low = low ∙ ap (λ k. k * 2 ^ s) none ∙ zero-mul (2 ^ s) in
         let quotient = e ∙ ap (bit_or (n / 2 ^ t)) zero_low ∙ or_zero_r (n / 2 ^ t) in
-        let all = div-add-mod' n (2 ^ t) in
-        sym (ap (λ k. k * 2 ^ t) quotient ∙ (let z : n / 2 ^ t * 2 ^ t ≡ n = omega (arith, all, rest) in z))
+        let high : n / 2 ^ t * 2 ^ t ≡ n = omega (arith, div-add-mod' n (2 ^ t), rest) in
+        sym (ap (λ k. k * 2 ^ t) quotient ∙ high)

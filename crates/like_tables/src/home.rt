@@ -28,6 +28,7 @@ impl Model for Home {
 }
 
 impl Home {
+    /// That of a seat, by how many seats there are and its number.
     pub fn new(seats: u32, seat: u32) -> Self
         requires { seat < seats }
         ensures { result ≡ home_of seats seat }

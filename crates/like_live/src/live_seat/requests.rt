@@ -1,11 +1,11 @@
-ghost use Rattle.std.specs.Prelude.{◌≡◌, ◌+◌, ◌<◌, ◌↔◌, IsTrue, length};
+ghost use Rattle.std.specs.Prelude.{◌≡◌, ◌≢◌, ◌+◌, ◌<◌, IfNone, IfSome, IsTrue, length};
 ghost use Rattle.like_core.specs.Post.{pages_of};
 ghost use Rattle.like_core.specs.WorkerState.{IsRunning, RunsSplit};
 ghost use Rattle.like_seat.specs.StationView.{phase_at};
 ghost use Rattle.like_seat.specs.Steps.{holding};
 ghost use Rattle.like_tables.specs.Share.{owns};
 ghost use Rattle.like_live.specs.LiveView.{IsLive, IsOwn, room_of, waiting, with_seat};
-ghost use Rattle.like_live.specs.Calls.{GlancesNow, LikesNow, LooksNow, verdict_at};
+ghost use Rattle.like_live.specs.Calls.{GlancesNow, IsAccepted, LikesNow, LooksNow, verdict_at};
 
 use crate::answer::{GlanceAnswer, LikeAnswer, LookAnswer};
 use crate::asked::Asked;
@@ -13,17 +13,30 @@ use crate::live_seat::LiveSeat;
 use like_choice::Kind;
 use like_core::Post;
 use like_requests::{Op, PageRef, Request, Verdict};
+use like_tables::Placed;
 
 /// The most likes that a seat may count.
 pub const MAX_LIKES: u64 = 1 << 56;
 
 impl<P: Post> LiveSeat<P> {
-    // Judges a request of a user for a page.
+    // The user with its place, if a request of the user for a page is accepted. It costs no division.
     #[inline(always)]
-    fn verdict(&self, user: u32, page: u32) -> Verdict
-        ensures verdict { result ≡ verdict_at self.now.seat user page }
-        ensures there { result ≡ Verdict.Accepted → page < pages_of self.now.seat.post }
-        ensures owned { result ≡ Verdict.Accepted → IsTrue (owns self.now.seat.last.share user) }
+    fn accepts(&self, user: u32, page: u32) -> Option<Placed>
+        ensures accepted { IfSome result (IsAccepted self.now.seat user page) }
+        ensures refused { IfNone result (verdict_at self.now.seat user page ≢ Verdict.Accepted) }
+    {
+        let placed = self.seat.users().find(&self.home, user)?;
+        if page >= self.pages {
+            return None;
+        }
+        Some(placed)
+    }
+
+    // Why it is not. This stands apart, so that a request that is accepted costs less.
+    #[cold]
+    #[inline(never)]
+    fn refusal(&self, user: u32, page: u32) -> Verdict
+        ensures { result ≡ verdict_at self.now.seat user page }
     {
         let users = self.seat.users();
         let request = Request {
@@ -37,25 +50,6 @@ impl<P: Post> LiveSeat<P> {
         }
     }
 
-    // Whether a request of a user for a page is accepted.
-    #[inline(always)]
-    fn accepts(&self, user: u32, page: u32) -> bool
-        ensures verdict { IsTrue result ↔ (verdict_at self.now.seat user page ≡ Verdict.Accepted) }
-        ensures there { IsTrue result → page < pages_of self.now.seat.post }
-        ensures owned { IsTrue result → IsTrue (owns self.now.seat.last.share user) }
-    {
-        matches!(self.verdict(user, page), Verdict::Accepted)
-    }
-
-    // Why it is not. This stands apart, so that a request that is accepted costs less.
-    #[cold]
-    #[inline(never)]
-    fn refusal(&self, user: u32, page: u32) -> Verdict
-        ensures { result ≡ verdict_at self.now.seat user page }
-    {
-        self.verdict(user, page)
-    }
-
     // A like, of a seat that runs a phase.
     #[inline(always)]
     pub(crate) fn like_now(&mut self, user: u32, page: u32) -> LikeAnswer
@@ -63,13 +57,13 @@ impl<P: Post> LiveSeat<P> {
         ensures case { LikesNow self.old user page result self.new }
         ensures keeps { IsLive self.new }
     {
-        if !self.accepts(user, page) {
+        let Some(placed) = self.accepts(user, page) else {
             return LikeAnswer::Refused(self.refusal(user, page));
-        }
+        };
         if self.seat.likes() >= MAX_LIKES {
             return LikeAnswer::Full;
         }
-        self.seat.count_like(user, page);
+        self.seat.count_like_at(placed, page);
         self.signals.count(page, Kind::Like);
         LikeAnswer::Liked
     }
@@ -81,12 +75,12 @@ impl<P: Post> LiveSeat<P> {
         ensures case { LooksNow self.old user page tag result self.new }
         ensures keeps { IsLive self.new }
     {
-        if !self.accepts(user, page) {
+        let Some(placed) = self.accepts(user, page) else {
             return LookAnswer::Refused(self.refusal(user, page));
-        }
+        };
         if !self.seat.is_sliced(page) {
             self.signals.count(page, Kind::Look);
-            return LookAnswer::Seen(self.seat.read_for(user, page));
+            return LookAnswer::Seen(self.seat.read_at(placed, page));
         }
         if self.room == 0 {
             return LookAnswer::NoRoom;
@@ -126,12 +120,12 @@ impl<P: Post> LiveSeat<P> {
         ensures case { GlancesNow self.old user page result self.new }
         ensures keeps { IsLive self.new }
     {
-        if !self.accepts(user, page) {
+        let Some(placed) = self.accepts(user, page) else {
             return GlanceAnswer::Refused(self.refusal(user, page));
-        }
+        };
         if self.seat.is_sliced(page) {
-            return GlanceAnswer::Seen(self.seat.glance(user, page));
+            return GlanceAnswer::Seen(self.seat.glance(placed, page));
         }
-        GlanceAnswer::Seen(self.seat.read_for(user, page))
+        GlanceAnswer::Seen(self.seat.read_at(placed, page))
     }
 }

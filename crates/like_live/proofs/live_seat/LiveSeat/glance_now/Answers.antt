@@ -1,4 +1,4 @@
-use Rattle.std.proofs.Common.{◌≡◌, false, true, refl, ap, sym, subst, ◌∙◌}
+use Rattle.std.proofs.Common.{◌≡◌, ℕ, false, true, refl, ap, sym, subst, ◌∙◌}
 use Rattle.like_core.specs.Post.{slices}
 use Rattle.like_seat.specs.StationView.{StationView}
 use Rattle.like_seat.specs.Steps.{Glances, Reads}
@@ -12,11 +12,12 @@ returns-then-is_sliced-clause-case g c =
     let s = c.self.inside.seat in
     let same : s ≡ c.args.self.now.seat = ap (λ (w : LiveView). w.seat) c.self.view_is in
     let sliced : slices s.post c.args.page ≡ true = sym c.is_sliced.ensures ∙ c.if-is_sliced.true in
-    split c.glance.result c.glance.new.self (c.accepts.ensures.verdict.0 c.if-not-accepts.false)
+    split c.glance.result c.glance.new.self c.in-Some.ensures.accepted.verdict
     (subst (λ (t : StationView Asked). slices t.post c.args.page ≡ true) same sliced)
     refl
     (subst (λ (t : StationView Asked). Glances t c.args.user c.args.page c.glance.result c.glance.new.self) same
-    c.glance.ensures.glances)
+    (subst (λ (u : ℕ). Glances s u c.args.page c.glance.result c.glance.new.self) c.in-Some.ensures.accepted.user_is
+    c.glance.ensures.glances))
     (ap (λ (w : LiveView). with_seat w c.glance.new.self) c.self.view_is)
 
 pub returns-clause-case : goal.returns-clause-case
@@ -24,9 +25,10 @@ returns-clause-case g c =
     let s = c.self.inside.seat in
     let same : s ≡ c.args.self.now.seat = ap (λ (w : LiveView). w.seat) c.self.view_is in
     let whole : slices s.post c.args.page ≡ false = sym c.is_sliced.ensures ∙ c.if-is_sliced.false in
-    plain c.read_for.result c.read_for.new.self (c.accepts.ensures.verdict.0 c.if-not-accepts.false)
+    plain c.read_at.result c.read_at.new.self c.in-Some.ensures.accepted.verdict
     (subst (λ (t : StationView Asked). slices t.post c.args.page ≡ false) same whole)
     refl
-    (subst (λ (t : StationView Asked). Reads t c.args.user c.args.page c.read_for.result c.read_for.new.self) same
-    c.read_for.ensures.reads)
-    (ap (λ (w : LiveView). with_seat w c.read_for.new.self) c.self.view_is)
+    (subst (λ (t : StationView Asked). Reads t c.args.user c.args.page c.read_at.result c.read_at.new.self) same
+    (subst (λ (u : ℕ). Reads s u c.args.page c.read_at.result c.read_at.new.self) c.in-Some.ensures.accepted.user_is
+    c.read_at.ensures.reads))
+    (ap (λ (w : LiveView). with_seat w c.read_at.new.self) c.self.view_is)

@@ -1,4 +1,4 @@
-use Rattle.std.proofs.Common.{◌≡◌, ◌<◌, arith, refl, ap, subst}
+use Rattle.std.proofs.Common.{◌≡◌, ◌<◌, ℕ, arith, refl, ap, subst}
 use Rattle.like_seat.specs.StationView.{StationView, likes_of}
 use Rattle.like_seat.specs.Steps.{CountsLike}
 use Rattle.like_live.specs.declared.asked.Asked.{Asked}
@@ -9,26 +9,29 @@ use Rattle.like_live.proofs.live_seat.LiveSeat.like_now.Goals as goal
 
 pub invariant_of-self : goal.invariant_of-self
 invariant_of-self g c =
-    after-counted c.self.inside.seat c.count_like.new.self c.self.inside.found c.self.inside.pages c.self.inside.room
-    c.self.inside.half c.args.user c.args.page c.count_like.result c.self.invariant c.count_like.ensures.counts
-    c.count_like.ensures.seat
+    after-counted c.self.inside.seat c.count_like_at.new.self c.self.inside.found c.self.inside.home c.self.inside.pages
+    c.self.inside.room c.self.inside.half c.in-Some.placed.user c.args.page c.count_like_at.result c.self.invariant
+    c.count_like_at.ensures.counts c.count_like_at.ensures.seat
 
 pub returns-clause-keeps : goal.returns-clause-keeps
 returns-clause-keeps g c = (
-    after-counted c.self.inside.seat c.count_like.new.self c.self.inside.found c.self.inside.pages c.self.inside.room
-    c.self.inside.half c.args.user c.args.page c.count_like.result c.self.invariant c.count_like.ensures.counts
-    c.count_like.ensures.seat
+    after-counted c.self.inside.seat c.count_like_at.new.self c.self.inside.found c.self.inside.home c.self.inside.pages
+    c.self.inside.room c.self.inside.half c.in-Some.placed.user c.args.page c.count_like_at.result c.self.invariant
+    c.count_like_at.ensures.counts c.count_like_at.ensures.seat
     ).live
 
 pub returns-clause-case : goal.returns-clause-case
 returns-clause-case g c =
     let s = c.self.inside.seat in
     let live = c.self.invariant.live in
+    let accepted = c.in-Some.ensures.accepted in
     let same : s ≡ c.args.self.now.seat = ap (λ (w : LiveView). w.seat) c.self.view_is in
     let few = not-full s live.seat live.limits (omega (arith, c.likes.ensures.likes, c.if-likes-ge-MAX_LIKES.false)) in
-    liked c.count_like.result c.count_like.new.self (c.accepts.ensures.verdict.0 c.if-not-accepts.false)
+    let counts = subst (λ (u : ℕ). CountsLike s u c.args.page c.count_like_at.result c.count_like_at.new.self)
+    accepted.user_is c.count_like_at.ensures.counts in
+    liked c.count_like_at.result c.count_like_at.new.self accepted.verdict
     (subst (λ (t : StationView Asked). likes_of t < t.post.limits.likes) same few)
     refl
-    (subst (λ (t : StationView Asked). CountsLike t c.args.user c.args.page c.count_like.result c.count_like.new.self) same
-    c.count_like.ensures.counts)
-    (ap (λ (w : LiveView). with_seat w c.count_like.new.self) c.self.view_is)
+    (subst (λ (t : StationView Asked). CountsLike t c.args.user c.args.page c.count_like_at.result c.count_like_at.new.self)
+    same counts)
+    (ap (λ (w : LiveView). with_seat w c.count_like_at.new.self) c.self.view_is)

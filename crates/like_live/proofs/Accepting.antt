@@ -1,0 +1,89 @@
+-- Which requests are accepted: those of a user that is found, for a page that is there.
+use Rattle.std.proofs.Common.{◌≡◌, ◌≢◌, ℕ, ◌<◌, ◌≤◌, ◌%◌, ◌&&◌, Bool, true, false, not, cond, nat_lt, Some, None, refl, sym, ap, subst, ◌∙◌, arith}
+use Rattle.std.proofs.Math.Nat.{mod-mod}
+use Rattle.std.proofs.lemmas.Bool.{and_parts, eq-eqb, eqb-true, lt-ltb}
+use Rattle.like_core.specs.Post.{pages_of}
+use Rattle.like_requests.specs.Verdict.{is_known}
+use Rattle.like_requests.specs.declared.request.Op.TheVariants.{Look}
+use Rattle.like_requests.specs.declared.request.PageRef.TheVariants.{Known, Unknown}
+use Rattle.like_requests.specs.declared.request.Request.{Request}
+use Rattle.like_requests.specs.declared.verdict.Verdict.TheVariants.{Accepted, UnknownUser, OtherHome, UnknownPage}
+use Rattle.like_seat.specs.StationView.{StationView}
+use Rattle.like_tables.specs.Placed.{IsPlaced, placed_at, placed_in}
+use Rattle.like_tables.specs.Share.{Share, owns, serves_home}
+use Rattle.like_tables.specs.declared.placed.Placed.{Placed}
+use Rattle.like_live.specs.declared.asked.Asked.{Asked}
+use Rattle.like_live.specs.Calls.{IsAccepted, page_ref, verdict_at}
+use Rattle.like_live.proofs.Calling.{page_there}
+use Rattle.like_live.proofs.Requests.{owned_since}
+
+-- the three tests of a verdict
+passed : (a b c : Bool)
+    → cond (not a) UnknownUser (cond (not b) OtherHome (cond (not c) UnknownPage Accepted)) ≡ Accepted
+    → (a && b && c) ≡ true
+passed true true true e = refl
+passed true true false e = cc e
+passed true false c e = cc e
+passed false b c e = cc e
+
+passes : (a b c : Bool) → a ≡ true → b ≡ true → c ≡ true
+    → cond (not a) UnknownUser (cond (not b) OtherHome (cond (not c) UnknownPage Accepted)) ≡ Accepted
+passes a b c is is' is'' = rw (is, is', is'') refl
+
+-- a page that is there is known
+known : (pages page : ℕ) → page < pages → is_known (page_ref pages page) ≡ true
+known pages page there = ap (λ b. is_known (cond b (Known page) Unknown)) (lt-ltb page pages there)
+
+-- a user who isn't the seat's is refused
+pub not-owned : (s : StationView Asked) (user page : ℕ) → s.last.share.submitters ≡ s.last.share.workers
+    → owns s.last.share user ≡ false → verdict_at s user page ≢ Accepted
+not-owned s user page home_is other is =
+    let r : Request = record { op = Look; user = user; page = page_ref (pages_of s.post) page } in
+    let owned = owned_since s.last.share r home_is (passed _ _ _ is) in
+    cc (owned, other)
+
+-- a page that isn't there is, too
+pub not-there : (s : StationView Asked) (user page : ℕ) → pages_of s.post ≤ page → verdict_at s user page ≢ Accepted
+not-there s user page past is = omega (arith, page_there s user page is, past)
+
+-- what a search for a user found
+found-placed : (s : Share) (user : ℕ) (placed : Placed) → Some placed ≡ placed_in s user
+    → (owns s user ≡ true) × (placed ≡ placed_at s user)
+found-placed s user placed e =
+    by_test (owns s user) refl e
+  where
+    by_test : (b : Bool) → owns s user ≡ b → Some placed ≡ cond b (Some (placed_at s user)) None
+        → (owns s user ≡ true) × (placed ≡ placed_at s user)
+    by_test true is same = (is, cc same)
+    by_test false is same = cc same
+
+found-none : (s : Share) (user : ℕ) → None ≡ placed_in s user → owns s user ≡ false
+found-none s user e =
+    by_test (owns s user) refl e
+  where
+    by_test : (b : Bool) → owns s user ≡ b → None ≡ cond b (Some (placed_at s user)) None → owns s user ≡ false
+    by_test true is same = cc same
+    by_test false is same = is
+
+-- a request is accepted of a user that is found, for a page that is there
+pub accepted-found : (s : StationView Asked) (user page : ℕ) (placed : Placed)
+    → s.last.share.submitters ≡ s.last.share.workers → Some placed ≡ placed_in s.last.share user
+    → page < pages_of s.post → IsAccepted s user page placed
+accepted-found s user page placed home_is e there =
+    let share = s.last.share in
+    let found = found-placed share user placed e in
+    let parts = and_parts (nat_lt user share.users) (serves_home share user) found.0 in
+    let mine = eqb-true (user % share.submitters % share.workers) share.worker parts.1 in
+    let at : user % share.submitters ≡ share.worker =
+    sym (ap (λ n. user % share.submitters % n) (sym home_is) ∙ mod-mod user share.submitters) ∙ mine in
+    record {
+      verdict = passes _ _ _ parts.0 (eq-eqb _ _ at) (known (pages_of s.post) page there);
+      there = there;
+      user_is = ap (λ (p : Placed). p.user) found.1;
+      place_is = subst (IsPlaced share) (sym found.1) (record { owned = found.0; place_is = refl });
+    }
+
+-- and of no other user
+pub refused-none : (s : StationView Asked) (user page : ℕ) → s.last.share.submitters ≡ s.last.share.workers
+    → None ≡ placed_in s.last.share user → verdict_at s user page ≢ Accepted
+refused-none s user page home_is e = not-owned s user page home_is (found-none s.last.share user e)

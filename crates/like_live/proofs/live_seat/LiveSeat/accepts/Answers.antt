@@ -1,0 +1,30 @@
+use Rattle.std.proofs.Common.{◌≡◌, ◌≢◌, ◌<◌, Some, None, sym, ap, subst, ◌∙◌, arith}
+use Rattle.like_core.specs.Post.{pages_of}
+use Rattle.like_requests.specs.declared.verdict.Verdict.TheVariants.{Accepted}
+use Rattle.like_tables.specs.Placed.{placed_in}
+use Rattle.like_tables.specs.UserTable.{UserTable}
+use Rattle.like_live.specs.Calls.{IsAccepted, verdict_at}
+use Rattle.like_live.specs.LiveView.{LiveView}
+use Rattle.like_live.proofs.Accepting.{accepted-found, refused-none}
+use Rattle.like_live.proofs.live_seat.LiveSeat.accepts.Goals as goal
+
+pub returns-in_err-placed-clause-refused : goal.returns-in_err-placed-clause-refused
+returns-in_err-placed-clause-refused g c =
+    let user = c.args.user in
+    let s = c.self.inside.seat in
+    let none : None ≡ placed_in s.last.share user =
+    sym c.in_err-placed.was ∙ c.find.ensures ∙ ap (λ (t : UserTable). placed_in t.share user) c.users.ensures in
+    rw c.from_residual.ensures
+    (subst (λ (v : LiveView). verdict_at v.seat user c.args.page ≢ Accepted) c.self.view_is
+    (refused-none s user c.args.page c.self.invariant.live.home none))
+
+pub returns-clause-accepted : goal.returns-clause-accepted
+returns-clause-accepted g c =
+    let user = c.args.user in
+    let placed = c.in_ok-placed.placed in
+    let s = c.self.inside.seat in
+    let some : Some placed ≡ placed_in s.last.share user =
+    sym c.in_ok-placed.was ∙ c.find.ensures ∙ ap (λ (t : UserTable). placed_in t.share user) c.users.ensures in
+    let there : c.args.page < pages_of s.post = omega (arith, c.if-page-self.false, c.self.invariant.pages_are) in
+    subst (λ (v : LiveView). IsAccepted v.seat user c.args.page placed) c.self.view_is
+    (accepted-found s user c.args.page placed c.self.invariant.live.home some there)
