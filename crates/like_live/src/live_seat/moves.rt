@@ -1,6 +1,6 @@
 ghost use Rattle.std.specs.Prelude.{◌≡◌, All, true};
 ghost use Rattle.like_core.specs.WorkerState.{IsRunning, RunsJoined, SawEnding};
-ghost use Rattle.like_seat.specs.StationView.{IsStation};
+ghost use Rattle.like_seat.specs.StationView.{IsStation, phase_at};
 ghost use Rattle.like_live.specs.LiveView.{IsLive, RanNext, live_of};
 ghost use Rattle.like_live.specs.Kept.{HasLooked};
 ghost use Rattle.like_live.specs.Moves.{FindsAll, Moves, Works};
@@ -14,9 +14,26 @@ use like_seat::Station;
 use like_tables::Stash;
 
 impl<P: SlotPost> LiveSeat<P> {
-    // Looks at the phase word, and does the phase work that it asks for.
+    // Looks at the phase word, and does the phase work that it asks for. Mostly the seat runs a phase that goes on, and
+    // there is none.
     #[inline(always)]
     pub(crate) fn advance(&mut self) -> TurnAnswer
+        ensures moves { Moves self.old result self.new }
+        ensures keeps { IsLive self.new }
+        ensures runs { result ≡ TurnAnswer.Runs → IsRunning self.new.seat.post.state }
+        ensures was { IsLive self.old }
+    {
+        let Some(phase) = self.seat.runs() else {
+            return self.advance_late();
+        };
+        let sight = self.seat.look_on();
+        work(&mut self.seat, &mut self.found, phase, sight.ending)
+    }
+
+    // The same, of a seat that has answered its phase or is gone.
+    #[cold]
+    #[inline(never)]
+    fn advance_late(&mut self) -> TurnAnswer
         ensures moves { Moves self.old result self.new }
         ensures keeps { IsLive self.new }
         ensures runs { result ≡ TurnAnswer.Runs → IsRunning self.new.seat.post.state }
@@ -29,7 +46,8 @@ impl<P: SlotPost> LiveSeat<P> {
         if sight.waits {
             return TurnAnswer::Between;
         }
-        work(&mut self.seat, &mut self.found, sight.ending)
+        let phase = self.seat.phase();
+        work(&mut self.seat, &mut self.found, phase, sight.ending)
     }
 }
 
@@ -45,24 +63,31 @@ pub(crate) fn work_or_retire<P: Post>(
     ensures live { IsLive (live_of seat.new found.new) }
     ensures capacity { found.new.capacity ≡ found.old.capacity }
 {
-    if seat.phase() % 2 == 1 {
-        return work(seat, found, ending);
+    let phase = seat.phase();
+    if phase % 2 == 1 {
+        return work(seat, found, phase, ending);
     }
     find_all(seat, found);
     seat.retire();
     TurnAnswer::Gone
 }
 
-// The phase work of a seat that runs a phase.
+// The phase work of a seat that runs this phase.
 #[inline(always)]
-fn work<P: Post>(seat: &mut Station<P, Asked>, found: &mut Stash<Found>, ending: bool) -> TurnAnswer
+fn work<P: Post>(
+    seat: &mut Station<P, Asked>,
+    found: &mut Stash<Found>,
+    phase: u64,
+    ending: bool,
+) -> TurnAnswer
     requires looked { HasLooked seat.old found.old }
+    requires phase { phase ≡ phase_at seat.old }
     requires ending { ending ≡ true → SawEnding seat.old.post.last }
     ensures works { Works (live_of seat.old found.old) ending result (live_of seat.new found.new) }
     ensures live { IsLive (live_of seat.new found.new) }
     ensures capacity { found.new.capacity ≡ found.old.capacity }
 {
-    if seat.phase() % 2 == 0 {
+    if phase % 2 == 0 {
         return joined_work(seat, found, ending);
     }
     if !ending {

@@ -1,8 +1,8 @@
-ghost use Rattle.std.specs.Prelude.{◌≡◌, ◌≢◌, false};
-ghost use Rattle.like_core.specs.declared.worker_state.WorkerState.TheVariants.{Gone};
+ghost use Rattle.std.specs.Prelude.{◌≡◌, ◌≢◌, IfNone, IfSome, false};
+ghost use Rattle.like_core.specs.declared.worker_state.WorkerState.TheVariants.{Gone, Runs};
 ghost use Rattle.like_core.specs.OpeningLimits.{has_slots};
 ghost use Rattle.like_core.specs.Post.{answered, retired};
-ghost use Rattle.like_core.specs.WorkerState.{RunsJoined, SawEnding};
+ghost use Rattle.like_core.specs.WorkerState.{IsRunning, RunsJoined, SawEnding};
 ghost use Rattle.like_seat.specs.StationView.{IsStation};
 ghost use Rattle.like_seat.specs.Steps.{LooksAndEnters};
 
@@ -25,6 +25,30 @@ impl<P: Post, W: Copy> Station<P, W> {
             }
         }
         sight
+    }
+
+    /// The phase that it runs, if it runs one.
+    #[inline(always)]
+    pub fn runs(&self) -> Option<u64>
+        ensures runs { IfSome result (λ phase. self.now.post.state ≡ Runs phase) }
+        ensures rests { IfNone result (¬ IsRunning self.now.post.state) }
+        ensures seat { IsStation self.now }
+    {
+        match self.tables.state {
+            WorkerState::Runs(phase) => Some(phase),
+            WorkerState::Answered(_) | WorkerState::Gone => None,
+        }
+    }
+
+    /// Looks at the phase word, for a seat that runs a phase. It stays in that phase, and doesn't wait.
+    #[inline(always)]
+    pub fn look_on(&mut self) -> Sight
+        requires running { IsRunning self.old.post.state }
+        ensures looks { LooksAndEnters self.old result self.new }
+        ensures goes_on { result.waits ≡ false }
+        ensures stays { self.new.post.state ≡ self.old.post.state }
+    {
+        self.post.look()
     }
 
     /// Stops at the end of a joined phase, and waits for the release of the next.

@@ -9,12 +9,12 @@ pub returns-then-phase-eq1-clause-works : goal.returns-then-phase-eq1-clause-wor
 returns-then-phase-eq1-clause-works g c =
     let odd = c.if-phase-eq1.true in
     let split : RunsSplit c.args.seat.now.post.state =
-    split_since _ c.phase.result c.requires.looked.runs c.phase.ensures.phase (λ even. absurd (omega arith)) in
+    split_since _ c.phase-phase.result c.requires.looked.runs c.phase-phase.ensures.phase (λ even. absurd (omega arith)) in
     stays split c.work.ensures.works
 
 pub returns-clause-works : goal.returns-clause-works
 returns-clause-works g c =
     let joined : RunsJoined c.args.seat.now.post.state =
-    joined_since _ c.phase.result c.requires.looked.runs c.phase.ensures.phase (omega (arith, c.if-phase-eq1.false)) in
+    joined_since _ c.phase-phase.result c.requires.looked.runs c.phase-phase.ensures.phase (omega (arith, c.if-phase-eq1.false)) in
     retires (live_of c.find_all.new.seat c.find_all.new.found) joined refl c.find_all.ensures.finds
     (λ m. live_of (c.retire.ensures.ends m) c.find_all.new.found)
