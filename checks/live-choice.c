@@ -18,6 +18,9 @@
 
 enum { PAGES = 1000000, SEATS = 4, USERS = 1000, REQUESTS = 120000, ROW = 100, BEST = 64, RING = 1 << 22 };
 
+/* After so many choices what is popular has settled: each choice forgets a sixteenth of what came before. */
+enum { SETTLED = 32 };
+
 /* The ranks of the pages that are asked for, one after the other: rank 0 is the most popular. */
 static uint32_t ranks[RING];
 static uint64_t random_state = 1;
@@ -186,7 +189,7 @@ static bool steady(double exponent) {
     for (int placement = 0; placement < 100; placement++) {
         simulation it;
         open_service(&it);
-        run_times(&it, 10);
+        run_times(&it, SETTLED);
         add(&all, run_times(&it, 10));
         free_service(&it);
     }
@@ -200,7 +203,7 @@ static bool moving(double exponent) {
     simulation it;
     open_service(&it);
     run_times(&it, 100);
-    for (int moves = 0; moves < 10; moves++) {
+    for (int moves = 0; moves < 20; moves++) {
         place_pages(&it);
         add(&all, run_times(&it, 100));
     }
@@ -220,7 +223,7 @@ static uint32_t choices_until_split(uint32_t times) {
     seen made = {0, 0, 0, 0};
     uint32_t choices = 0;
     open_service(&it);
-    run_times(&it, 30);
+    run_times(&it, SETTLED);
     it.sudden = page_of(&it, PAGES - 1);
     it.times = times;
     while (choices < 100 && !is_split[it.sudden]) {
