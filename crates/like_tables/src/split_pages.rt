@@ -77,7 +77,16 @@ impl SplitPages {
     pub fn has(&self, page: u32) -> bool
         ensures { result ≡ is_split self.now page }
     {
-        self.tags[bucket(self.factor, page) as usize] == page
+        self.holds(page, self.bucket(page))
+    }
+
+    /// The same, of a page that has this bucket.
+    #[inline(always)]
+    pub fn holds(&self, page: u32, place: u32) -> bool
+        requires { place ≡ bucket self.now.factor page }
+        ensures { result ≡ is_split self.now page }
+    {
+        self.tags[place as usize] == page
     }
 
     /// The page that a bucket holds, if any.

@@ -60,6 +60,15 @@ impl SplitSlice {
         self.splits.has(page)
     }
 
+    /// The same, of a page that has this bucket.
+    #[inline(always)]
+    pub fn holds(&self, page: u32, bucket: u32) -> bool
+        requires { bucket ≡ bucket_in self.now page }
+        ensures { result ≡ has_split self.now page }
+    {
+        self.splits.holds(page, bucket)
+    }
+
     /// Splits the page. No other page may be in its bucket.
     pub fn put(&mut self, page: u32)
         requires { MayPut self.old.splits page }
@@ -69,16 +78,16 @@ impl SplitSlice {
         self.splits.put(page);
     }
 
-    /// Counts a like of the page.
+    /// Counts a like of the page, which has this bucket.
     #[inline(always)]
-    pub fn add(&mut self, page: u32)
-        requires split { has_split self.old page ≡ true }
+    pub fn add(&mut self, _page: u32, bucket: u32)
+        requires split { has_split self.old _page ≡ true }
+        requires bucket { bucket ≡ bucket_in self.old _page }
         requires below { sum self.old.counts + 1 < 2 ^ 63 }
-        ensures counted { self.new ≡ with_likes self.old page (likes_in self.old page + 1) }
+        ensures counted { self.new ≡ with_likes self.old _page (likes_in self.old _page + 1) }
         ensures total { sum self.new.counts ≡ sum self.old.counts + 1 }
         ensures slice { IsSplitSlice self.new }
     {
-        let bucket = self.bucket(page);
         self.likes.add(bucket);
     }
 

@@ -47,11 +47,12 @@ impl<P: Post, W: Copy> Station<P, W> {
         ensures counts { CountsLike self.old placed.user page result self.new }
         ensures seat { IsStation self.new }
     {
-        let sliced = self.tables.slice.has(page);
+        let bucket = self.tables.slice.bucket(page);
+        let sliced = self.tables.slice.holds(page, bucket);
         self.tables.last.set_at(placed, page);
         self.tables.likes += 1;
         if sliced {
-            self.tables.slice.add(page);
+            self.tables.slice.add(page, bucket);
             self.tables.sliced = self.tables.sliced.then(&self.post, page);
             return None;
         }

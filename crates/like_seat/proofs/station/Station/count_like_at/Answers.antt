@@ -22,7 +22,7 @@ invariant_of-self g c =
     subst (λ (v : StationView g.row.W.Denot). page < pages_of v.post) (sym c.self.view_is) c.requires.there in
     let room : likes_of (view_of p t) < p.limits.likes =
     subst (λ (v : StationView g.row.W.Denot). likes_of v < v.post.limits.likes) (sym c.self.view_is) c.requires.fits in
-    let split : has_split t.slice page ≡ true = sym c.has-sliced.ensures ∙ c.if-sliced.true in
+    let split : has_split t.slice page ≡ true = sym c.holds-sliced.ensures ∙ c.if-sliced.true in
     let sums : sum (by_page c.add.new.self n) ≡ sum c.add.new.self.counts =
     ap (λ (s : SplitSlice). sum (by_page s n)) c.add.ensures.counted
     ∙ sum-written t.slice n page (likes_in t.slice page + 1) (sum c.add.new.self.counts) k.slice split there k.sums
@@ -42,7 +42,7 @@ returns-then-sliced-clause-counts g c =
     subst (λ (v : StationView g.row.W.Denot). page < pages_of v.post) (sym c.self.view_is) c.requires.there in
     let runs : IsRunning p.state =
     subst (λ (v : StationView g.row.W.Denot). IsRunning v.post.state) (sym c.self.view_is) c.requires.running in
-    let split : has_split t.slice page ≡ true = sym c.has-sliced.ensures ∙ c.if-sliced.true in
+    let split : has_split t.slice page ≡ true = sym c.holds-sliced.ensures ∙ c.if-sliced.true in
     let had = get_or-by_page t.slice n page 0 there in
     let likes : by_page c.add.new.self n ≡ set (by_page t.slice n) page (get_or (by_page t.slice n) page 0 + 1) =
     ap (λ (s : SplitSlice). by_page s n) c.add.ensures.counted
