@@ -203,6 +203,19 @@ fn users_are_those_of_the_worker(rt: HostRuntime) -> Result<(), Fail> {
     Ok(())
 }
 
+// Of 23 users at six seats, those of seat 4 are 4, 10, 16 and 22.
+#[test]
+fn a_user_is_found_at_its_home(rt: HostRuntime) -> Result<(), Fail> {
+    let users = Users::new(rt.alloc(), 23, 6, 6, 4)?;
+    let home = users.home();
+    let found = users
+        .find(&home, 16)
+        .map(|placed| (placed.user, placed.place));
+    assert!(rt; found == Some((16, 2)));
+    assert!(rt; users.find(&home, 15).is_none() && users.find(&home, 28).is_none());
+    Ok(())
+}
+
 // The most users, of the only worker.
 #[test]
 fn users_are_a_million(rt: HostRuntime) -> Result<(), Fail> {
