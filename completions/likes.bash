@@ -16,16 +16,16 @@ _likes() {
     done
 
     case $command in
-        run) local options="--workers --users --stash --turns --hot --places --totals --summary --help" ;;
-        replay) local options="--workers --users --stash --turns --hot --places --totals --summary --script --help" ;;
+        run) local options="--workers --users --stash --turns --hot --places --totals --summary --progress --help" ;;
+        replay) local options="--workers --users --stash --turns --hot --places --totals --summary --progress --script --help" ;;
         *)
-            COMPREPLY=($(compgen -W "run replay --help" -- "$cur"))
+            COMPREPLY=($(compgen -W "run replay help --help --version" -- "$cur"))
             return
             ;;
     esac
 
     case $prev in
-        --workers | --users | --stash | --turns | --hot)
+        --workers | --users | --stash | --turns | --hot | -[wust])
             # A number.
             return
             ;;

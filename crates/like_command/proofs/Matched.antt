@@ -243,34 +243,7 @@ abbrev run_rule_at : ℕ → Rule
 run_rule_at i = slice_index_or run_rules i (new_rule [])
 
 run_rules_fit : AllFit run_rules run_rules
-run_rules_fit = (
-  record { own = refl; some = refl },
-  (
-    record { own = refl; some = refl },
-    (
-      record { own = refl; some = refl },
-      (
-        record { own = refl; some = refl },
-        (
-          record { own = refl; some = refl },
-          (
-            record { own = refl; some = tt },
-            (
-              record { own = refl; some = tt },
-              (
-                record { own = refl; some = tt },
-                (
-                  record { own = refl; some = refl },
-                  (record { own = refl; some = refl }, (record { own = refl; some = tt }, tt)),
-                ),
-              ),
-            ),
-          ),
-        ),
-      ),
-    ),
-  ),
-)
+run_rules_fit = (record { own = refl; some = refl }, (record { own = refl; some = refl }, (record { own = refl; some = refl }, (record { own = refl; some = refl }, (record { own = refl; some = refl }, (record { own = refl; some = tt }, (record { own = refl; some = tt }, (record { own = refl; some = tt }, (record { own = refl; some = tt }, (record { own = refl; some = refl }, (record { own = refl; some = refl }, (record { own = refl; some = tt }, tt))))))))))))
 
 abbrev replay_built : Shape
 replay_built = built_sub replay_command
@@ -282,37 +255,7 @@ abbrev replay_rule_at : ℕ → Rule
 replay_rule_at i = slice_index_or replay_rules i (new_rule [])
 
 replay_rules_fit : AllFit replay_rules replay_rules
-replay_rules_fit = (
-  record { own = refl; some = refl },
-  (
-    record { own = refl; some = refl },
-    (
-      record { own = refl; some = refl },
-      (
-        record { own = refl; some = refl },
-        (
-          record { own = refl; some = refl },
-          (
-            record { own = refl; some = tt },
-            (
-              record { own = refl; some = tt },
-              (
-                record { own = refl; some = tt },
-                (
-                  record { own = refl; some = refl },
-                  (
-                    record { own = refl; some = refl },
-                    (record { own = refl; some = refl }, (record { own = refl; some = tt }, tt)),
-                  ),
-                ),
-              ),
-            ),
-          ),
-        ),
-      ),
-    ),
-  ),
-)
+replay_rules_fit = (record { own = refl; some = refl }, (record { own = refl; some = refl }, (record { own = refl; some = refl }, (record { own = refl; some = refl }, (record { own = refl; some = refl }, (record { own = refl; some = tt }, (record { own = refl; some = tt }, (record { own = refl; some = tt }, (record { own = refl; some = tt }, (record { own = refl; some = refl }, (record { own = refl; some = refl }, (record { own = refl; some = refl }, (record { own = refl; some = tt }, tt)))))))))))))
 
 -- a test of two that must both fail
 both_given : (a b : Bool) → cond (not a || (not b || false)) (MissingRequiredArgument ∷ []) [] ≡ []
@@ -335,8 +278,8 @@ run_found words none =
     let good = good_defaults run_rules run_rules start run_rules_fit settled_good c.0 in
     let rows = rows_after run_rules [] words in
     let given = both_given (is_given (codes "pages") rows) (is_given (codes "requests") rows) c.1 in
-    let pages = text_found run_rules (run_rule_at 8) rows good refl (given_row _ rows given.0) in
-    let requests = text_found run_rules (run_rule_at 9) rows good refl (given_row _ rows given.1) in
+    let pages = text_found run_rules (run_rule_at 9) rows good refl (given_row _ rows given.0) in
+    let requests = text_found run_rules (run_rule_at 10) rows good refl (given_row _ rows given.1) in
     record {
       workers = number_found run_rules (run_rule_at 0) 1 16 rows good refl
           (has_default [] (run_rule_at 0) (drop 1 run_rules) (codes "4") start refl) refl;
@@ -353,6 +296,8 @@ run_found words none =
           (has_default (take 6 run_rules) (run_rule_at 6) (drop 7 run_rules) (codes "false") start refl) refl;
       summary = flag_found run_rules (run_rule_at 7) rows good refl
           (has_default (take 7 run_rules) (run_rule_at 7) (drop 8 run_rules) (codes "false") start refl) refl;
+      progress = flag_found run_rules (run_rule_at 8) rows good refl
+          (has_default (take 8 run_rules) (run_rule_at 8) (drop 9 run_rules) (codes "false") start refl) refl;
       pages = (pages.0, pages.3);
       requests = (requests.0 ∷ requests.1, requests.2, omega arith);
     }
@@ -371,8 +316,8 @@ replay_found words none =
     let good = good_defaults replay_rules replay_rules start replay_rules_fit settled_good c.0 in
     let rows = rows_after replay_rules [] words in
     let given = both_given (is_given (codes "pages") rows) (is_given (codes "requests") rows) c.1 in
-    let pages = text_found replay_rules (replay_rule_at 9) rows good refl (given_row _ rows given.0) in
-    let requests = text_found replay_rules (replay_rule_at 10) rows good refl (given_row _ rows given.1) in
+    let pages = text_found replay_rules (replay_rule_at 10) rows good refl (given_row _ rows given.0) in
+    let requests = text_found replay_rules (replay_rule_at 11) rows good refl (given_row _ rows given.1) in
     record {
       workers = number_found replay_rules (replay_rule_at 0) 1 16 rows good refl
           (has_default [] (replay_rule_at 0) (drop 1 replay_rules) (codes "4") start refl) refl;
@@ -389,6 +334,8 @@ replay_found words none =
           (has_default (take 6 replay_rules) (replay_rule_at 6) (drop 7 replay_rules) (codes "false") start refl) refl;
       summary = flag_found replay_rules (replay_rule_at 7) rows good refl
           (has_default (take 7 replay_rules) (replay_rule_at 7) (drop 8 replay_rules) (codes "false") start refl) refl;
+      progress = flag_found replay_rules (replay_rule_at 8) rows good refl
+          (has_default (take 8 replay_rules) (replay_rule_at 8) (drop 9 replay_rules) (codes "false") start refl) refl;
       pages = (pages.0, pages.3);
       requests = (requests.0 ∷ requests.1, requests.2, omega arith);
     }

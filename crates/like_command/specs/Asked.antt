@@ -52,6 +52,7 @@ pub record HasAll (rows : List Row) : Type 0 where
   pub places : HasFlag rows (codes "places")
   pub totals : HasFlag rows (codes "totals")
   pub summary : HasFlag rows (codes "summary")
+  pub progress : HasFlag rows (codes "progress")
   pub pages : (name : Text) × (first_of (codes "pages") rows ≡ Some name)
   pub requests : (names : List Text) × (all_of (codes "requests") rows ≡ Some names) × (0 < length names)
 
@@ -65,6 +66,7 @@ pub record HasValues (rows : List Row) (o : Options) : Type 0 where
   pub places : IsFlag rows (codes "places") o.places
   pub totals : IsFlag rows (codes "totals") o.totals
   pub summary : IsFlag rows (codes "summary") o.summary
+  pub progress : IsFlag rows (codes "progress") o.progress
   pub pages : first_of (codes "pages") rows ≡ Some (string_bytes o.pages)
   pub requests : all_of (codes "requests") rows ≡ Some (map string_bytes o.requests.items)
   pub some_requests : 0 < length o.requests.items

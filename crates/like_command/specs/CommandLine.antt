@@ -57,7 +57,7 @@ number_rules = with_letter 119 (number_rule (codes "workers") (codes "4") 1 max_
 abbrev pub option_rules : List Rule
 option_rules = number_rules
     ++ bounded_rule (codes "hot") 1 max_hot ∷ flag_rule (codes "places") ∷ flag_rule (codes "totals")
-    ∷ flag_rule (codes "summary") ∷ []
+    ∷ flag_rule (codes "summary") ∷ flag_rule (codes "progress") ∷ []
 
 -- the names of the files of a run
 abbrev pub files_rules : List Rule

@@ -118,7 +118,8 @@ fn with_options<'a>(alloc: Global, name: &'a str, about: &'a str) -> Result<Comm
         .arg(bounded_option(alloc, "hot", "H", 1, 1_000_000).help(help::HOT))?
         .arg(flag(alloc, "places").help(help::PLACES))?
         .arg(flag(alloc, "totals").help(help::TOTALS))?
-        .arg(flag(alloc, "summary").help(help::SUMMARY))
+        .arg(flag(alloc, "summary").help(help::SUMMARY))?
+        .arg(flag(alloc, "progress").help(help::PROGRESS))
 }
 
 // The subcommand `run`.

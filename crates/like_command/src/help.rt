@@ -67,6 +67,10 @@ requests were liked, seen and refused, how many phases
 there were, and how long it took. Without this option,
 one line tells the refused requests, if there are any";
 
+pub const PROGRESS: &str = "\
+Writes a line to standard error when reading, running and
+writing begin, with the seconds that the part before took";
+
 pub const SCRIPT: &str = "\
 A file of turns to take before the rounds: CSV with the
 header turn,index and up to 1000000 rows
@@ -131,6 +135,8 @@ The answers:
 
 If requests are refused (one of the last three answers), one line on standard
 error says how many, and the status is still 0.
+
+One of the files can be -, which is standard input.
 
 A replay makes a round for each request of its busiest worker, and more for
 looks that wait and for changes of phase, but at most 1000000. If it ends with

@@ -42,6 +42,7 @@ fn options(
     let places = flag(matches, "places");
     let totals = flag(matches, "totals");
     let summary = flag(matches, "summary");
+    let progress = flag(matches, "progress");
     let pages = pages_file(alloc, matches)?;
     let requests = request_files(alloc, matches)?;
     Ok(Options {
@@ -53,6 +54,7 @@ fn options(
         places,
         totals,
         summary,
+        progress,
         pages,
         requests,
         script,

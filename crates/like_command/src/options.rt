@@ -13,6 +13,8 @@ pub struct Options {
     pub totals: bool,
     /// Whether a summary of the report is written on standard error.
     pub summary: bool,
+    /// Whether a line on standard error tells when a part of the work begins.
+    pub progress: bool,
     /// The name of the pages file.
     pub pages: String,
     /// The names of the request files, by submitter.

@@ -6,3 +6,4 @@ pub mod Opened
 pub mod Plans
 pub mod Replay
 pub mod Run
+pub mod StandardInput

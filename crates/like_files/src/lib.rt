@@ -10,6 +10,8 @@ mod plans;
 mod progress;
 mod replay;
 mod run;
+mod source;
+mod standard_input;
 
 pub use fault::DriverFault;
 pub use line::WRITE_FAILED;
@@ -18,3 +20,5 @@ pub use opener::{Disk, Opener};
 pub use progress::{NoProgress, Part, Progress};
 pub use replay::{replay_files, replay_files_with_notice};
 pub use run::{run_files, run_files_with_notice};
+pub use source::Source;
+pub use standard_input::names_input_twice;

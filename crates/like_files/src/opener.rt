@@ -1,8 +1,10 @@
 ghost use Rattle.std.specs.Prelude.{ℕ, List, MatchOption};
 
+use crate::source::Source;
+use crate::standard_input::is_input;
 use std::fs;
 use std::fs::Files;
-use std::io::Read;
+use std::io::{Input, Read};
 
 /// Opens files by their names.
 pub trait Opener {
@@ -20,22 +22,29 @@ pub trait Opener {
         ensures { MatchOption result (refuses self.now name.now) (opens self.now name.now) };
 }
 
-/// Opens the files of the system. The kit says nothing of what an opened file has, so neither do the facts of this opener.
+/// Opens the files of the system, and standard input under the name `-`. The kit says nothing of what an opened file has,
+/// so neither do the facts of this opener.
 #[derive(Drop)]
-pub struct Disk<'a, F: Files> {
+pub struct Disk<'a, F: Files + Input> {
     pub files: &'a F,
 }
 
-impl<F: Files> Opener for Disk<'_, F> {
+impl<F: Files + Input> Opener for Disk<'_, F> {
     ghost use Rattle.std.specs.Prelude.{⊤};
 
-    type Reader = F::File;
+    type Reader = Source<F::File, F::Reader>;
 
     ghost opens = { λ _ _ _. ⊤ };
 
     ghost refuses = { λ _ _. ⊤ };
 
-    fn open(&self, name: &str) -> Option<F::File> {
-        fs::open(self.files, name).ok()
+    fn open(&self, name: &str) -> Option<Source<F::File, F::Reader>> {
+        if is_input(name) {
+            return Some(Source::Input(self.files.reader()));
+        }
+        match fs::open(self.files, name) {
+            Ok(file) => Some(Source::File(file)),
+            Err(_) => None,
+        }
     }
 }

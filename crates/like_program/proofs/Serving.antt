@@ -1,5 +1,5 @@
 -- What the program has done for its words, by what its parts answered.
-use Rattle.std.proofs.Common.{◌≡◌, ◌==◌, ℕ, List, [], ◌∷◌, Option, Result, Ok, Err, IfErr, IfOk, ap, false, length, map, refl, subst, sym, true≢false}
+use Rattle.std.proofs.Common.{◌≡◌, ◌==◌, ℕ, List, [], ◌∷◌, inl, inr, Option, Result, Ok, Err, IfErr, IfOk, ap, false, length, map, refl, subst, sym, true≢false}
 use Rattle.std.specs.Prelude.{◌⊎◌}
 use Rattle.like_command.specs.Asked.{Asks, AsksForHelp, Words}
 use Rattle.like_files.specs.Faults.{IsBeforeOutput}
@@ -11,7 +11,7 @@ use Rattle.like_command.specs.declared.options.Options.{Options}
 use Rattle.like_replies.specs.declared.notice.Notice.{Notice}
 use Rattle.like_files.specs.declared.fault.DriverFault.{DriverFault}
 use Rattle.like_program.specs.declared.fault.ProgramFault.{ProgramFault}
-use Rattle.like_program.specs.declared.fault.ProgramFault.TheVariants.{Files, Output}
+use Rattle.like_program.specs.declared.fault.ProgramFault.TheVariants.{Files, Inputs, Output}
 
 -- what is asked for by some words was done
 pub served : (words : Words) (old new : Option (List ℕ)) (asked : Asked) (notice : Option Notice)
@@ -50,7 +50,7 @@ pub files-fault : {A W : Type 0} (contents : W → Option (List ℕ)) (options :
     → IfErr done (λ fault. IsBeforeOutput fault → after ≡ before)
     → IfErr (of_files options done) (IsFilesFault options (contents before) (contents after))
 files-fault contents options (Ok x) before after same = tt
-files-fault contents options (Err fault) before after same = (fault, refl, λ early. ap contents (same early))
+files-fault contents options (Err fault) before after same = inl (fault, refl, λ early. ap contents (same early))
 
 -- that is why what the words ask for was not done
 pub files-not_served : {A : Type 0} (words : Words) (old new : Option (List ℕ)) (options : Options)
@@ -59,9 +59,12 @@ pub files-not_served : {A : Type 0} (words : Words) (old new : Option (List ℕ)
     → Asks words (Run options) ⊎ Asks words (Replay options)
     → IfErr done (IsFilesFault options old new) → IfErr done (IsServeFault words old new)
 files-not_served words old new options (Ok x) some asks why = tt
-files-not_served words old new options (Err fault) some asks why =
+files-not_served words old new options (Err fault) some asks (inl why) =
     subst (IsServeFault words old new) (sym why.1)
     (not_served words old new (Files options why.0) some (asks, why.2))
+files-not_served words old new options (Err fault) some asks (inr twice) =
+    subst (IsServeFault words old new) (sym twice.0)
+    (not_served words old new Inputs some (options, asks, twice.1, twice.2))
 
 -- why help was not printed
 pub help-fault : {A : Type 0} (words : Words) (old new : Option (List ℕ)) (done : Result A ProgramFault)

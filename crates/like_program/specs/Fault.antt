@@ -1,5 +1,5 @@
 -- The status and the line of a fault of the program.
-use Rattle.std.specs.Prelude.{ℕ, List, Option, Result, Ok, Err}
+use Rattle.std.specs.Prelude.{ℕ, List, Option, Result, Ok, Err, codes}
 use Rattle.std.specs.Io.KnownBytes.{Appends}
 use Rattle.like_command.specs.Fault as words
 use Rattle.like_command.specs.declared.options.Options.{Options}
@@ -14,6 +14,7 @@ abbrev pub program_status : ProgramFault → ℕ
 program_status (program.Words fault) = words.status_of fault
 program_status (program.Files options fault) = status_of fault
 program_status program.Output = 3
+program_status program.Inputs = 2
 program_status program.Memory = 4
 
 -- what a run or a replay with these options ends in, as the program's end
@@ -21,9 +22,14 @@ abbrev pub of_files : {A : Type 0} → Options → Result A DriverFault → Resu
 of_files options (Ok done) = Ok done
 of_files options (Err fault) = Err (program.Files options fault)
 
+-- the line of more than one file that is standard input
+abbrev pub inputs_line : List ℕ
+inputs_line = codes "likes: only one file can be -, which is standard input\n"
+
 -- the line of a fault of the program was written
 abbrev pub ShowsProgramLine : ProgramFault → Option (List ℕ) → Option (List ℕ) → Type 0
 ShowsProgramLine (program.Words fault) old new = Appends old new (words.line_of fault)
 ShowsProgramLine (program.Files options fault) old new = ShowsLine options fault old new
 ShowsProgramLine program.Output old new = Appends old new write_line
+ShowsProgramLine program.Inputs old new = Appends old new inputs_line
 ShowsProgramLine program.Memory old new = Appends old new words.memory_line

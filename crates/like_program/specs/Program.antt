@@ -1,5 +1,5 @@
 -- What the program has done for its words, and the status with which it ends.
-use Rattle.std.specs.Prelude.{◌≡◌, ◌⊎◌, ℕ, false, List, [], ◌∷◌, Option, None, Some, codes, string_bytes}
+use Rattle.std.specs.Prelude.{◌≡◌, ◌⊎◌, ℕ, false, true, List, [], ◌∷◌, Option, None, Some, codes, string_bytes}
 use Rattle.std.specs.Io.KnownBytes.{Appends}
 use Rattle.like_command.specs.Asked.{Asks, AsksForHelp, IsParseFault, Words}
 use Rattle.like_files.specs.Faults.{IsBeforeOutput}
@@ -7,6 +7,7 @@ use Rattle.like_files.specs.declared.fault.DriverFault.{DriverFault}
 use Rattle.like_program.specs.Fault.{program_status}
 use Rattle.like_files.specs.Replay.{HasReplayed, HasReplayedSome}
 use Rattle.like_files.specs.Run.{HasRunSome}
+use Rattle.like_files.specs.StandardInput.{names_of, names_twice}
 use Rattle.like_command.specs.declared.asked.Asked.{Asked}
 use Rattle.like_command.specs.declared.asked.Asked.TheVariants.{Run, Replay, Help}
 use Rattle.like_command.specs.declared.options.Options.{Options}
@@ -21,7 +22,7 @@ example_pages = codes "name,count,split\na,10,no\n"
 abbrev pub example_requests : List ℕ
 example_requests = codes "op,user,page\nlike,0,a\nlike,1,a\nlike,0,a\n"
 
--- options have the numbers of the example, and ask for all replies, no places and no summary
+-- options have the numbers of the example, and ask for all replies, no places, no summary and no progress
 pub record IsExample (o : Options) : Type 0 where
   pub workers : o.workers ≡ 1
   pub users : o.users ≡ 2
@@ -31,6 +32,7 @@ pub record IsExample (o : Options) : Type 0 where
   pub places : o.places ≡ false
   pub totals : o.totals ≡ false
   pub summary : o.summary ≡ false
+  pub progress : o.progress ≡ false
 
 -- the example was replayed, and this is said of its report
 pub record HasReplayedExample (old new : Option (List ℕ)) (notice : Option Notice) : Type 0 where
@@ -43,10 +45,14 @@ pub record HasReplayedExample (old new : Option (List ℕ)) (notice : Option Not
         script = None;
       }) old new notice
 
+-- one file of the options at most is standard input
+abbrev pub NamesInputOnce : Options → Type 0
+NamesInputOnce options = names_twice (names_of options) ≡ false
+
 -- what was asked for was done, and this is said of its report, if there is one
 abbrev pub HasDone : Asked → Option (List ℕ) → Option (List ℕ) → Option Notice → Type 0
-HasDone (Run options) old new notice = HasRunSome options old new notice
-HasDone (Replay options) old new notice = HasReplayedSome options old new notice
+HasDone (Run options) old new notice = NamesInputOnce options × HasRunSome options old new notice
+HasDone (Replay options) old new notice = NamesInputOnce options × HasReplayedSome options old new notice
 HasDone (Help text) old new notice = Appends old new (string_bytes text) × (notice ≡ None)
 
 -- the program has done what its words ask for, of which this is said: without any word it has replayed its example
@@ -64,7 +70,8 @@ IsExampleFault old new fault = ⊥
 -- why a run or a replay with these options was not done
 abbrev pub IsFilesFault : Options → Option (List ℕ) → Option (List ℕ) → ProgramFault → Type 0
 IsFilesFault options old new fault =
-    (why : DriverFault) × (fault ≡ program.Files options why) × (IsBeforeOutput why → new ≡ old)
+    ((why : DriverFault) × (fault ≡ program.Files options why) × (IsBeforeOutput why → new ≡ old))
+    ⊎ ((fault ≡ program.Inputs) × (names_twice (names_of options) ≡ true) × (new ≡ old))
 
 -- why what the words ask for was not done
 abbrev pub IsWordsFault : Words → Option (List ℕ) → Option (List ℕ) → ProgramFault → Type 0
@@ -72,6 +79,9 @@ IsWordsFault words old new (program.Words fault) = IsParseFault words fault × (
 IsWordsFault words old new (program.Files options fault) =
     (Asks words (Run options) ⊎ Asks words (Replay options)) × (IsBeforeOutput fault → new ≡ old)
 IsWordsFault words old new program.Output = AsksForHelp words
+IsWordsFault words old new program.Inputs =
+    (options : Options) × (Asks words (Run options) ⊎ Asks words (Replay options))
+    × (names_twice (names_of options) ≡ true) × (new ≡ old)
 IsWordsFault words old new program.Memory = ⊥
 
 -- why the program has not done what its words ask for

@@ -51,6 +51,7 @@ fn example_options(alloc: Global) -> Result<Options, AllocError>
         places: false,
         totals: false,
         summary: false,
+        progress: false,
         pages: String::from_str(alloc, "pages.csv")?,
         requests,
         script: None,

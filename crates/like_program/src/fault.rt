@@ -6,6 +6,9 @@ use like_files::{DriverFault, WRITE_FAILED};
 use std::alloc::{AllocError, AllocFailed};
 use std::io::Write;
 
+// The line of more than one file that is standard input.
+const INPUTS: &str = "likes: only one file can be -, which is standard input\n";
+
 /// Why the program has not done what its words ask for.
 #[derive(Drop)]
 pub enum ProgramFault {
@@ -17,6 +20,8 @@ pub enum ProgramFault {
     },
     /// Help could not be written.
     Output,
+    /// Standard input was named for more than one file.
+    Inputs,
     /// There was no memory for the example.
     Memory,
 }
@@ -65,6 +70,7 @@ impl ProgramFault {
             ProgramFault::Words(fault) => fault.status(),
             ProgramFault::Files { fault, .. } => fault.status(),
             ProgramFault::Output => 3,
+            ProgramFault::Inputs => 2,
             ProgramFault::Memory => 4,
         }
     }
@@ -77,6 +83,7 @@ impl ProgramFault {
             ProgramFault::Words(fault) => fault.line(out),
             ProgramFault::Files { options, fault } => fault.line(options, out),
             ProgramFault::Output => out.write_all(WRITE_FAILED.as_bytes()).is_ok(),
+            ProgramFault::Inputs => out.write_all(INPUTS.as_bytes()).is_ok(),
             ProgramFault::Memory => out.write_all(OUT_OF_MEMORY.as_bytes()).is_ok(),
         }
     }

@@ -2,9 +2,8 @@ ghost use Rattle.std.specs.Prelude.{◌≡◌, IfErr, IfOk, OnOk, map, string_by
 ghost use Rattle.std.specs.Io.KnownBytes.{Appends};
 ghost use Rattle.like_files.specs.Faults.{IsBeforeOutput};
 ghost use Rattle.like_program.specs.Fault.{program_status};
-ghost use Rattle.like_files.specs.Replay.{HasReplayedSome};
-ghost use Rattle.like_files.specs.Run.{HasRunSome};
-ghost use Rattle.like_program.specs.Program.{Ends, HasServed, IsFilesFault, IsServeFault};
+ghost use Rattle.like_command.specs.declared.asked.Asked.TheVariants as asked;
+ghost use Rattle.like_program.specs.Program.{Ends, HasDone, HasServed, IsFilesFault, IsServeFault};
 ghost use Rattle.like_program.specs.declared.fault.ProgramFault.TheVariants as program;
 
 use crate::example::replay_example;
@@ -12,21 +11,21 @@ use crate::fault::{ProgramFault, with_options};
 use crate::named::{replay_named, run_named};
 use crate::stopwatch::Stopwatch;
 use like_command::{Asked, Options, parse};
-use like_files::{Disk, Progress};
+use like_files::{Disk, names_input_twice};
 use like_replies::Notice;
 use std::alloc::Global;
 use std::fs::Files;
 use std::io;
-use std::io::{Read, Write};
+use std::io::{Input, Write};
 use std::rt::Clock;
 use std::sync::Wait;
 use std::thread::Threads;
 
 /// Does what the words after the program's name ask for: runs or replays the files that they name or prints help, onto
 /// `out`.
-/// Without any word it replays the example that the program holds. A fault, a summary or the refused requests are told on `errors`.
-/// Answers the status with which the program ends.
-pub fn serve_words<R: Files + Threads + Wait + Clock + Sync, W: Write, E: Write>(
+/// Without any word it replays the example that the program holds. A fault, a summary or the refused requests, and how
+/// far the work is if that is asked for, are told on `errors`. Answers the status with which the program ends.
+pub fn serve_words<R: Files + Input + Threads + Wait + Clock + Sync, W: Write, E: Write>(
     rt: &R,
     alloc: Global,
     words: &[String],
@@ -34,30 +33,30 @@ pub fn serve_words<R: Files + Threads + Wait + Clock + Sync, W: Write, E: Write>
     errors: &mut E,
 ) -> u8
 where
-    R::File: Read + Drop + Send,
+    R::File: Send,
+    R::Reader: Send,
     ensures { Ends (map string_bytes words.now) (W.contents out.old) (W.contents out.new) result }
 {
-    let mut watch = Stopwatch::new(rt);
+    let mut watch = Stopwatch::new(rt, errors);
     match serve(rt, alloc, words, out, &mut watch) {
         Ok(None) => 0,
         Ok(Some(notice)) => {
             // Where this can't be written, the report stands without it.
-            let _ = give_notice(&notice, &watch, errors);
+            let _ = give_notice(&notice, &mut watch);
             0
         }
-        Err(fault) => tell(&fault, errors),
+        Err(fault) => tell(&fault, watch.errors()),
     }
 }
 
 // Writes what is said of a report, and behind a summary how long each part took.
 fn give_notice<C: Clock, E: Write>(
     notice: &Notice,
-    watch: &Stopwatch<'_, C>,
-    errors: &mut E,
+    watch: &mut Stopwatch<'_, C, E>,
 ) -> io::Result<()> {
-    notice.write(errors)?;
+    notice.write(watch.errors())?;
     match notice {
-        Notice::Summed(_) => watch.write(errors),
+        Notice::Summed(_) => watch.write(),
         Notice::Refused(_) => Ok(()),
     }
 }
@@ -72,15 +71,16 @@ pub fn tell<E: Write>(fault: &ProgramFault, errors: &mut E) -> u8
 }
 
 // Does what the words ask for, and gives what is said of the report.
-fn serve<R: Files + Threads + Wait + Sync, W: Write, P: Progress>(
+fn serve<R: Files + Input + Threads + Wait + Clock + Sync, W: Write, E: Write>(
     rt: &R,
     alloc: Global,
     words: &[String],
     out: &mut W,
-    progress: &mut P,
+    watch: &mut Stopwatch<'_, R, E>,
 ) -> Result<Option<Notice>, ProgramFault>
 where
-    R::File: Read + Drop + Send,
+    R::File: Send,
+    R::Reader: Send,
     ensures served { IfOk result (HasServed (map string_bytes words.now) (W.contents out.old) (W.contents out.new)) }
     ensures fault { IfErr result
         (IsServeFault (map string_bytes words.now) (W.contents out.old) (W.contents out.new)) }
@@ -89,8 +89,8 @@ where
         return replay_example(alloc, out);
     }
     match parse(alloc, words)? {
-        Asked::Run(options) => run_asked(rt, alloc, options, out, progress),
-        Asked::Replay(options) => replay_asked(rt, alloc, options, out, progress),
+        Asked::Run(options) => run_asked(rt, alloc, options, out, watch),
+        Asked::Replay(options) => replay_asked(rt, alloc, options, out, watch),
         Asked::Help(text) => {
             show(&text, out)?;
             Ok(None)
@@ -99,36 +99,43 @@ where
 }
 
 // Makes the run that is asked for.
-fn run_asked<R: Files + Threads + Wait + Sync, W: Write, P: Progress>(
+fn run_asked<R: Files + Input + Threads + Wait + Clock + Sync, W: Write, E: Write>(
     rt: &R,
     alloc: Global,
     options: Options,
     out: &mut W,
-    progress: &mut P,
+    watch: &mut Stopwatch<'_, R, E>,
 ) -> Result<Option<Notice>, ProgramFault>
 where
-    R::File: Read + Drop + Send,
-    ensures run { IfOk result (HasRunSome options (W.contents out.old) (W.contents out.new)) }
+    R::File: Send,
+    R::Reader: Send,
+    ensures run { IfOk result (HasDone (asked.Run options) (W.contents out.old) (W.contents out.new)) }
     ensures fault { IfErr result (IsFilesFault options (W.contents out.old) (W.contents out.new)) }
 {
-    let done = run_named(rt, &Disk { files: rt }, alloc, &options, out, progress);
+    if names_input_twice(&options) {
+        return Err(ProgramFault::Inputs);
+    }
+    watch.begin(options.progress);
+    let done = run_named(rt, &Disk { files: rt }, alloc, &options, out, watch);
     with_options(done, options)
 }
 
 // Makes the replay that is asked for.
-fn replay_asked<R: Files, W: Write, P: Progress>(
+fn replay_asked<R: Files + Input + Clock, W: Write, E: Write>(
     rt: &R,
     alloc: Global,
     options: Options,
     out: &mut W,
-    progress: &mut P,
+    watch: &mut Stopwatch<'_, R, E>,
 ) -> Result<Option<Notice>, ProgramFault>
-where
-    R::File: Read + Drop,
-    ensures replayed { IfOk result (HasReplayedSome options (W.contents out.old) (W.contents out.new)) }
+    ensures replayed { IfOk result (HasDone (asked.Replay options) (W.contents out.old) (W.contents out.new)) }
     ensures fault { IfErr result (IsFilesFault options (W.contents out.old) (W.contents out.new)) }
 {
-    let done = replay_named(&Disk { files: rt }, alloc, &options, out, progress);
+    if names_input_twice(&options) {
+        return Err(ProgramFault::Inputs);
+    }
+    watch.begin(options.progress);
+    let done = replay_named(&Disk { files: rt }, alloc, &options, out, watch);
     with_options(done, options)
 }
 

@@ -1,4 +1,4 @@
-//! How long the parts of a run or a replay took.
+//! How long the parts of a run or a replay took, and a line as each begins.
 
 use like_files::{Part, Progress};
 use std::io;
@@ -6,10 +6,13 @@ use std::io::Write;
 use std::rt::Clock;
 use std::time::{Duration, Instant};
 
-/// How long each part took, by a clock. It tells nothing where the clock can't be read.
+/// How long each part took, by a clock. It tells no seconds where the clock can't be read.
 #[derive(Drop)]
-pub struct Stopwatch<'a, C: Clock> {
+pub struct Stopwatch<'a, C: Clock, E: Write> {
     clock: &'a C,
+    errors: &'a mut E,
+    // Whether a line tells that a part begins.
+    tells: bool,
     // When the last part ended, or the first began, as long as the clock can be read.
     last: Option<Instant>,
     reading: Duration,
@@ -17,16 +20,32 @@ pub struct Stopwatch<'a, C: Clock> {
     writing: Duration,
 }
 
-impl<'a, C: Clock> Stopwatch<'a, C> {
-    /// A stopwatch whose first part begins now.
-    pub fn new(clock: &'a C) -> Self {
+impl<'a, C: Clock, E: Write> Stopwatch<'a, C, E> {
+    /// A stopwatch whose first part begins now, and which writes onto `errors`.
+    pub fn new(clock: &'a C, errors: &'a mut E) -> Self {
         Stopwatch {
             clock,
+            errors,
+            tells: false,
             last: Instant::now(clock).ok(),
             reading: Duration::ZERO,
             running: Duration::ZERO,
             writing: Duration::ZERO,
         }
+    }
+
+    /// Tells that the first part begins, and from now on that each does, if progress is asked for.
+    pub fn begin(&mut self, tells: bool) {
+        self.tells = tells;
+        if tells {
+            // Where this can't be written, the work goes on without it.
+            let _ = self.errors.write_all(b"likes: reading\n");
+        }
+    }
+
+    /// Where faults are told too.
+    pub fn errors(&mut self) -> &mut E {
+        self.errors
     }
 
     // The time since the last part ended.
@@ -42,17 +61,42 @@ impl<'a, C: Clock> Stopwatch<'a, C> {
     }
 
     /// Writes the seconds of each part, with a line for each, where the clock could be read.
-    pub fn write<W: Write>(&self, out: &mut W) -> io::Result<()> {
+    pub fn write(&mut self) -> io::Result<()> {
         if self.last.is_none() {
             return Ok(());
         }
-        write_line(out, "reading", self.reading)?;
-        write_line(out, "running", self.running)?;
-        write_line(out, "writing", self.writing)
+        self.write_line("reading", self.reading)?;
+        self.write_line("running", self.running)?;
+        self.write_line("writing", self.writing)
+    }
+
+    // Writes the line of a part.
+    fn write_line(&mut self, part: &str, took: Duration) -> io::Result<()> {
+        let (seconds, millis) = (took.as_secs(), took.subsec_millis());
+        writeln!(self.errors, "{part}: {seconds}.{millis:03} seconds")
+    }
+
+    // Writes that a part is done, and which begins.
+    fn tell(&mut self, part: Part, took: Duration) -> io::Result<()> {
+        let (seconds, millis) = (took.as_secs(), took.subsec_millis());
+        match part {
+            Part::Reading => writeln!(
+                self.errors,
+                "likes: running, after reading for {seconds}.{millis:03} seconds"
+            ),
+            Part::Running => writeln!(
+                self.errors,
+                "likes: writing, after running for {seconds}.{millis:03} seconds"
+            ),
+            Part::Writing => writeln!(
+                self.errors,
+                "likes: done, after writing for {seconds}.{millis:03} seconds"
+            ),
+        }
     }
 }
 
-impl<'a, C: Clock> Progress for Stopwatch<'a, C> {
+impl<C: Clock, E: Write> Progress for Stopwatch<'_, C, E> {
     fn done(&mut self, part: Part) {
         let took = self.lap();
         match part {
@@ -60,11 +104,9 @@ impl<'a, C: Clock> Progress for Stopwatch<'a, C> {
             Part::Running => self.running = took,
             Part::Writing => self.writing = took,
         }
+        if self.tells {
+            // Where this can't be written, the work goes on without it.
+            let _ = self.tell(part, took);
+        }
     }
-}
-
-// Writes the line of a part.
-fn write_line<W: Write>(out: &mut W, part: &str, took: Duration) -> io::Result<()> {
-    let (seconds, millis) = (took.as_secs(), took.subsec_millis());
-    writeln!(out, "{part}: {seconds}.{millis:03} seconds")
 }

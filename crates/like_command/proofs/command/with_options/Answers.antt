@@ -15,6 +15,9 @@ app2 a = with_rule (app1 a) (flag_rule (codes "places"))
 abbrev app3 : App → App
 app3 a = with_rule (app2 a) (flag_rule (codes "totals"))
 
+abbrev app4 : App → App
+app4 a = with_rule (app3 a) (flag_rule (codes "summary"))
+
 pub returns : goal.returns
 returns c =
     let app0 : App = fold with_rule (new_app c.args.name.now) number_rules in
@@ -22,9 +25,11 @@ returns c =
     let a2 = helped c.flag.result c.help-2.result _ _ c.help-2.ensures c.flag.ensures in
     let a3 = helped c.flag-2.result c.help-3.result _ _ c.help-3.ensures c.flag-2.ensures in
     let a4 = helped c.flag-3.result c.help-4.result _ _ c.help-4.ensures c.flag-3.ensures in
+    let a5 = helped c.flag-4.result c.help-5.result _ _ c.help-5.ensures c.flag-4.ensures in
     let s0 = c.in_ok-with_numbers.ensures in
     let s1 = added c.in_ok-with_numbers.field-0 c.in_ok-arg.field-0 c.help.result _ app0 c.in_ok-arg.ensures a1 s0 in
     let s2 = added c.in_ok-arg.field-0 c.in_ok-arg-2.field-0 c.help-2.result _ (app1 app0) c.in_ok-arg-2.ensures a2 s1 in
     let s3 = added c.in_ok-arg-2.field-0 c.in_ok-arg-3.field-0 c.help-3.result _ (app2 app0) c.in_ok-arg-3.ensures a3 s2 in
-    IfOk-weaker c.arg-4.result _ _
-    (λ x h. added c.in_ok-arg-3.field-0 x c.help-4.result _ (app3 app0) h a4 s3) c.arg-4.ensures
+    let s4 = added c.in_ok-arg-3.field-0 c.in_ok-arg-4.field-0 c.help-4.result _ (app3 app0) c.in_ok-arg-4.ensures a4 s3 in
+    IfOk-weaker c.arg-5.result _ _
+    (λ x h. added c.in_ok-arg-4.field-0 x c.help-5.result _ (app4 app0) h a5 s4) c.arg-5.ensures

@@ -19,6 +19,7 @@ returns-clause-values c =
       places = c.flag-places.ensures;
       totals = c.flag-totals.ensures;
       summary = c.flag-summary.ensures;
+      progress = c.flag-progress.ensures;
       pages = c.in_ok-pages.ensures;
       requests = c.in_ok-requests.ensures;
       some_requests = omega (arith, size, c.requires.requests.2);
