@@ -1,7 +1,7 @@
 -- The limits of the service, as numbers: each constant of the code is tied to its own here by the contracts.
 use Rattle.std.specs.Prelude.{ℕ, ◌^◌}
 
--- the most workers of a run, and the most seats of a live service
+-- the most workers of a run
 abbrev pub max_workers : ℕ
 max_workers = 16
 
