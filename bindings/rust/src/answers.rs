@@ -1,0 +1,295 @@
+//! What is asked for, and what calls answer.
+
+use std::error;
+use std::fmt;
+
+use crate::status;
+
+/// An enum of statuses, each with its number.
+macro_rules! statuses {
+    ($(#[$doc:meta])* $name:ident { $($(#[$of:meta])* $variant:ident = $number:ident,)+ }) => {
+        $(#[$doc])*
+        #[derive(Clone, Copy, Debug, PartialEq, Eq, Hash)]
+        #[repr(u32)]
+        pub enum $name {
+            $($(#[$of])* $variant = status::$number,)+
+        }
+
+        impl $name {
+            /// The variant of a status, if there is one.
+            pub(crate) const fn of(number: u32) -> Option<Self> {
+                match number {
+                    $(status::$number => Some(Self::$variant),)+
+                    _ => None,
+                }
+            }
+        }
+
+        impl fmt::Display for $name {
+            fn fmt(&self, to: &mut fmt::Formatter) -> fmt::Result {
+                to.write_str(status::text(*self as u32))
+            }
+        }
+    };
+}
+
+statuses! {
+    /// What [`Seat::like`](crate::Seat::like) did.
+    Like {
+        /// One like was added, and the page is now its user's last.
+        Liked = LIKED,
+        /// Not run: the seat is between two phases. Try again, or do other work first.
+        Between = BETWEEN,
+        /// Not run: the seat has had 2^56 likes.
+        LikeLimit = LIKE_LIMIT,
+        /// Not run: the seat has retired.
+        Gone = GONE,
+    }
+}
+
+statuses! {
+    /// Where a seat is after [`Seat::turn`](crate::Seat::turn) or [`Seat::retire`](crate::Seat::retire).
+    State {
+        /// It runs a phase.
+        Runs = RUNS,
+        /// It is between two phases.
+        Between = BETWEEN,
+        /// It has retired.
+        Gone = GONE,
+    }
+}
+
+statuses! {
+    /// What [`Driver::turn`](crate::Driver::turn) did.
+    Turn {
+        /// The phase goes on.
+        GoesOn = GOES_ON,
+        /// The end of the phase was announced.
+        Announced = ANNOUNCED,
+        /// The phase is ending, and a seat has yet to answer.
+        NotAllIn = NOT_ALL_IN,
+        /// The next phase has begun.
+        Released = RELEASED,
+        /// All seats are gone, and this turn has nothing to do.
+        Ended = ENDED,
+    }
+}
+
+statuses! {
+    /// What [`Driver::snapshot`](crate::Driver::snapshot) did.
+    Snapshot {
+        /// The counts of these pages were written.
+        Counted = COUNTED,
+        /// Nothing was written: the counts aren't those of the end of a joined phase.
+        NoMoment = NO_MOMENT,
+    }
+}
+
+statuses! {
+    /// What [`Driver::last_counts`](crate::Driver::last_counts) did.
+    LastCounts {
+        /// The counts of these pages were written.
+        Counted = COUNTED,
+        /// Nothing was written: a seat isn't gone yet, or a split phase goes on.
+        NotEnded = NOT_ENDED,
+    }
+}
+
+statuses! {
+    /// A wrong number, or too little memory. What was asked for wasn't done.
+    ///
+    /// If several apply, it is the first in this order. What `likes.h` refuses beside these can't be asked for: empty
+    /// handles, unknown operations and ends, reserved fields.
+    Error {
+        /// The service has fewer users.
+        UnknownUser = UNKNOWN_USER,
+        /// The user belongs to another seat.
+        OtherSeat = OTHER_SEAT,
+        /// The service has fewer pages.
+        UnknownPage = UNKNOWN_PAGE,
+        /// The range goes past the last page, or past the seat's last user.
+        WrongRange = WRONG_RANGE,
+        /// There are no pages, or too many.
+        WrongPages = WRONG_PAGES,
+        /// Too many marks, a mark of no page, two of the same, or marks that can't all have buckets of their own.
+        WrongMarks = WRONG_MARKS,
+        /// An initial count is over [`MAX_COUNT`](crate::MAX_COUNT).
+        WrongCount = WRONG_COUNT,
+        /// [`Options::seats`](crate::Options::seats) is wrong.
+        WrongSeats = WRONG_SEATS,
+        /// [`Options::users`](crate::Options::users) is wrong.
+        WrongUsers = WRONG_USERS,
+        /// There are last likes, but not one for each user, or one is of no page.
+        WrongLasts = WRONG_LASTS,
+        /// [`Options::room`](crate::Options::room) is wrong.
+        WrongRoom = WRONG_ROOM,
+        /// [`Options::hot`](crate::Options::hot) is wrong.
+        WrongHot = WRONG_HOT,
+        /// There is too little memory for a service.
+        NoMemory = NO_MEMORY,
+        /// Of a [`Service`](crate::Service): looks of [`Lent`](crate::Lent) seats fill the seat. Take found ones.
+        NoRoom = NO_ROOM,
+        /// Of a [`Service`](crate::Service): the seat has had 2^56 likes.
+        LikeLimit = LIKE_LIMIT,
+        /// Of a [`Service`](crate::Service): it has fewer seats.
+        UnknownSeat = UNKNOWN_SEAT,
+        /// Of a [`Service`](crate::Service): its period is 0.
+        WrongPeriod = WRONG_PERIOD,
+        /// Of a [`Service`](crate::Service): the driver's thread can't be started.
+        NoThread = NO_THREAD,
+    }
+}
+
+impl error::Error for Error {}
+
+/// An answer that `likes.h` doesn't list at a call: the library isn't the one that the crate is written for.
+pub(crate) fn unlisted(number: u32) -> ! {
+    panic!("the library answers {number}, which likes.h doesn't list at this call")
+}
+
+/// The error that a status is.
+pub(crate) fn error(number: u32) -> Error {
+    Error::of(number).unwrap_or_else(|| unlisted(number))
+}
+
+/// Ok, or the error that a status is.
+pub(crate) fn check(number: u32) -> Result<(), Error> {
+    match number {
+        status::OK => Ok(()),
+        _ => Err(error(number)),
+    }
+}
+
+/// The page of a user's last like, or none.
+#[derive(Clone, Copy, Debug, PartialEq, Eq, Hash)]
+#[repr(transparent)]
+pub struct Last(u32);
+
+impl Last {
+    /// The user has no last like.
+    pub const NONE: Self = Self(u32::MAX);
+
+    /// The last like is of this page. (`u32::MAX` is no page.)
+    pub const fn of(page: u32) -> Self {
+        Self(page)
+    }
+
+    /// The page, if the user has a last like.
+    pub const fn page(self) -> Option<u32> {
+        match self {
+            Self::NONE => None,
+            Self(page) => Some(page),
+        }
+    }
+}
+
+impl From<Option<u32>> for Last {
+    fn from(page: Option<u32>) -> Self {
+        page.map_or(Self::NONE, Self::of)
+    }
+}
+
+/// What a look shows.
+#[derive(Clone, Copy, Debug, PartialEq, Eq)]
+pub struct Seen {
+    /// The user's last like.
+    pub last: Last,
+    /// The count of the page.
+    pub count: u64,
+}
+
+/// What [`Seat::look`](crate::Seat::look) did.
+#[derive(Clone, Copy, Debug, PartialEq, Eq)]
+pub enum Look {
+    /// The look was answered.
+    Seen(Seen),
+    /// The look will be found later, with its tag, by [`Seat::take_found`](crate::Seat::take_found).
+    Waits,
+    /// Not run: the seat is between two phases. Try again, or do other work first.
+    Between,
+    /// Not run: the page is split, and no more looks may wait. Take found ones.
+    NoRoom,
+    /// Not run: the seat has retired.
+    Gone,
+}
+
+/// What [`Seat::glance`](crate::Seat::glance) did.
+#[derive(Clone, Copy, Debug, PartialEq, Eq)]
+pub enum Glance {
+    /// The glance was answered.
+    Seen(Seen),
+    /// Not run: the seat is between two phases. Try again, or do other work first.
+    Between,
+    /// Not run: the seat has retired.
+    Gone,
+}
+
+/// What was done for a request of a row.
+#[derive(Clone, Copy, Debug, PartialEq, Eq)]
+pub enum Outcome {
+    /// One like was added, and the page is now its user's last.
+    Liked,
+    /// The look or the glance was answered.
+    Seen(Seen),
+    /// The look will be found later, with its tag, by [`Seat::take_found`](crate::Seat::take_found).
+    Waits,
+    /// Not run: the seat is between two phases. The row has stopped here.
+    Between,
+    /// Not run: the page is split, and no more looks may wait. The row has stopped here.
+    NoRoom,
+    /// Not run: the seat has had 2^56 likes.
+    LikeLimit,
+    /// Not run: the seat has retired.
+    Gone,
+    /// The row hasn't come here yet.
+    NotRun,
+}
+
+impl fmt::Display for Outcome {
+    fn fmt(&self, to: &mut fmt::Formatter) -> fmt::Result {
+        to.write_str(match self {
+            Self::Liked => status::text(status::LIKED),
+            Self::Seen(_) => status::text(status::SEEN),
+            Self::Waits => status::text(status::WAITS),
+            Self::Between => status::text(status::BETWEEN),
+            Self::NoRoom => status::text(status::NO_ROOM),
+            Self::LikeLimit => status::text(status::LIKE_LIMIT),
+            Self::Gone => status::text(status::GONE),
+            Self::NotRun => "not run",
+        })
+    }
+}
+
+impl fmt::Display for Look {
+    fn fmt(&self, to: &mut fmt::Formatter) -> fmt::Result {
+        Outcome::from(*self).fmt(to)
+    }
+}
+
+impl fmt::Display for Glance {
+    fn fmt(&self, to: &mut fmt::Formatter) -> fmt::Result {
+        Look::from(*self).fmt(to)
+    }
+}
+
+impl From<Look> for Outcome {
+    fn from(look: Look) -> Self {
+        match look {
+            Look::Seen(seen) => Self::Seen(seen),
+            Look::Waits => Self::Waits,
+            Look::Between => Self::Between,
+            Look::NoRoom => Self::NoRoom,
+            Look::Gone => Self::Gone,
+        }
+    }
+}
+
+impl From<Glance> for Look {
+    fn from(glance: Glance) -> Self {
+        match glance {
+            Glance::Seen(seen) => Self::Seen(seen),
+            Glance::Between => Self::Between,
+            Glance::Gone => Self::Gone,
+        }
+    }
+}

@@ -1,0 +1,51 @@
+//! Likes, counted exactly by several threads at full speed: the live core, as a library that is proved. This crate
+//! calls it by its C API, `likes.h`. The crate itself isn't proved.
+//!
+//! Most programs need [`Service`], which has a thread of its own that changes phases:
+//!
+//! ```
+//! use std::time::Duration;
+//! use likes::{Error, Options, Service};
+//!
+//! let options = Options { hot: 512, ..Options::new(2, 1000) };
+//! let service = Service::start(&options, &[10, 0], Duration::from_millis(1))?;
+//! service.like(7, 1)?;
+//! service.like(7, 0)?;
+//! let seen = service.look(7, 1)?;
+//! assert_eq!((seen.last.page(), seen.count), (Some(0), 1));
+//! assert_eq!(service.like(7, 2), Err(Error::UnknownPage));
+//! assert_eq!(service.stop().counts, [11, 1]);
+//! # Ok::<(), Error>(())
+//! ```
+//!
+//! A program that changes phases by itself opens a [`Driver`] and takes its [`Seat`]s and its [`Phase`]. All rules of
+//! `likes.h` are rules of types here: no call can be made by two threads at a time, and nothing is used after its end.
+//! One remains: while a phase is ending, each seat is called.
+//!
+//! What a call did comes as an enum, such as [`Like`] or [`Turn`], and a wrong number as [`Error`]. No number is cut:
+//! users and pages are `u32` here and in C.
+
+#![warn(missing_docs)]
+
+mod answers;
+mod driver;
+mod ffi;
+mod leaving;
+mod lent;
+mod options;
+mod pace;
+mod phase;
+mod rows;
+mod seat;
+mod service;
+mod shared;
+pub mod status;
+
+pub use answers::{Error, Glance, Last, LastCounts, Like, Look, Outcome, Seen, Snapshot, State, Turn};
+pub use driver::{Driver, End};
+pub use lent::Lent;
+pub use options::{Options, MAX_COUNT, MAX_HOT, MAX_MARKS, MAX_PAGES, MAX_ROOM, MAX_SEATS, MAX_SPLIT};
+pub use phase::Phase;
+pub use rows::{Answer, Found, Op, Request};
+pub use seat::Seat;
+pub use service::{Final, Service};

@@ -1,0 +1,52 @@
+//! The crate against `likes.h`, where the two stand in one repository.
+
+use likes::{status, Error, MAX_COUNT, MAX_HOT, MAX_MARKS, MAX_PAGES, MAX_ROOM, MAX_SEATS, MAX_SPLIT};
+
+fn header() -> String {
+    let path = concat!(env!("CARGO_MANIFEST_DIR"), "/../../include/likes.h");
+    std::fs::read_to_string(path).unwrap()
+}
+
+/// The statuses of `likes.h` with their numbers, as in `LIKES_GONE = 8`.
+fn statuses(header: &str) -> Vec<(&str, u32)> {
+    let from = header.find("enum likes_status {").unwrap();
+    let list = &header[from..from + header[from..].find("};").unwrap()];
+    let lines = list.lines().filter_map(|line| line.trim().strip_prefix("LIKES_")?.split_once(" = "));
+    lines.map(|(name, rest)| (name, rest.split([',', ' ']).next().unwrap().trim().parse().unwrap())).collect()
+}
+
+#[test]
+fn each_status_has_its_number_and_text() {
+    let header = header();
+    let told = statuses(&header);
+    assert_eq!(told.len(), 36);
+    for (name, number) in told {
+        assert_eq!(status::text(number), name.to_lowercase().replace('_', " "), "{name}");
+    }
+    assert_eq!(status::text(18), "unknown status");
+    assert_eq!(status::text(118), "unknown status");
+}
+
+#[test]
+fn errors_have_the_numbers_of_statuses() {
+    assert_eq!(Error::NoMemory as u32, status::NO_MEMORY);
+    assert_eq!(Error::WrongLasts as u32, status::WRONG_LASTS);
+    assert_eq!(Error::WrongLasts.to_string(), "wrong lasts");
+}
+
+#[test]
+fn limits_are_those_of_the_header() {
+    let header = header();
+    let limits = [
+        format!("LIKES_MAX_SEATS {MAX_SEATS}u"),
+        format!("LIKES_MAX_PAGES {MAX_PAGES}u"),
+        format!("LIKES_MAX_MARKS {MAX_MARKS}u"),
+        format!("LIKES_MAX_SPLIT {MAX_SPLIT}u"),
+        format!("LIKES_MAX_ROOM {MAX_ROOM}u"),
+        format!("LIKES_MAX_HOT {MAX_HOT}u"),
+        format!("LIKES_MAX_COUNT UINT64_C({MAX_COUNT})"),
+    ];
+    for limit in limits {
+        assert!(header.contains(&format!("#define {limit}")), "{limit}");
+    }
+}
