@@ -32,7 +32,7 @@ impl Drop for SeatHandle {
 /// While a phase is ending, each seat that isn't gone is called at least once, by [`turn`](Self::turn) if there is
 /// nothing else to do. A seat that isn't called holds up all others.
 ///
-/// A seat that is dropped retires, and its drop doesn't wait. Where it can't retire at once, in a split phase and
+/// A seat that is dropped retires, and its drop waits for no phase. Where it can't retire at once, in a split phase and
 /// between two phases, the driver takes it, and the driver's turns have it retire. So it holds up nobody, and no like is
 /// lost; found looks that weren't taken are.
 ///

@@ -155,7 +155,7 @@ impl Service {
         for (number, desk) in self.shared.desks.iter().enumerate() {
             let mut row = vec![Last::NONE; lasts.iter().skip(number).step_by(seats).len()];
             let told = desk.lock().seat.lasts(0, &mut row);
-            debug_assert_eq!(told, Ok(()));
+            assert_eq!(told, Ok(()));
             for (last, own) in lasts.iter_mut().skip(number).step_by(seats).zip(row) {
                 *last = own;
             }
@@ -168,7 +168,7 @@ impl Service {
         self.retire();
         let mut counts = vec![0; self.shared.pages];
         let told = lock(&self.shared.pace).driver.last_counts(0, &mut counts);
-        debug_assert_eq!(told, Ok(LastCounts::Counted));
+        assert_eq!(told, Ok(LastCounts::Counted));
         Final { counts, lasts: self.lasts() }
     }
 

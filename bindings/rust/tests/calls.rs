@@ -223,6 +223,13 @@ fn a_seat_is_dropped_between_phases() {
 }
 
 #[test]
+fn objects_go_to_other_threads() {
+    fn goes<T: Send>() {}
+    goes::<Driver>();
+    goes::<Seat>();
+}
+
+#[test]
 fn a_seat_outlives_its_driver() {
     let (mut driver, mut seats) = open_two();
     change_phase(&mut driver, &mut seats);
