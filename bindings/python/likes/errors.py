@@ -1,0 +1,31 @@
+"""What is raised."""
+
+from .statuses import FIRST_ERROR, Status
+
+
+class Refused(Exception):
+    """A call was answered by this status of likes.h."""
+
+    def __init__(self, status: int) -> None:
+        self.status = Status(status)
+        super().__init__(self.status.text)
+
+
+class Closed(Exception):
+    """A call of a service that is closed."""
+
+    def __init__(self) -> None:
+        super().__init__("the service is closed")
+
+
+def outcome(number: int) -> Status:
+    """An outcome as a Status. An error is raised."""
+    if number >= FIRST_ERROR:
+        raise Refused(number)
+    return Status(number)
+
+
+def check(number: int, wanted: Status) -> None:
+    """Raises a status that isn't the one that is wanted."""
+    if number != wanted:
+        raise Refused(number)

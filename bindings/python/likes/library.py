@@ -1,0 +1,103 @@
+"""The library by ctypes: its structures and its calls. Where likes.h has a call that takes NULL, the library has one
+that takes none, with _nonnull in its name."""
+
+import ctypes
+import operator
+import os
+from ctypes import POINTER, Structure, c_bool, c_size_t, c_uint32, c_uint64, c_void_p
+from functools import lru_cache
+from typing import Any, Optional, Sequence
+
+from .statuses import NO_PAGE
+
+SHARED = "liblikes.so.0.4"
+MOST = 2**32 - 1
+
+
+class Handle(Structure):
+    _fields_ = [("at", c_void_p)]
+
+
+class Options(Structure):
+    _fields_ = [
+        *((name, c_uint32) for name in ("seats", "users", "room", "hot")),
+        ("reserved", c_uint64 * 6),
+    ]
+
+
+class Request(Structure):
+    _fields_ = [("tag", c_uint64), *((name, c_uint32) for name in ("user", "page", "op", "reserved"))]
+
+
+class Answer(Structure):
+    _fields_ = [("count", c_uint64), ("last", c_uint32), ("status", c_uint32)]
+
+
+class FoundLook(Structure):
+    _fields_ = [
+        *((name, c_uint64) for name in ("tag", "count", "asked", "ran")),
+        *((name, c_uint32) for name in ("user", "page", "last", "reserved")),
+    ]
+
+
+HANDLE, COUNTS, PAGES = POINTER(Handle), POINTER(c_uint64), POINTER(c_uint32)
+
+# What each call takes and gives.
+CALLS: Any = {
+    "open_nonnull": ([POINTER(Options), COUNTS, c_size_t, PAGES, c_size_t, PAGES, c_size_t, HANDLE], c_uint32),
+    "driver_take_seat": ([HANDLE, HANDLE], c_uint32),
+    "driver_take_phase": ([HANDLE, HANDLE], c_uint32),
+    "driver_turn": ([HANDLE, c_uint32], c_uint32),
+    "driver_phase": ([HANDLE], c_uint64),
+    "driver_snapshot_nonnull": ([HANDLE, c_uint32, COUNTS, c_size_t], c_uint32),
+    "driver_last_counts_nonnull": ([HANDLE, c_uint32, COUNTS, c_size_t], c_uint32),
+    "driver_split_pages_nonnull": ([HANDLE, PAGES, c_size_t], c_size_t),
+    "driver_propose_nonnull": ([HANDLE, PAGES, c_size_t], c_uint32),
+    "driver_free_nonnull": ([HANDLE], None),
+    "seat_like": ([HANDLE, c_uint32, c_uint32], c_uint32),
+    "seat_look": ([HANDLE, c_uint32, c_uint32, c_uint64, POINTER(Answer)], c_uint32),
+    "seat_glance": ([HANDLE, c_uint32, c_uint32, POINTER(Answer)], c_uint32),
+    "seat_run_nonnull": ([HANDLE, c_void_p, c_size_t, c_void_p, c_size_t], c_size_t),
+    "seat_take_found": ([HANDLE, POINTER(FoundLook)], c_bool),
+    "seat_last": ([HANDLE, c_uint32, PAGES], c_uint32),
+    "seat_lasts_nonnull": ([HANDLE, c_uint32, PAGES, c_size_t], c_uint32),
+    "seat_turn": ([HANDLE], c_uint32),
+    "seat_retire": ([HANDLE], c_uint32),
+    "seat_phase": ([HANDLE], c_uint64),
+    "seat_free_nonnull": ([HANDLE], None),
+    "phase_now": ([HANDLE], c_uint64),
+    "phase_free_nonnull": ([HANDLE], None),
+}
+
+
+@lru_cache(maxsize=None)
+def load() -> Any:
+    """The library: the file that LIKES_LIBRARY names, or the one of this version."""
+    library = ctypes.CDLL(os.environ.get("LIKES_LIBRARY", SHARED))
+    for name, (takes, gives) in CALLS.items():
+        call = getattr(library, f"likes_{name}")
+        call.argtypes, call.restype = takes, gives
+    return library
+
+
+def whole(name: str, value: Any, most: int = MOST) -> int:
+    """A whole number that C can hold, with its name for errors."""
+    number = operator.index(value)
+    if not 0 <= number <= most:
+        raise ValueError(f"{name} {number} is not from 0 to {most}")
+    return number
+
+
+def row_of(name: str, values: Sequence[Any]) -> Any:
+    """An array of page numbers, with a place more, so that none is NULL."""
+    return (c_uint32 * (len(values) + 1))(*(whole(name, value) for value in values))
+
+
+def last_of(page: int) -> Optional[int]:
+    """The page of a last like, or None."""
+    return None if page == NO_PAGE else page
+
+
+def number_of(last: Optional[int]) -> int:
+    """The same the other way round."""
+    return NO_PAGE if last is None else last

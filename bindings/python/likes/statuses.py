@@ -1,0 +1,74 @@
+"""The numbers of likes.h."""
+
+from enum import IntEnum
+
+NO_PAGE = 2**32 - 1
+MAX_SPLIT = 64
+FIRST_ERROR = 100
+
+
+class Status(IntEnum):
+    """What calls answer: outcomes, and from 100 on errors."""
+
+    OK = 0
+    LIKED = 1
+    SEEN = 2
+    WAITS = 3
+    RUNS = 4
+    BETWEEN = 5
+    NO_ROOM = 6
+    LIKE_LIMIT = 7
+    GONE = 8
+    GOES_ON = 9
+    ANNOUNCED = 10
+    NOT_ALL_IN = 11
+    RELEASED = 12
+    ENDED = 13
+    COUNTED = 14
+    NO_MOMENT = 15
+    NOT_ENDED = 16
+    ALL_TAKEN = 17
+    EMPTY = 100
+    IN_USE = 101
+    NO_MEMORY = 102
+    UNKNOWN_USER = 103
+    OTHER_SEAT = 104
+    UNKNOWN_PAGE = 105
+    UNKNOWN_OP = 106
+    UNKNOWN_END = 107
+    WRONG_RANGE = 108
+    WRONG_RESERVED = 109
+    WRONG_PAGES = 110
+    WRONG_MARKS = 111
+    WRONG_COUNT = 112
+    WRONG_SEATS = 113
+    WRONG_USERS = 114
+    WRONG_ROOM = 115
+    WRONG_HOT = 116
+    WRONG_LASTS = 117
+
+    @property
+    def text(self) -> str:
+        """The name, for messages."""
+        return self.name.lower().replace("_", " ")
+
+
+class Op(IntEnum):
+    """What is asked for in a request."""
+
+    LIKE = 0
+    LOOK = 1
+    GLANCE = 2
+
+
+class End(IntEnum):
+    """Whether a turn may end the phase. IF_IT_SERVES: a joined phase goes on if no page would be split in the next
+    one. YES: in any case, for a snapshot."""
+
+    NO = 0
+    IF_IT_SERVES = 1
+    YES = 2
+
+
+LIKED = Status.LIKED
+LIKE, LOOK, GLANCE = Op.LIKE, Op.LOOK, Op.GLANCE

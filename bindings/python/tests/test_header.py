@@ -1,0 +1,65 @@
+"""The package against likes.h, where the two stand in one repository."""
+
+import ctypes
+import os
+import re
+import unittest
+
+from likes import Status, library, statuses
+
+ROOT = os.path.dirname(os.path.dirname(os.path.dirname(os.path.dirname(os.path.realpath(__file__)))))
+
+SIZES = {"void *": 8, "uint64_t ": 8, "uint32_t ": 4}
+STRUCTURES = {
+    "likes_driver": library.Handle,
+    "likes_seat": library.Handle,
+    "likes_phase": library.Handle,
+    "likes_options": library.Options,
+    "likes_request": library.Request,
+    "likes_answer": library.Answer,
+    "likes_found": library.FoundLook,
+}
+
+
+class Header(unittest.TestCase):
+    @classmethod
+    def setUpClass(cls):
+        with open(f"{ROOT}/include/likes.h", encoding="ascii") as file:
+            cls.text = re.sub(r"/\*.*?\*/", "", file.read(), flags=re.S)
+
+    def numbers(self, name):
+        """The numbers of an enum."""
+        text = re.search(rf"enum {name} \{{(.*?)\}};", self.text, re.S)[1]
+        return {name: int(value) for name, value in re.findall(r"LIKES_(\w+) = (\d+)", text)}
+
+    def test_names(self):
+        abi, minor = divmod(int(re.search(r"#define LIKES_VERSION (\d+)", self.text)[1]), 1000)
+        self.assertEqual(library.SHARED, f"liblikes.so.{abi or f'0.{minor}'}")
+        self.assertIn(f"#define LIKES_MAX_SPLIT {statuses.MAX_SPLIT}u", self.text)
+        self.assertIn(f"#define LIKES_FIRST_ERROR {statuses.FIRST_ERROR}u", self.text)
+
+    def test_statuses(self):
+        self.assertEqual(self.numbers("likes_status"), {status.name: status.value for status in Status})
+        for status in Status:
+            self.assertIn(f'"{status.text}"', self.text)
+
+    def test_operations_and_ends(self):
+        self.assertEqual(self.numbers("likes_op"), {op.name: op.value for op in statuses.Op})
+        self.assertEqual([*self.numbers("likes_end").values()], [*statuses.End])
+
+    def test_structures(self):
+        for name, kind in STRUCTURES.items():
+            text = re.search(rf"typedef struct {name} \{{(.*?)\n\}} {name};", self.text, re.S)[1]
+            told = re.findall(r"(void \*|\w+ )(\w+)(?:\[(\d+)\])?;", text, re.M)
+            here = [(of, ctypes.sizeof(it)) for of, it in kind._fields_]
+            self.assertEqual(here, [(of, int(times or 1) * SIZES[it]) for it, of, times in told])
+            self.assertIn(f"sizeof({name}) == {ctypes.sizeof(kind)}", self.text)
+
+    def test_calls(self):
+        """Each call that the library exports, but for the version."""
+        exports = set(re.findall(r"^\w+ likes_(\w+)\(", self.text, re.M))
+        self.assertEqual(set(library.CALLS), exports - {"version"})
+
+
+if __name__ == "__main__":
+    unittest.main()
