@@ -1,4 +1,4 @@
-// Wrong uses of examples/cpp/likes.hpp: seats and users that don't exist, wrong numbers for a new service, empty rows,
+// Wrong uses of likes::Service: seats and users that don't exist, wrong numbers for a new service, empty rows,
 // and calls after the end. Each has to throw likes::Error with its status, or to do nothing.
 //
 // It ends with status 1 and a line where something else happens.
@@ -45,10 +45,10 @@ static void again() {
     hold(first.lasts() == lasts, "all last likes");
     std::vector<std::uint64_t> counts = first.stop();
     hold(first.lasts() == lasts, "all last likes after the end");
-    likes::Service second({2, 3, 4, 0}, counts, 1000, first.lasts());
+    likes::Service second({2, 3, 4, 0, {}, first.lasts()}, counts);
     likes::Seen seen = second.look(2, 1);
     hold(seen.last == 1u && seen.count == 8, "a look at a service that goes on");
-    hold(thrown([&] { likes::Service service({2, 3, 4, 0}, counts, 1000, {0, 1}); }) == LIKES_WRONG_LASTS,
+    hold(thrown([&] { likes::Service service({2, 3, 4, 0, {}, {0, 1}}, counts); }) == LIKES_WRONG_LASTS,
          "last likes of two users of three");
 }
 
@@ -69,13 +69,26 @@ static void proposals() {
     hold(service.split_pages().empty(), "split pages after the end");
 }
 
+// A marked page is split in every split phase, which come by themselves. Its counts are those of one moment.
+static void marks() {
+    hold(thrown([] { likes::Service service({2, 9, 4, 0, {2}, {}}, {5, 7}); }) == LIKES_WRONG_MARKS, "a wrong mark");
+    likes::Service service({2, 9, 4, 0, {1}, {}}, {5, 7}, 100);
+    hold(service.split_pages() == std::vector<std::uint32_t>{1}, "a marked page isn't split");
+    service.like(4, 1);
+    while (service.phase() < 4)
+        likes_sleep(100000);
+    hold(service.counts() == std::vector<std::uint64_t>{5, 8}, "the counts of a moment");
+    service.stop();
+    hold(thrown([&] { service.counts(); }) == LIKES_NOT_STARTED && service.phase() == 0, "counts after the end");
+}
+
 // Only seats 0 and 1 can be held.
 static void seats(likes::Service &service) {
     for (std::uint32_t number : {2u, 15u, 16u, 1000u, UINT32_MAX})
         hold(thrown([&] { service.hold(number); }) == LIKES_UNKNOWN_SEAT, "a seat too many was held");
     for (std::uint32_t number : {0u, 1u}) {
         std::vector<likes_answer> answers;
-        likes::Seat seat = service.hold(number);
+        likes::Held seat = service.hold(number);
         hold(seat.run({}, answers) == 0 && answers.empty(), "an empty row");
         hold(seat.run({likes_request{}}, answers, 5) == 1, "a row from behind its end");
         hold(!seat.take_found(), "a look was found");
@@ -97,6 +110,7 @@ int main() {
     openings();
     again();
     proposals();
+    marks();
     likes::Service service({2, 9, 4, 0}, {5, 7});
     service.like(4, 1);
     hold(thrown([&] { service.like(9, 1); }) == LIKES_UNKNOWN_USER, "a user too many");

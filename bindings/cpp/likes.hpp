@@ -1,45 +1,24 @@
-// The live core as C++17 classes. Nothing here is proved: it calls likes.h and likes_helpers.h.
+// The live core as C++17 classes. Nothing here is proved. Service calls likes_helpers.h, and likes_core.hpp has the
+// classes of a program that changes phases by itself.
 #pragma once
 
 #include <likes_helpers.h>
 
-#include <cstdint>
-#include <memory>
-#include <optional>
-#include <stdexcept>
-#include <vector>
+#include "likes_core.hpp"
 
 namespace likes {
 
-struct Error : std::runtime_error {
-    explicit Error(std::uint32_t why) : std::runtime_error(likes_status_text(why)), status(why) {}
-    std::uint32_t status;
-};
-
-// The options of likes.h.
-struct Options {
-    std::uint32_t seats, users, room = LIKES_MAX_ROOM, hot = 0;
-};
-
-// What a look shows: the page of the user's last like, if there is one, and the count of the page looked at.
-struct Seen {
-    std::optional<std::uint32_t> last;
-    std::uint64_t count;
-};
-
-class Service;
-
-// A seat that this thread holds, until the end of the scope. It waits for nothing meanwhile.
-class Seat {
+// A seat of a service that this thread holds, until the end of the scope. It waits for nothing meanwhile.
+class Held {
 public:
-    Seat(likes_service *service, std::uint32_t number)
+    Held(likes_service *service, std::uint32_t number)
         : service_(service), number_(number), seat_(likes_service_wake(service, number)) {
         if (seat_ == nullptr)
             throw Error(likes_service_seat_fault(service, number));
     }
-    ~Seat() { likes_service_rest(service_, number_); }
-    Seat(const Seat &) = delete;
-    Seat &operator=(const Seat &) = delete;
+    ~Held() { likes_service_rest(service_, number_); }
+    Held(const Held &) = delete;
+    Held &operator=(const Held &) = delete;
 
     // Runs a row of requests, and gives how many were done: all, or those before a look without room.
     std::size_t run(const std::vector<likes_request> &requests, std::vector<likes_answer> &answers,
@@ -70,14 +49,13 @@ private:
 // A service with its driver's thread. Threads share it; the destructor ends it.
 class Service {
 public:
-    // No page is marked as split. The period is in microseconds. lasts has each user's last like, as lasts() gives them;
-    // if it is empty, nobody has one.
-    Service(const Options &options, const std::vector<std::uint64_t> &counts, std::uint32_t period = 1000,
-            const std::vector<std::uint32_t> &lasts = {})
+    // The period is in microseconds.
+    Service(const Options &options, const std::vector<std::uint64_t> &counts, std::uint32_t period = 1000)
         : service_(new likes_service), totals_(counts.size()), lasts_(options.users) {
-        likes_options all = {options.seats, options.users, options.room, options.hot, {}};
-        check(likes_service_start(service_.get(), &all, counts.data(), counts.size(), nullptr, 0, lasts.data(),
-                                  lasts.size(), period),
+        likes_options numbers = options.numbers();
+        const std::vector<std::uint32_t> &marks = options.marks, &lasts = options.lasts;
+        check(likes_service_start(service_.get(), &numbers, counts.data(), counts.size(), marks.data(), marks.size(),
+                                  lasts.data(), lasts.size(), period),
               LIKES_OK);
     }
     ~Service() { end(); }
@@ -106,7 +84,7 @@ public:
     std::optional<std::uint32_t> last(std::uint32_t user) {
         std::uint32_t page;
         check(likes_service_last(service_.get(), user, &page), LIKES_OK);
-        return page == LIKES_NO_PAGE ? std::nullopt : std::optional<std::uint32_t>(page);
+        return last_of(page);
     }
 
     // The page of each user's last like, by user number, or LIKES_NO_PAGE. After stop() they are final: with the final
@@ -129,10 +107,20 @@ public:
         return pages;
     }
 
+    // The counts of all pages at one moment, the end of a joined phase. The calling thread holds no seat.
+    std::vector<std::uint64_t> counts() {
+        std::vector<std::uint64_t> now(totals_.size());
+        check(likes_service_counts(service_.get(), now.data(), now.size()), LIKES_COUNTED);
+        return now;
+    }
+
+    // The phase that was last released, and 0 after the end.
+    std::uint64_t phase() { return likes_service_phase(service_.get()); }
+
     std::uint32_t seats() const { return service_->seats; }
 
     // A seat below seats().
-    Seat hold(std::uint32_t number) { return Seat(service_.get(), number); }
+    Held hold(std::uint32_t number) { return Held(service_.get(), number); }
 
     // Ends the service, and gives the final counts, each time the same. All threads are done with it.
     std::vector<std::uint64_t> stop() {
@@ -151,12 +139,6 @@ private:
     static void check(std::uint32_t status, std::uint32_t wanted) {
         if (status != wanted)
             throw Error(status);
-    }
-
-    static Seen seen(const likes_answer &answer) {
-        if (answer.last == LIKES_NO_PAGE)
-            return {std::nullopt, answer.count};
-        return {answer.last, answer.count};
     }
 
     std::unique_ptr<likes_service> service_;

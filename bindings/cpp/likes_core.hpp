@@ -1,0 +1,267 @@
+// The driver, the seats and the phase of likes.h as C++17 classes, which free themselves. Nothing here is proved.
+//
+// An outcome of likes.h is returned, and an error is thrown as likes::Error. One call at a time on each object, as in C.
+#pragma once
+
+#include <likes.h>
+
+#include <cstdint>
+#include <memory>
+#include <mutex>
+#include <optional>
+#include <stdexcept>
+#include <utility>
+#include <vector>
+
+namespace likes {
+
+struct Error : std::runtime_error {
+    explicit Error(std::uint32_t why) : std::runtime_error(likes_status_text(why)), status(why) {}
+    std::uint32_t status;
+};
+
+// The outcome that a status is. An error is thrown.
+inline likes_status outcome(std::uint32_t status) {
+    if (likes_is_error(status))
+        throw Error(status);
+    return static_cast<likes_status>(status);
+}
+
+// What a service is opened with. marks has the pages that are split in every split phase, and lasts the page of each
+// user's last like, or LIKES_NO_PAGE; if it is empty, nobody has one.
+struct Options {
+    std::uint32_t seats, users, room = LIKES_MAX_ROOM, hot = 0;
+    std::vector<std::uint32_t> marks = {}, lasts = {};
+
+    likes_options numbers() const { return {seats, users, room, hot, {}}; }
+};
+
+// The page of a last like, if there is one.
+inline std::optional<std::uint32_t> last_of(std::uint32_t page) {
+    return page == LIKES_NO_PAGE ? std::nullopt : std::optional<std::uint32_t>(page);
+}
+
+// What a look shows: the page of the user's last like, if there is one, and the count of the page looked at.
+struct Seen {
+    std::optional<std::uint32_t> last;
+    std::uint64_t count;
+};
+
+inline Seen seen(const likes_answer &answer) {
+    return {last_of(answer.last), answer.count};
+}
+
+// What a look did. Of LIKES_SEEN it has what it shows.
+struct Look {
+    likes_status outcome;
+    Seen seen;
+};
+
+// Seats that were destroyed before they could retire. The driver's turns have them retire.
+class Leaving {
+public:
+    Leaving() { seats_.reserve(LIKES_MAX_SEATS); }
+    ~Leaving() {
+        for (likes_seat &seat : seats_)
+            likes_seat_free(&seat);
+    }
+    Leaving(const Leaving &) = delete;
+    Leaving &operator=(const Leaving &) = delete;
+
+    // Has a seat retire now, or takes it.
+    void add(likes_seat seat) {
+        if (likes_seat_retire(&seat) == LIKES_GONE) {
+            likes_seat_free(&seat);
+        } else {
+            std::lock_guard<std::mutex> lock(mutex_);
+            seats_.push_back(seat);
+        }
+    }
+
+    void retire() {
+        std::lock_guard<std::mutex> lock(mutex_);
+        for (likes_seat &seat : seats_) {
+            if (likes_seat_retire(&seat) == LIKES_GONE)
+                likes_seat_free(&seat);
+        }
+    }
+
+private:
+    std::mutex mutex_;
+    std::vector<likes_seat> seats_; // empty handles are of those that have left
+};
+
+// A worker. While a phase is ending, each seat that isn't gone is called, by turn() if there is nothing else to do: a
+// seat that isn't called holds up all others.
+//
+// A seat that is destroyed retires, and its destructor waits for no phase: where the seat can't retire at once, the
+// driver's turns have it retire. Found looks that were not taken are lost.
+class Seat {
+public:
+    ~Seat() {
+        if (handle_.at != nullptr)
+            leaving_->add(handle_);
+    }
+    Seat(Seat &&other) noexcept : handle_(std::exchange(other.handle_, {})), leaving_(other.leaving_) {}
+    Seat &operator=(Seat &&other) noexcept {
+        std::swap(handle_, other.handle_);
+        std::swap(leaving_, other.leaving_);
+        return *this;
+    }
+
+    // Adds one like: LIKES_LIKED, BETWEEN, LIKE_LIMIT or GONE.
+    likes_status like(std::uint32_t user, std::uint32_t page) { return outcome(likes_seat_like(&handle_, user, page)); }
+
+    // LIKES_SEEN, WAITS, BETWEEN, NO_ROOM or GONE.
+    Look look(std::uint32_t user, std::uint32_t page, std::uint64_t tag) {
+        likes_answer answer;
+        likes_seat_look(&handle_, user, page, tag, &answer);
+        return {outcome(answer.status), seen(answer)};
+    }
+
+    // Looks at once: LIKES_SEEN, BETWEEN or GONE.
+    Look glance(std::uint32_t user, std::uint32_t page) {
+        likes_answer answer;
+        likes_seat_glance(&handle_, user, page, &answer);
+        return {outcome(answer.status), seen(answer)};
+    }
+
+    // Runs a row of requests from one on, and gives how many are done then. It stops before the first that is
+    // LIKES_BETWEEN or LIKES_NO_ROOM. An answer may have the status of an error.
+    std::size_t run(const std::vector<likes_request> &requests, std::vector<likes_answer> &answers,
+                    std::size_t from = 0) {
+        answers.resize(requests.size());
+        if (from >= requests.size())
+            return requests.size();
+        return from + likes_seat_run(&handle_, requests.data() + from, requests.size() - from, answers.data() + from,
+                                     answers.size() - from);
+    }
+
+    // The next found look, in the order of asking.
+    std::optional<likes_found> take_found() {
+        likes_found found;
+        return likes_seat_take_found(&handle_, &found) ? std::optional<likes_found>(found) : std::nullopt;
+    }
+
+    // The page of a user's last like, if there is one.
+    std::optional<std::uint32_t> last(std::uint32_t user) {
+        std::uint32_t page;
+        outcome(likes_seat_last(&handle_, user, &page));
+        return last_of(page);
+    }
+
+    // Writes the last likes of the seat's users number from, from + 1 and so on, as many as the vector has.
+    void lasts(std::uint32_t from, std::vector<std::uint32_t> &pages) {
+        outcome(likes_seat_lasts(&handle_, from, pages.data(), pages.size()));
+    }
+
+    // Does what the phase asks of the seat: LIKES_RUNS, BETWEEN or GONE.
+    likes_status turn() { return outcome(likes_seat_turn(&handle_)); }
+
+    // Leaves for good, where the seat runs a joined phase: LIKES_GONE. Else it is turn().
+    likes_status retire() { return outcome(likes_seat_retire(&handle_)); }
+
+    // The phase that the seat runs or has answered last, and 0 once it is gone.
+    std::uint64_t phase() { return likes_seat_phase(&handle_); }
+
+private:
+    friend class Driver;
+    Seat(likes_seat handle, std::shared_ptr<Leaving> leaving) : handle_(handle), leaving_(std::move(leaving)) {}
+
+    likes_seat handle_;
+    std::shared_ptr<Leaving> leaving_;
+};
+
+// The phase that a driver has last released, for another thread.
+class Phase {
+public:
+    ~Phase() { likes_phase_free(&handle_); }
+    Phase(Phase &&other) noexcept : handle_(std::exchange(other.handle_, {})) {}
+    Phase &operator=(Phase &&other) noexcept {
+        std::swap(handle_, other.handle_);
+        return *this;
+    }
+
+    std::uint64_t now() { return likes_phase_now(&handle_); }
+
+private:
+    friend class Driver;
+    explicit Phase(likes_phase handle) : handle_(handle) {}
+
+    likes_phase handle_;
+};
+
+// The coordinator of a service, which it opens. If it is destroyed, its seats stay in the phase that they run.
+class Driver {
+public:
+    Driver(const Options &options, const std::vector<std::uint64_t> &counts) : leaving_(std::make_shared<Leaving>()) {
+        likes_options numbers = options.numbers();
+        const std::vector<std::uint32_t> &marks = options.marks, &lasts = options.lasts;
+        outcome(likes_open(&numbers, counts.data(), counts.size(), marks.data(), marks.size(), lasts.data(),
+                           lasts.size(), &handle_));
+    }
+    ~Driver() { likes_driver_free(&handle_); }
+    Driver(Driver &&other) noexcept : handle_(std::exchange(other.handle_, {})), leaving_(other.leaving_) {}
+    Driver &operator=(Driver &&other) noexcept {
+        std::swap(handle_, other.handle_);
+        std::swap(leaving_, other.leaving_);
+        return *this;
+    }
+
+    // The next seat, or none if all are taken. A phase changes only when every seat has answered, so take them all.
+    std::optional<Seat> take_seat() {
+        likes_seat seat = {};
+        if (outcome(likes_driver_take_seat(&handle_, &seat)) != LIKES_OK)
+            return std::nullopt;
+        return Seat(seat, leaving_);
+    }
+
+    // The phase, once.
+    std::optional<Phase> take_phase() {
+        likes_phase phase = {};
+        if (outcome(likes_driver_take_phase(&handle_, &phase)) != LIKES_OK)
+            return std::nullopt;
+        return Phase(phase);
+    }
+
+    // At most one thing for the phases: LIKES_GOES_ON, ANNOUNCED, NOT_ALL_IN, RELEASED or ENDED. Before it, seats that
+    // were destroyed retire.
+    likes_status turn(likes_end end = LIKES_NO_END) {
+        leaving_->retire();
+        return outcome(likes_driver_turn(&handle_, end));
+    }
+
+    // Writes the counts of the pages from, from + 1 and so on, as many as the vector has, at the end of a joined phase
+    // that every seat has answered: LIKES_COUNTED. Or LIKES_NO_MOMENT.
+    likes_status snapshot(std::uint32_t from, std::vector<std::uint64_t> &counts) {
+        return outcome(likes_driver_snapshot(&handle_, from, counts.data(), counts.size()));
+    }
+
+    // Writes the final counts of the pages from, from + 1 and so on, where all seats are gone: LIKES_COUNTED. Or
+    // LIKES_NOT_ENDED: make turns with LIKES_END_IF_IT_SERVES until LIKES_ENDED, and try again.
+    likes_status last_counts(std::uint32_t from, std::vector<std::uint64_t> &counts) {
+        return outcome(likes_driver_last_counts(&handle_, from, counts.data(), counts.size()));
+    }
+
+    // The pages that are split in the present split phase, or were in the last one.
+    std::vector<std::uint32_t> split_pages(std::size_t most = LIKES_MAX_SPLIT) {
+        std::vector<std::uint32_t> pages(most);
+        pages.resize(likes_driver_split_pages(&handle_, pages.data(), pages.size()));
+        return pages;
+    }
+
+    // Proposes pages to be split, the first 64, in place of those that the library finds by itself. If there are none,
+    // it finds them again.
+    void propose(const std::vector<std::uint32_t> &pages) {
+        outcome(likes_driver_propose(&handle_, pages.data(), pages.size()));
+    }
+
+    // The present phase. Phases with odd numbers are split.
+    std::uint64_t phase() { return likes_driver_phase(&handle_); }
+
+private:
+    likes_driver handle_ = {};
+    std::shared_ptr<Leaving> leaving_;
+};
+
+} // namespace likes

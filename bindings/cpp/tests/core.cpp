@@ -1,0 +1,192 @@
+// Each call of likes::Driver, its seats and its phase, on one thread. It ends with status 1 and a line where something
+// is wrong.
+#include "likes_core.hpp"
+
+#include <cstdlib>
+#include <functional>
+#include <iostream>
+
+static void hold(bool is_right, const char *text) {
+    if (!is_right) {
+        std::cout << "wrong: " << text << "\n";
+        std::exit(1);
+    }
+}
+
+// The status that a call throws, or LIKES_OK.
+template <typename Call> static std::uint32_t thrown(Call call) {
+    try {
+        call();
+    } catch (const likes::Error &error) {
+        return error.status;
+    }
+    return LIKES_OK;
+}
+
+// Two seats, page 0 marked and page 1 not.
+struct Two {
+    likes::Driver driver = likes::Driver({2, 4, 2, 0, {0}, {}}, {10, 0});
+    std::vector<likes::Seat> seats;
+
+    Two() {
+        while (auto seat = driver.take_seat())
+            seats.push_back(std::move(*seat));
+        hold(seats.size() == 2, "two seats");
+    }
+
+    void change_phase() {
+        hold(driver.turn(LIKES_END_IF_IT_SERVES) == LIKES_ANNOUNCED, "an end is announced");
+        for (likes::Seat &seat : seats)
+            hold(seat.turn() == LIKES_BETWEEN, "a seat answers");
+        hold(driver.turn() == LIKES_RELEASED, "a phase is released");
+    }
+
+    // Turns the driver until all seats are gone, which nobody has any more.
+    void end() {
+        seats.clear();
+        for (int turns = 0; driver.turn(LIKES_END_IF_IT_SERVES) != LIKES_ENDED; turns++)
+            hold(turns < 100, "the service ends");
+    }
+
+    void last_counts(const std::vector<std::uint64_t> &right) {
+        std::vector<std::uint64_t> counts(right.size());
+        hold(driver.last_counts(0, counts) == LIKES_COUNTED && counts == right, "last counts");
+    }
+};
+
+static bool shows(const likes::Look &look, std::optional<std::uint32_t> last, std::uint64_t count) {
+    return look.outcome == LIKES_SEEN && look.seen.last == last && look.seen.count == count;
+}
+
+static void three_phases() {
+    Two two;
+    likes::Seat &first = two.seats[0], &second = two.seats[1];
+    hold(first.like(0, 0) == LIKES_LIKED && shows(first.look(0, 0, 1), 0, 11), "a look in phase 0");
+    two.change_phase();
+    hold(first.like(0, 0) == LIKES_LIKED && first.like(2, 0) == LIKES_LIKED, "likes of seat 0 in phase 1");
+    hold(second.like(1, 0) == LIKES_LIKED, "a like of seat 1 in phase 1");
+    hold(first.look(0, 0, 7).outcome == LIKES_WAITS && !first.take_found(), "a look that waits");
+    hold(shows(first.glance(0, 0), 0, 13) && shows(second.glance(3, 0), std::nullopt, 12), "glances");
+    hold(shows(first.look(0, 1, 8), 0, 0) && first.phase() == 1, "a look at a page that isn't split");
+    two.change_phase();
+    hold(two.driver.phase() == 2 && first.like(0, 1) == LIKES_LIKED, "a like in phase 2");
+    std::optional<likes_found> found = first.take_found();
+    hold(found && found->tag == 7 && found->count == 14 && found->asked == 1 && found->ran == 2, "a found look");
+    hold(!first.take_found(), "a look is found twice");
+}
+
+static void refusals() {
+    Two two;
+    likes::Seat &first = two.seats[0];
+    std::vector<std::uint32_t> pages(2);
+    std::vector<std::uint64_t> counts(2);
+    hold(thrown([&] { first.like(4, 0); }) == LIKES_UNKNOWN_USER, "a user too many");
+    hold(thrown([&] { first.look(1, 0, 0); }) == LIKES_OTHER_SEAT, "another seat's user");
+    hold(thrown([&] { first.glance(0, 2); }) == LIKES_UNKNOWN_PAGE, "a page too many");
+    hold(thrown([&] { first.last(5); }) == LIKES_UNKNOWN_USER, "the last like of a user too many");
+    hold(thrown([&] { first.lasts(1, pages); }) == LIKES_WRONG_RANGE, "last likes past the last");
+    hold(thrown([&] { two.driver.snapshot(1, counts); }) == LIKES_WRONG_RANGE, "a snapshot past the last page");
+    hold(thrown([&] { two.driver.last_counts(1, counts); }) == LIKES_WRONG_RANGE, "last counts past the last page");
+    hold(thrown([&] { likes::Driver({0, 4}, {0}); }) == LIKES_WRONG_SEATS, "a service without seats");
+    likes::Seat moved = std::move(first);
+    hold(thrown([&] { first.turn(); }) == LIKES_EMPTY && moved.turn() == LIKES_RUNS, "a seat that was moved");
+}
+
+static void rows() {
+    Two two;
+    two.change_phase();
+    std::vector<likes_answer> answers;
+    const likes_request look = {5, 0, 0, LIKES_LOOK, 0};
+    std::vector<likes_request> row = {{0, 2, 1, LIKES_LIKE, 0}, {0, 2, 9, LIKES_GLANCE, 0}, look, look, look, look};
+    hold(two.seats[0].run(row, answers) == 4, "a row stops where there is no room");
+    const std::uint32_t right[] = {LIKES_LIKED, LIKES_UNKNOWN_PAGE, LIKES_WAITS, LIKES_WAITS, LIKES_NO_ROOM};
+    for (std::size_t i = 0; i < 5; i++)
+        hold(answers[i].status == right[i], "an answer of a row");
+    hold(two.seats[0].run(row, answers, 6) == 6, "a row from behind its end");
+}
+
+static void snapshots() {
+    Two two;
+    std::vector<std::uint32_t> pages(2);
+    std::vector<std::uint64_t> counts(2), one(1);
+    two.seats[1].like(3, 1);
+    hold(two.driver.snapshot(0, counts) == LIKES_NO_MOMENT, "a snapshot of no moment");
+    hold(two.driver.turn(LIKES_END) == LIKES_ANNOUNCED && two.seats[0].turn() == LIKES_BETWEEN, "an end");
+    hold(two.driver.turn() == LIKES_NOT_ALL_IN && two.seats[1].turn() == LIKES_BETWEEN, "a seat is missing");
+    hold(two.driver.snapshot(0, counts) == LIKES_COUNTED && counts[0] == 10 && counts[1] == 1, "a snapshot");
+    hold(two.driver.snapshot(1, one) == LIKES_COUNTED && one[0] == 1, "a snapshot of a page");
+    two.seats[1].lasts(0, pages);
+    hold(pages[0] == LIKES_NO_PAGE && pages[1] == 1 && two.seats[1].last(3) == 1u, "last likes");
+}
+
+static void split_pages() {
+    Two two;
+    two.driver.propose({1, 1, 2});
+    for (int changes = 0; changes < 2; changes++) {
+        two.change_phase();
+        hold(two.driver.split_pages() == std::vector<std::uint32_t>{0}, "the marked page alone");
+    }
+    two.change_phase();
+    hold(two.driver.split_pages().size() == 2 && two.driver.split_pages(1).size() == 1, "a page is proposed");
+    two.driver.propose({});
+    std::optional<likes::Phase> phase = two.driver.take_phase();
+    hold(phase && phase->now() == 3 && !two.driver.take_phase(), "the phase");
+}
+
+static void again() {
+    Two two;
+    two.seats[0].like(2, 1);
+    hold(two.seats[0].retire() == LIKES_GONE && two.seats[0].like(2, 1) == LIKES_GONE, "a seat that is gone");
+    std::vector<std::uint64_t> counts(2);
+    hold(two.driver.last_counts(0, counts) == LIKES_NOT_ENDED, "last counts too early");
+    two.end();
+    two.last_counts({10, 1});
+    likes::Driver driver({1, 1, 4, 0, {}, {1}}, {10, 1});
+    hold(shows(driver.take_seat()->look(0, 1, 0), 1, 1), "a service that goes on");
+}
+
+// Destroys a seat of two in some state. Phases go on to change, and its like is counted.
+static void destroy(const std::function<void(Two &)> &like) {
+    Two two;
+    like(two);
+    two.seats.pop_back();
+    std::uint64_t phase = two.driver.phase();
+    for (int turns = 0; turns < 8; turns++) {
+        two.driver.turn(LIKES_END);
+        two.seats[0].turn();
+    }
+    hold(two.driver.phase() > phase + 1, "a seat that was destroyed holds up another");
+    two.end();
+    two.last_counts({11, 0});
+}
+
+static void like(Two &two) {
+    hold(two.seats[1].like(1, 0) == LIKES_LIKED, "a like before the end of a seat");
+}
+
+static void like_in_split_phase(Two &two) {
+    two.change_phase();
+    like(two);
+}
+
+static void like_before_end(Two &two) {
+    like_in_split_phase(two);
+    hold(two.driver.turn(LIKES_END) == LIKES_ANNOUNCED, "the end of a split phase");
+}
+
+static void like_and_answer(Two &two) {
+    like_before_end(two);
+    hold(two.seats[1].turn() == LIKES_BETWEEN, "a seat between two phases");
+}
+
+int main() {
+    three_phases();
+    refusals();
+    rows();
+    snapshots();
+    split_pages();
+    again();
+    for (auto before : {like, like_in_split_phase, like_before_end, like_and_answer})
+        destroy(before);
+    std::cout << "all calls answered\n";
+}
