@@ -1,3 +1,7 @@
-module likes
+module pool
 
 go 1.19
+
+require likes v0.0.0
+
+replace likes => ../../bindings/go

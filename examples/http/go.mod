@@ -4,4 +4,4 @@ go 1.19
 
 require likes v0.0.0
 
-replace likes => ../go
+replace likes => ../../bindings/go

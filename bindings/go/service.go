@@ -1,6 +1,8 @@
 // Package likes is the live core for Go, by cgo. Nothing here is proved.
 //
-// A goroutine for each seat collects what other goroutines ask for, and hands it over in rows of up to 64 requests. So
+// Most programs need a Service. One that changes phases by itself has OpenDriver.
+//
+// In a service, a goroutine for each seat collects what other goroutines ask for, and hands it over in rows of up to 64 requests. So
 // one call into C serves many requests, and no goroutine waits in C for a phase.
 package likes
 
@@ -24,7 +26,6 @@ static size_t run_row(likes_service *service, uint32_t number, const likes_reque
 import "C"
 
 import (
-	"errors"
 	"sync"
 	"time"
 	"unsafe"
@@ -34,21 +35,6 @@ const row = 64
 
 // How often a seat with waiting looks is asked for found ones while nobody asks for anything else.
 const poll = 200 * time.Microsecond
-
-// NoPage stands in place of the last like of a user who has liked nothing.
-const NoPage = C.LIKES_NO_PAGE
-
-// Options of a service, as in likes.h, with the length of a split phase.
-type Options struct {
-	Seats, Users, Room, Hot uint32
-	Period                  time.Duration
-}
-
-// Seen is what a look shows: the page of the user's last like, and the count of the page looked at.
-type Seen struct {
-	Last  uint32
-	Count uint64
-}
 
 // Service is a service with its seats and its driver's thread. Any goroutine may call it.
 type Service struct {
@@ -64,37 +50,19 @@ type call struct {
 	reply   chan<- C.likes_answer
 }
 
-// Open opens a service with these initial counts. No page is marked as split, and no user has a last like.
+// Open opens a service with these initial counts.
 func Open(options Options, counts []uint64) (*Service, error) {
-	return OpenAgain(options, counts, nil)
-}
-
-// OpenAgain opens a service with the final counts and the last likes of another: by user number, a page or NoPage.
-func OpenAgain(options Options, counts []uint64, lasts []uint32) (*Service, error) {
-	if len(counts) == 0 {
-		return nil, status(C.LIKES_WRONG_PAGES)
-	}
 	service := &Service{c: (*C.likes_service)(C.calloc(1, C.sizeof_likes_service)), pages: len(counts)}
 	service.users = int(options.Users)
 	if service.c == nil {
-		return nil, status(C.LIKES_NO_MEMORY)
+		return nil, NoMemory
 	}
-	numbers := C.likes_options{
-		seats: C.uint32_t(options.Seats),
-		users: C.uint32_t(options.Users),
-		room:  C.uint32_t(options.Room),
-		hot:   C.uint32_t(options.Hot),
-	}
-	first := (*C.uint64_t)(unsafe.Pointer(&counts[0]))
-	period := C.uint32_t(options.Period.Microseconds())
-	var last *C.uint32_t
-	if len(lasts) > 0 {
-		last = (*C.uint32_t)(unsafe.Pointer(&lasts[0]))
-	}
-	told := C.likes_service_start(service.c, &numbers, first, C.size_t(len(counts)), nil, 0, last, C.size_t(len(lasts)), period)
-	if told != C.LIKES_OK {
+	numbers, period := options.numbers(), C.uint32_t(options.Period.Microseconds())
+	told := C.likes_service_start(service.c, &numbers, countsAt(counts), C.size_t(len(counts)), pagesAt(options.Marks),
+		C.size_t(len(options.Marks)), pagesAt(options.Lasts), C.size_t(len(options.Lasts)), period)
+	if err := wanted(told, OK); err != nil {
 		C.free(unsafe.Pointer(service.c))
-		return nil, status(told)
+		return nil, err
 	}
 	for number := uint32(0); number < options.Seats; number++ {
 		calls := make(chan call, 4*row)
@@ -107,11 +75,7 @@ func OpenAgain(options Options, counts []uint64, lasts []uint32) (*Service, erro
 
 // Like adds one like.
 func (s *Service) Like(user, page uint32) error {
-	answer := s.ask(C.LIKES_LIKE, user, page)
-	if answer.status != C.LIKES_LIKED {
-		return status(answer.status)
-	}
-	return nil
+	return wanted(s.ask(C.LIKES_LIKE, user, page).status, Liked)
 }
 
 // Look gives the exact count. It may take about a phase.
@@ -126,38 +90,31 @@ func (s *Service) Glance(user, page uint32) (Seen, error) {
 
 // Last gives the page of a user's last like, or NoPage.
 func (s *Service) Last(user uint32) (uint32, error) {
-	var page C.uint32_t
-	if told := C.likes_service_last(s.c, C.uint32_t(user), &page); told != C.LIKES_OK {
-		return NoPage, status(told)
-	}
-	return uint32(page), nil
+	page := C.uint32_t(NoPage)
+	err := wanted(C.likes_service_last(s.c, C.uint32_t(user), &page), OK)
+	return uint32(page), err
 }
 
-// Propose proposes pages to be split, the first 64, in place of those that the service finds by itself. Without pages it
-// finds them again.
+// Propose proposes pages to be split, as Driver.Propose does.
 func (s *Service) Propose(pages ...uint32) error {
-	var first *C.uint32_t
-	if len(pages) > 0 {
-		first = (*C.uint32_t)(unsafe.Pointer(&pages[0]))
-	}
-	if told := C.likes_service_propose(s.c, first, C.size_t(len(pages))); told != C.LIKES_OK {
-		return status(told)
-	}
-	return nil
+	return wanted(C.likes_service_propose(s.c, pagesAt(pages), C.size_t(len(pages))), OK)
 }
 
 // SplitPages gives the pages that are split in the present split phase, or were in the last one.
 func (s *Service) SplitPages() []uint32 {
-	pages := make([]uint32, C.LIKES_MAX_SPLIT)
-	first := (*C.uint32_t)(unsafe.Pointer(&pages[0]))
-	return pages[:C.likes_service_split_pages(s.c, first, C.size_t(len(pages)))]
+	pages := make([]uint32, MaxSplit)
+	return pages[:C.likes_service_split_pages(s.c, pagesAt(pages), C.size_t(len(pages)))]
+}
+
+// Phase gives the phase that was last released.
+func (s *Service) Phase() uint64 {
+	return uint64(C.likes_service_phase(s.c))
 }
 
 // Counts gives the counts of all pages at one moment.
 func (s *Service) Counts() []uint64 {
 	counts := make([]uint64, s.pages)
-	first := (*C.uint64_t)(unsafe.Pointer(&counts[0]))
-	if C.likes_service_counts(s.c, first, C.size_t(s.pages)) != C.LIKES_COUNTED {
+	if C.likes_service_counts(s.c, countsAt(counts), C.size_t(s.pages)) != C.LIKES_COUNTED {
 		return nil
 	}
 	return counts
@@ -169,7 +126,7 @@ func (s *Service) Close() []uint64 {
 	return counts
 }
 
-// CloseWithLasts does the same, and gives the last likes too, as OpenAgain takes them.
+// CloseWithLasts does the same, and gives the last likes too, as Options takes them.
 func (s *Service) CloseWithLasts() ([]uint64, []uint32) {
 	for _, calls := range s.calls {
 		close(calls)
@@ -177,18 +134,15 @@ func (s *Service) CloseWithLasts() ([]uint64, []uint32) {
 	s.seats.Wait()
 	totals, lasts := make([]uint64, s.pages), make([]uint32, s.users)
 	C.likes_service_retire(s.c)
-	C.likes_service_lasts(s.c, (*C.uint32_t)(unsafe.Pointer(&lasts[0])), C.size_t(s.users))
-	C.likes_service_stop(s.c, (*C.uint64_t)(unsafe.Pointer(&totals[0])), C.size_t(s.pages))
+	C.likes_service_lasts(s.c, pagesAt(lasts), C.size_t(s.users))
+	C.likes_service_stop(s.c, countsAt(totals), C.size_t(s.pages))
 	C.free(unsafe.Pointer(s.c))
 	return totals, lasts
 }
 
 func (s *Service) see(op, user, page uint32) (Seen, error) {
 	answer := s.ask(op, user, page)
-	if answer.status != C.LIKES_SEEN {
-		return Seen{}, status(answer.status)
-	}
-	return Seen{Last: uint32(answer.last), Count: uint64(answer.count)}, nil
+	return Seen{Last: uint32(answer.last), Count: uint64(answer.count)}, wanted(answer.status, SeenNow)
 }
 
 // ask hands a request to the goroutine of its user's seat, and waits for the answer.
@@ -278,8 +232,4 @@ func (it *seat) tell(done, taken int) {
 		it.waits[uint64(found.tag)] <- C.likes_answer{count: found.count, last: found.last, status: C.LIKES_SEEN}
 		delete(it.waits, uint64(found.tag))
 	}
-}
-
-func status(told C.uint32_t) error {
-	return errors.New(C.GoString(C.likes_status_text(told)))
 }

@@ -1,0 +1,162 @@
+package likes
+
+// #include <likes.h>
+import "C"
+
+import (
+	"sync"
+	"time"
+)
+
+// Options of a service, as in likes.h. Marks has the pages that are split in every split phase, and Lasts the page of
+// each user's last like, or NoPage; if it is empty, nobody has one. A service that is given the final counts and last
+// likes of another goes on where that has ended. Period is of Open: the time from the end of one split phase to that of
+// the next.
+type Options struct {
+	Seats, Users, Room, Hot uint32
+	Marks, Lasts            []uint32
+	Period                  time.Duration
+}
+
+// numbers is what C takes of the options.
+func (o *Options) numbers() C.likes_options {
+	return C.likes_options{
+		seats: C.uint32_t(o.Seats),
+		users: C.uint32_t(o.Users),
+		room:  C.uint32_t(o.Room),
+		hot:   C.uint32_t(o.Hot),
+	}
+}
+
+// End says whether a turn may end the phase.
+type End uint32
+
+// EndIfItServes: a joined phase goes on if no page would be split in the next one. EndNow: in any case, for a snapshot.
+const (
+	NoEnd         End = C.LIKES_NO_END
+	EndIfItServes End = C.LIKES_END_IF_IT_SERVES
+	EndNow        End = C.LIKES_END
+)
+
+// Driver is the coordinator of a service, for programs that change phases by themselves. It owns its seats and its
+// phase. Any goroutine may call it.
+type Driver struct {
+	mutex sync.Mutex
+	c     C.likes_driver
+	seats []*Seat
+	phase *Phase
+}
+
+// OpenDriver opens a service with these initial counts.
+func OpenDriver(options Options, counts []uint64) (*Driver, error) {
+	driver, numbers := &Driver{}, options.numbers()
+	told := C.likes_open(&numbers, countsAt(counts), C.size_t(len(counts)), pagesAt(options.Marks),
+		C.size_t(len(options.Marks)), pagesAt(options.Lasts), C.size_t(len(options.Lasts)), &driver.c)
+	if err := wanted(told, OK); err != nil {
+		return nil, err
+	}
+	return driver, nil
+}
+
+// TakeSeat gives the next seat, and nil if all are taken. A phase changes only when every seat has answered, so take
+// them all.
+func (d *Driver) TakeSeat() *Seat {
+	d.mutex.Lock()
+	defer d.mutex.Unlock()
+	seat := &Seat{}
+	if C.likes_driver_take_seat(&d.c, &seat.c) != C.LIKES_OK {
+		return nil
+	}
+	d.seats = append(d.seats, seat)
+	return seat
+}
+
+// TakePhase gives the phase, once, and then nil.
+func (d *Driver) TakePhase() *Phase {
+	d.mutex.Lock()
+	defer d.mutex.Unlock()
+	phase := &Phase{}
+	if C.likes_driver_take_phase(&d.c, &phase.c) != C.LIKES_OK {
+		return nil
+	}
+	d.phase = phase
+	return phase
+}
+
+// Turn does at most one thing for the phases: GoesOn, Announced, NotAllIn, Released or Ended.
+func (d *Driver) Turn(end End) (Status, error) {
+	d.mutex.Lock()
+	defer d.mutex.Unlock()
+	return outcome(C.likes_driver_turn(&d.c, C.uint32_t(end)))
+}
+
+// Phase is the present phase. Phases with odd numbers are split.
+func (d *Driver) Phase() uint64 {
+	d.mutex.Lock()
+	defer d.mutex.Unlock()
+	return uint64(C.likes_driver_phase(&d.c))
+}
+
+// Snapshot writes the counts of the pages from, from + 1 and so on, at the end of a joined phase that every seat has
+// answered: Counted. Or NoMoment.
+func (d *Driver) Snapshot(from uint32, counts []uint64) (Status, error) {
+	d.mutex.Lock()
+	defer d.mutex.Unlock()
+	return outcome(C.likes_driver_snapshot(&d.c, C.uint32_t(from), countsAt(counts), C.size_t(len(counts))))
+}
+
+// LastCounts writes the final counts of the pages from, from + 1 and so on, where all seats are gone: Counted. Or
+// NotEnded: make turns with EndIfItServes until Ended, and try again.
+func (d *Driver) LastCounts(from uint32, counts []uint64) (Status, error) {
+	d.mutex.Lock()
+	defer d.mutex.Unlock()
+	return outcome(C.likes_driver_last_counts(&d.c, C.uint32_t(from), countsAt(counts), C.size_t(len(counts))))
+}
+
+// SplitPages writes the pages that are split in the present split phase, or were in the last one, and gives those that
+// were written.
+func (d *Driver) SplitPages(pages []uint32) []uint32 {
+	d.mutex.Lock()
+	defer d.mutex.Unlock()
+	return pages[:C.likes_driver_split_pages(&d.c, pagesAt(pages), C.size_t(len(pages)))]
+}
+
+// Propose proposes pages to be split, the first 64, in place of those that the library finds by itself. Without pages it
+// finds them again.
+func (d *Driver) Propose(pages ...uint32) error {
+	d.mutex.Lock()
+	defer d.mutex.Unlock()
+	return wanted(C.likes_driver_propose(&d.c, pagesAt(pages), C.size_t(len(pages))), OK)
+}
+
+// Free frees the seats, the phase and the driver. Calls of them answer Empty then.
+func (d *Driver) Free() {
+	d.mutex.Lock()
+	defer d.mutex.Unlock()
+	for _, seat := range d.seats {
+		seat.free()
+	}
+	if d.phase != nil {
+		d.phase.free()
+	}
+	C.likes_driver_free(&d.c)
+}
+
+// Phase is the phase that a driver has last released. Any goroutine may call it.
+type Phase struct {
+	mutex sync.Mutex
+	c     C.likes_phase
+}
+
+// Now gives the phase. It may be over by then.
+func (p *Phase) Now() uint64 {
+	p.mutex.Lock()
+	defer p.mutex.Unlock()
+	return uint64(C.likes_phase_now(&p.c))
+}
+
+func (p *Phase) free() {
+	p.mutex.Lock()
+	defer p.mutex.Unlock()
+	C.likes_phase_free(&p.c)
+}

@@ -1,0 +1,3 @@
+module likes
+
+go 1.19

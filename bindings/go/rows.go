@@ -1,0 +1,73 @@
+package likes
+
+// #include <likes.h>
+import "C"
+
+import "unsafe"
+
+// NoPage stands in place of the last like of a user who has liked nothing.
+const NoPage = C.LIKES_NO_PAGE
+
+// MaxSplit is how many pages are split at a time.
+const MaxSplit = C.LIKES_MAX_SPLIT
+
+// Op is what is asked for in a request.
+type Op uint32
+
+// The operations.
+const (
+	Like   Op = C.LIKES_LIKE
+	Look   Op = C.LIKES_LOOK
+	Glance Op = C.LIKES_GLANCE
+)
+
+// Request is a request of a row. The tag of a look comes back when it is found.
+type Request struct {
+	Tag        uint64
+	User, Page uint32
+	Op         Op
+	_          uint32
+}
+
+// Answer is the answer to a request of a row. Of SeenNow it has what the look shows.
+type Answer struct {
+	Count  uint64
+	Last   uint32
+	Status Status
+}
+
+// Found is a look that had to wait, with the phases in which it was asked and in which it ran.
+type Found struct {
+	Tag, Count, Asked, Ran uint64
+	User, Page, Last       uint32
+	_                      uint32
+}
+
+// Seen is what a look shows: the page of the user's last like, and the count of the page looked at.
+type Seen struct {
+	Last  uint32
+	Count uint64
+}
+
+// Rows are handed to C as they are.
+var (
+	_ = [unsafe.Sizeof(C.likes_request{})]byte([unsafe.Sizeof(Request{})]byte{})
+	_ = [unsafe.Sizeof(C.likes_answer{})]byte([unsafe.Sizeof(Answer{})]byte{})
+	_ = [unsafe.Sizeof(C.likes_found{})]byte([unsafe.Sizeof(Found{})]byte{})
+)
+
+// pagesAt is where a slice of pages begins, and NULL for an empty one.
+func pagesAt(pages []uint32) *C.uint32_t {
+	if len(pages) == 0 {
+		return nil
+	}
+	return (*C.uint32_t)(unsafe.Pointer(&pages[0]))
+}
+
+// countsAt is the same for counts.
+func countsAt(counts []uint64) *C.uint64_t {
+	if len(counts) == 0 {
+		return nil
+	}
+	return (*C.uint64_t)(unsafe.Pointer(&counts[0]))
+}
