@@ -1,0 +1,165 @@
+"""The bindings and the examples in languages beside C: what checks/live runs of them."""
+
+import contextlib
+import itertools
+import os
+import re
+import shutil
+import signal
+import subprocess
+
+import runs
+
+BINDINGS, EXAMPLES, SAME = f"{runs.ROOT}/bindings", f"{runs.ROOT}/examples", f"{runs.ROOT}/checks/live-same"
+
+CPP = b"a like of user 1000: unknown user\n66668\n66668\n66664\n0\n"
+PYTHON = b"""\
+Seen(last=1, count=1) Seen(last=None, count=10)
+a like of an unknown user: unknown user
+[26678, 26669, 26664]
+"""
+POOL = b"a like of page 4: unknown page\ntotals: [53344 53344 53312 0]\n"
+
+# What the drawn calls are answered between them.
+ANSWERS = """ok, liked, seen, waits, runs, between, no room, gone, goes on, announced, not all in, released, ended, counted,
+    no moment, not ended, all taken, unknown user, other seat, unknown page, wrong range, wrong pages, wrong marks,
+    wrong count, wrong seats, wrong users, wrong room, wrong hot, wrong lasts""".split(",")
+
+
+def is_same(text):
+    return lambda out: out == text
+
+
+def is_any(_):
+    return True
+
+
+def of_cpp(live, compiler, build):
+    tests = {f"{BINDINGS}/cpp/tests/{name}.cpp": is_any for name in ("core", "service")}
+    for file, is_right in {f"{EXAMPLES}/cpp/threads.cpp": is_same(CPP), **tests}.items():
+        program = live.compile(compiler, "c++17", build, file)
+        if program:
+            live.hold(os.path.basename(file), f"{compiler}, {build}", [program], is_right)
+
+
+def python_environment(live):
+    library = f"{live.prefix}/lib/liblikes.so"
+    names = {"LIKES_LIBRARY": library, "PYTHONPATH": f"{BINDINGS}/python", "PYTHONDONTWRITEBYTECODE": "1"}
+    return {**os.environ, **names}
+
+
+def of_python(live):
+    folder, environment = f"{BINDINGS}/python", python_environment(live)
+    tests = ["python3", "-m", "unittest", "discover", "-s", f"{folder}/tests", "-t", folder]
+    live.hold("the package's tests", "python3", tests, is_any, env=environment)
+    if shutil.which("mypy"):
+        types = ["mypy", f"--cache-dir={live.folder}/mypy", "likes"]
+        live.hold("the package's types", "mypy", types, is_any, folder=folder)
+    live.hold("threads.py", "python3", ["python3", f"{EXAMPLES}/python/threads.py"], is_same(PYTHON), env=environment)
+
+
+def of_rust(live):
+    """The crate's tests, its lints and its pages, without a network."""
+    environment = {**os.environ, "LIKES_PREFIX": live.prefix, "RUSTDOCFLAGS": "-D warnings"}
+    manifest = ["--offline", "--quiet", "--manifest-path", f"{BINDINGS}/rust/Cargo.toml"]
+    kinds = {"test": [], "doc": ["--no-deps"]}
+    if shutil.which("cargo-clippy"):
+        kinds["clippy"] = ["--all-targets", "--", "-D", "warnings"]
+    for kind, words in kinds.items():
+        live.hold(f"cargo {kind}", "cargo", ["cargo", kind, *manifest, *words], is_any, 600, env=environment)
+
+
+@contextlib.contextmanager
+def server(live):
+    """The HTTP server, which is ended at the end. Gives its address, and the file that it writes to."""
+    with open(f"{live.folder}/served", "wb") as out:
+        child = subprocess.Popen(["./server", "-listen", "127.0.0.1:0"], cwd=live.folder, stdout=out)
+    try:
+        for _ in range(100):
+            with open(f"{live.folder}/served", encoding="ascii") as lines:
+                found = re.match(r"listening at (\S+)\n", lines.read())
+            if found:
+                break
+            with contextlib.suppress(subprocess.TimeoutExpired):
+                child.wait(0.1)
+        yield found[1] if found else "http://127.0.0.1:9"
+    finally:
+        child.send_signal(signal.SIGTERM)
+        try:
+            child.wait(10)
+        except subprocess.TimeoutExpired:
+            child.kill()
+            live.wrong.append("the HTTP server did not end")
+
+
+def of_go(live):
+    """The module's tests, the pool of goroutines, and the server under a load, whose final counts are the likes that
+    the load made."""
+    if live.call(["go", "vet", "."], f"{BINDINGS}/go"):
+        tests = ["go", "test", "-race", "-count=1", "."]
+        live.hold("the module's tests", "go", tests, is_any, 600, f"{BINDINGS}/go")
+    if live.call(["go", "build", "-o", f"{live.folder}/pool", "./pool"], f"{EXAMPLES}/go"):
+        live.hold("pool", "go", ["./pool"], is_same(POOL))
+    if live.call(["go", "build", "-o", live.folder, "./server", "./load"], f"{EXAMPLES}/http"):
+        with server(live) as url:
+            live.hold("the HTTP server", "go", ["./load", "-url", url, "-requests", "40000"], is_any)
+        with open(f"{live.folder}/served", encoding="ascii") as lines:
+            totals = sum(int(line.split()[1]) for line in lines if not line.startswith("listening"))
+        if live.said.split()[2:3] != [str(totals)]:
+            live.wrong.append(f"the HTTP server ended with {totals} likes")
+
+
+def same_programs(live):
+    """The programs that make the same calls, each with its language. That in C is the first."""
+    for name, compilers, standard in (("c", ("gcc", "clang"), "c11"), ("cpp", ("g++", "clang++"), "c++17")):
+        compiler = next(filter(shutil.which, compilers), None)
+        program = compiler and live.compile(compiler, standard, "plain", f"{SAME}/same.{name}")
+        if program:
+            yield compiler, [program]
+    yield "python3", ["python3", f"{SAME}/same.py"]
+    if shutil.which("cargo"):
+        words = ["--offline", "--quiet", "--manifest-path", f"{SAME}/Cargo.toml"]
+        if live.call(["cargo", "build", *words]):
+            yield "cargo", [f"{os.environ['CARGO_TARGET_DIR']}/debug/same"]
+    if shutil.which("go") and live.call(["go", "build", "-o", f"{live.folder}/same-go", "same.go"], SAME):
+        yield "go", ["./same-go"]
+
+
+def difference(out, right):
+    """The first line in which two texts differ."""
+    lines = itertools.zip_longest(out.decode().splitlines(), right.decode().splitlines(), fillvalue="no line")
+    number, (line, other) = next((n, pair) for n, pair in enumerate(lines, 1) if pair[0] != pair[1])
+    return f"line {number} is {line!r}, and in C {other!r}"
+
+
+def of_same(live):
+    """The same drawn calls in each language, which are answered alike."""
+    right = None
+    for by, words in same_programs(live):
+        ended = runs.run(words, live.folder, seconds=120, env=python_environment(live))
+        right = ended.out if right is None else right
+        live.said = f"{ended.out.count(bytes([10]))} answers"
+        if ended.status != 0 or ended.out != right:
+            live.said = runs.shown(ended) if ended.status != 0 else difference(ended.out, right)
+            live.wrong.append(f"the same calls, {by}: {live.said}")
+        live.tell("the same calls", by)
+    for answer in ANSWERS:
+        if not re.search(rf"(?m)\b{answer.strip()}\b", (right or b"").decode()):
+            live.wrong.append(f"no drawn call is answered {answer.strip()}")
+
+
+def of_all(live):
+    """All languages that are there."""
+    os.environ["GOCACHE"], os.environ["GOPROXY"] = f"{live.folder}/go-cache", "off"
+    os.environ["CARGO_TARGET_DIR"], os.environ["LIKES_PREFIX"] = f"{live.folder}/cargo", live.prefix
+    for compiler in filter(shutil.which, ("g++", "clang++")):
+        for build in ("plain", "addresses", "threads"):
+            if live.has_sanitizer(compiler, build):
+                of_cpp(live, compiler, build)
+    of_python(live)
+    for command, check in (("cargo", of_rust), ("go", of_go)):
+        if shutil.which(command):
+            check(live)
+        else:
+            print(f"{command} is not there: left out")
+    of_same(live)
