@@ -1,10 +1,10 @@
-// Each call of likes::Driver, its seats and its phase, on one thread. It ends with status 1 and a line where something
-// is wrong.
+// Each call of likes::Driver, its seats and its phase. It ends with status 1 and a line where something is wrong.
 #include "likes_core.hpp"
 
 #include <cstdlib>
 #include <functional>
 #include <iostream>
+#include <thread>
 
 static void hold(bool is_right, const char *text) {
     if (!is_right) {
@@ -179,6 +179,29 @@ static void like_and_answer(Two &two) {
     hold(two.seats[1].turn() == LIKES_BETWEEN, "a seat between two phases");
 }
 
+// Likes as a user whose seat it is, and destroys the seat at the end.
+static void like_often(likes::Seat seat, std::uint32_t user) {
+    for (std::uint32_t i = 0; i < 100 * (user + 1); i++) {
+        while (seat.like(user, i % 2) == LIKES_BETWEEN)
+            std::this_thread::yield();
+    }
+}
+
+// Two threads like, each with its own seat, while phases change.
+static void threads() {
+    for (int rounds = 0; rounds < 50; rounds++) {
+        Two two;
+        std::vector<std::thread> all;
+        for (std::uint32_t user = 0; user < 2; user++)
+            all.emplace_back(like_often, std::move(two.seats[user]), user);
+        while (two.driver.turn(LIKES_END_IF_IT_SERVES) != LIKES_ENDED)
+            std::this_thread::yield();
+        for (std::thread &thread : all)
+            thread.join();
+        two.last_counts({160, 150});
+    }
+}
+
 int main() {
     three_phases();
     refusals();
@@ -188,5 +211,6 @@ int main() {
     again();
     for (auto before : {like, like_in_split_phase, like_before_end, like_and_answer})
         destroy(before);
+    threads();
     std::cout << "all calls answered\n";
 }

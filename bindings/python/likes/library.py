@@ -10,6 +10,7 @@ from typing import Any, Optional, Sequence
 
 from .statuses import NO_PAGE
 
+VERSION = 4  # LIKES_VERSION of the likes.h that this package is written for
 SHARED = "liblikes.so.0.4"
 MOST = 2**32 - 1
 
@@ -44,6 +45,7 @@ HANDLE, COUNTS, PAGES = POINTER(Handle), POINTER(c_uint64), POINTER(c_uint32)
 
 # What each call takes and gives.
 CALLS: Any = {
+    "version": ([], c_uint32),
     "open_nonnull": ([POINTER(Options), COUNTS, c_size_t, PAGES, c_size_t, PAGES, c_size_t, HANDLE], c_uint32),
     "driver_take_seat": ([HANDLE, HANDLE], c_uint32),
     "driver_take_phase": ([HANDLE, HANDLE], c_uint32),
@@ -77,6 +79,8 @@ def load() -> Any:
     for name, (takes, gives) in CALLS.items():
         call = getattr(library, f"likes_{name}")
         call.argtypes, call.restype = takes, gives
+    if library.likes_version() != VERSION:
+        raise ImportError(f"the library is version {library.likes_version()}, and this package is for {VERSION}")
     return library
 
 

@@ -33,8 +33,11 @@ class Header(unittest.TestCase):
         return {name: int(value) for name, value in re.findall(r"LIKES_(\w+) = (\d+)", text)}
 
     def test_names(self):
-        abi, minor = divmod(int(re.search(r"#define LIKES_VERSION (\d+)", self.text)[1]), 1000)
+        self.assertIn(f"#define LIKES_VERSION {library.VERSION}\n", self.text)
+        abi, minor = divmod(library.VERSION, 1000)
         self.assertEqual(library.SHARED, f"liblikes.so.{abi or f'0.{minor}'}")
+        with open(f"{ROOT}/bindings/python/pyproject.toml", encoding="ascii") as file:
+            self.assertIn(f'\nversion = "{abi}.{minor}.', file.read())
         self.assertIn(f"#define LIKES_MAX_SPLIT {statuses.MAX_SPLIT}u", self.text)
         self.assertIn(f"#define LIKES_FIRST_ERROR {statuses.FIRST_ERROR}u", self.text)
 
@@ -56,9 +59,8 @@ class Header(unittest.TestCase):
             self.assertIn(f"sizeof({name}) == {ctypes.sizeof(kind)}", self.text)
 
     def test_calls(self):
-        """Each call that the library exports, but for the version."""
-        exports = set(re.findall(r"^\w+ likes_(\w+)\(", self.text, re.M))
-        self.assertEqual(set(library.CALLS), exports - {"version"})
+        """Each call that the library exports."""
+        self.assertEqual(set(library.CALLS), set(re.findall(r"^\w+ likes_(\w+)\(", self.text, re.M)))
 
 
 if __name__ == "__main__":

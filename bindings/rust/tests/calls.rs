@@ -1,4 +1,7 @@
-//! Each call of a driver, its seats and its phase, on one thread.
+//! Each call of a driver, its seats and its phase.
+
+use std::iter;
+use std::thread;
 
 use likes::{Answer, Driver, End, Error, Glance, Last, LastCounts, Like, Look, Options, Outcome, Request, Seat};
 use likes::{Seen, Snapshot, State, Turn, MAX_SPLIT};
@@ -6,7 +9,7 @@ use likes::{Seen, Snapshot, State, Turn, MAX_SPLIT};
 /// A service with all its seats.
 fn open(options: &Options, counts: &[u64]) -> (Driver, Vec<Seat>) {
     let mut driver = Driver::open(options, counts).unwrap();
-    let seats: Vec<_> = std::iter::from_fn(|| driver.take_seat()).collect();
+    let seats: Vec<_> = iter::from_fn(|| driver.take_seat()).collect();
     assert_eq!(seats.len(), options.seats as usize);
     (driver, seats)
 }
@@ -146,7 +149,7 @@ fn the_phase_is_handed_out_once() {
     let phase = driver.take_phase().unwrap();
     assert!(driver.take_phase().is_none());
     change_phase(&mut driver, &mut seats);
-    assert_eq!(std::thread::spawn(move || phase.now()).join().unwrap(), 1);
+    assert_eq!(thread::spawn(move || phase.now()).join().unwrap(), 1);
 }
 
 #[test]
@@ -220,6 +223,31 @@ fn a_seat_is_dropped_between_phases() {
         assert_eq!(driver.turn(End::Yes), Turn::Announced);
         assert_eq!(seats[1].turn(), State::Between);
     });
+}
+
+/// Four threads like, each with its own seat, which it drops at its end.
+#[test]
+fn seats_are_dropped_while_phases_change() {
+    for _ in 0..50 {
+        let (mut driver, seats) = open(&Options { marks: &[0], ..Options::new(4, 4) }, &[0, 0]);
+        thread::scope(|scope| {
+            for (user, mut seat) in (0..4).zip(seats) {
+                scope.spawn(move || {
+                    for i in 0..100 * (user + 1) {
+                        while seat.like(user, i % 2) == Ok(Like::Between) {
+                            thread::yield_now();
+                        }
+                    }
+                });
+            }
+            while driver.turn(End::IfItServes) != Turn::Ended {
+                thread::yield_now();
+            }
+        });
+        let mut counts = [0; 2];
+        assert_eq!(driver.last_counts(0, &mut counts), Ok(LastCounts::Counted));
+        assert_eq!(counts, [500, 500]);
+    }
 }
 
 #[test]

@@ -28,6 +28,13 @@ fn each_status_has_its_number_and_text() {
 }
 
 #[test]
+fn the_crate_has_the_version_of_the_header() {
+    let version = env!("CARGO_PKG_VERSION").split('.').collect::<Vec<_>>();
+    let (abi, minor): (u32, u32) = (version[0].parse().unwrap(), version[1].parse().unwrap());
+    assert!(header().contains(&format!("#define LIKES_VERSION {}\n", 1000 * abi + minor)));
+}
+
+#[test]
 fn errors_have_the_numbers_of_statuses() {
     assert_eq!(Error::NoMemory as u32, status::NO_MEMORY);
     assert_eq!(Error::WrongLasts as u32, status::WRONG_LASTS);
