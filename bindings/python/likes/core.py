@@ -4,9 +4,8 @@ Any thread may make a call. Calls on the same object wait for each other, and ot
 """
 
 import threading
-from contextlib import contextmanager
 from ctypes import byref, c_uint32, c_uint64
-from typing import Any, Iterator, List, NamedTuple, Optional, Sequence
+from typing import Any, List, NamedTuple, Optional, Sequence
 
 from .errors import Closed, check, outcome
 from .library import Answer, FoundLook, Handle, Options, last_of, load, number_of, row_of, whole
@@ -33,18 +32,18 @@ class Held:
 
     def __init__(self) -> None:
         self.library, self._handle, self._lock = load(), Handle(), threading.Lock()
+        self._at = byref(self._handle)
 
-    @contextmanager
-    def hold(self) -> Iterator[Any]:
-        """The handle, with its lock held."""
+    def call(self, call: Any, *words: Any) -> Any:
+        """Makes a call of the library on the handle, with its lock held."""
         with self._lock:
             if self._handle.at is None:
                 raise Closed
-            yield self._handle
+            return call(self._at, *words)
 
     def _free(self, free: Any) -> None:
         with self._lock:
-            free(byref(self._handle))
+            free(self._at)
 
 
 class Seat(Held):
@@ -54,72 +53,66 @@ class Seat(Held):
     def like(self, user: int, page: int) -> Status:
         """Adds one like: LIKED, BETWEEN, LIKE_LIMIT or GONE."""
         user, page = whole("user", user), whole("page", page)
-        with self.hold() as handle:
-            return outcome(self.library.likes_seat_like(byref(handle), user, page))
+        return outcome(self.call(self.library.likes_seat_like, user, page))
 
     def look(self, user: int, page: int, tag: int = 0) -> Told:
         """What a look shows, or WAITS, BETWEEN, NO_ROOM or GONE."""
         user, page, tag = whole("user", user), whole("page", page), whole("tag", tag, MOST_64)
         answer = Answer()
-        with self.hold() as handle:
-            self.library.likes_seat_look(byref(handle), user, page, tag, byref(answer))
+        self.call(self.library.likes_seat_look, user, page, tag, byref(answer))
         return seen_or_outcome(answer)
 
     def glance(self, user: int, page: int) -> Told:
         """What a look shows at once, or BETWEEN or GONE. It may lack other seats' likes of the present phase."""
         user, page = whole("user", user), whole("page", page)
         answer = Answer()
-        with self.hold() as handle:
-            self.library.likes_seat_glance(byref(handle), user, page, byref(answer))
+        self.call(self.library.likes_seat_glance, user, page, byref(answer))
         return seen_or_outcome(answer)
 
     def run(self, requests: Sequence[Asked]) -> List[Told]:
         """Runs rows of (op, user, page), and gives the answers: of a request that was refused its Status. A tag is a
         request's place in the row. Where it stops before the end, the last answer is BETWEEN or NO_ROOM."""
         row = Row(requests)
-        with self.hold() as handle:
-            answers = row.run_on(self.library, handle)
+        answers = self.run_on(row)
         stopped = row.stopped()
         return answers if stopped is None else [*answers, stopped]
+
+    def run_on(self, row: Row) -> List[Told]:
+        """Runs what is left of a row, and gives the answers of what was done."""
+        return row.note(self.call(self.library.likes_seat_run_nonnull, *row.left()))
 
     def take_found(self) -> Optional[Found]:
         """The next found look, in the order of asking, or None."""
         found = FoundLook()
-        with self.hold() as handle:
-            if not self.library.likes_seat_take_found(byref(handle), byref(found)):
-                return None
+        if not self.call(self.library.likes_seat_take_found, byref(found)):
+            return None
         last = last_of(found.last)
         return Found(found.tag, found.count, found.asked, found.ran, found.user, found.page, last)
 
     def last(self, user: int) -> Optional[int]:
         """The page of a user's last like, or None."""
         user, page = whole("user", user), c_uint32()
-        with self.hold() as handle:
-            check(self.library.likes_seat_last(byref(handle), user, byref(page)), Status.OK)
+        check(self.call(self.library.likes_seat_last, user, byref(page)), Status.OK)
         return last_of(page.value)
 
     def lasts(self, start: int, length: int) -> List[Optional[int]]:
         """The last likes of the seat's users number start, start + 1 and so on."""
         start, length = whole("start", start), whole("length", length)
         pages = (c_uint32 * (length + 1))()
-        with self.hold() as handle:
-            check(self.library.likes_seat_lasts_nonnull(byref(handle), start, pages, length), Status.OK)
+        check(self.call(self.library.likes_seat_lasts_nonnull, start, pages, length), Status.OK)
         return [last_of(page) for page in pages[:length]]
 
     def turn(self) -> Status:
         """Does what the phase asks of the seat: RUNS, BETWEEN or GONE."""
-        with self.hold() as handle:
-            return outcome(self.library.likes_seat_turn(byref(handle)))
+        return outcome(self.call(self.library.likes_seat_turn))
 
     def retire(self) -> Status:
         """Leaves for good, where the seat runs a joined phase: GONE. Else it is turn."""
-        with self.hold() as handle:
-            return outcome(self.library.likes_seat_retire(byref(handle)))
+        return outcome(self.call(self.library.likes_seat_retire))
 
     def phase(self) -> int:
         """The phase that the seat runs or has answered last, and 0 once it is gone."""
-        with self.hold() as handle:
-            return int(self.library.likes_seat_phase(byref(handle)))
+        return int(self.call(self.library.likes_seat_phase))
 
     def free(self) -> None:
         self._free(self.library.likes_seat_free_nonnull)
@@ -134,8 +127,7 @@ class Phase(Held):
     """The phase that a driver has last released."""
 
     def now(self) -> int:
-        with self.hold() as handle:
-            return int(self.library.likes_phase_now(byref(handle)))
+        return int(self.call(self.library.likes_phase_now))
 
     def free(self) -> None:
         self._free(self.library.likes_phase_free_nonnull)
@@ -162,7 +154,7 @@ class Driver(Held):
         row = (c_uint64 * (self.pages + 1))(*(whole("count", it, MOST_64) for it in counts))
         marked, last = row_of("mark", marks), row_of("last like", [number_of(it) for it in lasts])
         opened = self.library.likes_open_nonnull(
-            options, row, self.pages, marked, len(marks), last, len(lasts), byref(self._handle)
+            options, row, self.pages, marked, len(marks), last, len(lasts), self._at
         )
         check(opened, Status.OK)
 
@@ -184,22 +176,19 @@ class Driver(Held):
         return phase if self._take(self.library.likes_driver_take_phase, phase) else None
 
     def _take(self, take: Any, into: Held) -> bool:
-        with self.hold() as handle:
-            is_taken = outcome(take(byref(handle), byref(into._handle))) == Status.OK
-            if is_taken:
-                self.owned.append(into)
+        is_taken = outcome(self.call(take, into._at)) == Status.OK
+        if is_taken:
+            self.owned.append(into)
         return is_taken
 
     def turn(self, end: End = End.NO) -> Status:
         """At most one thing for the phases: GOES_ON, ANNOUNCED, NOT_ALL_IN, RELEASED or ENDED."""
         number = whole("end", end)
-        with self.hold() as handle:
-            return outcome(self.library.likes_driver_turn(byref(handle), number))
+        return outcome(self.call(self.library.likes_driver_turn, number))
 
     def phase(self) -> int:
         """The present phase. Phases with odd numbers are split."""
-        with self.hold() as handle:
-            return int(self.library.likes_driver_phase(byref(handle)))
+        return int(self.call(self.library.likes_driver_phase))
 
     def snapshot(self, start: int = 0, length: Optional[int] = None) -> Optional[List[int]]:
         """The counts of the pages from start on, at the end of a joined phase that every seat has answered; or None."""
@@ -214,24 +203,21 @@ class Driver(Held):
         start = whole("start", start)
         length = max(0, self.pages - start) if length is None else whole("length", length)
         counts = (c_uint64 * (length + 1))()
-        with self.hold() as handle:
-            status = outcome(call(byref(handle), start, counts, length))
+        status = outcome(self.call(call, start, counts, length))
         return list(counts[:length]) if status == Status.COUNTED else None
 
     def split_pages(self, most: int = MAX_SPLIT) -> List[int]:
         """The pages that are split in the present split phase, or were in the last one."""
         most = whole("most", most)
         pages = (c_uint32 * (most + 1))()
-        with self.hold() as handle:
-            told = self.library.likes_driver_split_pages_nonnull(byref(handle), pages, most)
+        told = self.call(self.library.likes_driver_split_pages_nonnull, pages, most)
         return list(pages[:told])
 
     def propose(self, pages: Sequence[int]) -> None:
         """Proposes pages to be split, the first 64, in place of those that the library finds by itself. If there are
         none, it finds them again."""
         row = row_of("page", pages)
-        with self.hold() as handle:
-            check(self.library.likes_driver_propose_nonnull(byref(handle), row, len(pages)), Status.OK)
+        check(self.call(self.library.likes_driver_propose_nonnull, row, len(pages)), Status.OK)
 
     def close(self) -> None:
         """Frees the seats, the phase and the driver."""

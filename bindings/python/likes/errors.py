@@ -1,6 +1,6 @@
 """What is raised."""
 
-from .statuses import FIRST_ERROR, Status
+from .statuses import FIRST_ERROR, STATUSES, Status
 
 
 class Refused(Exception):
@@ -22,7 +22,7 @@ def outcome(number: int) -> Status:
     """An outcome as a Status. An error is raised."""
     if number >= FIRST_ERROR:
         raise Refused(number)
-    return Status(number)
+    return STATUSES[number]
 
 
 def check(number: int, wanted: Status) -> None:

@@ -1,15 +1,16 @@
 """Rows of requests."""
 
-import ctypes
 import struct
 from ctypes import byref
 from typing import Any, List, NamedTuple, Optional, Sequence, Tuple, Union
 
 from .library import Answer, Request, last_of, whole
-from .statuses import Status
+from .statuses import STATUSES, Status
 
-# A Request from a tag, a user, a page and an op.
-REQUEST = struct.Struct("=QIII4x")
+# A Request from a tag, a user, a page and an op; a count, a last like and a status from an Answer.
+REQUEST, ANSWER = struct.Struct("=QIII4x"), struct.Struct("=QII")
+
+SEEN, WAITS = int(Status.SEEN), int(Status.WAITS)
 
 # An op, a user and a page.
 Asked = Tuple[int, int, int]
@@ -31,11 +32,6 @@ def seen(look: Any) -> Seen:
     return Seen(last_of(look.last), look.count)
 
 
-def told(answer: Any) -> Told:
-    """What an answer tells."""
-    return seen(answer) if answer.status == Status.SEEN else Status(answer.status)
-
-
 class Row:
     """A row of requests, of which some are done, and of these some wait. The tag of a request is its place."""
 
@@ -53,16 +49,22 @@ class Row:
                 whole(name, value)
             raise
 
-    def run_on(self, library: Any, seat: Any) -> List[Told]:
-        """Runs what is left at a seat, and gives the answers of what was done."""
-        left, begun = self.length - self.done, self.done
-        rows = byref(self.rows, begun * ctypes.sizeof(Request))
-        room = byref(self.answers, begun * ctypes.sizeof(Answer))
-        self.done += library.likes_seat_run_nonnull(byref(seat), rows, left, room, left)
-        answers = [told(self.answers[at]) for at in range(begun, self.done)]
-        self.waits += answers.count(Status.WAITS)
-        return answers
+    def left(self) -> Tuple[Any, int, Any, int]:
+        """What is left of it: the requests and places for their answers, as C takes them."""
+        length = self.length - self.done
+        rows, room = byref(self.rows, self.done * REQUEST.size), byref(self.answers, self.done * ANSWER.size)
+        return rows, length, room, length
+
+    def note(self, done: int) -> List[Told]:
+        """Notes that so many were done, and gives their answers."""
+        first, self.done = self.done, self.done + done
+        answers = memoryview(self.answers).cast("B")[first * ANSWER.size : self.done * ANSWER.size]
+        told: List[Told] = []
+        for count, last, status in ANSWER.iter_unpack(answers):
+            told.append(Seen(last_of(last), count) if status == SEEN else STATUSES[status])
+            self.waits += status == WAITS
+        return told
 
     def stopped(self) -> Optional[Status]:
         """Why it stopped before its end: BETWEEN or NO_ROOM."""
-        return Status(self.answers[self.done].status) if self.done < self.length else None
+        return STATUSES[self.answers[self.done].status] if self.done < self.length else None

@@ -110,8 +110,7 @@ class Likes:
     @staticmethod
     def go_on(seat: Seat, row: Row, told: List[Told]) -> bool:
         """Runs what is left of a row, and takes what was found. Whether all is answered."""
-        with seat.hold() as handle:
-            told += row.run_on(seat.library, handle)
+        told += seat.run_on(row)
         seat.turn()
         while (found := seat.take_found()) is not None:
             told[found.tag] = seen(found)

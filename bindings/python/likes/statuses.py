@@ -70,5 +70,6 @@ class End(IntEnum):
     YES = 2
 
 
+STATUSES = {status.value: status for status in Status}
 LIKED = Status.LIKED
 LIKE, LOOK, GLANCE = Op.LIKE, Op.LOOK, Op.GLANCE
