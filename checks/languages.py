@@ -21,9 +21,12 @@ a like of an unknown user: unknown user
 POOL = b"a like of page 4: unknown page\ntotals: [53344 53344 53312 0]\n"
 
 # What the drawn calls are answered between them.
-ANSWERS = """ok, liked, seen, waits, runs, between, no room, gone, goes on, announced, not all in, released, ended, counted,
-    no moment, not ended, all taken, unknown user, other seat, unknown page, wrong range, wrong pages, wrong marks,
-    wrong count, wrong seats, wrong users, wrong room, wrong hot, wrong lasts""".split(",")
+ANSWERS = [
+    *["ok", "liked", "seen", "waits", "runs", "between", "no room", "gone", "goes on", "announced", "not all in"],
+    *["released", "ended", "counted", "no moment", "not ended", "all taken", "unknown user", "other seat"],
+    *["unknown page", "wrong range", "wrong pages", "wrong marks", "wrong count", "wrong seats", "wrong users"],
+    *["wrong room", "wrong hot", "wrong lasts"],
+]
 
 
 def is_same(text):
@@ -144,8 +147,8 @@ def of_same(live):
             live.wrong.append(f"the same calls, {by}: {live.said}")
         live.tell("the same calls", by)
     for answer in ANSWERS:
-        if not re.search(rf"(?m)\b{answer.strip()}\b", (right or b"").decode()):
-            live.wrong.append(f"no drawn call is answered {answer.strip()}")
+        if not re.search(rf"\b{answer}\b", (right or b"").decode()):
+            live.wrong.append(f"no drawn call is answered {answer}")
 
 
 def of_all(live):

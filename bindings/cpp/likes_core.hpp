@@ -1,6 +1,7 @@
 // The driver, the seats and the phase of likes.h as C++17 classes, which free themselves. Nothing here is proved.
 //
-// An outcome of likes.h is returned, and an error is thrown as likes::Error. One call at a time on each object, as in C.
+// An outcome of likes.h is returned, and an error is thrown as likes::Error. One call at a time is made on each object,
+// as in C.
 #pragma once
 
 #include <likes.h>

@@ -4,6 +4,7 @@ package likes
 import "C"
 
 import (
+	"math"
 	"sync"
 	"time"
 )
@@ -26,6 +27,18 @@ func (o *Options) numbers() C.likes_options {
 		room:  C.uint32_t(o.Room),
 		hot:   C.uint32_t(o.Hot),
 	}
+}
+
+// period is what C takes of the period, in microseconds: 0, which is refused, up to 2^32 - 1.
+func (o *Options) period() C.uint32_t {
+	length := o.Period.Microseconds()
+	if length < 0 {
+		return 0
+	}
+	if length > math.MaxUint32 {
+		return math.MaxUint32
+	}
+	return C.uint32_t(length)
 }
 
 // End says whether a turn may end the phase.
@@ -121,8 +134,8 @@ func (d *Driver) SplitPages(pages []uint32) []uint32 {
 	return pages[:C.likes_driver_split_pages(&d.c, pagesAt(pages), C.size_t(len(pages)))]
 }
 
-// Propose proposes pages to be split, the first 64, in place of those that the library finds by itself. Without pages it
-// finds them again.
+// Propose proposes pages to be split, the first 64, in place of those that the library finds by itself. Without pages
+// it finds them again.
 func (d *Driver) Propose(pages ...uint32) error {
 	d.mutex.Lock()
 	defer d.mutex.Unlock()

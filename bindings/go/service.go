@@ -2,8 +2,8 @@
 //
 // Most programs need a Service. One that changes phases by itself has OpenDriver.
 //
-// In a service, a goroutine for each seat collects what other goroutines ask for, and hands it over in rows of up to 64 requests. So
-// one call into C serves many requests, and no goroutine waits in C for a phase.
+// In a service, a goroutine for each seat collects what other goroutines ask for, and hands it over in rows of up to 64
+// requests. So one call into C serves many requests, and no goroutine waits in C for a phase.
 package likes
 
 /*
@@ -57,9 +57,9 @@ func Open(options Options, counts []uint64) (*Service, error) {
 	if service.c == nil {
 		return nil, NoMemory
 	}
-	numbers, period := options.numbers(), C.uint32_t(options.Period.Microseconds())
+	numbers := options.numbers()
 	told := C.likes_service_start(service.c, &numbers, countsAt(counts), C.size_t(len(counts)), pagesAt(options.Marks),
-		C.size_t(len(options.Marks)), pagesAt(options.Lasts), C.size_t(len(options.Lasts)), period)
+		C.size_t(len(options.Marks)), pagesAt(options.Lasts), C.size_t(len(options.Lasts)), options.period())
 	if err := wanted(told, OK); err != nil {
 		C.free(unsafe.Pointer(service.c))
 		return nil, err

@@ -2,6 +2,7 @@ package likes
 
 import (
 	"fmt"
+	"math"
 	"reflect"
 	"sync"
 	"testing"
@@ -105,6 +106,12 @@ func TestServiceRefusals(t *testing.T) {
 	if _, err := Open(Options{Seats: 1, Users: 1, Room: 1, Period: short}, nil); err != WrongPages {
 		t.Error(err)
 	}
+	for _, period := range []time.Duration{0, time.Nanosecond, -time.Hour} {
+		if _, err := Open(Options{Seats: 1, Users: 1, Room: 1, Period: period}, []uint64{0}); err != WrongPeriod {
+			t.Error(period, err)
+		}
+	}
+	start(t, Options{Seats: 1, Users: 1, Room: 1, Period: math.MaxUint32*time.Microsecond + 1000}, 0).Close()
 	service := start(t, Options{Seats: 2, Users: 3, Room: 4, Period: short}, 0)
 	defer service.Close()
 	if err := service.Like(3, 0); err != UnknownUser {

@@ -1,12 +1,12 @@
 package likes
 
-// #include <likes.h>
+// #include <likes_helpers.h>
 import "C"
 
 // Status is what calls answer: an outcome, or from Empty on an error.
 type Status uint32
 
-// The statuses of likes.h.
+// The statuses of likes.h, and from NoThread on those of likes_helpers.h.
 const (
 	OK            Status = C.LIKES_OK
 	Liked         Status = C.LIKES_LIKED
@@ -44,6 +44,12 @@ const (
 	WrongRoom     Status = C.LIKES_WRONG_ROOM
 	WrongHot      Status = C.LIKES_WRONG_HOT
 	WrongLasts    Status = C.LIKES_WRONG_LASTS
+	NoThread      Status = C.LIKES_NO_THREAD
+	WrongPeriod   Status = C.LIKES_WRONG_PERIOD
+	NotStarted    Status = C.LIKES_NOT_STARTED
+	Moved         Status = C.LIKES_MOVED
+	UnknownSeat   Status = C.LIKES_UNKNOWN_SEAT
+	LookLost      Status = C.LIKES_LOOK_LOST
 )
 
 // String is the name of a status, for messages.

@@ -169,7 +169,8 @@ func (it *service) found(seat *likes.Seat) {
 		fmt.Fprintln(out, "none")
 		return
 	}
-	fmt.Fprintln(out, "found", found.Tag, found.Count, found.Asked, found.Ran, found.User, found.Page, lastText(found.Last))
+	fmt.Fprint(out, "found ", found.Tag, " ", found.Count, " ", found.Asked, " ", found.Ran)
+	fmt.Fprintln(out, "", found.User, found.Page, lastText(found.Last))
 }
 
 func (it *service) lasts(number, from, length uint32) {
