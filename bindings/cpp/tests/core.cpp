@@ -189,7 +189,7 @@ static void like_often(likes::Seat seat, std::uint32_t user) {
 
 // Two threads like, each with its own seat, while phases change.
 static void threads() {
-    for (int rounds = 0; rounds < 50; rounds++) {
+    for (int rounds = 0; rounds < 20; rounds++) {
         Two two;
         std::vector<std::thread> all;
         for (std::uint32_t user = 0; user < 2; user++)

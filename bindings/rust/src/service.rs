@@ -1,5 +1,9 @@
 //! A service with a thread that changes its phases.
 
+mod lent;
+mod pace;
+mod shared;
+
 use std::sync::atomic::Ordering;
 use std::sync::Arc;
 use std::thread::{self, JoinHandle};
@@ -7,10 +11,11 @@ use std::time::Duration;
 
 use crate::answers::{unlisted, Error, Glance, Last, LastCounts, Like, Look, Seen, Snapshot, Turn};
 use crate::driver::End;
-use crate::lent::Lent;
 use crate::options::{Options, MAX_SPLIT};
-use crate::shared::{lock, Shared};
 use crate::status;
+
+pub use lent::Lent;
+use shared::{lock, Shared};
 
 /// A service whose phases a thread of its own changes. Threads share it by reference or in an [`Arc`].
 ///

@@ -228,7 +228,7 @@ fn a_seat_is_dropped_between_phases() {
 /// Four threads like, each with its own seat, which it drops at its end.
 #[test]
 fn seats_are_dropped_while_phases_change() {
-    for _ in 0..50 {
+    for _ in 0..20 {
         let (mut driver, seats) = open(&Options { marks: &[0], ..Options::new(4, 4) }, &[0, 0]);
         thread::scope(|scope| {
             for (user, mut seat) in (0..4).zip(seats) {

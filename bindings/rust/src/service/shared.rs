@@ -7,10 +7,10 @@ use std::time::Duration;
 
 use crate::answers::{unlisted, Error, Seen, Turn};
 use crate::driver::Driver;
-use crate::lent::Place;
 use crate::options::Options;
-use crate::pace::Pace;
 use crate::phase::Phase;
+use crate::service::lent::Place;
+use crate::service::pace::Pace;
 use crate::status;
 
 /// How often a call tries again at once while its seat is between phases, before it yields the processor.

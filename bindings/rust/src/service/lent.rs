@@ -5,7 +5,7 @@ use std::collections::{HashMap, VecDeque};
 use crate::answers::{Error, Glance, Last, Like, Look, Seen, State};
 use crate::rows::{Answer, Found, Request};
 use crate::seat::Seat;
-use crate::shared::{Desk, Shared};
+use crate::service::shared::{Desk, Shared};
 
 /// Who asked a look that waits.
 enum Asker {
