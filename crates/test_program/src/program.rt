@@ -7,7 +7,7 @@ use like_program::serve_words;
 use std::alloc::Global;
 use std::fs;
 use std::fs::Files;
-use std::io::{Read, Write};
+use std::io::{Input, Write};
 use std::process::Abort;
 use std::rt::Clock;
 use std::sync::Wait;
@@ -24,7 +24,7 @@ fn texts(rt: &impl Abort, alloc: Global, text: &str) -> Vec<String> {
 }
 
 // The status in which words end.
-fn served<R: Files + Threads + Wait + Abort + Clock + Sync, W: Write>(
+fn served<R: Files + Input + Threads + Wait + Abort + Clock + Sync, W: Write>(
     rt: &R,
     alloc: Global,
     words: &str,
@@ -32,7 +32,8 @@ fn served<R: Files + Threads + Wait + Abort + Clock + Sync, W: Write>(
     errors: &mut Vec<u8>,
 ) -> u8
 where
-    R::File: Read + Drop + Send,
+    R::File: Send,
+    R::Reader: Send,
 {
     let words = texts(rt, alloc, words);
     serve_words(rt, alloc, &words, out, errors)
@@ -81,13 +82,14 @@ fn assert_end(rt: &impl Abort, start: &str, status: u8, out: &[u8], errors: &[u8
 }
 
 // Asserts what a start ends in with its files.
-fn assert_start<R: Files + Threads + Wait + Abort + Clock + Sync>(
+fn assert_start<R: Files + Input + Threads + Wait + Abort + Clock + Sync>(
     rt: &R,
     alloc: Global,
     start: &str,
 )
 where
-    R::File: Read + Drop + Send,
+    R::File: Send,
+    R::Reader: Send,
 {
     place_files(rt, cell(start, 1), true);
     let (mut out, mut errors) = (Vec::new(alloc), Vec::new(alloc));
@@ -104,7 +106,7 @@ fn ends_of_starts(rt: HostRuntime) {
 }
 
 // Asserts what words end in on an output of one byte a write, of which so many succeed: the line and the status.
-fn assert_told<R: Files + Threads + Wait + Abort + Clock + Sync>(
+fn assert_told<R: Files + Input + Threads + Wait + Abort + Clock + Sync>(
     rt: &R,
     alloc: Global,
     words: &str,
@@ -114,7 +116,8 @@ fn assert_told<R: Files + Threads + Wait + Abort + Clock + Sync>(
     status: u8,
 )
 where
-    R::File: Read + Drop + Send,
+    R::File: Send,
+    R::Reader: Send,
 {
     let mut out = Narrow::new(1, writes, flushes);
     let mut errors = Vec::new(alloc);
@@ -126,13 +129,14 @@ where
 }
 
 // How many bytes words write.
-fn length_of<R: Files + Threads + Wait + Abort + Clock + Sync>(
+fn length_of<R: Files + Input + Threads + Wait + Abort + Clock + Sync>(
     rt: &R,
     alloc: Global,
     words: &str,
 ) -> usize
 where
-    R::File: Read + Drop + Send,
+    R::File: Send,
+    R::Reader: Send,
 {
     let (mut out, mut errors) = (Vec::new(alloc), Vec::new(alloc));
     served(rt, alloc, words, &mut out, &mut errors);

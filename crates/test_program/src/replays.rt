@@ -74,6 +74,7 @@ pub fn options_of(
         places: settings.contains("places"),
         totals: settings.contains("totals"),
         summary: false,
+        progress: false,
         pages: owned(rt, alloc, "p.csv"),
         requests: names(rt, alloc, files),
         script: script_name(rt, alloc, is_scripted),
