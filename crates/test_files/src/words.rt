@@ -20,20 +20,29 @@ fn asked(alloc: Global, text: &str) -> Result<Asked, ParseFault> {
 // Words and what they ask for, as `Debug` shows it: all of it where a point ends it, and otherwise how it begins. The
 // least and the greatest value of each option are among them.
 const ASKED: &str = "\
-replay p.csv r.csv => Ok(Replay(Options { workers: 4, users: 1000, stash: 256, turns: 1000, hot: None, places: false, totals: false, summary: false, \
+replay p.csv r.csv => Ok(Replay(Options { workers: 4, users: 1000, stash: 256, turns: 1000, hot: None, places: false, totals: false, summary: false, progress: false, \
 pages: \"p.csv\", requests: [\"r.csv\"], script: None })).
 replay --stash 7 --workers 2 p.csv a.csv b.csv => \
-Ok(Replay(Options { workers: 2, users: 1000, stash: 7, turns: 1000, hot: None, places: false, totals: false, summary: false, \
+Ok(Replay(Options { workers: 2, users: 1000, stash: 7, turns: 1000, hot: None, places: false, totals: false, summary: false, progress: false, \
 pages: \"p.csv\", requests: [\"a.csv\", \"b.csv\"], script: None })).
 replay p.csv --turns=0 a.csv --places --users=9 --script s.csv => \
-Ok(Replay(Options { workers: 4, users: 9, stash: 256, turns: 0, hot: None, places: true, totals: false, summary: false, \
+Ok(Replay(Options { workers: 4, users: 9, stash: 256, turns: 0, hot: None, places: true, totals: false, summary: false, progress: false, \
 pages: \"p.csv\", requests: [\"a.csv\"], script: Some(\"s.csv\") })).
 run p.csv r.csv => \
-Ok(Run(Options { workers: 4, users: 1000, stash: 256, turns: 1000, hot: None, places: false, totals: false, summary: false, \
+Ok(Run(Options { workers: 4, users: 1000, stash: 256, turns: 1000, hot: None, places: false, totals: false, summary: false, progress: false, \
 pages: \"p.csv\", requests: [\"r.csv\"], script: None })).
-run --workers=16 --places p.csv --turns 0 a.csv --hot 9 b.csv --totals --summary => \
-Ok(Run(Options { workers: 16, users: 1000, stash: 256, turns: 0, hot: Some(9), places: true, totals: true, summary: true, \
+run --workers=16 --places p.csv --turns 0 a.csv --hot 9 b.csv --totals --summary --progress => \
+Ok(Run(Options { workers: 16, users: 1000, stash: 256, turns: 0, hot: Some(9), places: true, totals: true, summary: true, progress: true, \
 pages: \"p.csv\", requests: [\"a.csv\", \"b.csv\"], script: None })).
+run -w 2 -u9 p.csv -s=7 a.csv -t 0 => \
+Ok(Run(Options { workers: 2, users: 9, stash: 7, turns: 0, hot: None, places: false, totals: false, summary: false, progress: false, \
+pages: \"p.csv\", requests: [\"a.csv\"], script: None })).
+--help => Ok(Help(\"
+help => Ok(Help(\"
+help run => Ok(Help(\"
+run -h => Ok(Help(\"
+--version => Ok(Help(\"likes 0.4 (logic dac8208d650f15bf)\\n\")).
+-V => Ok(Help(\"likes 0.4 (logic dac8208d650f15bf)\\n\")).
 replay --workers=1 p.csv r.csv => Ok(Replay(
 replay --workers=16 p.csv r.csv => Ok(Replay(
 replay --users=1 p.csv r.csv => Ok(Replay(
@@ -66,7 +75,13 @@ const WRONG: &[&str] = &[
     "walk p.csv r.csv",
     "run",
     "run p.csv",
-    "help",
+    "help walk",
+    "help help",
+    "run --version",
+    "run help",
+    "run -w 17 p.csv r.csv",
+    "run -w 2 --workers 2 p.csv r.csv",
+    "run -x p.csv r.csv",
     "p.csv r.csv",
     "replay",
     "replay p.csv",
@@ -81,6 +96,7 @@ const WRONG: &[&str] = &[
     "run p.csv r.csv --totals=yes",
     "replay --summary --summary p.csv r.csv",
     "run p.csv r.csv --summary=yes",
+    "run --progress p.csv r.csv --progress",
     "replay --speed 9 p.csv r.csv",
     "replay p.csv r.csv --script",
 ];

@@ -6,8 +6,6 @@ mod again;
 #[cfg(test)]
 mod batches;
 #[cfg(test)]
-mod choice;
-#[cfg(test)]
 mod ends;
 #[cfg(test)]
 mod memory;

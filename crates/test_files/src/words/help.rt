@@ -49,20 +49,22 @@ const COLUMNS: &[&str] = &[
     "unknown-user",
     "other-home",
     "unknown-page",
-    "--workers <N>",
-    "--users <U>",
-    "--stash <C>",
-    "--turns <T>",
+    "-w, --workers <N>",
+    "-u, --users <U>",
+    "-s, --stash <C>",
+    "-t, --turns <T>",
     "--hot <H>",
     "--places",
     "--totals",
+    "--summary",
+    "--progress",
 ];
 
 // What a script is, of a replay alone.
 const SCRIPT: &[&str] = &["--script <FILE>", "open,S", "worker,W", "coordinator,0"];
 
 // The words and statuses.
-const WORDS: &[&str] = &["run", "replay", "0", "2", "3", "4", "5"];
+const WORDS: &[&str] = &["run", "replay", "-V, --version", "0", "2", "3", "4", "5"];
 
 // Words, and whether the help that they ask for explains each item of a list.
 const EXPLAINED: &[(&str, &[&str], bool)] = &[
@@ -117,6 +119,25 @@ fn says_the_headers_and_the_defaults(rt: HostRuntime) {
     for words in &["run --help", "replay --help"] {
         let text = help(&rt, rt.alloc(), *words);
         assert_says(&rt, &text, headers_and_defaults());
+    }
+}
+
+// Words that ask for help with `help` in front, and others that ask for the same.
+const ALIKE: &[(&str, &str)] = &[
+    ("help", "--help"),
+    ("help", "-h"),
+    ("help run", "run --help"),
+    ("help replay", "replay --help"),
+];
+
+#[test]
+fn is_asked_for_by_a_word_too(rt: HostRuntime) {
+    for (words, others) in ALIKE {
+        let (text, other) = (
+            help(&rt, rt.alloc(), *words),
+            help(&rt, rt.alloc(), *others),
+        );
+        assert_that(&rt, text == other, *words);
     }
 }
 
