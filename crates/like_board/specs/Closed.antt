@@ -16,7 +16,7 @@ pub record HasAllBack (v : View) (c : CoordSeatView) (seats : List WorkerSeat) :
   pub made : c.made ≡ c.opening.workers
   pub all : AreAll c.opening.workers seats
 
--- what is known then: how many pages the board has, and how the steps of all seats fit together
+-- what is known of a closed board: how many pages it has, and how the steps of all seats fit together
 pub record IsClosed (c : CoordSeatView) (seats : List WorkerSeat) : Type 0 where
   pub few_pages : length c.opening.counts < 2 ^ 32
   -- no worker saw a greater number than the coordinator's phase
@@ -44,7 +44,7 @@ pub record IsClosedBoard (c : CoordSeatView) (seats : List WorkerSeat) (counts :
   pub totals : (page : ℕ) → page < length counts → slice_index counts page ≡ last_count c.opening seats page
   pub closed : IsClosed c seats
 
--- what a read of a word tells then: that, and the last count of the page whose word it is
+-- what a read of a word tells once all seats are back: what is known of a closed board, and a page's last count
 pub record TellsLast (word : ℕ) (v : View) (found : ℕ) : Type 0 where
   pub closed : (c : CoordSeatView) (seats : List WorkerSeat) → HasAllBack v c seats → IsClosed c seats
   pub count : (c : CoordSeatView) (seats : List WorkerSeat) → HasAllBack v c seats

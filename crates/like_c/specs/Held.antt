@@ -34,8 +34,7 @@ use Rattle.like_c.specs.Opened.{IsOpenedAs, asked_of}
 use Rattle.like_c.specs.Status.{driver_status, last_status, like_status, open_status, snapshot_status, turn_status, verdict_status}
 use Rattle.like_c.specs.Status as status
 
--- a call of a handle: where that is empty, this is so, and it stays empty; where it holds something, the call does this
--- to it
+-- a call of a handle: for an empty one this is so, and it stays empty; to what any other holds the call does this
 pub data At {A : Type 0} (empty : Type 0) (does : A → A → Type 0) (at after : Option A) : Type 0 where
   at_none : at ≡ None → empty → after ≡ None → At empty does at after
   at_some : (x y : A) → at ≡ Some x → does x y → after ≡ Some y → At empty does at after
@@ -121,7 +120,7 @@ pub data GivesLasts (v : LiveView) (from : ℕ) (old : List ℕ) (result : ℕ) 
   gives_lasts : from + length old ≤ users_of v → result ≡ status.ok
       → length pages ≡ length old → AreLastsAt v from pages → GivesLasts v from old result pages
 
--- they are asked for, and the seat stays as it is
+-- the last likes of a range of users are asked for, and the seat stays as it is
 abbrev pub LastLikesAt : ℕ → Option BoxedSeat → List ℕ → ℕ → List ℕ → Option BoxedSeat → Type 0
 LastLikesAt from at old result pages after =
     At ((result ≡ status.empty) × (pages ≡ old)) (λ s t. (t ≡ s) × GivesLasts s.seat from old result pages) at after

@@ -43,7 +43,7 @@ most_phase Counts = 2 ^ 48 - 2
 abbrev pub has_slots : Limits → Bool
 has_slots l = nat_lt hot_pages l.hot
 
--- limits that an opening may have
+-- lawful limits: the last phase is joined, the phase word has room, a page's number has 32 bits, and no count can wrap
 pub record AreLimits (l : Limits) : Type 0 where
   pub joined : IsJoined l.last_phase
   -- the phase word has room for the phases and the seats

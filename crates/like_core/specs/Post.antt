@@ -12,7 +12,7 @@ use Rattle.like_core.specs.Phase.{IsSplit, is_marked, split_by}
 use Rattle.like_core.specs.PhaseMasks.{mask_of, HasMask}
 use Rattle.like_core.specs.WorkerState.{IsRunning, SawEnding, phase_of, seen}
 
--- what a post means
+-- a post: its board and worker, its worker's state, and all that it has seen, added, read and glanced at
 pub record PostView : Type 0 where
   -- the numbers that tell its board from others
   pub board : List ℕ
@@ -103,7 +103,7 @@ has_glanced v page count =
 abbrev pub with_mask : PostView → ℕ → PostView
 with_mask v mask = record v { masks = record { phase = phase_of v.state; mask = mask } ∷ v.masks }
 
--- n may be added to the page
+-- n likes may be added to the page: 1 if it isn't sliced; if it is, some, once the end of the phase was seen
 pub record MayAdd (v : PostView) (page n : ℕ) : Type 0 where
   pub runs : IsRunning v.state
   pub there : page < pages_of v

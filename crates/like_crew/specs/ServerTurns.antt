@@ -13,8 +13,7 @@ use Rattle.like_crew.specs.Server.{ServerView}
 abbrev pub place_at : ServerView → ℕ → ℕ
 place_at s submitter = place_of s.worker.last.share.workers submitter
 
--- a whole turn of a server: its worker's turn; and where that tries a submitter, what the inbox of that one hands over is
--- given to it
+-- a whole turn of a server: its worker's turn; if that tries a submitter, it is given what that inbox hands over
 pub data ServerTurns (answer : Turn) (s t : ServerView) : Type 0 where
   tries_none : Turns s.worker answer t.worker → t.worker.pending ≡ None
       → t ≡ record s { worker = t.worker } → ServerTurns answer s t

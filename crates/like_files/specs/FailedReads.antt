@@ -18,7 +18,7 @@ abbrev pub TellsPlanRead : {R : Type 0} → List R → DriverFault → Type 0
 TellsPlanRead requests (Requests submitter fault) = fault ≡ requests_fault.Read → FailedAt requests submitter
 TellsPlanRead requests fault = ⊤
 
--- where the fault is a failed read of a file, a read of the file that it names failed
+-- if the fault says that a read of a file failed, one failed of the file that it names
 abbrev pub TellsRead : {R : Type 0} → R → List R → Option R → DriverFault → Type 0
 TellsRead pages requests script (Pages fault) = fault ≡ pages_fault.Read → ReadFailed pages
 TellsRead pages requests script (Script fault) =

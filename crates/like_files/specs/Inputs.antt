@@ -127,8 +127,8 @@ RefusesLists file files (driver.Pages fault) = RefusesPages file fault
 RefusesLists file files (driver.Requests submitter fault) = PlansRefused file files (driver.Requests submitter fault)
 RefusesLists file files fault = ⊥
 
--- the text of a report was written that is right end to end; its places are right where they are asked for, and else there
--- are none; this is what is said of it: its summary where one is asked for, or else its refused requests
+-- the text of a right report was written, with right places if they are asked for, else with none; what is said of it
+-- is its summary if one is asked for, else its refused requests
 pub record WritesReport (options : Options) (setup : Setup) (plans : List (List Request))
     (old new : Option (List ℕ)) (notice : Option Notice) : Type 0 where
   pub report : Report

@@ -42,7 +42,7 @@ asks_end No v = false
 asks_end IfItServes v = (v.lead.seat.phase % 2 == 1) || would_split v.splits
 asks_end Always v = true
 
--- it gives slots to the pages that are proposed, and publishes them
+-- the driver gives slots to the pages that are proposed, and publishes them
 pub record PublishesSlots (v after : DriverView) : Type 0 where
   pub chooses : Chooses v.splits.slots v.splits.proposed after.splits.slots
   pub lawful : AreSlots after.splits.slots
@@ -68,7 +68,7 @@ pub record IsDue (v : DriverView) (end : End) : Type 0 where
 abbrev pub ProposesPages : DriverView → DriverView → Type 0
 ProposesPages v after = after ≡ record v { splits = record v.splits { proposed = after.splits.proposed } }
 
--- it asks its choice before it ends a split phase, and before it ends a joined one in which nothing is proposed yet
+-- the driver asks its choice before it ends a split phase, or a joined one in which nothing is proposed yet
 abbrev pub MustPropose : DriverView → Type 0
 MustPropose v = IsSplit v.lead.seat.phase ⊎ (would_split v.splits ≡ false)
 
@@ -124,7 +124,7 @@ pub data SnapshotCase (v : LeadView) (sight : CoordSight) (from : ℕ) (old : Li
   not_now : ¬ IsBoundary v sight → phase ≡ None → counts ≡ old → after ≡ v
       → SnapshotCase v sight from old phase after counts
 
--- it looks, and reads the counts where it may; there is a moment at which this is what it knows after that
+-- the driver looks, and reads the counts if it may; there is a moment at which this is what it knows after that
 pub record ReadsBoundary (v : LeadView) (from : ℕ) (old : List ℕ) (phase : Option ℕ) (after : LeadView)
     (counts : List ℕ) : Type 0 where
   pub sight : CoordSight
@@ -141,8 +141,8 @@ pub data TakesSnapshot (v : DriverView) (from : ℕ) (old : List ℕ) (phase : O
   none_once_over : v.is_over ≡ true → phase ≡ None → counts ≡ old → after ≡ v
       → TakesSnapshot v from old phase after counts
 
--- it looks whether all seats have left a joined phase that is ending. If nobody announced its end, it does so, unless
--- the phase is a service's last, and looks again: while a phase is ending, no seat that has left comes back
+-- the driver looks whether all seats have left a joined phase that is ending. If nobody announced its end, it does so,
+-- unless the phase is a service's last, and looks again
 pub data LooksForEnd (v : LeadView) (is_end : Bool) (after : LeadView) : Type 0 where
   goes_on : (sight : CoordSight) → Sees v sight after → ¬ IsLeft after sight
       → is_end ≡ false → LooksForEnd v is_end after
@@ -162,8 +162,8 @@ pub record AreLastCounts (v : LeadView) (from : ℕ) (counts : List ℕ) : Type 
   pub totals : (i : ℕ) → i < length counts
       → slice_index counts i ≡ count_after v.seat.opening.counts end.moment.views (from + i)
 
--- where it sees the end, it reads the counts of the pages from this one on, and they are last counts; or nothing is
--- written
+-- if the driver sees the end, it reads the counts of the pages from this one on, and they are last counts; else nothing
+-- is written
 pub data ReadsLast (v : LeadView) (from : ℕ) (old : List ℕ) (is_done : Bool) (after : LeadView) (counts : List ℕ)
     : Type 0 where
   not_ended : LooksForEnd v false after → is_done ≡ false → counts ≡ old → ReadsLast v from old is_done after counts

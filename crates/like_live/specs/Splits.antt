@@ -31,7 +31,7 @@ MayPropose s after = after ≡ record s { proposed = after.proposed }
 abbrev pub SawRunning : CoordSeatView → Type 0
 SawRunning c = IsSomeAnd c.last (λ sight. sight.ending ≡ false)
 
--- its choice was asked: where it is told which pages to propose, these are proposed now
+-- the driver's choice was asked: if it is told which pages to propose, these are proposed now
 pub record Proposes (s after : SplitsView) : Type 0 where
   pub told : s.told ≢ [] → after.proposed ≡ s.told
   pub rest : MayPropose s after

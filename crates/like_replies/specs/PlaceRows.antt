@@ -23,7 +23,7 @@ page_place_rows pages page places = map (place_row pages page) places
 abbrev pub place_rows : List Page → List (List Place) → List (List (List ℕ))
 place_rows pages rows = flat_map (λ p. page_place_rows pages p.0 p.1) (enumerate_from 0 rows)
 
--- the text of a report, or of its totals alone, and behind it, where they are asked for, the rows of its places
+-- the text of a report, or of its totals alone; the rows of its places follow if they are asked for
 abbrev pub text_of : Extent → List Page → Report → List ℕ
 text_of extent pages report =
     report_text pages (shown_of extent.totals report)

@@ -22,7 +22,7 @@ refused_of row = count_by (λ a. is_refusal a.reply) row
 abbrev pub refused_in : Replies → ℕ
 refused_in replies = sum_by (λ row. refused_of row.items) replies.rows.items
 
--- the refused requests of a report
+-- how many requests a report refuses, in all and for each reason
 abbrev pub refusals_of : Report → Refusals
 refusals_of r = record {
   requests = requests_in r.replies;

@@ -16,7 +16,7 @@ requests_in replies = sum_by (λ row. length row.items) replies.rows.items
 abbrev pub answered_in : List ℕ → List Answer → ℕ
 answered_in word row = count_by (λ a. bytes_eq (answer_word a.reply) word) row
 
--- how many replies have it
+-- how many replies have this answer
 abbrev pub answered : List ℕ → Replies → ℕ
 answered word replies = sum_by (λ row. answered_in word row.items) replies.rows.items
 

@@ -44,7 +44,7 @@ pub record IsSightOf (c : CoordSeatView) (sight : CoordSight) : Type 0 where
 abbrev pub saw_word : LeadView → ℕ → CoordSight → LeadView
 saw_word v word sight = record v { seat = looked_coord v.seat word sight }
 
--- it looks, and sees this: the look is the event of the core, and there is a moment at which its seat knows this
+-- a lead looks, and sees this: the look is the core's event, and there is a moment at which its seat knows this
 pub record Sees (v : LeadView) (sight : CoordSight) (after : LeadView) : Type 0 where
   pub shows : IsSightOf v.seat sight
   pub event : Surveys v.seat sight after.seat
@@ -81,8 +81,8 @@ has_risen least before counts page =
 abbrev pub risen : ℕ → List ℕ → List ℕ → ℕ
 risen least before counts = mask (has_risen least before counts) (length before)
 
--- it chooses the hot pages of the split phase that comes next, and this is their mask: none where none are to be hot;
--- else it reads the counts of the pages that may be, chooses those whose counts rose enough, and keeps the counts
+-- a lead chooses the hot pages of the next split phase, and this is their mask: none if none are to be hot, else those
+-- whose counts rose by enough, of the counts that it reads and keeps
 pub data ChoosesRisen (v : LeadView) (m : ℕ) (after : LeadView) : Type 0 where
   none_asked : v.hot ≡ None → m ≡ 0 → after ≡ v → ChoosesRisen v m after
   those_risen : (least : ℕ) (counts : List ℕ) → v.hot ≡ Some least → length counts ≡ length v.before
@@ -104,7 +104,7 @@ abbrev pub HoldPages : List ℕ → List ℕ → ℕ → ℕ → Type 0
 HoldPages slots pages bits many =
     (slot : ℕ) → slot < many → has_bit bits slot ≡ true → slice_index slots slot ≡ slice_index pages slot
 
--- it puts these pages into the slots in use, and publishes their mask
+-- a lead puts these pages into slots, and publishes their mask
 pub record PublishesChoice (v : LeadView) (pages : List ℕ) (bits : ℕ) (after : LeadView) : Type 0 where
   pub all : length after.seat.slots ≡ hot_pages
   pub holds : HoldPages after.seat.slots pages bits hot_pages

@@ -40,7 +40,7 @@ saw_at post sight mask = record (looked_at post sight) {
 abbrev pub saw : {W : Type 0} → StationView W → Sight → ℕ → StationView W
 saw s sight mask = record s { post = saw_at s.post sight mask }
 
--- it looks, and sees this
+-- a worker's seat looks, and sees this
 abbrev pub Looks : {W : Type 0} → StationView W → Sight → StationView W → Type 0
 Looks s sight after = (mask : ℕ) × (after ≡ saw s sight mask)
 

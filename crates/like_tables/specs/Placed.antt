@@ -7,7 +7,7 @@ use Rattle.like_tables.specs.Share.{Share, owned_below, owns}
 abbrev pub placed_at : Share → ℕ → Placed
 placed_at s user = record { user = user; place = owned_below s user }
 
--- the same, if the user is the share's
+-- a user with its place in its worker's table, if the user is the share's
 abbrev pub placed_in : Share → ℕ → Option Placed
 placed_in s user = if owns s user then Some (placed_at s user) else None
 

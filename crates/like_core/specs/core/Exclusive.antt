@@ -18,7 +18,7 @@ abbrev pub IsExclusive : CoreState → Type 0
 IsExclusive s =
     (i phase : ℕ) → s.state i ≡ Runs phase → IsJoined phase → NoneUnmerged s × NoneRunsSplit s
 
--- the state is in phase
+-- the state is in phase: what each event keeps, and what makes it exclusive
 pub record IsInPhase (z : Opening) (s : CoreState) : Type 0 where
   -- who runs a phase runs the present one
   pub runs : (i phase : ℕ) → s.state i ≡ Runs phase → phase ≡ s.phase

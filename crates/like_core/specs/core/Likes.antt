@@ -21,7 +21,7 @@ pub record MayLike (z : Opening) (s : CoreState) (more : ℕ → List ℕ) : Typ
   pub splits : (i page : ℕ) → 0 < times page (more i) → is_split_now z s page ≡ true
   pub totals : (page : ℕ) → total (numbers z (given s more)) page < total_bound
 
--- a state that can be reached can also be reached with such likes
+-- a state that can be reached stays so with unmerged likes of split pages at workers that run the phase
 abbrev pub LikesStayReachable : Type 0
 LikesStayReachable =
     (z : Opening) (s : CoreState) (more : ℕ → List ℕ)

@@ -14,32 +14,32 @@ use Rattle.like_core.specs.views.Shows.{IsStep, IsSteps}
 abbrev pub Looks : WorkerSeatView → Sight → WorkerSeatView → Type 0
 Looks v sight w = IsStep v.opening (Look v.worker) (Seen sight) (Worker v) (Worker w)
 
--- it acknowledges the end of a joined phase
+-- the worker acknowledges the end of a joined phase
 abbrev pub Acknowledges : WorkerSeatView → WorkerSeatView → Type 0
 Acknowledges v w = IsStep v.opening (Acknowledge v.worker) Done (Worker v) (Worker w)
 
--- it reports the end of a split phase
+-- the worker reports the end of a split phase
 abbrev pub Reports : WorkerSeatView → WorkerSeatView → Type 0
 Reports v w = IsStep v.opening (Report v.worker) Done (Worker v) (Worker w)
 
--- it retires
+-- the worker retires
 abbrev pub Retires : WorkerSeatView → WorkerSeatView → Type 0
 Retires v w = IsStep v.opening (Retire v.worker) Done (Worker v) (Worker w)
 
--- it adds n to a page's count, which was this before
+-- the worker adds n to a page's count, which was this before
 abbrev pub Adds : WorkerSeatView → ℕ → ℕ → ℕ → WorkerSeatView → Type 0
 Adds v page n count w =
     IsSteps v.opening (likes_merged v page n) (adding v page) (Old count) (Worker v) (Worker w)
 
--- it reads a page's count, which is this
+-- the worker reads a page's count, which is this
 abbrev pub Reads : WorkerSeatView → ℕ → ℕ → WorkerSeatView → Type 0
 Reads v page count w = IsStep v.opening (Read v.worker page) (Count count) (Worker v) (Worker w)
 
--- it glances at a page's count, which is this
+-- the worker glances at the count of a page that is sliced, which is this
 abbrev pub Glances : WorkerSeatView → ℕ → ℕ → WorkerSeatView → Type 0
 Glances v page count w = IsStep v.opening (Glance v.worker page) (Count count) (Worker v) (Worker w)
 
--- it reads the mask of its phase's hot pages, which is this
+-- the worker reads the mask of its phase's hot pages, which is this
 abbrev pub ReadsMask : WorkerSeatView → ℕ → WorkerSeatView → Type 0
 ReadsMask v mask w = IsStep v.opening (Hot v.worker) (HotShown mask) (Worker v) (Worker w)
 
@@ -47,14 +47,14 @@ ReadsMask v mask w = IsStep v.opening (Hot v.worker) (HotShown mask) (Worker v) 
 abbrev pub Surveys : CoordSeatView → CoordSight → CoordSeatView → Type 0
 Surveys c sight d = IsStep c.opening CoordLook (CoordShown sight) (Coord c) (Coord d)
 
--- it reads a page's count, which is this
+-- the coordinator reads a page's count, which is this
 abbrev pub Counts : CoordSeatView → ℕ → ℕ → CoordSeatView → Type 0
 Counts c page count d = IsStep c.opening (CoordRead page) (Count count) (Coord c) (Coord d)
 
--- it announces the end of the phase
+-- the coordinator announces the end of the phase
 abbrev pub Announces : CoordSeatView → CoordSeatView → Type 0
 Announces c d = IsStep c.opening Announce Done (Coord c) (Coord d)
 
--- it releases the next phase, a split one with the mask that it published last
+-- the coordinator releases the next phase, a split one with the mask that it published last
 abbrev pub Releases : CoordSeatView → CoordSeatView → Type 0
 Releases c d = IsStep c.opening (Release (mask_released c)) Done (Coord c) (Coord d)

@@ -70,7 +70,7 @@ pub record KnowsSeats (z : Opening) (s : CoreState) (c : CoordSeatView) : Type 0
   pub joined : (place : ℕ) (v : WorkerSeatView) → get_elem? c.joined place ≡ some v
       → FitsWorker z s v
 
--- what it knows of the phase is true
+-- what the coordinator knows of the phase is true
 pub record KnowsPhase (z : Opening) (s : CoreState) (c : CoordSeatView) : Type 0 where
   pub present : c.phase ≡ s.phase
   pub ending : c.ending ≡ s.ending
@@ -85,7 +85,7 @@ pub record KnowsPhase (z : Opening) (s : CoreState) (c : CoordSeatView) : Type 0
   -- if all are gone in a split phase, the last sight before its release showed that
   pub gone : IsSplit s.phase → AllGone (numbers z s) → c.gone ≡ true
 
--- what it knows of the choice of hot pages is true
+-- what the coordinator knows of the choice of hot pages is true
 pub record KnowsChoice (z : Opening) (s : CoreState) (c : CoordSeatView) : Type 0 where
   -- each count that it read is of an earlier phase, or of this one and all are in
   pub counted : All (λ r. (r.phase ≤ s.phase) × (r.phase ≡ s.phase → AllIn (numbers z s))) c.counted
@@ -106,8 +106,7 @@ Fits z s (Coord c) = FitsCoord z s c
 Fits z s (Worker v) = FitsWorker z s v
 Fits z s Spent = Unit {0}
 
--- when the words have to tell the phase's mask: in a split phase, and in phase 0 until its end is announced, since no
--- mask is published before that
+-- when the words tell the phase's mask: in a split phase, and in phase 0 until its end is announced
 abbrev pub FixesMask : ℕ → Bool → Type 0
 FixesMask phase ending = IsSplit phase ⊎ ((phase ≡ 0) × (ending ≡ false))
 
@@ -147,7 +146,7 @@ pub record SeatsFit (z : Opening) (s : CoreState) (coord : CoordSeatView) (views
   pub slots : (place : ℕ) (v : WorkerSeatView) → get_elem? views place ≡ some (Worker v)
       → v.slots ≡ take (length v.slots) coord.slots
 
--- the reads are counted: each count that was read has the additions that it has to have
+-- each count that a worker or the coordinator read has all additions of earlier phases, and none of later ones
 pub record ReadsAreCounted (z : Opening) (s : CoreState) (coord : CoordSeatView) (views : List View)
     : Type 0 where
   -- a worker's reads, and its additions, lie between what all views have added

@@ -111,7 +111,7 @@ pub record CanServe (s : StationView Held) (d : Desk) (h : Held) (verdict : Verd
   pub judged : IsJudged s.last.share h verdict
   pub prompt : has_to_wait (view_of s d) h.submitter h.ask.request ≡ false
 
--- what a worker keeps at first: there is no room for additions that it does not note
+-- what a worker keeps at first; it has room for additions only if it notes them
 pub record IsNewDesk (s : Setup) (sizes : List ℕ) (worker : ℕ) (notes : Bool) (d : Desk) : Type 0 where
   pub started : d.started ≡ false
   pub ended : d.ended.items ≡ replicate (length d.left.items) false

@@ -44,10 +44,8 @@ pub record IsSized (v : WorkerView) : Type 0 where
   pub slice : length v.slice ≡ pages_of v.post
   pub users : length v.last.last ≡ v.last.share.users
 
--- likes: the accepted likes of each page that it ran are as many as its post's additions and its slice together, and so
--- are those of each phase, where the slice is of the present one; the accepted looks that it ran are the post's reads, in
--- order, with equal counts, and before each ran as many likes of its page in its phase as the post had added by then;
--- replies: each reply is right, save that nothing is said of counts; and its table has each user's last like
+-- what a worker ran is what its post did: its accepted likes are its additions and its slice, by page and by phase; its
+-- accepted looks are its reads, in order; each reply is right, its count aside; its table has each user's last like
 pub record IsTallied (service : Service) (v : WorkerView) : Type 0 where
   pub likes : (page : ℕ)
       → likes_among service page v.ran ≡ additions_of v.post page + slice_index v.slice page
@@ -130,7 +128,7 @@ Stands v Gone = (v.held.held ≡ []) × TookAllEnds v
 abbrev pub FitsStash : Service → List Took → Type 0
 FitsStash service taken = (phase : ℕ) → stashed_in service phase taken ≤ service.stash
 
--- all of this, of a worker whose requests are those of the service's plans
+-- what is true between two calls of a worker whose requests are those of the service's plans
 pub record Follows (service : Service) (v : WorkerView) : Type 0 where
   pub served : IsServed service v
   pub sized : IsSized v

@@ -35,7 +35,7 @@ trying v place = record v { pending = Some place; cursor = (place + 1) % length 
 abbrev pub merged : WorkerView → List Addition → WorkerView
 merged v adds = record (with_seat v (merge.merged (seat_of v) adds)) { adds = v.adds ++ noted v adds }
 
--- the slice is merged
+-- a worker's slice is merged: one addition for each page with likes, which it notes if it notes its additions
 abbrev pub IsMerged : WorkerView → WorkerView → Type 0
 IsMerged v after =
     (adds : List Addition)

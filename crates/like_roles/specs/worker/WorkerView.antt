@@ -36,7 +36,7 @@ pub record WorkerView : Type 0 where
   pub notes : Bool
   pub adds : List Added
 
--- its seat
+-- the seat of a worker
 abbrev pub seat_of : WorkerView → StationView Held
 seat_of v =
     record { post = v.post; held = v.held; slice = v.slice; sliced = v.sliced; last = v.last }
