@@ -1,0 +1,77 @@
+"""The files of specs/, which several pages show: each module with its definitions and their comments."""
+
+import os
+import re
+
+import runs
+
+
+class Uses:
+    """The names that a file uses, and where they are from."""
+
+    def __init__(self, text):
+        self.names, self.others = {}, {}
+        for use in re.finditer(r"^(?:pub |ghost )?use Rattle\.(\S+?)\.\{([^}]*)\};?$", text, re.M):
+            for used in use[2].split(","):
+                name, _, other = used.strip().partition(" as ")
+                self.names[other or name] = module_of(use[1]), name
+        for use in re.finditer(r"^(?:ghost )?use Rattle\.(\S+) as (\w+);?$", text, re.M):
+            self.others[use[2]] = module_of(use[1])
+
+    def source_of(self, word):
+        """The module and the name of the definition that a word means, or none."""
+        head, _, rest = word.partition(".")
+        if rest and head in self.others:
+            return self.others[head], rest
+        return self.names.get(word)
+
+
+class Module(Uses):
+    """A file of specs/: its first line, its definitions with their comments, and where the names that it uses are from."""
+
+    def __init__(self, name, text):
+        super().__init__(text)
+        first = text.split("\n", 1)[0]
+        self.name, self.about = name, first.removeprefix("-- ").rstrip(".") if first.startswith("-- ") else ""
+        self.defined = {}
+        self.cases = set(re.findall(r"^  ([\w-]+) :", text, re.M))
+        for part in re.split(r"\n\s*\n", text):
+            lines = [line for line in part.strip("\n").split("\n") if not line.startswith(("use ", "pub use "))]
+            code = [line for line in lines if not line.startswith("--")]
+            found = re.match(r"(?:abbrev |data |pub |record |unfoldable )+(\S+)", code[0] if code else "")
+            if found:
+                self.defined[found[1]] = [line for line in lines if line.startswith("--")], code
+
+    def source_of(self, word):
+        return (self.name, word) if word in self.defined else super().source_of(word)
+
+
+def module_of(path):
+    return path.replace(".specs.", ".", 1)
+
+
+def read(path):
+    with open(path, encoding="utf-8") as file:
+        return file.read()
+
+
+def files_of(top):
+    """The files of a folder, and of those in it."""
+    return sorted(f"{folder}/{name}" for folder, _, names in os.walk(top) for name in names)
+
+
+def modules():
+    """All modules of specs/, by name."""
+    found = {}
+    for crate in os.listdir(f"{runs.ROOT}/crates"):
+        top = f"{runs.ROOT}/crates/{crate}/specs"
+        for path in files_of(top):
+            name = f"{crate}.{os.path.relpath(path, top).removesuffix('.antt').replace('/', '.')}"
+            found[name] = Module(name, read(path))
+    return found
+
+
+def words_of(code):
+    """The words of a definition that may be names, but no field of a record where it is given or read."""
+    text = re.sub(r"[\w-]+ =(?!=)(?= .*;| [^\n]*\}|$)", " ", "\n".join(code))
+    return re.findall(r"(?<![.\w])[^\s(){},;]+", text)
