@@ -1,5 +1,7 @@
-"""The blocks of shell commands that pages show, run in a folder in which the repository stands."""
+"""The pages: the blocks of shell commands that they show, run in a folder in which the repository stands; what they
+name, and how long they are."""
 
+import glob
 import os
 import re
 
@@ -8,10 +10,89 @@ import runs
 # A block, its language, and the text in front of it.
 BLOCK = re.compile(r"(.*?)^```(\w*)\n(.*?)^```$", re.M | re.S)
 
+# The pages that are made, and how many words these and all others have at most.
+MADE, MADE_WORDS, WRITTEN_WORDS = ["docs/LIVE.md", "docs/MODEL.md", "docs/STATEMENT.md"], 14_000, 36_000
+
+# How many lines README.md has at most.
+README_LINES = 120
+
+# The folders whose files pages name, and those whose words are names.
+FOLDERS = ("bench", "bindings", "checks", "completions", "crates", "docs", "examples", "include", "pictures", "tools")
+
+# A page's section, as another page names it, and a file of a crate.
+SECTION = re.compile(r"([A-Z]\w*\.md)`?,? \(?\"([^\"]+)\"")
+SOURCE = re.compile(r"(?<![\w./-])((?:specs|src)/[\w./-]+\.(?:antt|rt))")
+
 
 def text_of(page):
     with open(f"{runs.ROOT}/{page}", encoding="utf-8") as file:
         return file.read()
+
+
+def every_page(*others):
+    """README.md, those of docs/, and the crates' READMEs; and those of other places."""
+    found = []
+    for where in ("docs/*.md", "crates/*/README.md", *others):
+        found += glob.glob(where, root_dir=runs.ROOT, recursive=True)
+    return ["README.md", *sorted(found)]
+
+
+def too_long():
+    """What is wrong with the lengths of the pages."""
+    words = {page: len(text_of(page).split()) for page in every_page()}
+    made = sum(words[page] for page in MADE)
+    written = sum(words.values()) - made
+    print(f"words: {written} of at most {WRITTEN_WORDS} that are written, {made} of at most {MADE_WORDS} that are made")
+    if written > WRITTEN_WORDS:
+        yield f"the written pages have {written} words"
+    if made > MADE_WORDS:
+        yield f"the made pages have {made} words"
+    if text_of("README.md").count("\n") > README_LINES:
+        yield f"README.md has more than {README_LINES} lines"
+
+
+def absent(page):
+    """What a page names that isn't there: files, pages, sections, and functions or definitions in backquotes."""
+    text = text_of(page)
+    for link in re.findall(r"\]\(([^):#]+)\)", text):
+        if not os.path.exists(f"{runs.ROOT}/{os.path.dirname(page)}/{link}"):
+            yield f"{page}: there is no {link}"
+    for name in set(re.findall(rf"(?<![\w./-])((?:{'|'.join(FOLDERS)})/[\w./-]*[\w-])", text)):
+        if not os.path.exists(f"{runs.ROOT}/{name}") and "NAME" not in name and "/out/" not in name:
+            yield f"{page}: there is no {name}"
+    for name in set(re.findall(r"(?<![\w/])[A-Z]+\.md", text)):
+        if not find_page(name):
+            yield f"{page}: there is no {name}"
+    for name, heading in SECTION.findall(text):
+        if find_page(name) and not re.search(rf"^#+ {re.escape(heading)}", text_of(find_page(name)), re.M):
+            yield f"{page}: {name} has no section {heading!r}"
+    for name in set(SOURCE.findall(text)):
+        if not glob.glob(f"crates/*/{name}", root_dir=runs.ROOT):
+            yield f"{page}: no crate has {name}"
+
+
+def find_page(name):
+    """Where the page of this name is, in docs/ or at the top."""
+    return next((path for path in (f"docs/{name}", name) if os.path.exists(f"{runs.ROOT}/{path}")), None)
+
+
+def unknown(pages):
+    """The names in backquotes on these pages that no source file has: those with an underline or a capital inside."""
+    known = {"also_shares"}
+    for folder in FOLDERS:
+        for where, folders, names in os.walk(f"{runs.ROOT}/{folder}"):
+            known.update(folders)
+            for name in names:
+                if name.endswith((".antt", ".rt", ".c", ".h", ".edit", ".py", ".sh", ".toml")) or "." not in name:
+                    with open(f"{where}/{name}", encoding="utf-8", errors="replace") as file:
+                        known.update(re.findall(r"\w+", file.read()))
+    for page in pages:
+        text = text_of(page)
+        shown = set(re.findall(r"\w+", " ".join(re.findall(r"^```\w*\n.*?^```$", text, re.M | re.S))))
+        for name in sorted(set(re.findall(r"`([A-Za-z_][\w:.]*)`", text))):
+            for part in re.split(r"::|\.", name):
+                if re.search(r"\w_\w|[a-z][A-Z]", part) and part not in known and part not in shown:
+                    yield f"{page}: no source has {name}"
 
 
 def make_repository(folder):
