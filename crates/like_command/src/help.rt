@@ -68,8 +68,9 @@ there were, and how long it took. Without this option,
 one line tells the refused requests, if there are any";
 
 pub const PROGRESS: &str = "\
-Writes a line to standard error when reading, running and
-writing begin, with the seconds that the part before took";
+Where the work takes over two seconds, writes a line to
+standard error after reading, running and writing, with
+the seconds that it took";
 
 pub const SCRIPT: &str = "\
 A file of turns to take before the rounds: CSV with the

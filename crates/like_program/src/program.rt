@@ -115,7 +115,7 @@ where
     if names_input_twice(&options) {
         return Err(ProgramFault::Inputs);
     }
-    watch.begin(options.progress);
+    watch.follow(options.progress);
     let done = run_named(rt, &Disk { files: rt }, alloc, &options, out, watch);
     with_options(done, options)
 }
@@ -134,7 +134,7 @@ fn replay_asked<R: Files + Input + Clock, W: Write, E: Write>(
     if names_input_twice(&options) {
         return Err(ProgramFault::Inputs);
     }
-    watch.begin(options.progress);
+    watch.follow(options.progress);
     let done = replay_named(&Disk { files: rt }, alloc, &options, out, watch);
     with_options(done, options)
 }

@@ -1,4 +1,4 @@
-//! How long the parts of a run or a replay took, and a line as each begins.
+//! How long the parts of a run or a replay took, and a line after each if they take long.
 
 use like_files::{Part, Progress};
 use std::io;
@@ -11,8 +11,10 @@ use std::time::{Duration, Instant};
 pub struct Stopwatch<'a, C: Clock, E: Write> {
     clock: &'a C,
     errors: &'a mut E,
-    // Whether a line tells that a part begins.
+    // Whether lines tell how far long work is.
     tells: bool,
+    // When the first part began.
+    first: Option<Instant>,
     // When the last part ended, or the first began, as long as the clock can be read.
     last: Option<Instant>,
     reading: Duration,
@@ -23,24 +25,22 @@ pub struct Stopwatch<'a, C: Clock, E: Write> {
 impl<'a, C: Clock, E: Write> Stopwatch<'a, C, E> {
     /// A stopwatch whose first part begins now, and which writes onto `errors`.
     pub fn new(clock: &'a C, errors: &'a mut E) -> Self {
+        let now = Instant::now(clock).ok();
         Stopwatch {
             clock,
             errors,
             tells: false,
-            last: Instant::now(clock).ok(),
+            first: now,
+            last: now,
             reading: Duration::ZERO,
             running: Duration::ZERO,
             writing: Duration::ZERO,
         }
     }
 
-    /// Tells that the first part begins, and from now on that each does, if progress is asked for.
-    pub fn begin(&mut self, tells: bool) {
-        self.tells = tells;
-        if tells {
-            // Where this can't be written, the work goes on without it.
-            let _ = self.errors.write_all(b"likes: reading\n");
-        }
+    /// From now on, tells of each part that is done once two seconds have passed, if progress is asked for.
+    pub fn follow(&mut self, progress: bool) {
+        self.tells = progress;
     }
 
     /// Where faults are told too.
@@ -57,6 +57,14 @@ impl<'a, C: Clock, E: Write> Stopwatch<'a, C, E> {
         match self.last {
             Some(now) => now.duration_since(last),
             None => Duration::ZERO,
+        }
+    }
+
+    // Whether the parts that are done took two seconds or more.
+    fn is_long(&self) -> bool {
+        match (self.first, self.last) {
+            (Some(first), Some(last)) => last.duration_since(first).as_secs() >= 2,
+            _ => false,
         }
     }
 
@@ -104,7 +112,7 @@ impl<C: Clock, E: Write> Progress for Stopwatch<'_, C, E> {
             Part::Running => self.running = took,
             Part::Writing => self.writing = took,
         }
-        if self.tells {
+        if self.tells && self.is_long() {
             // Where this can't be written, the work goes on without it.
             let _ = self.tell(part, took);
         }

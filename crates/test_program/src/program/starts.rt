@@ -10,7 +10,7 @@
 /// - `runs-files`: of three submitters, of whom each has the likes of its own user: in another order, they would be
 ///   refused. And `plain-likes`, which is done in phase 0 long before the coordinator has counted a million turns.
 /// - `writes-a-summary`: each number but the seconds. And `tells-refused-requests`: those files without a summary.
-/// - `tells-progress`: each part but its seconds.
+/// - `tells-no-progress`: work that takes less than two seconds is told nothing of.
 /// - `tells-two-inputs`: standard input is two files, of which none is opened.
 /// - `opens-in-order`: all files are opened before one is read, and the first that can't be opened is told.
 ///
@@ -71,14 +71,10 @@ likes: none-s.csv: read failed\n;\
 opens-in-order|opens-bad.csv>no,header\n&|replay opens-bad.csv opens-bad.csv|3||\
 likes: opens-bad.csv: the header is not name,count,split\n;\
 opens-in-order|opens-bad.csv>no,header\n&|replay . opens-bad.csv|3||likes: .: read failed\n;\
-tells-progress|\
+tells-no-progress|\
 progress-p.csv>name,count,split\na,10,no\n&progress-r.csv>op,user,page\nlike,0,a\n&|\
 replay --progress progress-p.csv progress-r.csv|0|\
-row,id,number,phase,answer,page,count\nreply,0,1,0,liked,,\npage,0,,,,a,11\nuser,0,,,,a,\n|\
-likes: reading\nlikes: running, after reading for 0...;\
-tells-progress|\
-progress-p.csv>name,count,split\na,10,no\n&progress-r.csv>op,user,page\nlike,0,a\n&|\
-run --progress progress-p.csv progress-r.csv none.csv|3||likes: reading\nlikes: none.csv: read failed\n;\
+row,id,number,phase,answer,page,count\nreply,0,1,0,liked,,\npage,0,,,,a,11\nuser,0,,,,a,\n|;\
 tells-two-inputs||replay - -|2||likes: only one file can be -, which is standard input\n;\
 tells-two-inputs||run p.csv - r.csv -|2||likes: only one file can be -, which is standard input\n;\
 tells-two-inputs||replay p.csv - --script -|2||likes: only one file can be -, which is standard input\n;\
