@@ -98,15 +98,14 @@ static likes_request draw(const game *it, uint32_t number, player *by, bool in_r
     return request;
 }
 
-/* Compares the phase, as its handle tells it, with a seat's own, unless another thread reads it just now. A service is
- * one phase ahead of a seat that has answered. It is told one behind when its driver has only just released a phase. */
+/* Compares the phase, as its handle tells it to several threads at once, with a seat's own. A service is one phase ahead
+ * of a seat that has answered. It is told one behind when its driver has only just released a phase. */
 static void check_phase(game *it, uint32_t number) {
     uint64_t seat_phase = it->seats[number].phase;
     bool is_left = it->seats[number].status == LIKES_GONE || it->seats[number].status == LIKES_EMPTY;
-    if (is_left || pthread_mutex_trylock(&it->reading) != 0)
+    if (is_left)
         return;
     uint64_t now = likes_phase_now(&it->phase);
-    pthread_mutex_unlock(&it->reading);
     if (now + 1 < seat_phase || now > seat_phase + 1)
         fail(&it->record, "seat %u: the phase is told as %llu in phase %llu", number, (unsigned long long)now,
              (unsigned long long)seat_phase);
@@ -478,7 +477,6 @@ static void open_game(game *it, const schedule *plan, uint64_t *random) {
     if (likes_driver_take_phase(&it->driver, &it->phase) != LIKES_OK)
         fail(of, "the phase was not handed out");
     pthread_mutex_init(&it->driving, NULL);
-    pthread_mutex_init(&it->reading, NULL);
     for (uint32_t i = 0; i < of->options.seats; i++) {
         seat *at = &it->seats[i];
         pthread_mutex_init(&at->lock, NULL);
@@ -509,7 +507,6 @@ static void close_game(game *it) {
         pthread_mutex_destroy(&it->seats[i].lock);
     }
     pthread_mutex_destroy(&it->driving);
-    pthread_mutex_destroy(&it->reading);
     all_phases += it->record.phases_len;
     all_moments += it->record.moments_len;
     free_record(&it->record);

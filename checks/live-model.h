@@ -50,8 +50,7 @@ typedef struct {
     proposal taken;  /* what a turn has taken for the next split phase */
     uint32_t told[LIKES_MAX_SPLIT]; /* the pages that are split, or were last */
     size_t told_len;
-    pthread_mutex_t reading;
-    likes_phase phase; /* used under `reading` */
+    likes_phase phase;
 } game;
 
 /* How many pages were proposed, of these how many were split, and how many the library has found. */

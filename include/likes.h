@@ -9,8 +9,9 @@
  *   - Pointers. Every pointer is valid and aligned for its type. An array has the stated length; if that is 0, the
  *     pointer may be NULL. No other pointer is NULL, but for one to a handle that is to be freed. What two pointers of
  *     one call point to doesn't overlap. What a call writes needs no value before.
- *   - One call at a time on each driver, each seat and each phase, from any thread. Two calls on the same object are
- *     ordered by a lock, by a thread's start or join, or by a sequentially consistent atomic.
+ *   - One call at a time on each driver and each seat, from any thread. Two calls on the same object are ordered by a
+ *     lock, by a thread's start or join, or by a sequentially consistent atomic. Only likes_phase_now may be called by
+ *     several threads at once, until one of them frees the phase.
  *   - A handle, likes_driver, likes_seat or likes_phase, begins as {0}, which is empty. Only the call that fills it and
  *     the one that frees it change it. After a copy, only one of the two is used.
  *   - No call is made from a signal handler, or in the child of a fork.
@@ -150,7 +151,8 @@ uint32_t likes_driver_take_seat(likes_driver *driver, likes_seat *seat);
 /* Hands out the phase, once: LIKES_OK, or the first that applies of LIKES_IN_USE, EMPTY and ALL_TAKEN. */
 uint32_t likes_driver_take_phase(likes_driver *driver, likes_phase *phase);
 
-/* The phase that the driver has last released. It may be over by then. An empty handle gives 0. */
+/* The phase that the driver has last released, for any thread at any time: it only reads. The phase may be over by
+ * then. An empty handle gives 0. */
 uint64_t likes_phase_now(const likes_phase *phase);
 
 /* The seat of a user, in a service with so many seats (1 or more). */

@@ -80,8 +80,7 @@ typedef struct likes_place {
 
 typedef struct likes_service {
     struct likes_service *self; /* where the service was started; NULL: it isn't */
-    pthread_mutex_t reading;
-    likes_phase phase; /* used under `reading` */
+    likes_phase phase;
     likes_place places[LIKES_MAX_SEATS];
     uint32_t seats, users;
     size_t pages;
@@ -313,14 +312,12 @@ static inline void likes_service_free(likes_service *service) {
     }
     likes_phase_free(&service->phase);
     likes_driver_free(&service->driver);
-    pthread_mutex_destroy(&service->reading);
     pthread_mutex_destroy(&service->driving);
 }
 
 /* Makes a service that isn't started, with its locks. */
 static inline void likes_service_clear(likes_service *service) {
     memset(service, 0, sizeof *service);
-    pthread_mutex_init(&service->reading, NULL);
     pthread_mutex_init(&service->driving, NULL);
     for (uint32_t i = 0; i < LIKES_MAX_SEATS; i++) {
         likes_place *place = &service->places[i];
@@ -378,10 +375,7 @@ static inline uint32_t likes_service_start(likes_service *service, const likes_o
 static inline uint64_t likes_service_phase(likes_service *service) {
     if (likes_service_fault(service) != LIKES_OK)
         return 0;
-    pthread_mutex_lock(&service->reading);
-    uint64_t phase = likes_phase_now(&service->phase);
-    pthread_mutex_unlock(&service->reading);
-    return phase;
+    return likes_phase_now(&service->phase);
 }
 
 /* Proposes pages to be split, as likes_driver_propose does: LIKES_OK. The driver takes them at its next turn where no

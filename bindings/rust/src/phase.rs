@@ -2,10 +2,13 @@
 
 use crate::ffi::{self, Handle};
 
-/// The phase of a service, which can be read while other threads use the driver and the seats.
+/// The phase of a service, which any thread can read at any time.
 pub struct Phase {
     handle: Handle,
 }
+
+// SAFETY: a call only reads, so several threads may call at once.
+unsafe impl Sync for Phase {}
 
 impl Phase {
     pub(crate) fn new(handle: Handle) -> Self {
@@ -14,7 +17,7 @@ impl Phase {
 
     /// The phase that the driver has last released. It may be over by then.
     pub fn now(&self) -> u64 {
-        // SAFETY: a phase isn't `Sync`, so no other call is made on it meanwhile.
+        // SAFETY: it may be called by several threads at once, and the handle is freed by the last owner alone.
         unsafe { ffi::likes_phase_now(&self.handle) }
     }
 }

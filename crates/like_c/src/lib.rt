@@ -371,8 +371,8 @@ pub extern "C" fn likes_seat_free_nonnull(alloc: Global, seat: &mut SeatHandle)
     drop(seat.take(alloc));
 }
 
-/// The phase that the driver released last. It only reads, but takes the handle for itself: an export can't share what
-/// is behind a pointer (docs/DECISIONS.md).
+/// The phase that the driver released last. It only reads, so C may call it from several threads at once. Its contract
+/// is of one call at a time: an export can't share what is behind a pointer (docs/DECISIONS.md).
 #[unsafe(no_mangle)]
 pub extern "C" fn likes_phase_now(phase: &mut PhaseHandle) -> u64
     ensures { PhaseNowAt phase.old.home result phase.new.home }
