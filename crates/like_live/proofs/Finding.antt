@@ -1,7 +1,7 @@
 -- How the looks that wait are found, one after the other.
-use Rattle.std.proofs.Common.{◌≡◌, ℕ, ◌+◌, ◌%◌, ◌<◌, ◌≤◌, ◌||◌, Bool, false, List, [], ◌∷◌, ◌++◌, length, map, drop, Some, None, refl, ap, sym, ◌∙◌, subst, arith, append-nil, append_assoc, length-append, IsTrue}
+use Rattle.std.proofs.Common.{◌≡◌, ℕ, ◌+◌, ◌%◌, ◌<◌, ◌≤◌, ◌⊎◌, ◌||◌, inl, inr, Bool, false, List, [], ◌∷◌, ◌++◌, length, map, drop, Some, None, refl, ap, sym, ◌∙◌, subst, arith, append-nil, append_assoc, length-append, IsTrue}
 use Rattle.std.specs.List.{All, slice_get}
-use Rattle.std.proofs.lemmas.Bool.{ne_eqb, and_left}
+use Rattle.std.proofs.lemmas.Bool.{ne_eqb, and_left, cases_eq}
 use Rattle.std.proofs.lemmas.List.{get_or-map, get_or_append_left, map-append, length-map}
 use Rattle.std.proofs.lemmas.List.Elements.{All-append, All-nil, All-push, All-head, All-drop}
 use Rattle.like_core.specs.declared.view.Addition.{Addition}
@@ -20,8 +20,9 @@ use Rattle.like_seat.specs.StationView.{StationView, phase_at}
 use Rattle.like_seat.specs.Steps.{Reads, without_first}
 use Rattle.like_live.specs.declared.asked.Asked.{Asked}
 use Rattle.like_live.specs.declared.asked.Found.{Found}
+use Rattle.like_live.specs.declared.answer.TurnAnswer.TheVariants as turn
 use Rattle.like_live.specs.LiveView.{LiveView, IsOwn, RanNext, waiting}
-use Rattle.like_live.specs.Moves.{FindsAll, IsFoundAt, read_for}
+use Rattle.like_live.specs.Moves.{FindsAll, IsFoundAt, Works, read_for, runs_joined, runs_split}
 
 -- a list with a first element
 pub first_of : {X : Type 0} (xs : List X) (x : X) → slice_get xs 0 ≡ Some x → xs ≡ x ∷ drop 1 xs
@@ -32,11 +33,6 @@ first_of (y ∷ ys) x h = let e : y ≡ x = cc h in ap (λ z. z ∷ ys) e
 pub none_first : {X : Type 0} (xs : List X) → slice_get xs 0 ≡ None → xs ≡ []
 none_first [] h = refl
 none_first (y ∷ ys) h = cc
-
--- a list of no length
-pub none_long : {X : Type 0} (xs : List X) → length xs ≡ 0 → xs ≡ []
-none_long [] h = refl
-none_long (x ∷ xs) h = absurd (omega arith)
 
 -- who runs a joined phase runs a phase
 pub running : (s : WorkerState) → RunsJoined s → IsRunning s
@@ -243,3 +239,21 @@ Finding-next v now s after found a seen phase d first is reads phase_is found_is
     (ap (λ (t : StationView Asked). t.sliced) e)
     (ap (λ (t : StationView Asked). t.last) e)
     found_is
+
+-- who runs a phase runs a joined one or a split one
+parity : (s : WorkerState) → IsRunning s → RunsJoined s ⊎ RunsSplit s
+parity (state.Runs k) h = elim (cases_eq (k % 2) 0) [ inl even ↦ inl even | inr odd ↦ inr (omega arith) ]
+parity (state.Answered k) h = absurd h
+parity state.Gone h = absurd h
+
+-- a seat that runs a phase which goes on has nothing to do, if nothing waits in a joined one
+pub goes_on : (v : LiveView)
+    → IsRunning v.seat.post.state
+    → (IsJoined (phase_at v.seat) → waiting v ≡ [])
+    → Works v false turn.Runs v
+goes_on v runs none = elim (parity v.seat.post.state runs) [
+  | inl joined ↦
+      runs_joined joined refl refl
+      (Finding-end v v (Finding-start v) (none (joined_phase v.seat.post.state joined)))
+  | inr split ↦ runs_split split refl refl refl
+]

@@ -31,8 +31,9 @@ pub use laws::{
     slices_are_slots,
 };
 pub use like_tables::NO_PAGE;
-pub use live_seat::{LiveSeat, MAX_LIKES};
+pub use live_seat::LiveSeat;
 pub use open_error::OpenError;
 pub use opening::{MAX_MARKS, Opening};
 pub use phase_now::PhaseNow;
 pub use service::{NotAllGone, Service, calls_keep_seats};
+pub use signals::MAX_LIKES;

@@ -21,7 +21,6 @@ use like_core::{Post, SlotPost};
 use like_seat::Station;
 use like_tables::{Home, Stash, Users};
 use moves::work_or_retire;
-pub use requests::MAX_LIKES;
 use std::alloc::{AllocError, Global};
 use std::marker::Model;
 

@@ -1,21 +1,84 @@
+ghost use Rattle.std.specs.Prelude.{◌^◌, ◌<◌, ◌↔◌, IsTrue};
+
 use crate::hint::Hint;
 use like_choice::{Kind, Sampler};
+use std::marker::Model;
+
+/// The most likes that a seat may count.
+pub const MAX_LIKES: u64 = 1 << 56;
 
 /// What a seat tells its driver beside the board: that looks wait, and which pages its requests are for. No proof rests on
-/// it.
+/// that.
+///
+/// One of about 256 requests is stored as a sample. A seat may count likes up to a number, and tests it before each: so
+/// the next sample comes at such a number too, and costs a like nothing. Contracts see that number.
 #[derive(Drop)]
 pub(crate) struct Signals {
-    pub hint: Hint,
-    pub sampler: Sampler,
+    hint: Hint,
+    sampler: Sampler,
+    // At so many likes of the seat there is a sample, or no more room. A look makes it one less.
+    stop: u64,
+}
+
+impl Model for Signals {
+    ghost use Rattle.std.specs.Prelude.{◌≤◌, ◌^◌, ℕ};
+
+    ghost Value = { ℕ };
+
+    ghost view = { λ s. s.stop };
+
+    ghost invariant = { λ s. s.stop ≤ 2 ^ 56 };
 }
 
 impl Signals {
-    /// Counts a request, and stores one in about 256 of them as a sample.
-    #[inline(always)]
-    pub fn count(&mut self, page: u32, kind: Kind) {
-        if self.sampler.skips(1).is_some() {
-            self.sampler.note(page, kind);
+    /// Those of a new seat.
+    pub fn new(hint: Hint, mut sampler: Sampler) -> Signals {
+        let stop = u64::from(sampler.gap());
+        Signals {
+            hint,
+            sampler,
+            stop,
         }
+    }
+
+    /// Whether a seat with so many likes may count one more, of this page.
+    #[inline(always)]
+    pub fn admits(&mut self, likes: u64, page: u32) -> bool
+        ensures { IsTrue result ↔ likes < 2 ^ 56 }
+    {
+        likes < self.stop || self.admits_late(likes, page)
+    }
+
+    // The same, where a sample is due or there is no more room.
+    #[cold]
+    #[inline(never)]
+    fn admits_late(&mut self, likes: u64, page: u32) -> bool
+        ensures { IsTrue result ↔ likes < 2 ^ 56 }
+    {
+        if likes >= MAX_LIKES {
+            return false;
+        }
+        self.store(likes, page, Kind::Like);
+        true
+    }
+
+    /// Counts a look at the page, of a seat with so many likes.
+    #[inline(always)]
+    pub fn count_look(&mut self, likes: u64, page: u32) {
+        if likes < self.stop {
+            self.stop -= 1;
+        } else {
+            self.store(likes, page, Kind::Look);
+        }
+    }
+
+    // Stores a sample, and draws when the next one is due.
+    #[cold]
+    #[inline(never)]
+    fn store(&mut self, likes: u64, page: u32, kind: Kind) {
+        self.sampler.note(page, kind);
+        let gap = u64::from(self.sampler.gap());
+        self.stop = likes.saturating_add(gap).min(MAX_LIKES);
     }
 
     /// Asks for the end of the phase, unless somebody has.

@@ -1,5 +1,5 @@
 //! Which pages get slots: what is proposed, and what is found by samples. No contract says which pages are popular.
-use like_choice::{Choice, Kind, NoProposal, Proposal, Proposed, Samples, Slots};
+use like_choice::{Choice, Kind, NoProposal, Proposal, Proposed, Sampler, Samples, Slots};
 use std::alloc::AllocError;
 
 // How many pages the drawn services have.
@@ -167,23 +167,47 @@ fn proposals_that_are_set(rt: HostRuntime) {
     assert!(rt; proposal.pages().is_empty());
 }
 
+// A seat that only samples its likes.
+#[derive(Drop)]
+struct Sampled {
+    sampler: Sampler,
+    // How many likes go by before the next sample.
+    left: u32,
+}
+
+impl Sampled {
+    fn new(mut sampler: Sampler) -> Sampled {
+        let left = sampler.gap();
+        Sampled { sampler, left }
+    }
+
+    fn likes(&mut self, page: u32) {
+        if self.left > 0 {
+            self.left -= 1;
+            return;
+        }
+        self.sampler.note(page, Kind::Like);
+        self.left = self.sampler.gap();
+    }
+}
+
 #[test]
 fn popular_pages_are_found(rt: HostRuntime) -> Result<(), AllocError> {
     let mut drawn = Drawn { state: 1 };
     let mut samples = Samples::new(rt.alloc(), 2, 512)?;
     let mut slots = Slots::new(0x9e37_79b1, PAGES, &[]);
     let mut proposal = Proposal::new();
-    let mut samplers = [samples.sampler(0)?, samples.sampler(1)?];
+    let mut seats = [
+        Sampled::new(samples.sampler(0)?),
+        Sampled::new(samples.sampler(1)?),
+    ];
     let mut best = 0u64;
     let mut sliced = 0u64;
     for choice in 0..12u32 {
         for request in 0..REQUESTS {
             let rank = drawn.rank();
             let page = page_at(rank);
-            let sampler = &mut samplers[request as usize % 2];
-            if sampler.skips(1).is_some() {
-                sampler.note(page, Kind::Like);
-            }
+            seats[request as usize % 2].likes(page);
             if choice >= 10 {
                 best = best.wrapping_add(u64::from(rank < 64));
                 sliced = sliced.wrapping_add(u64::from(is_in(&slots, page)));
@@ -202,13 +226,10 @@ fn pages_that_are_alike_are_not_popular(rt: HostRuntime) -> Result<(), AllocErro
     let mut samples = Samples::new(rt.alloc(), 1, 1)?;
     let slots = Slots::new(1 << 22, PAGES, &[]);
     let mut proposal = Proposal::new();
-    let mut sampler = samples.sampler(0)?;
+    let mut seat = Sampled::new(samples.sampler(0)?);
     for _ in 0..12u32 {
-        for _ in 0..REQUESTS / 64 {
-            if let Some(place) = sampler.skips(64) {
-                sampler.note(drawn.next() % PAGES, Kind::Like);
-                assert!(rt; place < 64);
-            }
+        for _ in 0..REQUESTS {
+            seat.likes(drawn.next() % PAGES);
         }
         samples.propose(&slots, &mut proposal);
         assert!(rt; proposal.pages().is_empty());

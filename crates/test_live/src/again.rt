@@ -1,6 +1,6 @@
 //! A service that lasts: what it tells of last likes, and another one that goes on from its counts and last likes.
 use crate::play::are_last_counts;
-use crate::services::{Numbers, PLAIN, open, opening_of};
+use crate::services::{Numbers, PLAIN, opened_with};
 use like_board::SharedPost;
 use like_choice::Guided;
 use like_live::{
@@ -69,26 +69,28 @@ fn is_seen(seat: &mut LiveSeat<SharedPost>, user: u32, last: Option<u32>) -> boo
     seat.look(user, 1, 0) == LookAnswer::Seen(Seen { last, count: 22 })
 }
 
-#[test]
-fn live_again(rt: HostRuntime) -> Result<(), Fail> {
-    let opening = opening_of(rt.alloc(), &OF_THREE)?;
-    ends(&rt, open(rt.alloc(), &opening)?);
-    let opening = opening_of(rt.alloc(), &GOING_ON)?;
-    let Service { driver: _, seats } = open(rt.alloc(), &opening)?;
-    let (mut first, mut second) = two_seats(&rt, seats);
+// Another service goes on from what it has told.
+fn goes_on(rt: &impl Abort, service: Service<Guided>) {
+    let Service { driver: _, seats } = service;
+    let (mut first, mut second) = two_seats(rt, seats);
     assert!(rt; is_seen(&mut first, 0, Some(0)) && is_seen(&mut first, 2, Some(1)));
     assert!(rt; is_seen(&mut second, 1, None));
+}
+
+#[test]
+fn live_again(rt: HostRuntime) -> Result<(), Fail> {
+    ends(&rt, opened_with(rt.alloc(), &OF_THREE)?);
+    goes_on(&rt, opened_with(rt.alloc(), &GOING_ON)?);
     Ok(())
 }
 
 // Nothing is split, so only the host's word ends the first phase.
 #[test]
 fn ends_in_any_case(rt: HostRuntime) -> Result<(), Fail> {
-    let opening = opening_of(rt.alloc(), &OF_THREE)?;
     let Service {
         mut driver,
         seats: _,
-    } = open(rt.alloc(), &opening)?;
+    } = opened_with(rt.alloc(), &OF_THREE)?;
     assert!(rt; driver.turn(End::No) == DriverAnswer::Running);
     assert!(rt; driver.turn(End::IfItServes) == DriverAnswer::Running);
     assert!(rt; driver.turn(End::Always) == DriverAnswer::Announced);

@@ -1,6 +1,8 @@
 //! What a service takes is given back where its seats and its driver are dropped, in each order. No contract says so.
 use crate::services::opened;
-use like_live::{LikeAnswer, Service};
+use like_board::SharedPost;
+use like_choice::Guided;
+use like_live::{LikeAnswer, LiveSeat, Service};
 use std::alloc::Global;
 use std::fs;
 use std::process::Abort;
@@ -13,14 +15,27 @@ const SERVICES: usize = 5_000;
 // The pages of memory that a process may come to have beside.
 const PAGES: usize = 32;
 
-// Opens a service of two seats, of which one likes, and drops all: the driver first, or a seat.
-fn opens_and_drops(rt: &impl Abort, alloc: Global, is_driver_first: bool) -> Result<(), Fail> {
-    let Service { driver, mut seats } = opened(alloc, 2, 2)?;
-    let mut seat = seats.pop().ok_or("no seat")?;
+// The last seat likes, and all are dropped, that one first.
+fn drops_seats(rt: &impl Abort, mut seats: Vec<LiveSeat<SharedPost>>) {
+    let mut seat = seats.pop().expect(rt, "a seat");
     assert!(rt; seat.like(1, 0) == LikeAnswer::Liked);
+}
+
+// Drops the driver first, or the seats.
+fn drops(rt: &impl Abort, service: Service<Guided>, is_driver_first: bool) {
+    let Service { driver, seats } = service;
     if is_driver_first {
         drop(driver);
+        drops_seats(rt, seats);
+    } else {
+        drops_seats(rt, seats);
+        drop(driver);
     }
+}
+
+// Opens a service of two seats, and drops it.
+fn opens_and_drops(rt: &impl Abort, alloc: Global, is_driver_first: bool) -> Result<(), Fail> {
+    drops(rt, opened(alloc, 2, 2)?, is_driver_first);
     Ok(())
 }
 

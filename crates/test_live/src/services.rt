@@ -4,7 +4,8 @@ ghost use Rattle.like_live.specs.Service.{AreItsSeats};
 
 use like_choice::Guided;
 use like_live::{
-    DriverAnswer, End, GlanceAnswer, LikeAnswer, NO_PAGE, OpenError, Opening, Service, TurnAnswer,
+    DriverAnswer, End, GlanceAnswer, LikeAnswer, NO_PAGE, OpenError, Opening, PhaseNow, Service,
+    TurnAnswer,
 };
 use like_requests::Verdict;
 use like_seat::Seen;
@@ -35,7 +36,7 @@ pub const PLAIN: Numbers = Numbers {
     hot: None,
 };
 
-pub fn opening_of(alloc: Global, numbers: &Numbers) -> Result<Opening, AllocError> {
+fn opening_of(alloc: Global, numbers: &Numbers) -> Result<Opening, AllocError> {
     Ok(Opening {
         counts: Vec::from_slice(alloc, numbers.counts)?,
         marks: Vec::from_slice(alloc, numbers.marks)?,
@@ -47,13 +48,20 @@ pub fn opening_of(alloc: Global, numbers: &Numbers) -> Result<Opening, AllocErro
     })
 }
 
-pub fn open(alloc: Global, opening: &Opening) -> Result<Service<Guided>, Fail>
+fn open(alloc: Global, opening: &Opening) -> Result<Service<Guided>, Fail>
     ensures { IfOk result (λ s. AreItsSeats s.driver s.seats.items) }
 {
     match Service::open(alloc, opening) {
         Ok(service) => Ok(service),
         Err(_) => Err(Fail::new("no service")),
     }
+}
+
+pub fn opened_with(alloc: Global, numbers: &Numbers) -> Result<Service<Guided>, Fail>
+    ensures { IfOk result (λ s. AreItsSeats s.driver s.seats.items) }
+{
+    let opening = opening_of(alloc, numbers)?;
+    open(alloc, &opening)
 }
 
 /// A service of two pages, the first of them marked, with 10 and 20 likes, and of users 0 to 3.
@@ -65,8 +73,7 @@ pub fn opened(alloc: Global, seats: u32, room: u32) -> Result<Service<Guided>, F
         room,
         ..PLAIN
     };
-    let opening = opening_of(alloc, &numbers)?;
-    open(alloc, &opening)
+    opened_with(alloc, &numbers)
 }
 
 // Wrong numbers, and what is told of them. Of several the first is told, in the order of `OpenError`.
@@ -190,8 +197,7 @@ fn all_at_limits() -> &'static [Numbers] {
 #[test]
 fn opens_at_each_limit(rt: HostRuntime) -> Result<(), Fail> {
     for numbers in all_at_limits() {
-        let opening = opening_of(rt.alloc(), numbers)?;
-        let service = open(rt.alloc(), &opening)?;
+        let service = opened_with(rt.alloc(), numbers)?;
         assert!(rt; service.seats.len() == numbers.seats as usize);
         assert!(rt; service.driver.pages() as usize == numbers.counts.len());
     }
@@ -220,7 +226,19 @@ fn opens_with_64_marks_at_most(rt: HostRuntime) -> Result<(), Fail> {
     Ok(())
 }
 
-// A service of 100,000 pages, whose last page gets a like.
+// The last of 100,000 pages gets a like.
+fn likes_the_last(rt: &impl Abort, mut service: Service<Guided>) {
+    assert!(rt; service.driver.pages() == 100_000);
+    let seat = service.seats.first_mut().expect(rt, "a seat is there");
+    assert!(rt; seat.like(0, 99_999) == LikeAnswer::Liked);
+    assert!(rt; seat.like(0, 100_000) == LikeAnswer::Refused(Verdict::UnknownPage));
+    let seen = Seen {
+        last: Some(99_999),
+        count: 8,
+    };
+    assert!(rt; seat.glance(0, 99_999) == GlanceAnswer::Seen(seen));
+}
+
 #[test]
 fn opens_a_hundred_thousand_pages(rt: HostRuntime) -> Result<(), Fail> {
     let opening = Opening {
@@ -232,16 +250,7 @@ fn opens_a_hundred_thousand_pages(rt: HostRuntime) -> Result<(), Fail> {
         room: 1,
         hot: None,
     };
-    let Service { driver, mut seats } = open(rt.alloc(), &opening)?;
-    assert!(rt; driver.pages() == 100_000);
-    let mut seat = seats.pop().expect(&rt, "a seat is there");
-    assert!(rt; seat.like(0, 99_999) == LikeAnswer::Liked);
-    assert!(rt; seat.like(0, 100_000) == LikeAnswer::Refused(Verdict::UnknownPage));
-    let seen = Seen {
-        last: Some(99_999),
-        count: 8,
-    };
-    assert!(rt; seat.glance(0, 99_999) == GlanceAnswer::Seen(seen));
+    likes_the_last(&rt, open(rt.alloc(), &opening)?);
     Ok(())
 }
 
@@ -276,21 +285,23 @@ fn tells_the_seat_of_a_user(rt: HostRuntime) -> Result<(), Fail> {
 // It compiles only where any thread may hold and read the value.
 fn for_any_thread<T: Send + Sync>(_value: &T) {}
 
+// Ends phase 0 of a service with one seat.
+fn ends_the_first(rt: &impl Abort, service: &mut Service<Guided>, phase: &PhaseNow) {
+    assert!(rt; service.driver.turn(End::IfItServes) == DriverAnswer::Announced && phase.get() == 0);
+    let seat = service.seats.first_mut().expect(rt, "a seat is there");
+    assert!(rt; seat.turn() == TurnAnswer::Between);
+    assert!(rt; service.driver.turn(End::IfItServes) == DriverAnswer::Released && phase.get() == 1);
+}
+
 // Another owner sees the phase that the driver releases, and still has it once the driver is dropped.
 #[test]
 fn tells_the_phase_to_another_owner(rt: HostRuntime) -> Result<(), Fail> {
-    let Service {
-        mut driver,
-        mut seats,
-    } = opened(rt.alloc(), 1, 2)?;
-    let phase = driver.phase_now()?;
+    let mut service = opened(rt.alloc(), 1, 2)?;
+    let phase = service.driver.phase_now()?;
     let other = phase.share()?;
     for_any_thread(&other);
-    assert!(rt; driver.turn(End::IfItServes) == DriverAnswer::Announced && other.get() == 0);
-    let mut seat = seats.pop().ok_or("no seat")?;
-    assert!(rt; seat.turn() == TurnAnswer::Between);
-    assert!(rt; driver.turn(End::IfItServes) == DriverAnswer::Released && other.get() == 1);
-    drop(driver);
+    ends_the_first(&rt, &mut service, &other);
+    drop(service);
     assert!(rt; phase.get() == 1 && other.get() == 1);
     Ok(())
 }

@@ -1,6 +1,6 @@
 ghost use Rattle.std.specs.Prelude.{◌≡◌, All, true};
 ghost use Rattle.like_core.specs.WorkerState.{IsRunning, RunsJoined, SawEnding};
-ghost use Rattle.like_seat.specs.StationView.{IsStation, phase_at};
+ghost use Rattle.like_seat.specs.StationView.{IsStation};
 ghost use Rattle.like_live.specs.LiveView.{IsLive, RanNext, live_of};
 ghost use Rattle.like_live.specs.Kept.{HasLooked};
 ghost use Rattle.like_live.specs.Moves.{FindsAll, Moves, Works};
@@ -15,7 +15,7 @@ use like_tables::Stash;
 
 impl<P: SlotPost> LiveSeat<P> {
     // Looks at the phase word, and does the phase work that it asks for. Mostly the seat runs a phase that goes on, and
-    // there is none.
+    // there is none: what waited was found when it entered the phase.
     #[inline(always)]
     pub(crate) fn advance(&mut self) -> TurnAnswer
         ensures moves { Moves self.old result self.new }
@@ -23,11 +23,14 @@ impl<P: SlotPost> LiveSeat<P> {
         ensures runs { result ≡ TurnAnswer.Runs → IsRunning self.new.seat.post.state }
         ensures was { IsLive self.old }
     {
-        let Some(phase) = self.seat.runs() else {
+        if !self.seat.runs() {
             return self.advance_late();
-        };
+        }
         let sight = self.seat.look_on();
-        work(&mut self.seat, &mut self.found, phase, sight.ending)
+        if !sight.ending {
+            return TurnAnswer::Runs;
+        }
+        work(&mut self.seat, &mut self.found, true)
     }
 
     // The same, of a seat that has answered its phase or is gone.
@@ -46,8 +49,7 @@ impl<P: SlotPost> LiveSeat<P> {
         if sight.waits {
             return TurnAnswer::Between;
         }
-        let phase = self.seat.phase();
-        work(&mut self.seat, &mut self.found, phase, sight.ending)
+        work(&mut self.seat, &mut self.found, sight.ending)
     }
 }
 
@@ -65,28 +67,24 @@ pub(crate) fn work_or_retire<P: Post>(
 {
     let phase = seat.phase();
     if phase % 2 == 1 {
-        return work(seat, found, phase, ending);
+        return work(seat, found, ending);
     }
     find_all(seat, found);
     seat.retire();
     TurnAnswer::Gone
 }
 
-// The phase work of a seat that runs this phase.
-#[inline(always)]
-fn work<P: Post>(
-    seat: &mut Station<P, Asked>,
-    found: &mut Stash<Found>,
-    phase: u64,
-    ending: bool,
-) -> TurnAnswer
+// The phase work of a seat that runs a phase.
+#[cold]
+#[inline(never)]
+fn work<P: Post>(seat: &mut Station<P, Asked>, found: &mut Stash<Found>, ending: bool) -> TurnAnswer
     requires looked { HasLooked seat.old found.old }
-    requires phase { phase ≡ phase_at seat.old }
     requires ending { ending ≡ true → SawEnding seat.old.post.last }
     ensures works { Works (live_of seat.old found.old) ending result (live_of seat.new found.new) }
     ensures live { IsLive (live_of seat.new found.new) }
     ensures capacity { found.new.capacity ≡ found.old.capacity }
 {
+    let phase = seat.phase();
     if phase % 2 == 0 {
         return joined_work(seat, found, ending);
     }
@@ -98,7 +96,6 @@ fn work<P: Post>(
 }
 
 // Of a joined phase: all that waits runs first.
-#[inline(always)]
 fn joined_work<P: Post>(
     seat: &mut Station<P, Asked>,
     found: &mut Stash<Found>,
@@ -119,26 +116,8 @@ fn joined_work<P: Post>(
     TurnAnswer::Between
 }
 
-// Runs all that waits, in order. Mostly none does.
-#[inline(always)]
+// Runs all that waits, one after the other.
 fn find_all<P: Post>(seat: &mut Station<P, Asked>, found: &mut Stash<Found>)
-    requires looked { HasLooked seat.old found.old }
-    requires joined { RunsJoined seat.old.post.state }
-    ensures finds { FindsAll (live_of seat.old found.old) (live_of seat.new found.new) }
-    ensures next { All RanNext found.new.held }
-    ensures seat { IsStation seat.new }
-    ensures capacity { found.new.capacity ≡ found.old.capacity }
-{
-    if seat.holds_none() {
-        return;
-    }
-    find_each(seat, found);
-}
-
-// Runs what waits, one after the other.
-#[cold]
-#[inline(never)]
-fn find_each<P: Post>(seat: &mut Station<P, Asked>, found: &mut Stash<Found>)
     requires looked { HasLooked seat.old found.old }
     requires joined { RunsJoined seat.old.post.state }
     ensures finds { FindsAll (live_of seat.old found.old) (live_of seat.new found.new) }

@@ -10,22 +10,23 @@ ghost use Rattle.like_live.specs.Calls.{GlancesNow, IsAccepted, LikesNow, LooksN
 use crate::answer::{GlanceAnswer, LikeAnswer, LookAnswer};
 use crate::asked::Asked;
 use crate::live_seat::LiveSeat;
-use like_choice::Kind;
 use like_core::Post;
 use like_requests::{Op, PageRef, Request, Verdict};
 use like_tables::Placed;
 
-/// The most likes that a seat may count.
-pub const MAX_LIKES: u64 = 1 << 56;
-
 impl<P: Post> LiveSeat<P> {
-    // The user with its place, if a request of the user for a page is accepted. It costs no division.
+    // The user with its place, if a request of the user for a page is accepted. It costs no division. A page that is
+    // split is there, and needs no other test.
     #[inline(always)]
     fn accepts(&self, user: u32, page: u32) -> Option<Placed>
+        requires { IsRunning self.now.seat.post.state }
         ensures accepted { IfSome result (IsAccepted self.now.seat user page) }
         ensures refused { IfNone result (verdict_at self.now.seat user page ≢ Verdict.Accepted) }
     {
         let placed = self.seat.users().find(&self.home, user)?;
+        if self.seat.is_sliced(page) {
+            return Some(placed);
+        }
         if page >= self.pages {
             return None;
         }
@@ -60,11 +61,10 @@ impl<P: Post> LiveSeat<P> {
         let Some(placed) = self.accepts(user, page) else {
             return LikeAnswer::Refused(self.refusal(user, page));
         };
-        if self.seat.likes() >= MAX_LIKES {
+        if !self.signals.admits(self.seat.likes(), page) {
             return LikeAnswer::Full;
         }
         self.seat.count_like_at(placed, page);
-        self.signals.count(page, Kind::Like);
         LikeAnswer::Liked
     }
 
@@ -79,7 +79,7 @@ impl<P: Post> LiveSeat<P> {
             return LookAnswer::Refused(self.refusal(user, page));
         };
         if !self.seat.is_sliced(page) {
-            self.signals.count(page, Kind::Look);
+            self.signals.count_look(self.seat.likes(), page);
             return LookAnswer::Seen(self.seat.read_at(placed, page));
         }
         if self.room == 0 {
@@ -106,7 +106,7 @@ impl<P: Post> LiveSeat<P> {
         ensures keeps { IsLive self.new }
     {
         self.room -= 1;
-        self.signals.count(asked.page, Kind::Look);
+        self.signals.count_look(self.seat.likes(), asked.page);
         self.seat.put_by(asked);
         if self.room + self.found.len() <= self.half {
             self.signals.ask();

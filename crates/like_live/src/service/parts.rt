@@ -72,10 +72,7 @@ fn new_seats<C: Choice>(
     let mut seats = Vec::new(alloc);
     for worker in workers {
         let number = seats.len() as u32;
-        let signals = Signals {
-            hint: hint.share()?,
-            sampler: choice.sampler(number)?,
-        };
+        let signals = Signals::new(hint.share()?, choice.sampler(number)?);
         let seat = new_seat(alloc, opening, factor, board, signals, worker, number)?;
         seats.push(seat)?;
     }

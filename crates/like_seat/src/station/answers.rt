@@ -12,12 +12,12 @@ use like_core::Post;
 use like_tables::Placed;
 
 impl<P: Post, W: Copy> Station<P, W> {
-    /// Whether a page is split in the phase that it runs.
+    /// Whether a page is split in the phase that it runs. A page that the board doesn't have is not.
     #[inline(always)]
     pub fn is_sliced(&self, page: u32) -> bool
         requires running { IsRunning self.now.post.state }
-        requires there { page < pages_of self.now.post }
-        ensures { result ≡ slices self.now.post page }
+        ensures there { IsTrue result → page < pages_of self.now.post }
+        ensures sliced { page < pages_of self.now.post → result ≡ slices self.now.post page }
     {
         self.tables.slice.has(page)
     }

@@ -1,5 +1,5 @@
-ghost use Rattle.std.specs.Prelude.{◌≡◌, ◌≢◌, IfNone, IfSome, false};
-ghost use Rattle.like_core.specs.declared.worker_state.WorkerState.TheVariants.{Gone, Runs};
+ghost use Rattle.std.specs.Prelude.{◌≡◌, ◌≢◌, ◌↔◌, IsTrue, false};
+ghost use Rattle.like_core.specs.declared.worker_state.WorkerState.TheVariants.{Gone};
 ghost use Rattle.like_core.specs.OpeningLimits.{has_slots};
 ghost use Rattle.like_core.specs.Post.{answered, retired};
 ghost use Rattle.like_core.specs.WorkerState.{IsRunning, RunsJoined, SawEnding};
@@ -27,17 +27,13 @@ impl<P: Post, W: Copy> Station<P, W> {
         sight
     }
 
-    /// The phase that it runs, if it runs one.
+    /// Whether it runs a phase.
     #[inline(always)]
-    pub fn runs(&self) -> Option<u64>
-        ensures runs { IfSome result (λ phase. self.now.post.state ≡ Runs phase) }
-        ensures rests { IfNone result (¬ IsRunning self.now.post.state) }
+    pub fn runs(&self) -> bool
+        ensures runs { IsTrue result ↔ IsRunning self.now.post.state }
         ensures seat { IsStation self.now }
     {
-        match self.tables.state {
-            WorkerState::Runs(phase) => Some(phase),
-            WorkerState::Answered(_) | WorkerState::Gone => None,
-        }
+        matches!(self.tables.state, WorkerState::Runs(_))
     }
 
     /// Looks at the phase word, for a seat that runs a phase. It stays in that phase, and doesn't wait.

@@ -25,14 +25,6 @@ impl<P: Post, W: Copy> Station<P, W> {
         self.tables.held.pop_front()
     }
 
-    /// Whether none waits.
-    #[inline(always)]
-    pub fn holds_none(&self) -> bool
-        ensures { IsTrue result ↔ (length self.now.held.held ≡ 0) }
-    {
-        self.tables.held.is_empty()
-    }
-
     /// Whether as many wait as there is room for.
     pub fn is_full(&self) -> bool
         ensures { IsTrue result ↔ (length self.now.held.held ≡ self.now.held.capacity) }

@@ -18,6 +18,17 @@ returns-in_err-placed-clause-refused g c =
     (subst (λ (v : LiveView). verdict_at v.seat user c.args.page ≢ Accepted) c.self.view_is
     (refused-none s user c.args.page c.self.invariant.live.home none))
 
+pub returns-then-is_sliced-clause-accepted : goal.returns-then-is_sliced-clause-accepted
+returns-then-is_sliced-clause-accepted g c =
+    let user = c.args.user in
+    let placed = c.in_ok-placed.placed in
+    let s = c.self.inside.seat in
+    let some : Some placed ≡ placed_in s.last.share user =
+    sym c.in_ok-placed.was ∙ c.find.ensures ∙ ap (λ (t : UserTable). placed_in t.share user) c.users.ensures in
+    let there : c.args.page < pages_of s.post = c.is_sliced.ensures.there c.if-is_sliced.true in
+    subst (λ (v : LiveView). IsAccepted v.seat user c.args.page placed) c.self.view_is
+    (accepted-found s user c.args.page placed c.self.invariant.live.home some there)
+
 pub returns-clause-accepted : goal.returns-clause-accepted
 returns-clause-accepted g c =
     let user = c.args.user in

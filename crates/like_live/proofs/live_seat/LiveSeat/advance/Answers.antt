@@ -1,15 +1,40 @@
-use Rattle.std.proofs.Common.{subst}
+use Rattle.std.proofs.Common.{◌≡◌, Bool, ap, sym, subst, ◌∙◌}
+use Rattle.std.proofs.lemmas.Bool.{not-false, not-true}
+use Rattle.like_core.specs.Phase.{IsJoined}
+use Rattle.like_core.specs.declared.worker_state.WorkerState.{WorkerState}
+use Rattle.like_core.specs.WorkerState.{phase_of}
+use Rattle.like_seat.specs.StationView.{StationView}
+use Rattle.like_live.specs.declared.answer.TurnAnswer.TheVariants.{Runs}
+use Rattle.like_live.specs.declared.asked.Asked.{Asked}
 use Rattle.like_live.specs.LiveView.{LiveView, live_of}
 use Rattle.like_live.specs.Moves.{Moves, Works, works}
+use Rattle.like_live.proofs.Finding.{goes_on}
 use Rattle.like_live.proofs.live_seat.LiveSeat.advance.Goals as goal
+
+pub returns-then-not-sight-clause-moves : goal.returns-then-not-sight-clause-moves
+returns-then-not-sight-clause-moves g c =
+    let after = live_of c.look_on-sight.new.self c.self.inside.found in
+    let sight = c.look_on-sight.result in
+    let saw = c.look_on-sight.ensures.looks in
+    let none = λ (joined : IsJoined (phase_of c.look_on-sight.new.self.post.state)).
+    ap (λ (s : StationView Asked). s.held.held) saw.looks.1
+    ∙ c.self.invariant.live.split
+    (subst (λ (w : WorkerState). IsJoined (phase_of w)) c.look_on-sight.ensures.stays joined) in
+    subst (λ (u : LiveView). Moves u Runs after) c.self.view_is
+    (works sight saw.looks.0 saw.sight c.look_on-sight.ensures.goes_on
+    (subst (λ (u : LiveView). Works u sight.ending Runs after)
+    (λ m. live_of (saw.looks.1 m) c.self.inside.found)
+    (subst (λ (e : Bool). Works after e Runs after) (sym (not-true _ c.if-not-sight.true))
+    (goes_on after (saw.runs c.look_on-sight.ensures.goes_on) none))))
 
 pub returns-clause-moves : goal.returns-clause-moves
 returns-clause-moves g c =
-    let v = live_of c.self.inside.seat c.self.inside.found in
     let after = live_of c.work.new.seat c.work.new.found in
     let sight = c.look_on-sight.result in
     let looks = c.look_on-sight.ensures.looks.looks in
     subst (λ (u : LiveView). Moves u c.work.result after) c.self.view_is
     (works sight looks.0 c.look_on-sight.ensures.looks.sight c.look_on-sight.ensures.goes_on
     (subst (λ (u : LiveView). Works u sight.ending c.work.result after)
-    (λ m. live_of (looks.1 m) c.self.inside.found) c.work.ensures.works))
+    (λ m. live_of (looks.1 m) c.self.inside.found)
+    (subst (λ (e : Bool). Works (live_of c.look_on-sight.new.self c.self.inside.found) e c.work.result after)
+    (sym (not-false _ c.if-not-sight.false)) c.work.ensures.works)))

@@ -7,8 +7,8 @@ use Rattle.like_live.specs.LiveView.{LiveView, with_seat}
 use Rattle.like_live.proofs.Requests.{after-counted, not-full}
 use Rattle.like_live.proofs.live_seat.LiveSeat.like_now.Goals as goal
 
-pub invariant_of-self : goal.invariant_of-self
-invariant_of-self g c =
+pub invariant_of-self-2 : goal.invariant_of-self-2
+invariant_of-self-2 g c =
     after-counted c.self.inside.seat c.count_like_at.new.self c.self.inside.found c.self.inside.home c.self.inside.pages
     c.self.inside.room c.self.inside.half c.in-Some.placed.user c.args.page c.count_like_at.result c.self.invariant
     c.count_like_at.ensures.counts c.count_like_at.ensures.seat
@@ -26,7 +26,7 @@ returns-clause-case g c =
     let live = c.self.invariant.live in
     let accepted = c.in-Some.ensures.accepted in
     let same : s ≡ c.args.self.now.seat = ap (λ (w : LiveView). w.seat) c.self.view_is in
-    let few = not-full s live.seat live.limits (omega (arith, c.likes.ensures.likes, c.if-likes-ge-MAX_LIKES.false)) in
+    let few = not-full s live.seat live.limits (omega (arith, c.likes.ensures.likes, c.admits.ensures.0 c.if-not-admits.false)) in
     let counts = subst (λ (u : ℕ). CountsLike s u c.args.page c.count_like_at.result c.count_like_at.new.self)
     accepted.user_is c.count_like_at.ensures.counts in
     liked c.count_like_at.result c.count_like_at.new.self accepted.verdict

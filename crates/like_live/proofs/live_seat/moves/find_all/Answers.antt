@@ -3,7 +3,7 @@ use Rattle.like_tables.specs.Waiting.{Waiting}
 use Rattle.like_live.specs.declared.asked.Found.{Found}
 use Rattle.like_live.specs.LiveView.{live_of}
 use Rattle.like_live.proofs.Finding.{Finding-first, Finding-next, Finding-ran, Finding-start, joined_phase}
-use Rattle.like_live.proofs.live_seat.moves.find_each.Goals as goal
+use Rattle.like_live.proofs.live_seat.moves.find_all.Goals as goal
 
 pub read_for-seen-requires-clause-there : goal.read_for-seen-requires-clause-there
 read_for-seen-requires-clause-there g c =

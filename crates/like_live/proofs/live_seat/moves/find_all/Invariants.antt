@@ -2,7 +2,7 @@ use Rattle.std.proofs.Common.{◌≡◌, length}
 use Rattle.like_seat.specs.StationView.{IsStation}
 use Rattle.like_live.specs.LiveView.{live_of}
 use Rattle.like_live.proofs.Finding.{Finding}
-use Rattle.like_live.proofs.live_seat.moves.find_each.Given as goal
+use Rattle.like_live.proofs.live_seat.moves.find_all.Given as goal
 
 abbrev pub invariant-loop-asked : goal.invariant-loop-asked
 invariant-loop-asked g l = record {
