@@ -20,9 +20,9 @@ use std::io::{Read, Write};
 use std::sync::Wait;
 use std::thread::Threads;
 
-/// Reads the pages file and then the request files, each on a thread where one can be had, makes the run that they ask
-/// for, on threads, and writes its report, or its totals alone, with its places where the options ask for them. The fault of the first file at
-/// fault stands, though later request files may have been read by then. Threads take the readers, so they are `Send`. After
+/// Reads the pages file, then the request files in parallel, makes the run that they ask for, on threads, and writes its
+/// report, or its totals alone, with its places where the options ask for them. The fault is that of the first file at
+/// fault, though later request files may have been read by then. Threads take the readers, so they are `Send`. After
 /// `Write` and `Memory` nothing is said of how much was written.
 pub fn run_files<T: Threads + Wait + Sync, R: Read + Drop + Send, W: Write>(
     rt: &T,
@@ -89,7 +89,7 @@ fn run_lists<T: Threads + Wait + Sync, W: Write, P: Progress>(
     ensures fault { IfErr result (IsRunListsFault setup.now (lists_of plans.items)) }
     ensures untouched { IfErr result (λ fault. IsBeforeOutput fault → out.new ≡ out.old) }
 {
-    let report = run_noting(rt, alloc, setup, plans, &NoGate, options.places)?;
+    let report = run_noting(rt, alloc, setup, plans, &NoGate, u32::MAX, options.places)?;
     progress.done(Part::Running);
     write_text_at_once(rt, alloc, extent_of(options), &report, &setup.pages, out)?;
     progress.done(Part::Writing);

@@ -30,9 +30,7 @@ mod submitters;
 mod worker;
 mod workers;
 
-/// Makes a run: each worker and each submitter has a thread of its own, and the coordinator's turns are made on the
-/// calling thread. A submitter's requests go to its worker through a line. No thread makes a step of its own before all
-/// were started; where one could not be, the others end, and no request was taken. On a fault the lists are given up.
+/// Makes a run, as `run_noting`, with as many threads as it needs. The workers note their additions.
 pub fn run<R: Threads + Wait + Sync, G: Gate>(
     rt: &R,
     alloc: Global,
@@ -45,38 +43,10 @@ pub fn run<R: Threads + Wait + Sync, G: Gate>(
     ensures within { OnOk result (IsWithinLimits setup.now (lists_of plans.items)) }
     ensures fault { IfErr result (IsRunFault setup.now (lists_of plans.items)) }
 {
-    let starts = starts_of(setup, &plans);
-    run_limited(rt, alloc, setup, plans, gate, starts)
+    run_limited(rt, alloc, setup, plans, gate, u32::MAX)
 }
 
-/// Makes a run, as `run`, whose workers note their additions or do not: then it takes no room for them, and its report
-/// has no places.
-pub fn run_noting<R: Threads + Wait + Sync, G: Gate>(
-    rt: &R,
-    alloc: Global,
-    setup: &Setup,
-    plans: Vec<Vec<Request>>,
-    gate: &G,
-    notes: bool,
-) -> Result<Report, RunFault>
-    ensures report { IfOk result (IsRightReport setup.now (lists_of plans.items)) }
-    ensures places { notes ≡ true → IfOk result (HasRightPlaces setup.now (lists_of plans.items)) }
-    ensures none { notes ≡ false → IfOk result HasNoPlaces }
-    ensures within { OnOk result (IsWithinLimits setup.now (lists_of plans.items)) }
-    ensures fault { IfErr result (IsRunFault setup.now (lists_of plans.items)) }
-{
-    let starts = starts_of(setup, &plans);
-    run_with(rt, alloc, setup, plans, gate, starts, notes)
-}
-
-// How many threads a run starts.
-fn starts_of(setup: &Setup, plans: &[Vec<Request>]) -> u32 {
-    let submitters = u32::try_from(plans.len()).unwrap_or(u32::MAX);
-    setup.workers.saturating_add(submitters)
-}
-
-/// Makes a run, as `run`, with at most so many threads: once as many were started, the start of a further one counts as
-/// refused.
+/// Makes a run, as `run`, with at most `starts` threads.
 pub fn run_limited<R: Threads + Wait + Sync, G: Gate>(
     rt: &R,
     alloc: Global,
@@ -91,11 +61,15 @@ pub fn run_limited<R: Threads + Wait + Sync, G: Gate>(
     ensures enough { OnOk result (setup.now.workers + length plans.items ≤ starts) }
     ensures fault { IfErr result (IsRunFault setup.now (lists_of plans.items)) }
 {
-    run_with(rt, alloc, setup, plans, gate, starts, true)
+    run_noting(rt, alloc, setup, plans, gate, starts, true)
 }
 
-// Makes a run with at most so many threads, whose workers note their additions or do not.
-fn run_with<R: Threads + Wait + Sync, G: Gate>(
+/// Makes a run: each worker and each submitter has its own thread, and the coordinator uses the calling thread. A
+/// submitter sends its requests to its worker through a line. No thread starts work until all exist. If one can't
+/// start, the others exit and no request is taken. Once `starts` threads exist, a further one can't start. The workers
+/// note their additions if `notes` says so. If not, no memory is taken for them, and the report has no places. On a
+/// fault the lists are dropped. The program makes this call.
+pub fn run_noting<R: Threads + Wait + Sync, G: Gate>(
     rt: &R,
     alloc: Global,
     setup: &Setup,

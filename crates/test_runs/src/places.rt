@@ -46,7 +46,8 @@ fn replayed_unnoted(rt: &impl Abort, alloc: Global) -> Report {
 fn ran_unnoted(rt: &(impl Abort + Threads + Wait + Sync), alloc: Global) -> Report {
     let setup = plain_likes().setup(rt, alloc);
     let plans = plain_likes().plans(rt, alloc, &setup.pages);
-    run_noting(rt, alloc, &setup, plans, &Watch::idle(), false).expect(rt, "a report")
+    let ran = run_noting(rt, alloc, &setup, plans, &Watch::idle(), u32::MAX, false);
+    ran.expect(rt, "a report")
 }
 
 #[test]
