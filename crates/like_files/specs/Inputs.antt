@@ -127,6 +127,13 @@ RefusesLists file files (driver.Pages fault) = RefusesPages file fault
 RefusesLists file files (driver.Requests submitter fault) = PlansRefused file files (driver.Requests submitter fault)
 RefusesLists file files fault = ⊥
 
+-- the answer of a reading of a pages file and request files: their values, or why they give none
+abbrev pub ReadsLists : Option (List ℕ) → List (Option (List ℕ))
+    → Result (List Page × Vec (Vec Request Global) Global) DriverFault → Type 0
+ReadsLists file files answer =
+    MatchResult answer (λ lists. GivesLists file files lists.0 (map (λ plan. plan.items) lists.1.items))
+    (RefusesLists file files)
+
 -- the text of a right report was written, with right places if they are asked for, else with none; what is said of it
 -- is its summary if one is asked for, else its refused requests
 pub record WritesReport (options : Options) (setup : Setup) (plans : List (List Request))

@@ -1,8 +1,7 @@
 ghost use Rattle.std.specs.Prelude.{◌≡◌, ◌-◌, ◌<◌, ◌^◌, IfErr, MatchResult, None, Ok, OnOk, length, map, min};
 ghost use Rattle.like_records.specs.Reading.{ReadFailed};
-ghost use Rattle.like_service.specs.Asked.{lists_of};
 ghost use Rattle.like_files.specs.FailedReads.{TellsPlanRead, TellsRead};
-ghost use Rattle.like_files.specs.Inputs.{GivesLists, GivesPlan, ReadsPlans, RefusesLists, RefusesPlan};
+ghost use Rattle.like_files.specs.Inputs.{GivesPlan, ReadsLists, ReadsPlans, RefusesPlan};
 ghost use Rattle.like_files.specs.Plans.{AddsPlan, IsFirstStop, Stops};
 
 use crate::fault::DriverFault;
@@ -18,9 +17,7 @@ pub fn read_lists<R: Read + Drop>(
     pages: R,
     requests: Vec<R>,
 ) -> Result<(Pages, Vec<Vec<Request>>), DriverFault>
-    ensures lists { let files = map R.remaining requests.items in
-        MatchResult result (λ lists. GivesLists (R.remaining pages) files lists.0 (lists_of lists.1.items))
-        (RefusesLists (R.remaining pages) files) }
+    ensures lists { ReadsLists (R.remaining pages) (map R.remaining requests.items) result }
     ensures read { IfErr result (TellsRead pages requests.items None) }
 {
     let pages = read_pages(alloc, pages)?;
@@ -35,9 +32,7 @@ pub fn read_lists_at_once<T: Threads + Sync, R: Read + Drop + Send>(
     pages: R,
     requests: Vec<R>,
 ) -> Result<(Pages, Vec<Vec<Request>>), DriverFault>
-    ensures lists { let files = map R.remaining requests.items in
-        MatchResult result (λ lists. GivesLists (R.remaining pages) files lists.0 (lists_of lists.1.items))
-        (RefusesLists (R.remaining pages) files) }
+    ensures lists { ReadsLists (R.remaining pages) (map R.remaining requests.items) result }
     ensures read { IfErr result (TellsRead pages requests.items None) }
 {
     let pages = read_pages(alloc, pages)?;
@@ -78,7 +73,8 @@ fn read_plans_at_once<T: Threads + Sync, R: Read + Drop + Send>(
         return read_plans(alloc, pages, requests);
     }
     let read = |reader: R| -> Result<Vec<Request>, RequestsFault>
-        ensures plan { MatchResult result (λ plan. GivesPlan pages.entry.now (R.remaining reader) plan.items)
+        ensures plan { MatchResult result
+            (λ plan. GivesPlan pages.entry.now (R.remaining reader) plan.items)
             (RefusesPlan (R.remaining reader)) }
         ensures read { IfErr result (λ fault. fault ≡ RequestsFault.Read → ReadFailed reader) }
     { read_requests(alloc, reader, pages) };
@@ -93,7 +89,9 @@ fn gather(
     alloc: Global,
     answers: Vec<Result<Vec<Request>, RequestsFault>>,
 ) -> Result<Vec<Vec<Request>>, DriverFault>
-    ensures { MatchResult result (λ plans. answers.items ≡ map Ok plans.items) (IsFirstStop answers.items) }
+    ensures { MatchResult result
+        (λ plans. answers.items ≡ map Ok plans.items)
+        (IsFirstStop answers.items) }
 {
     let mut plans = Vec::new(alloc);
     for answer in answers {

@@ -2,7 +2,7 @@ ghost use Rattle.std.specs.Prelude.{◌≡◌, if◌then◌else◌, true, [], On
 ghost use Rattle.like_service.specs.Collected.{rows_of};
 ghost use Rattle.std.specs.Io.KnownBytes.{Appends};
 ghost use Rattle.like_service.specs.places.Places.{lists_in};
-ghost use Rattle.like_replies.specs.PlaceRows.{place_rows, text_of};
+ghost use Rattle.like_replies.specs.PlaceRows.{WritesText, place_rows};
 ghost use Rattle.like_replies.specs.Reported.{reported, shown_of};
 ghost use Rattle.like_replies.specs.Rows.{IsWritable, report_text, rows_text};
 
@@ -107,10 +107,8 @@ pub fn write_text<W: Write>(
 ) -> Result<(), WriteFault>
     requires writable { IsWritable pages.now (reported report.now) }
     requires placed { extent.places ≡ true → length report.now.places.items ≡ length pages.now }
-    ensures { OnOk result (Appends
-        (W.contents out.old)
-        (W.contents out.new)
-        (text_of extent pages.now report.now)) }
+    ensures { WritesText extent pages.now report.now
+        (W.contents out.old) (W.contents out.new) result }
 {
     let names = Names::new(alloc, pages)?;
     write_report_rows(alloc, extent.totals, &names, report, out)?;
@@ -149,10 +147,8 @@ pub fn write_text_at_once<T: Threads + Sync, W: Write>(
 ) -> Result<(), WriteFault>
     requires writable { IsWritable pages.now (reported report.now) }
     requires placed { extent.places ≡ true → length report.now.places.items ≡ length pages.now }
-    ensures { OnOk result (Appends
-        (W.contents out.old)
-        (W.contents out.new)
-        (text_of extent pages.now report.now)) }
+    ensures { WritesText extent pages.now report.now
+        (W.contents out.old) (W.contents out.new) result }
 {
     let names = Names::new(alloc, pages)?;
     write_report_rows_at_once(rt, alloc, extent.totals, &names, report, out)?;
