@@ -41,7 +41,8 @@ impl ParseFault {
     /// Writes the text of a wrong command line, or the line of the want of memory.
     /// `false` says that a write failed, and nothing of how much was written.
     pub fn line<W: Write>(&self, out: &mut W) -> bool
-        ensures { IsTrue result → Appends (W.contents out.old) (W.contents out.new) (line_of self.now) }
+        ensures { IsTrue result
+            → Appends (W.contents out.old) (W.contents out.new) (line_of self.now) }
     {
         let text = match self {
             ParseFault::Usage(text) => text.as_str(),

@@ -63,7 +63,8 @@ fn options(
 
 // The number that an option has.
 fn number(matches: &ArgMatches<'_>, id: &str) -> u32
-    requires { (least most : ℕ) × HasNumber (rows_of (found_of matches.now)) id.now least most × (most < 2 ^ 32) }
+    requires { (least most : ℕ)
+        × HasNumber (rows_of (found_of matches.now)) id.now least most × (most < 2 ^ 32) }
     ensures { let rows = rows_of (found_of matches.now) in (least most : ℕ) → most < 2 ^ 32
         → HasNumber rows id.now least most → IsNumber rows id.now least most (Some result) }
 {
@@ -91,7 +92,8 @@ fn flag(matches: &ArgMatches<'_>, id: &str) -> bool
 
 // The name of the pages file.
 fn pages_file(alloc: Global, matches: &ArgMatches<'_>) -> Result<String, AllocError>
-    requires { (name : Text) × (first_of (codes "pages") (rows_of (found_of matches.now)) ≡ Some name) }
+    requires { (name : Text)
+        × (first_of (codes "pages") (rows_of (found_of matches.now)) ≡ Some name) }
     ensures { let found = first_of (codes "pages") (rows_of (found_of matches.now)) in
         IfOk result (λ name. found ≡ Some (string_bytes name)) }
 {
@@ -103,7 +105,8 @@ fn pages_file(alloc: Global, matches: &ArgMatches<'_>) -> Result<String, AllocEr
 
 // The names of the request files.
 fn request_files(alloc: Global, matches: &ArgMatches<'_>) -> Result<Vec<String>, AllocError>
-    requires { (names : List Text) × (all_of (codes "requests") (rows_of (found_of matches.now)) ≡ Some names) }
+    requires { (names : List Text)
+        × (all_of (codes "requests") (rows_of (found_of matches.now)) ≡ Some names) }
     ensures { let found = all_of (codes "requests") (rows_of (found_of matches.now)) in
         IfOk result (λ files. found ≡ Some (map string_bytes files.items)) }
 {
@@ -115,7 +118,8 @@ fn request_files(alloc: Global, matches: &ArgMatches<'_>) -> Result<Vec<String>,
 
 // A copy of each text.
 fn texts(alloc: Global, texts: &[&str]) -> Result<Vec<String>, AllocError>
-    ensures { IfOk result (λ copies. map string_bytes copies.items ≡ map (λ text. text.now) texts.now) }
+    ensures { IfOk result (λ copies.
+        map string_bytes copies.items ≡ map (λ text. text.now) texts.now) }
 {
     let mut copies = Vec::with_capacity(alloc, texts.len())?;
     for text in texts {

@@ -54,7 +54,8 @@ fn texts_of<'w, S: AsStr>(alloc: Global, words: &'w [S]) -> Result<Vec<&'w str>,
 
 // What words ask for that have no matches: help, the version, or nothing.
 fn refused(alloc: Global, error: &Error) -> Result<Asked, ParseFault>
-    ensures { (words : List Text) → HasKind (faults_of words) error.now → RefusesWords words result }
+    ensures { (words : List Text)
+        → HasKind (faults_of words) error.now → RefusesWords words result }
 {
     if error.kind() == ErrorKind::OutOfMemory {
         return Err(ParseFault::Memory);

@@ -19,7 +19,8 @@ impl DriverFault {
     /// Writes the fault's line, with the name of the file at fault from the options: an empty name where they have none.
     /// `false` says that a write failed, and nothing of how much was written.
     pub fn line<W: Write>(&self, options: &Options, out: &mut W) -> bool
-        ensures { IsTrue result → ShowsLine options.now self.now (W.contents out.old) (W.contents out.new) }
+        ensures { IsTrue result
+            → ShowsLine options.now self.now (W.contents out.old) (W.contents out.new) }
     {
         match self.own_line() {
             Some(line) => out.write_all(line.as_bytes()).is_ok(),

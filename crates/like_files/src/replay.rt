@@ -20,8 +20,8 @@ use std::alloc::Global;
 use std::io::{Read, Write};
 
 /// Reads the pages file, the request files in their order and the script file, replays the run that they ask for, and
-/// writes its report, or its totals alone, with its places where the options ask for them. Where there is no script, no turn is taken before
-/// the rounds. After `Write` and `Memory` nothing is said of how much was written.
+/// writes its report, or its totals alone, with its places where the options ask for them. Without a script, no turn
+/// comes before the rounds. After `Write` and `Memory` nothing is said of how much was written.
 pub fn replay_files<R: Read + Drop, W: Write>(
     alloc: Global,
     options: &Options,
@@ -89,8 +89,8 @@ fn replay_lists<W: Write, P: Progress>(
     progress: &mut P,
 ) -> Result<Option<Notice>, DriverFault>
     requires { length script.now ≤ max_entries }
-    ensures replayed { IfOk result (HasReplayedLists options.now setup.now (lists_of plans.items) script.now
-        (W.contents out.old) (W.contents out.new)) }
+    ensures replayed { IfOk result (HasReplayedLists options.now setup.now
+        (lists_of plans.items) script.now (W.contents out.old) (W.contents out.new)) }
     ensures fault { IfErr result (IsReplayListsFault setup.now (lists_of plans.items) script.now) }
     ensures untouched { IfErr result (λ fault. IsBeforeOutput fault → out.new ≡ out.old) }
 {

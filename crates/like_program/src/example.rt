@@ -60,7 +60,8 @@ fn example_options(alloc: Global) -> Result<Options, AllocError>
 
 // The bytes of its request files.
 fn request_files(alloc: Global) -> Result<Vec<&'static [u8]>, AllocError>
-    ensures { IfOk result (λ files. map (λ file. Some file.now) files.items ≡ Some example_requests ∷ []) }
+    ensures { IfOk result (λ files.
+        map (λ file. Some file.now) files.items ≡ Some example_requests ∷ []) }
 {
     let mut requests = Vec::new(alloc);
     requests.push(REQUESTS.as_bytes())?;

@@ -77,7 +77,8 @@ impl ProgramFault {
 
     /// Writes the fault's line. `false` says that a write failed, and nothing of how much was written.
     pub fn line<W: Write>(&self, out: &mut W) -> bool
-        ensures { IsTrue result → ShowsProgramLine self.now (W.contents out.old) (W.contents out.new) }
+        ensures { IsTrue result
+            → ShowsProgramLine self.now (W.contents out.old) (W.contents out.new) }
     {
         match self {
             ProgramFault::Words(fault) => fault.line(out),

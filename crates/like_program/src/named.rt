@@ -50,8 +50,8 @@ pub fn replay_named<O: Opener, W: Write, P: Progress>(
 ) -> Result<Option<Notice>, DriverFault>
 where
     O::Reader: Read + Drop,
-    ensures replayed { IfOk result (HasReplayedNamed (O.opens opener.now) O.Reader.remaining options.now
-        (W.contents out.old) (W.contents out.new)) }
+    ensures replayed { IfOk result (HasReplayedNamed (O.opens opener.now) O.Reader.remaining
+        options.now (W.contents out.old) (W.contents out.new)) }
     ensures fault { IfErr result (IsReplayNamedFault (O.opens opener.now) O.Reader.remaining
         (O.refuses opener.now) options.now) }
     ensures untouched { IfErr result (λ fault. IsBeforeOutput fault → out.new ≡ out.old) }

@@ -81,7 +81,8 @@ fn serve<R: Files + Input + Threads + Wait + Clock + Sync, W: Write, E: Write>(
 where
     R::File: Send,
     R::Reader: Send,
-    ensures served { IfOk result (HasServed (map string_bytes words.now) (W.contents out.old) (W.contents out.new)) }
+    ensures served { IfOk result
+        (HasServed (map string_bytes words.now) (W.contents out.old) (W.contents out.new)) }
     ensures fault { IfErr result
         (IsServeFault (map string_bytes words.now) (W.contents out.old) (W.contents out.new)) }
 {
@@ -109,7 +110,8 @@ fn run_asked<R: Files + Input + Threads + Wait + Clock + Sync, W: Write, E: Writ
 where
     R::File: Send,
     R::Reader: Send,
-    ensures run { IfOk result (HasDone (asked.Run options) (W.contents out.old) (W.contents out.new)) }
+    ensures run { IfOk result
+        (HasDone (asked.Run options) (W.contents out.old) (W.contents out.new)) }
     ensures fault { IfErr result (IsFilesFault options (W.contents out.old) (W.contents out.new)) }
 {
     if names_input_twice(&options) {
@@ -128,7 +130,8 @@ fn replay_asked<R: Files + Input + Clock, W: Write, E: Write>(
     out: &mut W,
     watch: &mut Stopwatch<'_, R, E>,
 ) -> Result<Option<Notice>, ProgramFault>
-    ensures replayed { IfOk result (HasDone (asked.Replay options) (W.contents out.old) (W.contents out.new)) }
+    ensures replayed { IfOk result
+        (HasDone (asked.Replay options) (W.contents out.old) (W.contents out.new)) }
     ensures fault { IfErr result (IsFilesFault options (W.contents out.old) (W.contents out.new)) }
 {
     if names_input_twice(&options) {
