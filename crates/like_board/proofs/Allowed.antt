@@ -1,6 +1,8 @@
 -- Each step is allowed by the rule, and tells what it is said to tell.
-use Rattle.std.proofs.Common.{◌≡◌, ◌≢◌, ℕ, ◌+◌, ◌%◌, ◌^◌, ◌<◌, false, List, [], ◌∷◌, ◌++◌, length, get_or, slice_index, slice_set, subst, ap, sym, ◌∙◌, refl, arith}
+use Rattle.std.proofs.Common.{◌≡◌, ◌≢◌, ℕ, ◌+◌, ◌%◌, ◌^◌, ◌<◌, ◌≤◌, ◌==◌, Bool, false, inl, inr, eq-eqb, List, [], ◌∷◌, ◌++◌, length, get_or, slice_index, slice_set, subst, ap, sym, ◌∙◌, refl, arith}
+use Rattle.std.proofs.lemmas.Bool.{cases_eq, ne_eqb}
 use Rattle.std.proofs.lemmas.List.{set-get_or}
+use prog.Atomic.{either}
 use mathlib.Core.Option.{some}
 use lib.ListN.{get_elem?}
 use Rattle.atomic_table.specs.Table.{Me, keeps, Allows, Splits, Joins}
@@ -15,24 +17,25 @@ use Rattle.like_core.specs.declared.view.CoordSeatView.{CoordSeatView}
 use Rattle.like_core.specs.declared.view.View.{View}
 use Rattle.like_core.specs.declared.view.View.TheVariants.{Coord, Worker, Spent}
 use Rattle.like_core.specs.OpeningLimits.{has_slots}
+use Rattle.like_core.specs.core.Moves.{LetsReturn}
 use Rattle.like_core.specs.Slots.{IsChoice}
 use Rattle.like_core.specs.word.Forms.{form_of}
 use Rattle.like_core.specs.Post.{IsFresh, MayAdd, MayRead, MayGlance}
 use Rattle.like_core.specs.WorkerState.{RunsJoined, RunsSplit, SawEnding}
-use Rattle.like_core.specs.views.Views.{MayAnnounce, MayCount, MayPublish, MayPut, MayPublishSlots, MayReadSlot, MayReadSlots, MayRelease, fresh, looked_view, answered_view, retired_view, added_view, read_view, glanced_view, masked_view, slotted_view, slots_read, post_of, likes_merged, adding, looked_coord, announced_coord, counted_coord, published_coord, slotted_coord, slots_put, mask_released, released_coord, made_coord, gathered_coord}
+use Rattle.like_core.specs.views.Views.{MayAnnounce, MayCount, MayPublish, MayPut, MayPublishSlots, MayReadSlot, MayReadSlots, MayRelease, fresh, looked_view, answered_view, retired_view, returned_view, added_view, read_view, glanced_view, masked_view, slotted_view, slots_read, post_of, likes_merged, adding, looked_coord, announced_coord, counted_coord, published_coord, slotted_coord, slots_put, mask_released, released_coord, made_coord, gathered_coord}
 use Rattle.like_core.specs.views.Actions.{Acknowledges, Reports, Retires, Reads, Glances, Announces, Releases}
 use Rattle.like_core.specs.views.Layout.{mask_place, slot_place, word_of}
-use Rattle.like_core.specs.views.Shows.{ShowsSome, FitsWorker, FitsCoord, IsKnown, IsStep, IsSteps}
+use Rattle.like_core.specs.views.Shows.{ShowsSome, FitsWorker, FitsCoord, IsKnown, IsReturn, IsStep, IsSteps}
 use Rattle.like_core.proofs.views.Apart.{word_of-injective}
 use Rattle.like_core.proofs.views.Posts.{post_fresh}
 use Rattle.like_board.specs.declared.key.Key.{Key}
 use Rattle.like_board.specs.Known.{worker_view_of, coord_view_of}
 use Rattle.like_board.specs.Rule.{opening_of, IsShowing}
-use Rattle.like_board.specs.Plays.{Looked, Surveyed, sight_at, coord_sight_at, TellsLook, TellsSurvey, TellsWorker, TellsCoord, PageAct, TellsAdd, TellsRead, TellsAddAt, TellsReadAt, TellsMask, TellsSlot, TellsSlotAt, TellsSlots, TellsPutAt, TellsCount, TellsCountAt}
+use Rattle.like_board.specs.Plays.{CameBack, Looked, Surveyed, phase_at, sight_at, coord_sight_at, TellsLook, TellsSurvey, TellsWorker, TellsReturn, TellsCoord, PageAct, TellsAdd, TellsRead, TellsAddAt, TellsReadAt, TellsMask, TellsSlot, TellsSlotAt, TellsSlots, TellsPutAt, TellsCount, TellsCountAt}
 use Rattle.like_board.specs.Closed.{TellsLast}
 use Rattle.like_board.proofs.coordinator.Leads.{splits}
 use Rattle.like_board.proofs.worker.Moves.{known_of}
-use Rattle.like_board.proofs.worker.WorkerSteps.{looks, acknowledges, reports, retires}
+use Rattle.like_board.proofs.worker.WorkerSteps.{looks, acknowledges, reports, retires, returns}
 use Rattle.like_board.proofs.coordinator.CoordSteps.{surveys, announces, releases}
 use Rattle.like_board.proofs.coordinator.Choosing.{counts, publishes, puts, publishes_slots}
 use Rattle.like_board.proofs.Tallying.{tallied_made, places_made}
@@ -56,6 +59,15 @@ coord_opening : (z : Opening) (words : List ℕ) (views : List View) (place : �
     → c.opening ≡ z
 coord_opening z words views place c some_state at =
     let fits : FitsCoord z some_state.state c = some_state.shows.seats.each place (Coord c) at in fits.seats.opening
+
+-- a word that is stored as it was, and a view that is left, change nothing
+unchanged : (z : Opening) (words : List ℕ) (views : List View) (id word : ℕ) (v : View)
+    → get_elem? views id ≡ some v
+    → ShowsSome z words views
+    → ShowsSome z (slice_set words word (get_or words word 0)) (slice_set views id v)
+unchanged z words views id word v at shows =
+    subst (λ (l : List ℕ). ShowsSome z l (slice_set views id v)) (sym (set-get_or words word 0))
+    (subst (λ (l : List View). ShowsSome z words l) (sym (set_again views id v at)) shows)
 
 pub looking : {S : Type 0} (key : Key) (slots id : ℕ) (me : Me S View)
     → me ≡ (Worker (worker_view_of me.0), [])
@@ -170,6 +182,60 @@ retiring {S} key slots id me more more_is is joined = λ st shows _ at _.
         ap (λ (m : Me S View). m.1) is,
       ),
     )
+
+pub returning : {S : Type 0} (key : Key) (slots id : ℕ) (me : Me S View) (expected new : ℕ)
+    → me ≡ (Worker (worker_view_of me.0), [])
+    → (worker_view_of me.0).state ≡ Gone
+    → LetsReturn (worker_view_of me.0).opening.limits
+    → expected % 2 ≡ 0
+    → new + (form_of (worker_view_of me.0).opening.limits.form).retirement (worker_view_of me.0).worker ≡ expected
+    → Allows (IsShowing key) slots id me 0 (λ n. either (n == expected) new n)
+    (λ found after. TellsReturn expected me.0 found after.0 × (after.1 ≡ []))
+returning {S} key slots id me expected new is gone lets even new_is = λ st shows _ at _.
+    let z = opening_of key in
+    let v : WorkerSeatView = worker_view_of me.0 in
+    let here : get_elem? st.views id ≡ some (Worker v) = at ∙ ap (λ (m : Me S View). some m.0) is in
+    let same = worker_opening z st.words st.views id v shows here in
+    let found : ℕ = get_or st.words 0 0 in
+    let none : me.1 ≡ [] = ap (λ (m : Me S View). m.1) is in
+    elim (cases_eq found expected) [
+      | inl hit ↦
+          let r = returns z st.words st.views id v new shows here gone
+          (subst (λ (y : Opening). LetsReturn y.limits) same lets)
+          (ap (λ n. n % 2) hit ∙ even)
+          (subst (λ (y : Opening). new + (form_of y.limits.form).retirement v.worker ≡ expected) same new_is ∙ sym hit)
+          in
+          let phase : ℕ = phase_at z found in
+          let w : View = Worker (returned_view v phase) in
+          let came : CameBack phase me.0 w =
+          record {
+            within = subst (λ (y : Opening). phase ≤ y.limits.last_phase) (sym same) r.within;
+            view = refl;
+            step = subst (λ (y : Opening). IsReturn y v.worker (Worker v) w) (sym same) r.step;
+          }
+          in (
+            w,
+            keeps,
+            tt,
+            subst (λ (b : Bool). ShowsSome z (slice_set st.words 0 (either b new found)) (slice_set st.views id w))
+                (sym (eq-eqb found expected hit)) r.shows,
+            (
+              record {
+                back = λ _. subst (λ (y : Opening). CameBack (phase_at y found) me.0 w) (sym same) came;
+                missed = λ miss. absurd (miss hit);
+              },
+              none,
+            ),
+          )
+      | inr miss ↦ (
+        me.0,
+        keeps,
+        tt,
+        subst (λ (b : Bool). ShowsSome z (slice_set st.words 0 (either b new found)) (slice_set st.views id me.0))
+            (sym (ne_eqb found expected miss)) (unchanged z st.words st.views id 0 me.0 at shows),
+        (record { back = λ hit. absurd (miss hit); missed = λ _. refl }, none),
+      )
+    ]
 
 pub surveying : {S : Type 0} (key : Key) (slots id : ℕ) (me : Me S View)
     → me ≡ (Coord (coord_view_of me.0), [])
@@ -610,7 +676,6 @@ pub closing : {S : Type 0} (key : Key) (slots id : ℕ) (me : Me S View) (word :
     → Allows (IsShowing key) slots id me word (λ n. n) (λ found after. TellsLast word me.0 found × (after ≡ me))
 closing {S} key slots id me word = λ st shows _ at _.
     let z = opening_of key in
-    let same = set-get_or st.words word 0 in
     let told : TellsLast word me.0 (get_or st.words word 0) =
     record {
       closed = λ c seats back. (closes z st.words st.views id me.0 c seats shows at back).0;
@@ -621,7 +686,6 @@ closing {S} key slots id me word = λ st shows _ at _.
       me.0,
       keeps,
       tt,
-      subst (λ (l : List ℕ). ShowsSome z l (slice_set st.views id me.0)) (sym same)
-          (subst (λ (l : List View). ShowsSome z st.words l) (sym (set_again st.views id me.0 at)) shows),
+      unchanged z st.words st.views id word me.0 at shows,
       (told, refl),
     )

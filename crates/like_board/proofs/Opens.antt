@@ -1,5 +1,5 @@
 -- What a new board shows.
-use Rattle.std.proofs.Common.{◌≡◌, ℕ, zero, suc, ◌<◌, ◌-◌, ◌*◌, ◌^◌, ◌≤◌, nat_lt, Bool, false, List, [], ◌∷◌, ◌++◌, length, take, get_or, replicate, subst, ap, sym, ◌∙◌, refl, arith, add-zero}
+use Rattle.std.proofs.Common.{◌≡◌, ℕ, zero, suc, ◌<◌, ◌-◌, ◌*◌, ◌^◌, ◌≤◌, nat_lt, Bool, true, false, List, [], ◌∷◌, ◌++◌, length, take, get_or, replicate, subst, ap, sym, ◌∙◌, refl, arith, add-zero}
 use Rattle.std.proofs.lemmas.Bool.{cond-true, lt-ltb, le-ltb}
 use Rattle.std.proofs.lemmas.List.{append-nil, get_or-replicate, length-replicate}
 use Rattle.std.proofs.lemmas.List.Elements.{All-nil, All-replicate}
@@ -21,7 +21,7 @@ use Rattle.like_core.specs.views.Layout.{mask_place, slot_in, word_of}
 use Rattle.like_core.specs.views.Shows.{IsOpening, ShowsSome, Fits, FitsCoord}
 use Rattle.like_core.proofs.views.Chosen.{mask_in-none, chosen-none}
 use Rattle.like_core.proofs.views.KeptPlaces.{places_open}
-use Rattle.like_core.proofs.core.Reached.{start_reached}
+use Rattle.like_core.proofs.core.Moved.{moves_begin}
 use Rattle.like_board.specs.declared.key.Key.{Key}
 use Rattle.like_board.specs.Marks.{marks_of}
 use Rattle.like_board.specs.Rule.{opening_of, first_view, first_word}
@@ -56,7 +56,8 @@ opens z words opening width word pages mask_word slots =
         gone = λ split _. absurd (omega arith);
       };
       choice = record {
-        counted = All-nil (λ (r : PageCount). (r.phase ≤ 0) × (r.phase ≡ 0 → AllIn (numbers z (start z))));
+        counted = All-nil (λ (r : PageCount). (r.phase ≤ 0)
+            × (r.phase ≡ 0 → AllIn (numbers z (start z)) × (false ≡ true)));
         published = tt;
         masks = λ phase. refl;
       };
@@ -64,7 +65,7 @@ opens z words opening width word pages mask_word slots =
     in
     record {
       state = start z;
-      reachable = start_reached z;
+      reachable = moves_begin z;
       shows = record {
         opening = opening;
         merged = λ i. refl;

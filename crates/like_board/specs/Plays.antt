@@ -1,4 +1,4 @@
-use Rattle.std.specs.Prelude.{◌≡◌, ℕ, ◌^◌, ◌<◌, ◌≤◌, true, length, slice_index}
+use Rattle.std.specs.Prelude.{◌≡◌, ◌≢◌, ℕ, ◌^◌, ◌<◌, ◌≤◌, true, length, slice_index}
 use Rattle.like_core.specs.declared.worker_state.WorkerState.{WorkerState}
 use Rattle.like_core.specs.declared.sight.Sight.{Sight}
 use Rattle.like_core.specs.declared.sight.CoordSight.{CoordSight}
@@ -16,10 +16,10 @@ use Rattle.like_core.specs.views.Sights.{sight_in, coord_sight_in}
 use Rattle.like_core.specs.WorkerState.{IsSightOf, SeesEndingStill, phase_of, seen, turn_of}
 use Rattle.like_core.specs.Additions.{added_to}
 use Rattle.like_core.specs.Slots.{IsChoice}
-use Rattle.like_core.specs.views.Views.{looked_view, added_view, masked_view, slotted_view, slots_read, looked_coord, counted_coord, slotted_coord}
+use Rattle.like_core.specs.views.Views.{looked_view, returned_view, added_view, masked_view, slotted_view, slots_read, looked_coord, counted_coord, slotted_coord}
 use Rattle.like_core.specs.views.Layout.{slot_place, word_of}
 use Rattle.like_core.specs.views.Shows.{IsKnown, IsStep}
-use Rattle.like_core.specs.views.Actions.{Adds, ReadsMask, Counts}
+use Rattle.like_core.specs.views.Actions.{Adds, ComesBack, ReadsMask, Counts}
 use Rattle.like_board.specs.Known.{worker_view_of, coord_view_of}
 
 -- what a worker in this state sees in a phase word of this opening
@@ -29,6 +29,10 @@ sight_at z word state = sight_in (form_of z.limits.form) (turn_of state) word
 -- what the coordinator sees there
 abbrev pub coord_sight_at : Opening → ℕ → CoordSight
 coord_sight_at z word = coord_sight_in (form_of z.limits.form) z.workers word
+
+-- the phase that it tells
+abbrev pub phase_at : Opening → ℕ → ℕ
+phase_at z word = (form_of z.limits.form).phase_in word
 
 -- what a worker's look at this word shows
 pub record Looked (z : Opening) (found : ℕ) (v : WorkerSeatView) : Type 0 where
@@ -78,6 +82,18 @@ pub record TellsCoord (does : CoordAct) (next : CoordSeatView → CoordSeatView)
     : Type 0 where
   pub view : w ≡ Coord (next (coord_view_of v))
   pub step : does (coord_view_of v) (next (coord_view_of v))
+
+-- a worker came back into this phase: the view after says so, and it is the action
+pub record CameBack (phase : ℕ) (v w : View) : Type 0 where
+  pub within : phase ≤ (worker_view_of v).opening.limits.last_phase
+  pub view : w ≡ Worker (returned_view (worker_view_of v) phase)
+  pub step : let me = worker_view_of v in ComesBack me (returned_view me phase)
+
+-- what an exchange tells by which a worker comes back, where it expected this word and found that one: if they are the
+-- same, it came back into the phase that they tell; otherwise nothing changed
+pub record TellsReturn (expected : ℕ) (v : View) (found : ℕ) (w : View) : Type 0 where
+  pub back : found ≡ expected → CameBack (phase_at (worker_view_of v).opening found) v w
+  pub missed : found ≢ expected → w ≡ v
 
 -- what an addition of n to a page tells: the view after has it, with the count that it found; the worker's own
 -- additions are in that; and it is the action

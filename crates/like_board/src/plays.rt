@@ -4,7 +4,7 @@ ghost use Rattle.like_core.specs.declared.view.View.TheVariants.{Coord, Worker, 
 ghost use Rattle.like_core.specs.views.Views.{fresh, answered_view, retired_view, read_view, glanced_view, announced_coord, released_coord, published_coord, slots_put, made_coord, gathered_coord};
 ghost use Rattle.like_core.specs.views.Actions.{Acknowledges, Reports, Retires, Reads, Glances, Announces, Releases};
 ghost use Rattle.like_board.specs.Known.{coord_view_of, worker_view_of};
-ghost use Rattle.like_board.specs.Plays.{TellsLook, TellsSurvey, TellsWorker, TellsCoord, TellsAddAt, TellsReadAt, TellsMask, TellsSlotAt, TellsSlots, TellsCountAt, TellsPutAt};
+ghost use Rattle.like_board.specs.Plays.{TellsLook, TellsSurvey, TellsWorker, TellsReturn, TellsCoord, TellsAddAt, TellsReadAt, TellsMask, TellsSlotAt, TellsSlots, TellsCountAt, TellsPutAt};
 ghost use Rattle.like_board.specs.Closed.{TellsLast};
 
 use atomic_table::{Join, Play, Split};
@@ -36,6 +36,13 @@ pub struct Retiring;
 
 impl Play<(), View> for Retiring {
     ghost then = { λ _ me _ after. TellsWorker Retires retired_view me.0 after.0 × (after.1 ≡ []) };
+}
+
+/// A try to come back.
+pub struct Returning;
+
+impl Play<(), View> for Returning {
+    ghost then = { λ step me found after. TellsReturn step.first me.0 found after.0 × (after.1 ≡ []) };
 }
 
 /// An addition to the count of the page whose word it steps on.

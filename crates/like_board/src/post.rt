@@ -1,10 +1,10 @@
-ghost use Rattle.std.specs.Prelude.{◌≡◌, ◌<◌, ◌≢◌, ◌≤◌, true, false, length, slice_index};
+ghost use Rattle.std.specs.Prelude.{◌≡◌, ◌<◌, ◌≢◌, ◌≤◌, true, false, length, slice_index, IfNone, IfSome};
 ghost use Rattle.like_core.specs.OpeningLimits.{has_slots};
 
 use crate::board::Board;
 use crate::holder::HoldsBoard;
 use crate::worker_seat::WorkerSeat;
-use like_core::{Post, Sight, SlotPost};
+use like_core::{Post, Returns, Sight, SlotPost};
 use std::sync::Arc;
 
 /// A worker's seat at its board. Each call is one step on one of the board's words, and none waits.
@@ -176,5 +176,29 @@ impl<B: HoldsBoard> SlotPost for PostAt<B> {
         let board = self.board.board();
         self.seat.read_slots(board, pages);
         self.seat.hot_slots(board)
+    }
+}
+
+impl<B: HoldsBoard> Returns for PostAt<B> {
+    ghost use Rattle.like_core.specs.declared.worker_state.WorkerState.TheVariants.{Gone};
+    ghost use Rattle.like_core.specs.core.Moves.{LetsReturn};
+    ghost use Rattle.like_core.specs.Post.{returned};
+    ghost use Rattle.like_core.specs.views.Views.{returned_view};
+    ghost use Rattle.like_core.specs.views.Actions.{ComesBack};
+    ghost use Rattle.like_board.specs.Seats.{post_board, post_view, post_meaning};
+
+    fn come_back(&mut self) -> Option<u64>
+        requires gone { (post_meaning self.old).state ≡ Gone }
+        requires lets { LetsReturn (post_meaning self.old).limits }
+        ensures back { IfSome result (λ phase. post_meaning self.new ≡ returned (post_meaning self.old) phase) }
+        ensures within { IfSome result (λ phase. phase ≤ (post_meaning self.old).limits.last_phase) }
+        ensures none { IfNone result (post_meaning self.new ≡ post_meaning self.old) }
+        ensures board { post_board self.new ≡ post_board self.old }
+        ensures known { IfSome result (λ phase. post_view self.new ≡ returned_view (post_view self.old) phase) }
+        ensures unknown { IfNone result (post_view self.new ≡ post_view self.old) }
+        ensures event { IfSome result (λ _. ComesBack (post_view self.old) (post_view self.new)) }
+    {
+        let board = self.board.board();
+        self.seat.come_back(board)
     }
 }

@@ -1,4 +1,4 @@
-ghost use Rattle.std.specs.Prelude.{◌≡◌, ◌≢◌, ◌<◌, ◌≤◌, true, false, [], length, slice_index};
+ghost use Rattle.std.specs.Prelude.{◌≡◌, ◌≢◌, ◌<◌, ◌≤◌, true, false, [], length, slice_index, IfNone, IfSome};
 ghost use Rattle.std.specs.Arc.{arc_value};
 ghost use Rattle.like_core.specs.declared.view.View.TheVariants.{Worker};
 ghost use Rattle.like_limits.specs.Limits.{hot_pages, total_bound};
@@ -12,7 +12,7 @@ use crate::board::Board;
 use crate::layout::{MASK_WORD, PHASE_WORD, slot_place, word_of};
 use crate::plays::{
     Acknowledging, Adding, Glancing, Looking, Reading, ReadingMask, ReadingSlot, ReadingSlots,
-    Reporting, Retiring,
+    Reporting, Retiring, Returning,
 };
 use crate::post::{BoardPost, PostAt, SharedPost};
 use atomic_table::Seat;
@@ -48,8 +48,9 @@ impl WorkerSeat {
     ghost use Rattle.like_core.specs.WorkerState.{IsSightOf, RunsJoined, RunsSplit, SawEnding, SeesEndingStill, phase_of, seen};
     ghost use Rattle.like_core.specs.Post.{MayAdd, MayRead, MayGlance};
     ghost use Rattle.like_core.specs.Additions.{added_to};
-    ghost use Rattle.like_core.specs.views.Views.{looked_view, answered_view, retired_view, added_view, read_view, glanced_view, masked_view, slotted_view, slots_read, MayReadSlot, MayReadSlots};
-    ghost use Rattle.like_core.specs.views.Actions.{Looks, Acknowledges, Reports, Retires, Adds, Reads, Glances, ReadsMask};
+    ghost use Rattle.like_core.specs.core.Moves.{LetsReturn};
+    ghost use Rattle.like_core.specs.views.Views.{looked_view, answered_view, retired_view, returned_view, added_view, read_view, glanced_view, masked_view, slotted_view, slots_read, MayReadSlot, MayReadSlots};
+    ghost use Rattle.like_core.specs.views.Actions.{Looks, Acknowledges, Reports, Retires, ComesBack, Adds, Reads, Glances, ReadsMask};
     ghost use Rattle.like_board.specs.Seats.{board_id, seat_board, seat_view, seat_meaning, post_board, post_view, post_meaning};
 
     /// Takes the seat to its board.
@@ -134,6 +135,34 @@ impl WorkerSeat {
             .table
             .shared
             .fetch_add::<Retiring>(&mut self.seat, PHASE_WORD, retirement);
+    }
+
+    /// Takes the worker off the count of those gone, where the phase word is that of a phase that isn't ending and is
+    /// still the same when it is exchanged. `None`, with nothing done, otherwise.
+    pub(crate) fn come_back(&mut self, board: &Board) -> Option<u64>
+        requires here { seat_board self.old ≡ board_id board.now }
+        requires gone { (seat_view self.old).state ≡ Gone }
+        requires lets { LetsReturn (seat_view self.old).opening.limits }
+        ensures board { seat_board self.new ≡ seat_board self.old }
+        ensures view { IfSome result (λ phase. seat_view self.new ≡ returned_view (seat_view self.old) phase) }
+        ensures within { IfSome result (λ phase. phase ≤ (seat_view self.old).opening.limits.last_phase) }
+        ensures event { IfSome result (λ _. ComesBack (seat_view self.old) (seat_view self.new)) }
+        ensures none { IfNone result (seat_view self.new ≡ seat_view self.old) }
+    {
+        let shared = &board.table.shared;
+        let word = shared.peek(PHASE_WORD);
+        let retirement = self.form.retirement(self.number);
+        if word % 2 == 1 || word < retirement {
+            return None;
+        }
+        let next = word - retirement;
+        let found = shared.compare_exchange::<Returning>(&mut self.seat, PHASE_WORD, word, next);
+        if found != word {
+            return None;
+        }
+        let phase = self.form.phase_in(word);
+        self.turn = 1 - phase % 2;
+        Some(phase)
     }
 
     #[inline(always)]

@@ -7,6 +7,8 @@ pub mod EventLists
 pub mod Started
 pub mod Reached
 pub mod InPhase
+pub mod Moved
+pub mod Staying
 pub mod GivenLikes
 pub mod CoreReached
 pub mod Adding

@@ -10,7 +10,7 @@ use Rattle.like_core.specs.declared.view.PhaseMask.{PhaseMask}
 use Rattle.like_core.specs.Additions.{addition, look_after, all_added, added_to, added_in, page_read}
 use Rattle.like_core.specs.Phase.{IsSplit, is_marked, split_by}
 use Rattle.like_core.specs.PhaseMasks.{mask_of, HasMask}
-use Rattle.like_core.specs.WorkerState.{IsRunning, SawEnding, phase_of, seen}
+use Rattle.like_core.specs.WorkerState.{IsRunning, SawEnding, phase_of, running_sight, seen}
 
 -- a post: its board and worker, its worker's state, and all that it has seen, added, read and glanced at
 pub record PostView : Type 0 where
@@ -83,6 +83,14 @@ answered v = record v { state = Answered (phase_of v.state) }
 -- the post after it retired
 abbrev pub retired : PostView → PostView
 retired v = record v { state = Gone }
+
+-- the post after it came back, into this phase, which it saw running
+abbrev pub returned : PostView → ℕ → PostView
+returned v phase = record v {
+  state = Runs phase;
+  last = Some (running_sight phase);
+  looks = v.looks ++ look_after (running_sight phase) v.additions v.reads v.glances ∷ [];
+}
 
 -- the post after it added n to a page's count, which was `old` before
 abbrev pub added : PostView → ℕ → ℕ → ℕ → PostView

@@ -60,6 +60,10 @@ seen (Runs phase) sight = Runs phase
 seen (Answered phase) sight = (if sight.waits then Answered phase else Runs (phase + 1))
 seen Gone sight = Gone
 
+-- what a worker sees that runs this phase, which isn't ending
+abbrev pub running_sight : ℕ → Sight
+running_sight phase = record { number = phase; ending = false; waits = false }
+
 -- no look showed a greater number than this phase
 abbrev pub SawNoLater : ℕ → Option Sight → Type 0
 SawNoLater phase last = IfSome last (λ sight. sight.number ≤ phase)

@@ -4,6 +4,7 @@ pub mod Table
 pub mod Kept
 pub mod State
 pub mod Reachable
+pub mod Moves
 pub mod Exclusive
 pub mod Likes
 pub mod Core

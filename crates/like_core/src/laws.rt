@@ -1,13 +1,14 @@
 //! Laws of the core's states, of the views of seats and of the places of a board's words. Each is the contract of a
 //! function that does nothing.
 ghost use Rattle.like_core.specs.declared.form.Form.TheVariants.{Bits, Counts};
-ghost use Rattle.like_core.specs.core.Exclusive.{ReachableIsExclusive};
+ghost use Rattle.like_core.specs.core.Exclusive.{ReachableIsExclusive, ReachedIsExclusive};
 ghost use Rattle.like_core.specs.Slots.{SlotsTell};
-ghost use Rattle.like_core.specs.core.Likes.{LikesStayReachable, NoneHoldsWhileJoined};
+ghost use Rattle.like_core.specs.core.Likes.{LikesStayReachable, LikesStayReached, NoneHoldsWhileJoined};
+ghost use Rattle.like_core.specs.core.Moves.{AllInStays, NobodyReturns};
 ghost use Rattle.like_core.specs.views.Layout.{WordsStandApart};
 ghost use Rattle.like_core.specs.views.Shows.{CountsAreOfOneMoment};
 ghost use Rattle.like_core.specs.views.SplitPages.{SlicesAreSplit, SlotsAreExact};
-ghost use Rattle.like_core.specs.views.Serves.{AllGoneCounts, AllInCounts, AnswersOne, FormServes, RetiresOne, WordTellsPhase};
+ghost use Rattle.like_core.specs.views.Serves.{AllGoneCounts, AllInCounts, AnswersOne, FormServes, RetiresOne, ReturnsOne, WordTellsPhase};
 ghost use Rattle.like_core.specs.word.KindTells.{KindTellsPhase};
 ghost use Rattle.like_core.specs.views.Places.{AdditionKeepsPlaces, ReadKeepsPlaces, GlanceKeepsPlaces, JoinKeepsPlaces};
 ghost use Rattle.like_core.specs.views.Reads.{AdditionKeepsReads, ReadKeepsReads, GlanceKeepsReads, JoinKeepsReads};
@@ -26,6 +27,28 @@ pub fn likes_stay_reachable()
 /// In every interleaving, no worker runs joined work while another holds an unmerged slice: the two laws above, together.
 pub fn none_holds_while_joined()
     ensures { NoneHoldsWhileJoined }
+{}
+
+/// No worker runs joined work while another has unmerged likes, after any list of moves: also where seats of a service
+/// that were gone come back.
+pub fn reached_is_exclusive()
+    ensures { ReachedIsExclusive }
+{}
+
+/// The likes that workers of a service keep in their own slices lead to no state that no moves reach.
+pub fn likes_stay_reached()
+    ensures { LikesStayReached }
+{}
+
+/// In a run no seat comes back: moves reach the states that events reach, and no other.
+pub fn nobody_returns()
+    ensures { NobodyReturns }
+{}
+
+/// Once all workers are in at the end of a phase, nothing changes before the next is released, in every interleaving: no
+/// look, and no seat that comes back.
+pub fn all_in_stays()
+    ensures { AllInStays }
 {}
 
 /// A worker that has answered phase j tells j from j + 1 by the kind of the phase word. It is in no other phase.
@@ -122,6 +145,11 @@ pub fn answers_one()
 /// A retirement raises the count of those gone by one, and no other.
 pub fn retires_one()
     ensures { RetiresOne }
+{}
+
+/// A return lowers the count of those gone by one, and no other.
+pub fn returns_one()
+    ensures { ReturnsOne }
 {}
 
 /// All are in just where those that have answered and those gone are together all workers.

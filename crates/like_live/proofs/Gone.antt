@@ -38,6 +38,7 @@ pub record SawEnd (v : LeadView) : Type 0 where
   pub joined : IsJoined v.seat.phase
   pub sight : CoordSight
   pub last : v.seat.last ≡ Some sight
+  pub ending : sight.ending ≡ true
   pub all_in : sight.all_in ≡ true
   pub all_gone : sight.all_gone ≡ true
   pub known : IsKnown v.seat.opening (Coord v.seat)
@@ -57,6 +58,7 @@ sees-end v w sight sees gone ending joined =
       joined = joined;
       sight = sight;
       last = kept.last;
+      ending = ending;
       all_in = all_in;
       all_gone = gone;
       known = subst (λ (z : Opening). IsKnown z (Coord w.seat)) (sym kept.same.opening) sees.known;
@@ -106,7 +108,7 @@ last-totals v w from counts saw is known =
     let opening : w.seat.opening ≡ v.seat.opening = ap (λ (d : CoordSeatView). d.opening) seat ∙ only.opening in
     let end : IsLastMoment w.seat.opening w.seat =
     end_known w.seat.opening w.seat saw.sight (subst (λ (z : Opening). IsKnown z (Coord w.seat)) (sym opening) known)
-    (ap (λ (d : CoordSeatView). d.last) seat ∙ only.last ∙ saw.last) saw.all_in saw.all_gone in
+    (ap (λ (d : CoordSeatView). d.last) seat ∙ only.last ∙ saw.last) saw.ending saw.all_in saw.all_gone in
     let phase : v.seat.phase ≡ w.seat.phase = sym (ap (λ (d : CoordSeatView). d.phase) seat ∙ only.phase) in
     let P : PageCount → Type 0 =
     λ r. r.phase ≡ w.seat.phase → r.count ≡ count_after w.seat.opening.counts end.moment.views r.page in
@@ -133,8 +135,9 @@ seen-again v w again saw sees =
     let m = sees.event.moment in
     let z = v.seat.opening in
     let fits : FitsCoord z m.state v.seat = m.shows.seats.each sees.event.place (Coord v.seat) sees.event.mine in
-    let before = subst (λ (o : Option CoordSight). IfSome o (λ s. s.all_in ≡ true
-    → CoordSees (numbers z m.state) s × (v.seat.word ≡ shown_word z m.state))) saw.last fits.phase.stays saw.all_in in
+    let stays = subst (λ (o : Option CoordSight). IfSome o (λ s. s.ending ≡ true → s.all_in ≡ true
+    → CoordSees (numbers z m.state) s × (v.seat.word ≡ shown_word z m.state))) saw.last fits.phase.stays in
+    let before = stays saw.ending saw.all_in in
     let told = sees.event.happen.tells in
     let same : told.0 ≡ again = cc (told.1) in
     let known = told.2 in
@@ -171,8 +174,7 @@ still-ended u v from counts looks =
       joined = subst IsJoined (sym only.phase) saw.joined;
       sight = saw.sight;
       last = only.last ∙ saw.last;
-      ending = (subst (λ (o : Option CoordSight). IsSomeAnd o (λ s. (s.ending ≡ true) × (s.all_in ≡ true)))
-          saw.last saw.saw).0;
+      ending = saw.ending;
       all_in = saw.all_in;
       all_gone = saw.all_gone;
     }

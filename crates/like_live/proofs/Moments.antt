@@ -22,7 +22,7 @@ use Rattle.like_core.specs.core.State.{CoreState}
 use Rattle.like_core.specs.views.Shows.{FitsWorker, Moment}
 use Rattle.like_core.specs.views.Tallies.{paged}
 use Rattle.like_core.specs.views.Views.{post_of}
-use Rattle.like_core.proofs.core.CoreReached.{reachable_is_exclusive}
+use Rattle.like_core.proofs.core.Moved.{reached_is_exclusive}
 use Rattle.like_seat.specs.StationView.{IsStation}
 use Rattle.like_live.specs.LiveView.{LiveView, tally}
 use Rattle.like_live.specs.Moments.{HoldsNone, IsSeatAt, LastCountsAreTallies, SeatsAreExclusive, post_in, workers_in}
@@ -66,7 +66,7 @@ none-held s live apart page =
 
 pub seats_are_exclusive : SeatsAreExclusive
 seats_are_exclusive z m a b at_a at_b live joined =
-    let p = (reachable_is_exclusive z m.state m.reachable).1 in
+    let p = (reached_is_exclusive z m.state m.reachable).1 in
     let even : IsJoined m.state.phase = joined-now z m.state at_a.view.worker _ p (state-at z m a at_a) joined in
     let apart : ¬ RunsSplit b.seat.post.state = λ split.
     (let odd : IsSplit m.state.phase = split-now z m.state at_b.view.worker _ p (state-at z m b at_b) split in

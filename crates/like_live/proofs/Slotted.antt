@@ -19,7 +19,7 @@ use Rattle.like_core.specs.WorkerState.{IsRunning, RunsSplit}
 use Rattle.like_core.specs.views.Shows.{FitsCoord, Moment}
 use Rattle.like_core.specs.views.Views.{post_of}
 use Rattle.like_core.proofs.Slots.{slots_tell}
-use Rattle.like_core.proofs.core.CoreReached.{reachable_is_exclusive}
+use Rattle.like_core.proofs.core.Moved.{reached_is_exclusive}
 use Rattle.like_core.proofs.views.SplitPages.{slices_are_split}
 use Rattle.like_seat.specs.StationView.{HasPhaseMask}
 use Rattle.like_limits.specs.Limits.{hot_pages}
@@ -76,7 +76,7 @@ slices_are_slots z m v s driver service at station split page there =
     subst (λ (o : Opening). o.marks ≡ replicate (length o.counts) false) opening service.plain in
     let few : length z.counts ≤ service_limits.pages =
     subst (λ (o : Opening). length o.counts ≤ service_limits.pages) opening service.few_pages in
-    let p = (reachable_is_exclusive z m.state m.reachable).1 in
+    let p = (reached_is_exclusive z m.state m.reachable).1 in
     let odd : IsSplit m.state.phase = split-now z m.state at.view.worker _ p (state-at z m s at) split in
     let seat : PostView = post_of at.view in
     let runs : RunsSplit seat.state = subst (λ (q : PostView). RunsSplit q.state) at.post split in

@@ -1,8 +1,9 @@
-ghost use Rattle.std.specs.Prelude.{◌≡◌, ◌+◌, ◌≤◌, true, IfOk, IfSome, slice_index, vec_len};
+ghost use Rattle.std.specs.Prelude.{◌≡◌, ◌+◌, ◌≤◌, true, IfOk, IfSome, IsTrue, slice_index, vec_len};
 ghost use Rattle.like_limits.specs.Limits.{hot_pages, max_count};
 ghost use Rattle.like_core.specs.declared.worker_state.WorkerState.TheVariants.{Gone};
 ghost use Rattle.like_core.specs.OpeningLimits.{AreLimits, run_limits};
-ghost use Rattle.like_core.specs.Post.{additions_of};
+ghost use Rattle.like_core.specs.Post.{IsFresh, additions_of};
+ghost use Rattle.like_core.specs.core.Moves.{LetsReturn};
 ghost use Rattle.like_board.specs.Seats.{board_id, coord_board, coord_view, post_meaning, seat_meaning};
 ghost use Rattle.test_parts.specs.Walk.{AreOpened, IsCoordOf, IsWorkerAt, KeepsSeat};
 
@@ -15,7 +16,7 @@ mod walker;
 use crate::pure_core::small_limits;
 use calls::{OnPost, Step};
 use like_board::{Board, BoardPost, CoordSeat, WorkerSeat};
-use like_core::{Limits, Post, WorkerState};
+use like_core::{Limits, Post, Returns, WorkerState};
 use party::Party;
 use scripts::{each_call, five_phases, hot_phase, likes, three_phases};
 use std::alloc::{AllocError, Global};
@@ -271,6 +272,54 @@ fn plays(
 #[test]
 fn goes_through_phases_of_a_service(rt: HostRuntime) -> Result<(), Fail> {
     plays(&rt, rt.alloc(), 1, 5, false, small_limits(), five_phases())
+}
+
+// The last of the workers' seats, taken to its board.
+fn last_post<'a>(
+    rt: &impl Abort,
+    seats: &mut Vec<WorkerSeat>,
+    board: &'a Board,
+    coord: &CoordSeat,
+    limits: Limits,
+) -> BoardPost<'a>
+    requires { AreOpened (board_id board.now) 1 false limits coord.now seats.old.items }
+    ensures fresh { IsFresh (post_meaning result) }
+    ensures limits { (post_meaning result).limits ≡ limits }
+{
+    let seat = seats.pop().expect(rt, "a seat is there");
+    seat.at(board)
+}
+
+// Comes back into phase 0, and retires again.
+fn comes_and_goes<P: Returns>(post: &mut P) -> bool
+    requires gone { (P.view post.old).state ≡ Gone }
+    requires lets { LetsReturn (P.view post.old).limits }
+    ensures left { IsTrue result → (P.view post.new).state ≡ Gone }
+    ensures limits { (P.view post.new).limits ≡ (P.view post.old).limits }
+{
+    match post.come_back() {
+        Some(phase) if phase % 2 == 0 => {
+            post.retire();
+            phase == 0
+        }
+        _ => false,
+    }
+}
+
+// A worker of a service comes back while the phase isn't ending, and not while it is.
+#[test]
+fn comes_back_to_a_service(rt: HostRuntime) -> Result<(), Fail> {
+    let limits = small_limits();
+    let (board, mut coord, mut seats) = opened(rt.alloc(), 1, 1, 10, false, limits)?;
+    let mut post = last_post(&rt, &mut seats, &board, &coord, limits);
+    post.retire();
+    assert!(rt; coord.look(&board).all_gone);
+    assert!(rt; comes_and_goes(&mut post));
+    let sight = coord.look(&board);
+    assert!(rt; sight.all_gone && !sight.ending && !coord.is_last());
+    coord.announce(&board);
+    assert!(rt; post.come_back().is_none());
+    Ok(())
 }
 
 #[test]

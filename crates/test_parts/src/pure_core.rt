@@ -1,4 +1,5 @@
 ghost use Rattle.std.specs.Prelude.{◌≡◌};
+ghost use Rattle.like_core.specs.declared.form.Form.TheVariants.{Counts};
 ghost use Rattle.like_core.specs.OpeningLimits.{AreLimits};
 
 mod cases;
@@ -94,6 +95,7 @@ pub fn small_limits() -> Limits
     ensures page { result.pages ≡ 1 }
     ensures hot { result.hot ≡ 64 }
     ensures seat { result.seats ≡ 1 }
+    ensures form { result.form ≡ Counts }
 {
     Limits {
         last_phase: 4,

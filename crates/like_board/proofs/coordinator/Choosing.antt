@@ -60,7 +60,8 @@ counts z words views place c page some_state at may =
     let found_is = sh.board.pages page on in
     let sums = some_state.tallied.sums page in
     let past = some_state.tallied.past (s.phase + 1) page (omega arith) in
-    let P : PageCount → Type 0 = λ x. (x.phase ≤ s.phase) × (x.phase ≡ s.phase → AllIn (numbers z s)) in
+    let P : PageCount → Type 0 =
+    λ x. (x.phase ≤ s.phase) × (x.phase ≡ s.phase → AllIn (numbers z s) × (s.ending ≡ true)) in
     let Q : ℕ → Type 0 = λ k. found ≡ slice_index z.counts page + all_before views (k + 1) page in
     let all_found : Q s.phase = omega arith in
     let counted : IsCounted z.counts (all_before views) r = subst Q (sym old.phase.present) all_found in
@@ -70,7 +71,7 @@ counts z words views place c page some_state at may =
       seats = same_seats z s c d refl old.seats;
       phase = same_phase z s c d refl old.phase;
       choice = record {
-        counted = All-cons P r c.counted (omega arith, λ _. now.all_in) old.choice.counted;
+        counted = All-cons P r c.counted (omega arith, λ _. (now.all_in, now.ending)) old.choice.counted;
         published = old.choice.published;
         masks = old.choice.masks;
       };

@@ -1,7 +1,7 @@
 -- Each step of the coordinator is the event, and keeps what the board shows.
 use Rattle.std.proofs.Common.{◌≡◌, ℕ, ◌+◌, ◌%◌, ◌^◌, ◌<◌, ◌≤◌, ◌==◌, true, false, cond, inl, inr, List, length, get_or, set, Option, Some, None, IsSome, IfSome, IsSomeAnd, subst, ap, sym, ◌∙◌, refl, eq-eqb, arith}
 use Rattle.std.specs.Option.{unwrap_or}
-use Rattle.std.proofs.lemmas.Bool.{cases_eq, cond-true, cond-false, ne_eqb}
+use Rattle.std.proofs.lemmas.Bool.{and_parts, cases_eq, cond-true, cond-false, ne_eqb}
 use Rattle.std.proofs.lemmas.Nat.{pow_pos}
 use mathlib.Core.Option.{some}
 use lib.ListN.{get_elem?}
@@ -26,8 +26,7 @@ use Rattle.like_core.specs.word.ShownWord.{shown_word}
 use Rattle.like_core.specs.views.Views.{looked_coord, announced_coord, released_coord, mask_released, saw_all_gone, SawAllIn, MayAnnounce, MayRelease}
 use Rattle.like_core.specs.views.Shows.{Shows, ShowsSome, FitsWorker, FitsCoord, IsStep, mask_in}
 use Rattle.like_core.proofs.Updates.{update-same, update-other}
-use Rattle.like_core.proofs.core.Reached.{goes_on_by}
-use Rattle.like_core.proofs.core.InPhase.{reached_in_phase}
+use Rattle.like_core.proofs.core.Moved.{moved_in_phase, moves_by}
 use Rattle.like_core.proofs.word.Serving.{coord_sees, serves}
 use Rattle.like_core.proofs.views.KeptPlaces.{places_same}
 use Rattle.like_board.specs.Plays.{Surveyed, coord_sight_at}
@@ -47,7 +46,7 @@ pub surveys : (z : Opening) (words : List ℕ) (views : List View) (place : ℕ)
 surveys z words views place c some_state at =
     let s = some_state.state in
     let sh = some_state.shows in
-    let p = reached_in_phase z s some_state.reachable in
+    let p = moved_in_phase z s some_state.reachable in
     let f = form_of z.limits.form in
     let old : FitsCoord z s c = sh.seats.each place (Coord c) at in
     let found : ℕ = get_or words 0 0 in
@@ -64,8 +63,9 @@ surveys z words views place c some_state at =
         present = old.phase.present;
         ending = old.phase.ending;
         last = (sees.number, sees.ending);
-        stays = λ _. (sees, sh.board.phase);
-        all_in = λ is. sees.all_in.0 is;
+        stays = λ _ _. (sees, sh.board.phase);
+        all_in = λ is.
+            let both = and_parts sight.ending sight.all_in is in (sees.all_in.0 both.1, sym sees.ending ∙ both.0);
         gone = old.phase.gone;
       };
       choice = record { counted = old.choice.counted; published = tt; masks = old.choice.masks };
@@ -81,7 +81,7 @@ surveys z words views place c some_state at =
         number = sees.number ∙ sym old.phase.present;
         within = subst (λ n. n ≤ z.limits.last_phase) (sym old.phase.present) p.within;
         ending = sees.ending ∙ sym old.phase.ending;
-        all_in = λ is. sees.all_in.1 (old.phase.all_in is);
+        all_in = λ is. sees.all_in.1 (old.phase.all_in is).0;
         gone = λ split all. old.phase.gone (subst IsSplit old.phase.present split) (sees.all_gone.0 all);
         step = record {
           moment = moment_of z words views some_state;
@@ -127,7 +127,8 @@ announces z words views place c some_state at may =
     let last = some_and c.last
     (λ (sight : CoordSight). sight.ending ≡ false)
     (λ (sight : CoordSight). (sight.number ≡ s.phase) × (sight.ending ≡ s.ending))
-    (λ (sight : CoordSight). sight.all_in ≡ true → CoordSees (numbers z s) sight × (c.word ≡ shown_word z s))
+    (λ (sight : CoordSight). sight.ending ≡ true → sight.all_in ≡ true
+    → CoordSees (numbers z s) sight × (c.word ≡ shown_word z s))
     may.0 old.phase.last old.phase.stays
     in
     let running : s.ending ≡ false = sym last.3.1 ∙ last.2 in
@@ -138,7 +139,7 @@ announces z words views place c some_state at may =
     let permits : Permits (numbers z s) Announce =
     record { there = tt; suits = running; leaves_last = below; room = tt } in
     let t : CoreState = phased s s.phase true s.hot in
-    let reachable = goes_on_by z s Announce some_state.reachable permits in
+    let reachable = moves_by z s Announce some_state.reachable permits in
     let serving = serves z s sh.opening some_state.reachable in
     let word : ℕ = (get_or words 0 0 + 1) % 2 ^ 64 in
     let d : CoordSeatView = announced_coord c in
@@ -168,11 +169,12 @@ announces z words views place c some_state at may =
         ending = refl;
         last = tt;
         stays = tt;
-        all_in = old.phase.all_in;
+        all_in = λ is. ((old.phase.all_in is).0, refl);
         gone = old.phase.gone;
       };
       choice = record {
-        counted = old.choice.counted;
+        counted = λ i r inside.
+            let before = old.choice.counted i r inside in (before.0, λ now. ((before.1 now).0, refl));
         published = old.choice.published;
         masks = old.choice.masks;
       };
@@ -227,10 +229,11 @@ saw_all_in z s c f saw =
     let last = some_and c.last
     (λ (sight : CoordSight). (sight.ending ≡ true) × (sight.all_in ≡ true))
     (λ (sight : CoordSight). (sight.number ≡ s.phase) × (sight.ending ≡ s.ending))
-    (λ (sight : CoordSight). sight.all_in ≡ true → CoordSees (numbers z s) sight × (c.word ≡ shown_word z s))
+    (λ (sight : CoordSight). sight.ending ≡ true → sight.all_in ≡ true
+    → CoordSees (numbers z s) sight × (c.word ≡ shown_word z s))
     saw f.phase.last f.phase.stays
     in
-    let now = last.4 last.2.1 in
+    let now = last.4 last.2.0 last.2.1 in
     record {
       ending = sym last.3.1 ∙ last.2.0;
       all_in = now.0.all_in.0 last.2.1;
@@ -387,7 +390,7 @@ releases z words views place c seen some_state at may seen_is =
       },
       record {
         state = t;
-        reachable = goes_on_by z s (Release mask) some_state.reachable permits;
+        reachable = moves_by z s (Release mask) some_state.reachable permits;
         shows = after_it;
         tallied = tallied_on z.limits s t views place (Coord c) (Coord d) (omega arith) (λ _. refl) at (λ _. refl)
             (λ _. refl) (λ _ _. refl) some_state.tallied;

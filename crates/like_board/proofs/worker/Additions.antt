@@ -18,7 +18,8 @@ use Rattle.like_limits.specs.Limits.{max_count}
 use Rattle.like_core.specs.Functions.{update}
 use Rattle.like_core.specs.core.Table.{IsShown}
 use Rattle.like_core.specs.core.State.{CoreState, Label, is_split_now, labelled, after, numbers}
-use Rattle.like_core.specs.core.Reachable.{Reachable, after_all}
+use Rattle.like_core.specs.core.Reachable.{after_all}
+use Rattle.like_core.specs.core.Moves.{Reached}
 use Rattle.like_core.specs.WorkerState.{IsIn, phase_of}
 use Rattle.like_core.specs.Post.{PostView, MayAdd, slices}
 use Rattle.like_core.specs.Additions.{added_to, added_in}
@@ -28,8 +29,7 @@ use Rattle.like_core.specs.views.Tallies.{Tallied, paged, room}
 use Rattle.like_core.specs.views.Layout.{word_of}
 use Rattle.like_core.specs.views.Shows.{Shows, ShowsSome, FitsWorker, FitsCoord, IsSteps}
 use Rattle.like_core.proofs.Updates.{update-same, update-other, update_cases}
-use Rattle.like_core.proofs.core.Reached.{goes_on, goes_on_by}
-use Rattle.like_core.proofs.core.InPhase.{reached_in_phase}
+use Rattle.like_core.proofs.core.Moved.{moved_in_phase, moves_by, moves_by_all}
 use Rattle.like_core.proofs.core.Labels.{label, labelled-append, labels_else, labels_here, added_in-push, added_before-push, added_to-push, added_in_else, added_to_here, added_to_else}
 use Rattle.like_core.proofs.core.Adding.{Adding, with_applied, adds_either}
 use Rattle.like_core.proofs.views.KeptPlaces.{addition_keeps_places}
@@ -186,7 +186,7 @@ counted_added z s words views place v page count n sh at runs present =
       | inl over ↦ addition_before views place v page count n (r.phase + 1) r.page at (omega arith)
       | inr not ↦
           let within = of.0 in
-          absurd (subst (IsIn s.phase) runs (of.1 (omega arith) v.worker old.there))
+          absurd (subst (IsIn s.phase) runs ((of.1 (omega arith)).0 v.worker old.there))
     ])
     sh.reads.coordinator
 
@@ -222,7 +222,7 @@ adds z words views place v page n some_state at may =
     let old : FitsWorker z s v = sh.seats.each place (Worker v) at in
     let runs = running_is (λ _. Unit {0}) v.state may.runs in
     let here : s.state i ≡ Runs runs.0 = old.state ∙ runs.1 in
-    let now : runs.0 ≡ s.phase = (reached_in_phase z s some_state.reachable).runs i runs.0 here in
+    let now : runs.0 ≡ s.phase = (moved_in_phase z s some_state.reachable).runs i runs.0 here in
     let present : phase_of v.state ≡ s.phase = ap phase_of runs.1 ∙ now in
     let marks : length v.opening.marks ≡ length z.counts =
     ap (λ (y : Opening). length y.marks) old.opening ∙ sh.opening.marks
@@ -272,9 +272,9 @@ adds z words views place v page n some_state at may =
     (counted_added z s words views place v page count n sh at (here ∙ ap Runs now) present)
     in
     let last : CoreState = after z (after_all z s (likes_merged v page n)) (adding v page) in
-    let reached : Reachable z last =
-    goes_on_by z (after_all z s (likes_merged v page n)) (adding v page)
-    (goes_on z s (likes_merged v page n) some_state.reachable a.before)
+    let reached : Reached z last =
+    moves_by z (after_all z s (likes_merged v page n)) (adding v page)
+    (moves_by_all z s (likes_merged v page n) some_state.reachable a.before)
     a.permits
     in (
       record {
@@ -294,7 +294,7 @@ adds z words views place v page n some_state at may =
       },
       record {
         state = t;
-        reachable = subst (Reachable z) {x = last} {y = t} a.leads reached;
+        reachable = subst (Reached z) {x = last} {y = t} a.leads reached;
         shows = shows;
         tallied = tallied_added z.limits s views place v page count n a.rest at present few some_state.tallied;
         places = addition_keeps_places z.counts views place v page count n at (omega arith)

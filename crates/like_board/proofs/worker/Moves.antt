@@ -15,7 +15,6 @@ use Rattle.like_core.specs.declared.view.WorkerSeatView.{WorkerSeatView}
 use Rattle.like_core.specs.declared.view.CoordSeatView.{CoordSeatView}
 use Rattle.like_core.specs.declared.view.View.{View}
 use Rattle.like_core.specs.declared.view.View.TheVariants.{Coord, Worker, Spent}
-use Rattle.like_core.specs.Functions.{update}
 use Rattle.like_core.specs.Phase.{IsSplit}
 use Rattle.like_core.specs.WorkerState.{IsIn}
 use Rattle.like_core.specs.core.Numbers.{AllIn, CoordSees}
@@ -27,7 +26,8 @@ use Rattle.like_core.specs.views.Reads.{all_before, HaveBetween, IsCounted, Read
 use Rattle.like_core.specs.views.Layout.{mask_place, slot_place, word_of}
 use Rattle.like_core.specs.views.Shows.{IsKnown, Shows, ShowsSome, Moment, Fits, FitsWorker, FitsCoord, FixesMask, IsChosen, mask_in}
 use Rattle.like_core.specs.views.Serves.{moved}
-use Rattle.like_core.proofs.Updates.{update-same, update-other, update_cases}
+use Rattle.like_core.proofs.Updates.{update-same, update-other}
+use Rattle.like_core.proofs.core.Staying.{moved_same}
 use Rattle.like_core.proofs.views.KeptReads.{reads_same, counted_same}
 use Rattle.like_core.proofs.views.Apart.{word_of-past}
 use Rattle.like_core.proofs.views.Chosen.{KeepsChoice, mask_in-kept, chosen-kept}
@@ -71,13 +71,6 @@ pub if_some : {A : Type 0} (o : Option A) (P Q : A → Type 0) → ((a : A) → 
 if_some None P Q f h = tt
 if_some (Some a) P Q f h = f a h
 
--- a move to the same state changes nothing
-pub moved_same : (s : CoreState) (i : ℕ) (state : WorkerState) → state ≡ s.state i → moved s i state ≡ s
-moved_same s i state same =
-    let P : ℕ → WorkerState → Type 0 = λ j st. st ≡ s.state j in
-    let each : (j : ℕ) → update s.state i state j ≡ s.state j = update_cases P s.state i state same (λ j other. refl) in
-    λ m. record s { state = λ j. each j m }
-
 -- a view of another worker keeps fitting while a worker moves
 fits_worker_moved : (z : Opening) (s : CoreState) (i : ℕ) (state : WorkerState) (v : WorkerSeatView)
     → v.worker ≢ i
@@ -110,13 +103,15 @@ fits_coord_moved : (z : Opening) (s : CoreState) (c : CoordSeatView) (i : ℕ) (
     → i < z.workers
     → i < c.made
     → seats_of i (Coord c) ≡ 0
-    → (IsIn s.phase (s.state i) → state ≡ s.state i)
+    → (s.ending ≡ true → IsIn s.phase (s.state i) → state ≡ s.state i)
     → (IsSplit s.phase → state ≡ Gone → s.state i ≡ Gone)
     → FitsCoord z s c
     → FitsCoord z (moved s i state) c
 fits_coord_moved z s c i state there has_seat none stays gone f =
     let t : CoreState = moved s i state in
-    let same : AllIn (numbers z s) → t ≡ s = λ all. moved_same s i state (stays (all i there)) in
+    let same : s.ending ≡ true → AllIn (numbers z s) → t ≡ s =
+    λ ending all. moved_same s i state (stays ending (all i there)) in
+    let P : CoreState → Type 0 = λ u. AllIn (numbers z u) × (u.ending ≡ true) in
     record {
       seats = record {
         opening = f.seats.opening;
@@ -132,16 +127,16 @@ fits_coord_moved z s c i state there has_seat none stays gone f =
         ending = f.phase.ending;
         last = f.phase.last;
         stays = if_some c.last
-            (λ (sight : CoordSight). sight.all_in ≡ true → CoordSees (numbers z s) sight × (c.word ≡ shown_word z s))
-            (λ (sight : CoordSight). sight.all_in ≡ true → CoordSees (numbers z t) sight × (c.word ≡ shown_word z t))
-            (λ sight before all_in.
-            let now = before all_in in
-            let P : CoreState → Type 0 = λ u. CoordSees (numbers z u) sight × (c.word ≡ shown_word z u) in
-            subst P (sym (same (now.0.all_in.0 all_in))) now)
+            (λ (sight : CoordSight). sight.ending ≡ true → sight.all_in ≡ true
+            → CoordSees (numbers z s) sight × (c.word ≡ shown_word z s))
+            (λ (sight : CoordSight). sight.ending ≡ true → sight.all_in ≡ true
+            → CoordSees (numbers z t) sight × (c.word ≡ shown_word z t))
+            (λ sight before ending all_in.
+            let now = before ending all_in in
+            let Q : CoreState → Type 0 = λ u. CoordSees (numbers z u) sight × (c.word ≡ shown_word z u) in
+            subst Q (sym (same (sym now.0.ending ∙ ending) (now.0.all_in.0 all_in))) now)
             f.phase.stays;
-        all_in = λ is.
-            let P : CoreState → Type 0 = λ u. AllIn (numbers z u) in
-            subst P (sym (same (f.phase.all_in is))) (f.phase.all_in is);
+        all_in = λ is. let all = f.phase.all_in is in subst P (sym (same all.1 all.0)) all;
         gone = λ split all.
             f.phase.gone split
             (λ j below. elim (cases_eq j i) [
@@ -155,9 +150,7 @@ fits_coord_moved z s c i state there has_seat none stays gone f =
         counted = λ k d inside.
             let before = f.choice.counted k d inside in (
               before.0,
-              λ now.
-                  let P : CoreState → Type 0 = λ u. AllIn (numbers z u) in
-                  subst P (sym (same (before.1 now))) (before.1 now),
+              λ now. let all = before.1 now in subst P (sym (same all.1 all.0)) all,
             );
         published = f.choice.published;
         masks = f.choice.masks;
@@ -174,7 +167,7 @@ worker_other i v none =
 -- another seat's view keeps fitting while a worker moves
 fits_other : (z : Opening) (s : CoreState) (i : ℕ) (state : WorkerState)
     → i < z.workers
-    → (IsIn s.phase (s.state i) → state ≡ s.state i)
+    → (s.ending ≡ true → IsIn s.phase (s.state i) → state ≡ s.state i)
     → (IsSplit s.phase → state ≡ Gone → s.state i ≡ Gone)
     → (u : View)
     → seats_of i u ≡ 0
@@ -325,7 +318,7 @@ pub worker_moves : (z : Opening) (s : CoreState) (words : List ℕ) (views : Lis
     → word ≡ shown_word z (moved s v.worker state)
     → FitsWorker z (moved s v.worker state) w
     → w.slots ≡ take (length w.slots) sh.coord.slots
-    → (IsIn s.phase (s.state v.worker) → state ≡ s.state v.worker)
+    → (s.ending ≡ true → IsIn s.phase (s.state v.worker) → state ≡ s.state v.worker)
     → (IsSplit s.phase → state ≡ Gone → s.state v.worker ≡ Gone)
     → Shows z (moved s v.worker state) (set words 0 word) (set views place (Worker w))
 worker_moves z s words views place v w state word sh at rest word_is fits slots stays gone =

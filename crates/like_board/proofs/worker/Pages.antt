@@ -90,10 +90,12 @@ fits_else z s unmerged applied i keeps (Coord c) none has_seat f =
         ending = f.phase.ending;
         last = f.phase.last;
         stays = if_some c.last
-            (λ (sight : CoordSight). sight.all_in ≡ true → CoordSees (numbers z s) sight × (c.word ≡ shown_word z s))
-            (λ (sight : CoordSight). sight.all_in ≡ true → CoordSees (numbers z t) sight × (c.word ≡ shown_word z t))
-            (λ sight before all_in.
-            let now = before all_in in (
+            (λ (sight : CoordSight). sight.ending ≡ true → sight.all_in ≡ true
+            → CoordSees (numbers z s) sight × (c.word ≡ shown_word z s))
+            (λ (sight : CoordSight). sight.ending ≡ true → sight.all_in ≡ true
+            → CoordSees (numbers z t) sight × (c.word ≡ shown_word z t))
+            (λ sight before ending all_in.
+            let now = before ending all_in in (
               record { number = now.0.number; ending = now.0.ending; all_in = now.0.all_in; all_gone = now.0.all_gone },
               now.1,
             ))

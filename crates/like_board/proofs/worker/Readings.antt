@@ -30,7 +30,7 @@ use Rattle.like_core.specs.views.Places.{count_after, PlacesTile}
 use Rattle.like_core.specs.views.Tallies.{paged}
 use Rattle.like_core.specs.views.Layout.{mask_place, slot_in, slot_place, word_of}
 use Rattle.like_core.specs.views.Shows.{Shows, ShowsSome, FitsWorker, IsStep, mask_in}
-use Rattle.like_core.proofs.core.InPhase.{reached_in_phase}
+use Rattle.like_core.proofs.core.Moved.{moved_in_phase}
 use Rattle.like_core.proofs.Slots.{choice-same, mask_by-plain, mask_by-slots, mask_of_slots-same}
 use Rattle.like_core.proofs.views.KeptPlaces.{read_keeps_places, glance_keeps_places, places_same}
 use Rattle.like_core.proofs.views.KeptReads.{read_keeps_reads, glance_keeps_reads, reads_same, counted_same}
@@ -87,7 +87,7 @@ reads_word z words views place v page event rs gs some_state at running may_ther
     let old : FitsWorker z s v = sh.seats.each place (Worker v) at in
     let runs = running_is (λ _. Unit {0}) v.state running in
     let here : s.state i ≡ Runs runs.0 = old.state ∙ runs.1 in
-    let now : runs.0 ≡ s.phase = (reached_in_phase z s some_state.reachable).runs i runs.0 here in
+    let now : runs.0 ≡ s.phase = (moved_in_phase z s some_state.reachable).runs i runs.0 here in
     let present : phase_of v.state ≡ s.phase = ap phase_of runs.1 ∙ now in
     let marks : length v.opening.marks ≡ length z.counts =
     ap (λ (y : Opening). length y.marks) old.opening ∙ sh.opening.marks
@@ -260,7 +260,7 @@ tells_mask z words views place v mask some_state at split_phase mask_is =
     let old : FitsWorker z s v = sh.seats.each place (Worker v) at in
     let runs = running_is IsSplit v.state split_phase in
     let here : s.state i ≡ Runs runs.0 = old.state ∙ runs.1 in
-    let now : runs.0 ≡ s.phase = (reached_in_phase z s some_state.reachable).runs i runs.0 here in
+    let now : runs.0 ≡ s.phase = (moved_in_phase z s some_state.reachable).runs i runs.0 here in
     let present : phase_of v.state ≡ s.phase = ap phase_of runs.1 ∙ now in
     let odd : IsSplit s.phase = subst IsSplit now runs.2 in
     let found_is : mask ≡ s.hot s.phase = mask_is ∙ sh.board.mask (inl odd) in
@@ -346,7 +346,7 @@ reads_slots z words views place v some_state at split_phase slotted all =
     let old : FitsWorker z s v = sh.seats.each place (Worker v) at in
     let runs = running_is IsSplit v.state split_phase in
     let here : s.state v.worker ≡ Runs runs.0 = old.state ∙ runs.1 in
-    let now : runs.0 ≡ s.phase = (reached_in_phase z s some_state.reachable).runs v.worker runs.0 here in
+    let now : runs.0 ≡ s.phase = (moved_in_phase z s some_state.reachable).runs v.worker runs.0 here in
     let odd : IsSplit s.phase = subst IsSplit now runs.2 in
     let lawful : IsChoice z.factor (length z.counts) (slice_index v.slots) found =
     choice-same z.factor (length z.counts) (slot_in words) (slice_index v.slots) found same

@@ -19,17 +19,17 @@ use Rattle.like_core.specs.word.Forms.{form_of}
 use Rattle.like_core.specs.core.Numbers.{Sees}
 use Rattle.like_core.specs.core.Table.{Permits}
 use Rattle.like_core.specs.core.State.{CoreState, numbers}
-use Rattle.like_core.specs.core.Reachable.{Reachable}
+use Rattle.like_core.specs.core.Moves.{LetsReturn, MayReturn, Reached, after_return}
 use Rattle.like_core.specs.word.ShownWord.{shown_word}
-use Rattle.like_core.specs.views.Views.{looked_view, answered_view, retired_view}
-use Rattle.like_core.specs.views.Shows.{Shows, ShowsSome, FitsWorker, IsStep}
+use Rattle.like_core.specs.views.Views.{looked_view, answered_view, retired_view, returned_view}
+use Rattle.like_core.specs.views.Shows.{Shows, ShowsSome, FitsWorker, IsReturn, IsStep}
 use Rattle.like_core.specs.views.Serves.{moved}
 use Rattle.like_core.proofs.Updates.{update-same}
-use Rattle.like_core.proofs.core.Reached.{goes_on_by}
-use Rattle.like_core.proofs.core.InPhase.{reached_in_phase}
-use Rattle.like_core.proofs.word.Serving.{serves, worker_sees}
+use Rattle.like_core.proofs.core.Moved.{moved_in_phase, moves_back, moves_by}
+use Rattle.like_core.proofs.core.Staying.{looked_in}
+use Rattle.like_core.proofs.word.Serving.{even_runs, serves, worker_sees}
 use Rattle.like_core.proofs.views.KeptPlaces.{places_same}
-use Rattle.like_board.specs.Plays.{Looked, sight_at}
+use Rattle.like_board.specs.Plays.{Looked, phase_at, sight_at}
 use Rattle.like_board.proofs.worker.Moves.{moment_of, worker_moves}
 use Rattle.like_board.proofs.Tallying.{tallied_on}
 
@@ -97,13 +97,6 @@ looks_at last phase (Answered j) sight runs answered there within number waits =
 ]
 looks_at last phase Gone sight runs answered there within number waits = absurd (there refl)
 
--- a look of one who is in changes nothing
-looked_in : (phase : ℕ) (state : WorkerState) → IsIn phase state → looked phase state ≡ state
-looked_in phase (Runs j) is = absurd is
-looked_in phase (Answered j) is =
-    cond-false (nat_lt j phase) (Runs phase) (Answered j) (le-ltb j phase (omega (arith, is)))
-looked_in phase Gone is = refl
-
 -- nor does a look make anyone gone
 looked_gone : (phase : ℕ) (state : WorkerState) → looked phase state ≡ Gone → state ≡ Gone
 looked_gone phase (Runs j) is = absurd (cc)
@@ -138,7 +131,7 @@ looks z words views place v some_state at there =
     let s = some_state.state in
     let sh = some_state.shows in
     let i = v.worker in
-    let p = reached_in_phase z s some_state.reachable in
+    let p = moved_in_phase z s some_state.reachable in
     let serving = serves z s sh.opening some_state.reachable in
     let old : FitsWorker z s v = sh.seats.each place (Worker v) at in
     let sight : Sight = sight_at z (get_or words 0 0) v.state in
@@ -170,7 +163,7 @@ looks z words views place v some_state at there =
     (sh.board.phase ∙ sym (serving.looks i))
     fits
     (sh.seats.slots place v at)
-    (looked_in s.phase (s.state i))
+    (λ _. looked_in s.phase (s.state i))
     (λ _. looked_gone s.phase (s.state i))
     in
     let permits : Permits (numbers z s) (Look i) =
@@ -192,7 +185,7 @@ looks z words views place v some_state at there =
       },
       record {
         state = t;
-        reachable = goes_on_by z s (Look i) some_state.reachable permits;
+        reachable = moves_by z s (Look i) some_state.reachable permits;
         shows = shows_after;
         tallied = tallied_on z.limits s t views place (Worker v) (Worker w) (omega arith) (λ _. refl) at
             (λ _. refl) (λ _. refl) (λ _ _. refl) some_state.tallied;
@@ -211,12 +204,12 @@ retired_word z word i = (word + (form_of z.limits.form).retirement i) % 2 ^ 64
 -- what a worker that runs the present phase makes of the board by its answer
 answers : (z : Opening) (s : CoreState) (words : List ℕ) (views : List View) (place : ℕ) (v : WorkerSeatView)
     (phase : ℕ)
-    → Reachable z s
+    → Reached z s
     → Shows z s words views
     → get_elem? views place ≡ some (Worker v)
     → v.state ≡ Runs phase
     → phase ≡ s.phase
-    → Reachable z (moved s v.worker (Answered s.phase))
+    → Reached z (moved s v.worker (Answered s.phase))
     → Shows z (moved s v.worker (Answered s.phase)) (set words 0 (answered_word z (get_or words 0 0) v.worker))
     (set views place (Worker (answered_view v)))
 answers z s words views place v phase reached sh at runs present reaches =
@@ -244,7 +237,7 @@ answers z s words views place v phase reached sh at runs present reaches =
     (serves z (moved s i state) sh.opening reaches).below)
     fits
     refl
-    (λ is. absurd (subst (IsIn s.phase) here is))
+    (λ _ is. absurd (subst (IsIn s.phase) here is))
     (λ _ gone. absurd (cc))
 
 -- an acknowledgement is the event
@@ -262,7 +255,7 @@ acknowledges z words views place v some_state at joined saw =
     let runs = running_is IsJoined v.state joined in
     let old : FitsWorker z s v = sh.seats.each place (Worker v) at in
     let here : s.state v.worker ≡ Runs runs.0 = old.state ∙ runs.1 in
-    let present : runs.0 ≡ s.phase = (reached_in_phase z s some_state.reachable).runs v.worker runs.0 here in
+    let present : runs.0 ≡ s.phase = (moved_in_phase z s some_state.reachable).runs v.worker runs.0 here in
     let ending : s.ending ≡ true = old.ending (runs_view v runs.0 runs.1) saw in
     let permits : Permits (numbers z s) (Acknowledge v.worker) =
     record {
@@ -272,7 +265,7 @@ acknowledges z words views place v some_state at joined saw =
       room = tt;
     }
     in
-    let reaches = goes_on_by z s (Acknowledge v.worker) some_state.reachable permits in
+    let reaches = moves_by z s (Acknowledge v.worker) some_state.reachable permits in
     let after_it = answers z s words views place v runs.0 some_state.reachable sh at runs.1 present reaches in (
       record {
         moment = moment_of z words views some_state;
@@ -311,7 +304,7 @@ reports z words views place v some_state at split saw =
     let runs = running_is IsSplit v.state split in
     let old : FitsWorker z s v = sh.seats.each place (Worker v) at in
     let here : s.state v.worker ≡ Runs runs.0 = old.state ∙ runs.1 in
-    let present : runs.0 ≡ s.phase = (reached_in_phase z s some_state.reachable).runs v.worker runs.0 here in
+    let present : runs.0 ≡ s.phase = (moved_in_phase z s some_state.reachable).runs v.worker runs.0 here in
     let ending : s.ending ≡ true = old.ending (runs_view v runs.0 runs.1) saw in
     let permits : Permits (numbers z s) (Report v.worker) =
     record {
@@ -326,7 +319,7 @@ reports z words views place v some_state at split saw =
       room = tt;
     }
     in
-    let reaches = goes_on_by z s (Report v.worker) some_state.reachable permits in
+    let reaches = moves_by z s (Report v.worker) some_state.reachable permits in
     let after_it = answers z s words views place v runs.0 some_state.reachable sh at runs.1 present reaches in (
       record {
         moment = moment_of z words views some_state;
@@ -363,7 +356,7 @@ retires z words views place v some_state at joined =
     let sh = some_state.shows in
     let i = v.worker in
     let runs = running_is IsJoined v.state joined in
-    let p = reached_in_phase z s some_state.reachable in
+    let p = moved_in_phase z s some_state.reachable in
     let f = form_of z.limits.form in
     let serving = serves z s sh.opening some_state.reachable in
     let old : FitsWorker z s v = sh.seats.each place (Worker v) at in
@@ -385,7 +378,7 @@ retires z words views place v some_state at joined =
     let permits : Permits (numbers z s) (Retire i) =
     record { there = old.there; suits = (here ∙ ap Runs present, even); leaves_last = tt; room = tt }
     in
-    let reaches = goes_on_by z s (Retire i) some_state.reachable permits in
+    let reaches = moves_by z s (Retire i) some_state.reachable permits in
     let after_it : Shows z (moved s i Gone) (set words 0 (retired_word z (get_or words 0 0) i))
     (set views place (Worker (retired_view v))) =
     worker_moves z s words views place v (retired_view v) Gone (retired_word z (get_or words 0 0) i) sh at refl
@@ -394,7 +387,7 @@ retires z words views place v some_state at joined =
     (serves z (moved s i Gone) sh.opening reaches).below)
     fits
     refl
-    (λ is. absurd (subst (IsIn s.phase) here is))
+    (λ _ is. absurd (subst (IsIn s.phase) here is))
     (λ odd _. absurd (omega arith))
     in (
       record {
@@ -418,3 +411,81 @@ retires z words views place v some_state at joined =
             (λ _ _ has. has) some_state.places;
       },
     )
+
+-- a word without what was taken off it
+taken_word : (word taken after new found : ℕ) → after + taken ≡ word → new + taken ≡ found → found ≡ word → new ≡ after
+taken_word word taken after new found back new_is is = omega arith
+
+-- what a worker makes of the board that comes back
+pub record BackAt (z : Opening) (words : List ℕ) (views : List View) (place : ℕ) (v : WorkerSeatView) (new phase : ℕ)
+    : Type 0 where
+  pub within : phase ≤ z.limits.last_phase
+  pub step : IsReturn z v.worker (Worker v) (Worker (returned_view v phase))
+  pub shows : ShowsSome z (set words 0 new) (set views place (Worker (returned_view v phase)))
+
+-- a worker that is gone comes back, where the word is that of a phase that isn't ending
+pub returns : (z : Opening) (words : List ℕ) (views : List View) (place : ℕ) (v : WorkerSeatView) (new : ℕ)
+    → ShowsSome z words views
+    → get_elem? views place ≡ some (Worker v)
+    → v.state ≡ Gone
+    → LetsReturn z.limits
+    → get_or words 0 0 % 2 ≡ 0
+    → new + (form_of z.limits.form).retirement v.worker ≡ get_or words 0 0
+    → BackAt z words views place v new (phase_at z (get_or words 0 0))
+returns z words views place v new some_state at gone lets even new_is =
+    let s = some_state.state in
+    let sh = some_state.shows in
+    let i = v.worker in
+    let f = form_of z.limits.form in
+    let p = moved_in_phase z s some_state.reachable in
+    let serving = serves z s sh.opening some_state.reachable in
+    let old : FitsWorker z s v = sh.seats.each place (Worker v) at in
+    let here : s.state i ≡ Gone = old.state ∙ gone in
+    let phase : ℕ = phase_at z (get_or words 0 0) in
+    let present : phase ≡ s.phase = ap f.phase_in sh.board.phase ∙ serving.phase in
+    let running : s.ending ≡ false = even_runs f z s serving (ap (λ n. n % 2) (sym sh.board.phase) ∙ even) in
+    let may : MayReturn z s i = record { lets = lets; there = old.there; gone = here; running = running } in
+    let t : CoreState = after_return s i in
+    let w : WorkerSeatView = returned_view v phase in
+    let fits : FitsWorker z t w =
+    record {
+      opening = old.opening;
+      there = old.there;
+      state = update-same s.state i (Runs s.phase) ∙ ap Runs (sym present);
+      number = omega (arith, present);
+      ending = λ _ saw. (let clash : false ≡ true = saw in absurd (cc));
+      labels = old.labels;
+      masks = old.masks;
+      slots = λ _. old.slots (λ split. subst RunsSplit gone split);
+    }
+    in
+    let shows_after : Shows z t (set words 0 new) (set views place (Worker w)) =
+    worker_moves z s words views place v w (Runs s.phase) new sh at refl
+    (taken_word (shown_word z s) (f.retirement i) (shown_word z t) new (get_or words 0 0)
+    (serving.returns i old.there here) new_is sh.board.phase)
+    fits
+    (sh.seats.slots place v at)
+    (λ ending _. absurd (cc))
+    (λ _ gone_now. absurd (cc))
+    in
+    record {
+      within = subst (λ n. n ≤ z.limits.last_phase) (sym present) p.within;
+      step = record {
+        moment = moment_of z words views some_state;
+        place = place;
+        mine = at;
+        may = may;
+        changed = 0;
+        word = new;
+        shows_after = shows_after;
+      };
+      shows = record {
+        state = t;
+        reachable = moves_back z s i some_state.reachable may;
+        shows = shows_after;
+        tallied = tallied_on z.limits s t views place (Worker v) (Worker w) (omega arith) (λ _. refl) at
+            (λ _. refl) (λ _. refl) (λ _ _. refl) some_state.tallied;
+        places = places_same z.counts views place (Worker v) (Worker w) at (λ _. refl) (λ _. refl)
+            (λ _ _ has. has) some_state.places;
+      };
+    }

@@ -2,6 +2,7 @@ use Rattle.std.proofs.Common.{◌≡◌, ℕ, zero, suc, ◌+◌, ◌<◌, ◌�
 use Rattle.std.proofs.lemmas.Bool.{cases_lt, cases_eq, cond-true}
 use Rattle.std.proofs.lemmas.List.{append-nil}
 use Rattle.like_core.specs.declared.worker_state.WorkerState.TheVariants.{Runs}
+use Rattle.like_core.specs.declared.event.Event.{Event}
 use Rattle.like_core.specs.declared.event.Event.TheVariants.{Like}
 use Rattle.like_core.specs.declared.opening.Opening.{Opening}
 use Rattle.like_limits.specs.Limits.{total_bound}
@@ -10,12 +11,15 @@ use Rattle.like_core.specs.core.Numbers.{total}
 use Rattle.like_core.specs.core.Table.{Permits}
 use Rattle.like_core.specs.core.State.{CoreState, is_split_now, after, numbers}
 use Rattle.like_core.specs.core.Reachable.{Reachable}
-use Rattle.like_core.specs.core.Likes.{given, MayLike, LikesStayReachable}
+use Rattle.like_core.specs.core.Moves.{Reached}
+use Rattle.like_core.specs.core.Exclusive.{IsInPhase}
+use Rattle.like_core.specs.core.Likes.{given, MayLike, LikesStayReachable, LikesStayReached}
 use Rattle.like_core.proofs.Updates.{update-same, update-other, update_cases}
 use Rattle.like_core.proofs.Sums.{sum_below-same, sum_below-le, sum_below-update}
 use Rattle.like_core.proofs.Times.{times-append, times-cons, times-cons_same}
 use Rattle.like_core.proofs.core.InPhase.{reached_in_phase, empty_from_times}
 use Rattle.like_core.proofs.core.Reached.{goes_on_by}
+use Rattle.like_core.proofs.core.Moved.{moved_in_phase, moves_by}
 
 -- one worker has unmerged likes of these pages more
 abbrev pub given_to : CoreState → ℕ → List ℕ → CoreState
@@ -70,21 +74,27 @@ pub after-like : (z : Opening) (s : CoreState) (i page : ℕ)
     → after z s (Like i page) ≡ given_to s i (page ∷ [])
 after-like z s i page sliced = cond-true (is_split_now z s page) _ _ sliced
 
--- the state stays reachable with likes for one worker
-pub reach_given_to : (z : Opening) (s : CoreState) (i : ℕ) (likes : List ℕ)
-    → Reachable z s
+-- states that permitted events don't leave, all in phase
+record GoesOn (R : Opening → CoreState → Type 0) : Type 0 where
+  pub in_phase : (z : Opening) (s : CoreState) → R z s → IsInPhase z s
+  pub on : (z : Opening) (s : CoreState) (event : Event) → R z s → Permits (numbers z s) event → R z (after z s event)
+
+-- likes for one worker don't leave them
+reach_given_to : (R : Opening → CoreState → Type 0) (z : Opening) (s : CoreState) (i : ℕ) (likes : List ℕ)
+    → GoesOn R
+    → R z s
     → ((page : ℕ) → 0 < times page likes
     → (s.state i ≡ Runs s.phase) × (page < length z.counts) × (is_split_now z s page ≡ true))
     → ((page : ℕ) → total (numbers z (given_to s i likes)) page < total_bound)
-    → Reachable z (given_to s i likes)
-reach_given_to z s i [] r pages totals = subst (Reachable z) (sym (given_to-nil s i)) r
-reach_given_to z s i (page ∷ likes) r pages totals =
+    → R z (given_to s i likes)
+reach_given_to R z s i [] goes r pages totals = subst (R z) (sym (given_to-nil s i)) r
+reach_given_to R z s i (page ∷ likes) goes r pages totals =
     let more = times-cons_same page likes in
     let first = pages page (omega arith) in
     let there : i < z.workers =
     elim (cases_lt i z.workers) [
       | inl within ↦ within
-      | inr past ↦ let gone = (reached_in_phase z s r).outside i past in let runs = first.0 in cc
+      | inr past ↦ let gone = (goes.in_phase z s r).outside i past in let runs = first.0 in cc
     ]
     in
     let sum = total-given_to z s i (page ∷ likes) page there in
@@ -92,12 +102,12 @@ reach_given_to z s i (page ∷ likes) r pages totals =
     let may : Permits (numbers z s) (Like i page) =
     record { there = (there, first.1); suits = first.0; leaves_last = tt; room = omega arith }
     in
-    let one : Reachable z (given_to s i (page ∷ [])) =
-    subst (Reachable z) (after-like z s i page first.2) (goes_on_by z s (Like i page) r may)
+    let one : R z (given_to s i (page ∷ [])) =
+    subst (R z) (after-like z s i page first.2) (goes.on z s (Like i page) r may)
     in
     let all = given_to-cons s i page likes in
-    subst (Reachable z) all
-    (reach_given_to z (given_to s i (page ∷ [])) i likes one
+    subst (R z) all
+    (reach_given_to R z (given_to s i (page ∷ [])) i likes goes one
     (λ other stands. pages other (let step = times-cons other page likes in omega arith))
     (λ other. subst (λ (t : CoreState). total (numbers z t) other < total_bound) (sym all) (totals other)))
 
@@ -116,19 +126,20 @@ total-given-le z s fewer more page each =
     in
     omega arith
 
--- the state stays reachable with likes for each worker below n
-reach_given : (z : Opening) (s : CoreState) (n : ℕ) (more : ℕ → List ℕ)
-    → Reachable z s
+-- nor do likes for each worker below n
+reach_given : (R : Opening → CoreState → Type 0) (z : Opening) (s : CoreState) (n : ℕ) (more : ℕ → List ℕ)
+    → GoesOn R
+    → R z s
     → MayLike z s more
     → ((i : ℕ) → n ≤ i → more i ≡ [])
-    → Reachable z (given s more)
-reach_given z s zero more r may none =
+    → R z (given s more)
+reach_given R z s zero more goes r may none =
     let each : (i : ℕ) → s.unmerged i ≡ s.unmerged i ++ more i =
     λ i. sym (ap (λ (l : List ℕ). s.unmerged i ++ l) (none i (omega arith)) ∙ append-nil (s.unmerged i))
     in
     let same : s ≡ given s more = λ m. record s { unmerged = λ i. each i m } in
-    subst (Reachable z) same r
-reach_given z s (suc n) more r may none =
+    subst (R z) same r
+reach_given R z s (suc n) more goes r may none =
     let fewer : ℕ → List ℕ = update more n [] in
     let less : (page i : ℕ) → times page (fewer i) ≤ times page (more i) =
     λ page.
@@ -154,7 +165,7 @@ reach_given z s (suc n) more r may none =
       | inr other ↦ update-other more n [] i other ∙ none i (omega arith)
     ]
     in
-    let reached = reach_given z s n fewer r may_less none_less in
+    let reached = reach_given R z s n fewer goes r may_less none_less in
     let P : ℕ → List ℕ → Type 0 = λ i l. l ≡ s.unmerged i ++ more i in
     let each =
     update_cases P (given s fewer).unmerged n ((given s fewer).unmerged n ++ more n)
@@ -163,20 +174,34 @@ reach_given z s (suc n) more r may none =
     (λ i other. ap (λ (l : List ℕ). s.unmerged i ++ l) (update-other more n [] i other))
     in
     let same : given_to (given s fewer) n (more n) ≡ given s more = λ m. record s { unmerged = λ i. each i m } in
-    subst (Reachable z) same
-    (reach_given_to z (given s fewer) n (more n) reached
+    subst (R z) same
+    (reach_given_to R z (given s fewer) n (more n) goes reached
     (λ page some. (may.runs n page some, may.there n page some, may.splits n page some))
     (λ page. subst (λ (t : CoreState). total (numbers z t) page < total_bound) (sym same) (may.totals page)))
 
--- a state that can be reached can also be reached with more likes of pages that are split
-pub likes_stay_reachable : LikesStayReachable
-likes_stay_reachable z s more r may =
-    reach_given z s z.workers more r may
+-- nor do likes of pages that are split
+likes_stay : (R : Opening → CoreState → Type 0) (z : Opening) (s : CoreState) (more : ℕ → List ℕ)
+    → GoesOn R
+    → R z s
+    → MayLike z s more
+    → R z (given s more)
+likes_stay R z s more goes r may =
+    reach_given R z s z.workers more goes r may
     (λ i past.
     empty_from_times (more i)
     (λ page.
     elim (cases_lt 0 (times page (more i))) [
       | inl some ↦
-          let gone = (reached_in_phase z s r).outside i past in let runs = may.runs i page some in cc
+          let gone = (goes.in_phase z s r).outside i past in let runs = may.runs i page some in cc
       | inr none ↦ omega arith
     ]))
+
+-- a state that events reach, they reach with such likes too
+pub likes_stay_reachable : LikesStayReachable
+likes_stay_reachable z s more r may =
+    likes_stay Reachable z s more (record { in_phase = reached_in_phase; on = goes_on_by }) r may
+
+-- and so do moves
+pub likes_stay_reached : LikesStayReached
+likes_stay_reached z s more r may =
+    likes_stay Reached z s more (record { in_phase = moved_in_phase; on = moves_by }) r may

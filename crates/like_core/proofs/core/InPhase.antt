@@ -12,6 +12,7 @@ use Rattle.like_core.specs.core.Numbers.{Numbers}
 use Rattle.like_core.specs.core.Table.{Permits}
 use Rattle.like_core.specs.core.State.{CoreState, Label, start, without, is_split_now, after, numbers}
 use Rattle.like_core.specs.core.Reachable.{Reachable, after_all, PermitsAll}
+use Rattle.like_core.specs.core.Moves.{MayReturn, after_return}
 use Rattle.like_core.specs.core.Exclusive.{IsExclusive, IsInPhase}
 use Rattle.like_core.proofs.Updates.{update-other, update_cases}
 use Rattle.like_core.proofs.Times.{times-cons_same}
@@ -246,6 +247,16 @@ keeps_in_phase z s (Release mask) p may =
     p.outside
     (omega arith)
     (λ ending. cc)
+
+-- so does a worker that comes back: it has no unmerged likes
+pub return_in_phase : (z : Opening) (s : CoreState) (i : ℕ)
+    → IsInPhase z s
+    → MayReturn z s i
+    → IsInPhase z (after_return s i)
+return_in_phase z s i p may =
+    let gone = may.gone in
+    let none : s.unmerged i ≡ [] = elim (p.unmerged i) [ inl none ↦ none | inr some ↦ let runs = some.0 in cc ] in
+    moves_state z s i (Runs s.phase) may.there p (fits_runs s.phase (s.unmerged i) none)
 
 -- every list of permitted events keeps the state in phase
 pub keeps_in_phase_all : (z : Opening) (s : CoreState) (events : List Event)

@@ -30,19 +30,20 @@ counted_now z c m mine = λ k d below at.
     let present = fits.phase.present in
     counted k d below ∙ ap (λ n. slice_index z.counts r.page + n) (m.tallied.past (r.phase + 1) r.page (omega arith))
 
--- if its last sight showed all in and all gone, it knows a last moment
+-- if its last sight showed all in at an ending, and all gone, it knows a last moment
 pub end_known : (z : Opening) (c : CoordSeatView) (sight : CoordSight)
     → IsKnown z (Coord c)
     → c.last ≡ Some sight
+    → sight.ending ≡ true
     → sight.all_in ≡ true
     → sight.all_gone ≡ true
     → IsLastMoment z c
-end_known z c sight known last all_in all_gone =
+end_known z c sight known last ending all_in all_gone =
     let m = known.moment in
     let fits : FitsCoord z m.state c = m.shows.seats.each known.place (Coord c) known.mine in
     let place : known.place ≡ 0 = m.shows.seats.only known.place c known.mine in
-    let sees = subst (λ (o : Option CoordSight). IfSome o (λ s. s.all_in ≡ true
-    → CoordSees (numbers z m.state) s × (c.word ≡ shown_word z m.state))) last fits.phase.stays all_in in
+    let sees = subst (λ (o : Option CoordSight). IfSome o (λ s. s.ending ≡ true → s.all_in ≡ true
+    → CoordSees (numbers z m.state) s × (c.word ≡ shown_word z m.state))) last fits.phase.stays ending all_in in
     record {
       moment = m;
       mine = subst (λ i. get_elem? m.views i ≡ some (Coord c)) place known.mine;

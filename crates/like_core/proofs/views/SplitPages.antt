@@ -17,7 +17,7 @@ use Rattle.like_core.specs.views.Shows.{FitsWorker, Moment}
 use Rattle.like_core.specs.views.SplitPages.{SlicesAreSplit, SlotsAreExact}
 use Rattle.like_core.proofs.PhaseMasks.{split-known}
 use Rattle.like_core.proofs.Slots.{mask_by-slots, slots_tell}
-use Rattle.like_core.proofs.core.InPhase.{reached_in_phase}
+use Rattle.like_core.proofs.core.Moved.{moved_in_phase}
 
 -- an unmarked page that may be hot is split in a split phase just where its bit is set
 unmarked : (bound phase page mask : ℕ) (marked : ℕ → Bool)
@@ -58,7 +58,7 @@ runs_present : (z : Opening) (m : Moment z) (v : WorkerSeatView) (state : Worker
     → FitsWorker z m.state v
     → IsRunning state
     → phase_of state ≡ m.state.phase
-runs_present z m v (Runs j) is f running = (reached_in_phase z m.state m.reachable).runs v.worker j (f.state ∙ is)
+runs_present z m v (Runs j) is f running = (moved_in_phase z m.state m.reachable).runs v.worker j (f.state ∙ is)
 runs_present z m v (Answered j) is f running = absurd running
 runs_present z m v Gone is f running = absurd running
 

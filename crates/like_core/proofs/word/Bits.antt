@@ -6,7 +6,7 @@ use lib.Pow.{pow_mono}
 use Rattle.like_core.specs.declared.form.Form.{Form}
 use Rattle.like_core.specs.declared.form.Form.TheVariants.{Bits}
 use Rattle.like_core.specs.declared.worker_state.WorkerState.{WorkerState}
-use Rattle.like_core.specs.declared.worker_state.WorkerState.TheVariants.{Answered, Gone}
+use Rattle.like_core.specs.declared.worker_state.WorkerState.TheVariants.{Runs, Answered, Gone}
 use Rattle.like_core.specs.declared.opening.Opening.{Opening}
 use Rattle.like_core.specs.Functions.{update, has_bit, mask}
 use Rattle.like_core.specs.OpeningLimits.{most_phase, most_seats}
@@ -117,6 +117,16 @@ bits_serves z s opening form p =
           (λ j other. ap is_gone (update-other s.state i Gone j other)) in
           let same = mask_same (λ j. has_answered s.phase (update s.state i Gone j)) a z.workers
           (λ j _. test_same (has_answered s.phase) s i Gone (ap (has_answered s.phase) (sym runs)) j) in
+          let shifted : 2 ^ (24 + i) ≡ 2 ^ 24 * 2 ^ i = pow-add 2 24 i in
+          omega arith;
+      returns = λ i there gone.
+          let st : WorkerState = Runs s.phase in
+          let more = mask_more (λ j. is_gone (update s.state i st j)) g z.workers i there
+          (ap is_gone (update-same s.state i st))
+          (ap is_gone gone)
+          (λ j other. sym (ap is_gone (update-other s.state i st j other))) in
+          let same = mask_same (λ j. has_answered s.phase (update s.state i st j)) a z.workers
+          (λ j _. test_same (has_answered s.phase) s i st (ap (has_answered s.phase) (sym gone)) j) in
           let shifted : 2 ^ (24 + i) ≡ 2 ^ 24 * 2 ^ i = pow-add 2 24 i in
           omega arith;
       announces = λ running. (let none = ap (kind_in s.phase) running in omega arith);

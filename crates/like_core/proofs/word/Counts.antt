@@ -4,7 +4,7 @@ use Rattle.std.proofs.lemmas.Bool.{eqb-true}
 use Rattle.like_core.specs.declared.form.Form.{Form}
 use Rattle.like_core.specs.declared.form.Form.TheVariants.{Counts}
 use Rattle.like_core.specs.declared.worker_state.WorkerState.{WorkerState}
-use Rattle.like_core.specs.declared.worker_state.WorkerState.TheVariants.{Answered, Gone}
+use Rattle.like_core.specs.declared.worker_state.WorkerState.TheVariants.{Runs, Answered, Gone}
 use Rattle.like_core.specs.declared.opening.Opening.{Opening}
 use Rattle.like_core.specs.Functions.{update, how_many}
 use Rattle.like_core.specs.OpeningLimits.{most_phase, most_seats}
@@ -13,7 +13,7 @@ use Rattle.like_core.specs.core.State.{CoreState}
 use Rattle.like_core.specs.core.Exclusive.{IsInPhase}
 use Rattle.like_core.specs.word.Forms.{has_answered, is_gone, counts, kind_in}
 use Rattle.like_core.specs.views.Shows.{IsOpening}
-use Rattle.like_core.specs.views.Serves.{AllGoneCounts, AllInCounts, AnswersOne, RetiresOne, Serves, answered_now, gone_now}
+use Rattle.like_core.specs.views.Serves.{AllGoneCounts, AllInCounts, AnswersOne, RetiresOne, ReturnsOne, Serves, answered_now, gone_now}
 use Rattle.like_core.proofs.Updates.{update-same, update-other}
 use Rattle.like_core.proofs.word.HowMany.{how_many-same, how_many-none, how_many-more, how_many-both, how_many-all, all-how_many}
 use Rattle.like_core.proofs.word.States.{weight-lt, not_both, looked-has_answered, looked-is_gone, test_same, in_not_next, in_test, test_in, gone_test, kind_released}
@@ -39,6 +39,17 @@ retires_one z s i phase there runs = (
   how_many-same (λ j. has_answered s.phase (update s.state i Gone j)) (λ j. has_answered s.phase (s.state j)) z.workers
       (λ j _. test_same (has_answered s.phase) s i Gone (ap (has_answered s.phase) (sym runs)) j),
 )
+
+pub returns_one : ReturnsOne
+returns_one z s i there gone =
+    let st : WorkerState = Runs s.phase in (
+      sym (how_many-more (λ j. is_gone (update s.state i st j)) (λ j. is_gone (s.state j)) z.workers i there
+          (ap is_gone (update-same s.state i st))
+          (ap is_gone gone)
+          (λ j other. sym (ap is_gone (update-other s.state i st j other)))),
+      how_many-same (λ j. has_answered s.phase (update s.state i st j)) (λ j. has_answered s.phase (s.state j)) z.workers
+          (λ j _. test_same (has_answered s.phase) s i st (ap (has_answered s.phase) (sym gone)) j),
+    )
 
 pub all_in_counts : AllInCounts
 all_in_counts z s =
@@ -118,6 +129,11 @@ counts_serves z s opening form p =
       retires = λ i phase there runs.
           let one = retires_one z s i phase there runs in
           let more = one.0 in
+          let same = one.1 in
+          omega arith;
+      returns = λ i there gone.
+          let one = returns_one z s i there gone in
+          let less = one.0 in
           let same = one.1 in
           omega arith;
       announces = λ running. (let none = ap (kind_in s.phase) running in omega arith);

@@ -11,7 +11,7 @@ use Rattle.like_core.specs.core.Exclusive.{IsInPhase}
 use Rattle.like_core.specs.word.Forms.{form_of}
 use Rattle.like_core.specs.word.ShownWord.{shown_word, word_in}
 use Rattle.like_core.specs.word.KindTells.{phase_told, KindTellsPhase}
-use Rattle.like_core.proofs.core.InPhase.{reached_in_phase}
+use Rattle.like_core.proofs.core.Moved.{moved_in_phase}
 use Rattle.like_core.proofs.word.States.{weight-lt}
 
 -- the high bit of the kind is the phase's parity
@@ -35,4 +35,4 @@ told z s i (Answered j) p is there =
 told z s i Gone p is there = absurd (there refl)
 
 pub kind_tells_phase : KindTellsPhase
-kind_tells_phase z s i reachable there = told z s i (s.state i) (reached_in_phase z s reachable) refl there
+kind_tells_phase z s i reached there = told z s i (s.state i) (moved_in_phase z s reached) refl there

@@ -1,6 +1,6 @@
 -- The phase word serves whatever its form is, and what looks at it see is so.
-use Rattle.std.proofs.Common.{◌≡◌, ◌≢◌, ℕ, ◌+◌, ◌/◌, ◌%◌, ◌==◌, ◌⊎◌, ◌↔◌, inl, inr, Bool, IsTrue, ap, sym, ◌∙◌, refl, eq-eqb, arith}
-use Rattle.std.proofs.lemmas.Bool.{eqb-true}
+use Rattle.std.proofs.Common.{◌≡◌, ◌≢◌, ℕ, ◌+◌, ◌/◌, ◌%◌, ◌==◌, ◌⊎◌, ◌↔◌, inl, inr, Bool, false, IsTrue, ap, sym, ◌∙◌, refl, eq-eqb, arith}
+use Rattle.std.proofs.lemmas.Bool.{eqb-true, ne_eqb}
 use Rattle.like_core.specs.declared.form.Form.{Form}
 use Rattle.like_core.specs.declared.form.Form.TheVariants.{Bits, Counts}
 use Rattle.like_core.specs.declared.worker_state.WorkerState.{WorkerState}
@@ -10,25 +10,25 @@ use Rattle.like_core.specs.WorkerState.{turn_of}
 use Rattle.like_core.specs.core.Numbers.{CoordSees, Sees}
 use Rattle.like_core.specs.core.State.{CoreState, numbers}
 use Rattle.like_core.specs.core.Exclusive.{IsInPhase}
-use Rattle.like_core.specs.core.Reachable.{Reachable}
+use Rattle.like_core.specs.core.Moves.{Reached}
 use Rattle.like_core.specs.word.Forms.{WordForm, form_of, kind_in}
 use Rattle.like_core.specs.word.ShownWord.{word_in}
 use Rattle.like_core.specs.views.Sights.{coord_sight_in, sight_in}
 use Rattle.like_core.specs.views.Shows.{IsOpening}
 use Rattle.like_core.specs.views.Serves.{FormServes, Serves, WordTellsPhase}
-use Rattle.like_core.proofs.core.InPhase.{reached_in_phase}
+use Rattle.like_core.proofs.core.Moved.{moved_in_phase}
 use Rattle.like_core.proofs.word.Bits.{bits_serves}
 use Rattle.like_core.proofs.word.Counts.{counts_serves}
 use Rattle.like_core.proofs.word.States.{odd_weight, weight-lt}
 
 pub bits_serve : FormServes Bits
-bits_serve z s opening form reached = bits_serves z s opening form (reached_in_phase z s reached)
+bits_serve z s opening form reached = bits_serves z s opening form (moved_in_phase z s reached)
 
 pub counts_serve : FormServes Counts
-counts_serve z s opening form reached = counts_serves z s opening form (reached_in_phase z s reached)
+counts_serve z s opening form reached = counts_serves z s opening form (moved_in_phase z s reached)
 
 -- so does the form of an opening
-pub serves : (z : Opening) (s : CoreState) → IsOpening z → Reachable z s → Serves (form_of z.limits.form) z s
+pub serves : (z : Opening) (s : CoreState) → IsOpening z → Reached z s → Serves (form_of z.limits.form) z s
 serves z s opening reached = by_form z.limits.form refl
   where
     by_form : (form : Form) → z.limits.form ≡ form → Serves (form_of form) z s
@@ -49,6 +49,14 @@ ending_is word phase ending is =
 
 split_is : (word phase : ℕ) (ending : Bool) → word % 4 ≡ kind_in phase ending → word / 2 % 2 ≡ phase % 2
 split_is word phase ending is = let below = weight-lt ending in omega arith
+
+-- an even word is that of a phase that isn't ending
+pub even_runs : (f : WordForm) (z : Opening) (s : CoreState)
+    → Serves f z s
+    → word_in f z s % 2 ≡ 0
+    → s.ending ≡ false
+even_runs f z s serving even =
+    sym (ending_is (word_in f z s) s.phase s.ending serving.kind) ∙ ne_eqb (word_in f z s % 2) 1 (λ odd. absurd (omega arith))
 
 -- a worker that has answered the phase sees that it waits, and no other does
 waits_are : (word phase : ℕ) (state : WorkerState)

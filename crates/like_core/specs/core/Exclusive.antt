@@ -4,6 +4,7 @@ use Rattle.like_core.specs.declared.opening.Opening.{Opening}
 use Rattle.like_core.specs.Phase.{IsJoined, IsSplit}
 use Rattle.like_core.specs.core.State.{CoreState}
 use Rattle.like_core.specs.core.Reachable.{Reachable}
+use Rattle.like_core.specs.core.Moves.{Reached}
 
 -- no worker has unmerged likes
 abbrev pub NoneUnmerged : CoreState → Type 0
@@ -36,3 +37,7 @@ pub record IsInPhase (z : Opening) (s : CoreState) : Type 0 where
 -- every state that can be reached is exclusive, and in phase
 abbrev pub ReachableIsExclusive : Type 0
 ReachableIsExclusive = (z : Opening) (s : CoreState) → Reachable z s → IsExclusive s × IsInPhase z s
+
+-- so is every state that moves reach
+abbrev pub ReachedIsExclusive : Type 0
+ReachedIsExclusive = (z : Opening) (s : CoreState) → Reached z s → IsExclusive s × IsInPhase z s

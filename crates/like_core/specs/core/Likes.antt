@@ -8,6 +8,7 @@ use Rattle.like_core.specs.core.Numbers.{total}
 use Rattle.like_core.specs.core.State.{CoreState, is_split_now, numbers}
 use Rattle.like_core.specs.core.Exclusive.{NoneUnmerged}
 use Rattle.like_core.specs.core.Reachable.{Reachable}
+use Rattle.like_core.specs.core.Moves.{Reached}
 
 -- each worker has more unmerged likes, of these pages
 abbrev pub given : CoreState → (ℕ → List ℕ) → CoreState
@@ -26,6 +27,12 @@ abbrev pub LikesStayReachable : Type 0
 LikesStayReachable =
     (z : Opening) (s : CoreState) (more : ℕ → List ℕ)
     → Reachable z s → MayLike z s more → Reachable z (given s more)
+
+-- and a state that moves reach, by moves
+abbrev pub LikesStayReached : Type 0
+LikesStayReached =
+    (z : Opening) (s : CoreState) (more : ℕ → List ℕ)
+    → Reached z s → MayLike z s more → Reached z (given s more)
 
 -- in a state that can be reached, with any likes that slices may hold, no worker has an unmerged like while one runs a
 -- joined phase

@@ -8,7 +8,7 @@ use Rattle.like_core.specs.declared.view.WorkerSeatView.{WorkerSeatView}
 use Rattle.like_core.specs.declared.view.CoordSeatView.{CoordSeatView}
 use Rattle.like_core.specs.declared.view.View.TheVariants.{Coord, Worker}
 use Rattle.like_core.specs.views.Views.{likes_merged, adding, mask_released}
-use Rattle.like_core.specs.views.Shows.{IsStep, IsSteps}
+use Rattle.like_core.specs.views.Shows.{IsReturn, IsStep, IsSteps}
 
 -- the worker looks at the phase word, and sees this
 abbrev pub Looks : WorkerSeatView → Sight → WorkerSeatView → Type 0
@@ -25,6 +25,10 @@ Reports v w = IsStep v.opening (Report v.worker) Done (Worker v) (Worker w)
 -- the worker retires
 abbrev pub Retires : WorkerSeatView → WorkerSeatView → Type 0
 Retires v w = IsStep v.opening (Retire v.worker) Done (Worker v) (Worker w)
+
+-- the worker comes back
+abbrev pub ComesBack : WorkerSeatView → WorkerSeatView → Type 0
+ComesBack v w = IsReturn v.opening v.worker (Worker v) (Worker w)
 
 -- the worker adds n to a page's count, which was this before
 abbrev pub Adds : WorkerSeatView → ℕ → ℕ → ℕ → WorkerSeatView → Type 0

@@ -9,7 +9,7 @@ use Rattle.like_core.specs.Functions.{update, how_many}
 use Rattle.like_core.specs.WorkerState.{looked}
 use Rattle.like_core.specs.core.Numbers.{AllIn, AllGone}
 use Rattle.like_core.specs.core.State.{CoreState, numbers}
-use Rattle.like_core.specs.core.Reachable.{Reachable}
+use Rattle.like_core.specs.core.Moves.{Reached, after_return}
 use Rattle.like_core.specs.word.Forms.{WordForm, form_of, has_answered, is_gone, kind_in}
 use Rattle.like_core.specs.word.ShownWord.{shown_word, word_in}
 use Rattle.like_core.specs.views.Shows.{IsOpening}
@@ -31,6 +31,9 @@ pub record Serves (f : WordForm) (z : Opening) (s : CoreState) : Type 0 where
       → word_in f z (moved s i (Answered s.phase)) ≡ word_in f z s + f.answer i
   pub retires : (i phase : ℕ) → i < z.workers → s.state i ≡ Runs phase
       → word_in f z (moved s i Gone) ≡ word_in f z s + f.retirement i
+  -- a return takes off what a retirement adds
+  pub returns : (i : ℕ) → i < z.workers → s.state i ≡ Gone
+      → word_in f z (after_return s i) + f.retirement i ≡ word_in f z s
   -- an announcement adds 1
   pub announces : s.ending ≡ false
       → word_in f z (record s { ending = true }) ≡ word_in f z s + 1
@@ -41,7 +44,7 @@ pub record Serves (f : WordForm) (z : Opening) (s : CoreState) : Type 0 where
 -- a form does so in each state that can be reached, for each opening that has it
 abbrev pub FormServes : Form → Type 0
 FormServes form =
-    (z : Opening) (s : CoreState) → IsOpening z → z.limits.form ≡ form → Reachable z s
+    (z : Opening) (s : CoreState) → IsOpening z → z.limits.form ≡ form → Reached z s
     → Serves (form_of form) z s
 
 -- how many workers have answered the present phase, and how many are gone
@@ -65,6 +68,13 @@ RetiresOne =
     → (gone_now z (moved s i Gone) ≡ gone_now z s + 1)
     × (answered_now z (moved s i Gone) ≡ answered_now z s)
 
+-- a return lowers the count of those gone by one, and leaves that of those that have answered
+abbrev pub ReturnsOne : Type 0
+ReturnsOne =
+    (z : Opening) (s : CoreState) (i : ℕ) → i < z.workers → s.state i ≡ Gone
+    → (gone_now z (after_return s i) + 1 ≡ gone_now z s)
+    × (answered_now z (after_return s i) ≡ answered_now z s)
+
 -- all are in just where the two counts are together all workers, which is the most that they can be
 abbrev pub AllInCounts : Type 0
 AllInCounts =
@@ -79,5 +89,5 @@ AllGoneCounts = (z : Opening) (s : CoreState) → (gone_now z s ≡ z.workers) �
 -- no two phases have the same word
 abbrev pub WordTellsPhase : Type 0
 WordTellsPhase =
-    (z : Opening) (s t : CoreState) → IsOpening z → Reachable z s → Reachable z t
+    (z : Opening) (s t : CoreState) → IsOpening z → Reached z s → Reached z t
     → shown_word z s ≡ shown_word z t → s.phase ≡ t.phase

@@ -18,7 +18,8 @@ use Rattle.like_core.specs.PhaseMasks.{mask_of}
 use Rattle.like_core.specs.core.Numbers.{AllIn, AllGone, CoordSees}
 use Rattle.like_core.specs.core.Table.{Permits, IsShown}
 use Rattle.like_core.specs.core.State.{CoreState, labelled, after, numbers}
-use Rattle.like_core.specs.core.Reachable.{Reachable, after_all, PermitsAll}
+use Rattle.like_core.specs.core.Reachable.{after_all, PermitsAll}
+use Rattle.like_core.specs.core.Moves.{MayReturn, Reached, after_return}
 use Rattle.like_core.specs.core.Exclusive.{NoneUnmerged}
 use Rattle.like_core.specs.word.ShownWord.{shown_word}
 use Rattle.like_core.specs.WorkerState.{IsRunning, RunsSplit, SawEnding, SawNoLater}
@@ -77,18 +78,19 @@ pub record KnowsPhase (z : Opening) (s : CoreState) (c : CoordSeatView) : Type 0
   -- its last sight has the phase's number, and shows whether it is ending
   pub last : IfSome c.last (λ sight.
       (sight.number ≡ s.phase) × (sight.ending ≡ s.ending))
-  -- if that sight showed all in, a look would show the same now, and the phase word has not changed
-  pub stays : IfSome c.last (λ sight. sight.all_in ≡ true
+  -- if that sight showed all in at an ending, a look would show the same now, and the phase word has not changed
+  pub stays : IfSome c.last (λ sight. sight.ending ≡ true → sight.all_in ≡ true
       → CoordSees (numbers z s) sight × (c.word ≡ shown_word z s))
-  -- if any sight of the phase showed all in, they still are
-  pub all_in : c.all_in ≡ true → AllIn (numbers z s)
+  -- if any sight of the phase showed all in at its ending, they still are
+  pub all_in : c.all_in ≡ true → AllIn (numbers z s) × (s.ending ≡ true)
   -- if all are gone in a split phase, the last sight before its release showed that
   pub gone : IsSplit s.phase → AllGone (numbers z s) → c.gone ≡ true
 
 -- what the coordinator knows of the choice of hot pages is true
 pub record KnowsChoice (z : Opening) (s : CoreState) (c : CoordSeatView) : Type 0 where
-  -- each count that it read is of an earlier phase, or of this one and all are in
-  pub counted : All (λ r. (r.phase ≤ s.phase) × (r.phase ≡ s.phase → AllIn (numbers z s))) c.counted
+  -- each count that it read is of an earlier phase, or of this one, which is ending, and all are in
+  pub counted : All (λ r. (r.phase ≤ s.phase)
+      × (r.phase ≡ s.phase → AllIn (numbers z s) × (s.ending ≡ true))) c.counted
   -- a mask that it published has only bits of pages that exist
   pub published : IfSome c.published (λ mask. mask < 2 ^ length z.counts)
   -- each phase's mask is the one with which it released the phase
@@ -170,10 +172,10 @@ pub record Shows (z : Opening) (s : CoreState) (words : List ℕ) (views : List 
   pub seats : SeatsFit z s coord views
   pub reads : ReadsAreCounted z s coord views
 
--- the words and the views show some state that can be reached
+-- the words and the views show some state that moves reach
 pub record ShowsSome (z : Opening) (words : List ℕ) (views : List View) : Type 0 where
   pub state : CoreState
-  pub reachable : Reachable z state
+  pub reachable : Reached z state
   pub shows : Shows z state words views
   -- the views' additions are the likes applied in it, and no count can wrap by what may still be added
   pub tallied : Tallied z.limits state views
@@ -181,12 +183,12 @@ pub record ShowsSome (z : Opening) (words : List ℕ) (views : List View) : Type
   pub places : PlacesTile z.counts views
 
 -- a moment of a board, between two steps: its words, the views of all its seats, and the state that they show, which
--- can be reached. The views' additions are the likes applied in it, and their stretches tile each page's counts
+-- moves reach. The views' additions are the likes applied in it, and their stretches tile each page's counts
 pub record Moment (z : Opening) : Type 0 where
   pub words : List ℕ
   pub views : List View
   pub state : CoreState
-  pub reachable : Reachable z state
+  pub reachable : Reached z state
   pub shows : Shows z state words views
   pub tallied : Tallied z.limits state views
   pub places : PlacesTile z.counts views
@@ -236,3 +238,16 @@ pub record IsSteps (z : Opening) (events : List Event) (event : Event) (shown : 
 -- one step of a seat is this event
 abbrev pub IsStep : Opening → Event → Shown → View → View → Type 0
 IsStep z event shown v w = IsSteps z [] event shown v w
+
+-- worker i's seat comes back, and its view goes from v to w: at some moment the worker may come back. Then at most one
+-- word has changed and the seat's view is w, and the words and views show the state after
+pub record IsReturn (z : Opening) (i : ℕ) (v w : View) : Type 0 where
+  pub moment : Moment z
+  pub place : ℕ
+  pub mine : get_elem? moment.views place ≡ some v
+  pub may : MayReturn z moment.state i
+  pub changed : ℕ
+  pub word : ℕ
+  pub shows_after :
+      Shows z (after_return moment.state i)
+      (slice_set moment.words changed word) (slice_set moment.views place w)

@@ -1,4 +1,4 @@
-use Rattle.std.specs.Prelude.{◌≡◌, ℕ, ◌+◌, ◌==◌, ◌<◌, ◌≤◌, Bool, true, false, ◌%◌, ◌^◌, if◌then◌else◌, List, [], ◌∷◌, ◌++◌, length, take, replicate, slice_index, slice_set, count_by, Option, Some, None, IsSome, IsSomeAnd}
+use Rattle.std.specs.Prelude.{◌≡◌, ℕ, ◌+◌, ◌==◌, ◌<◌, ◌≤◌, Bool, true, false, ◌&&◌, ◌%◌, ◌^◌, if◌then◌else◌, List, [], ◌∷◌, ◌++◌, length, take, replicate, slice_index, slice_set, count_by, Option, Some, None, IsSome, IsSomeAnd}
 use Rattle.std.specs.Option.{unwrap_or}
 use Rattle.like_core.specs.declared.worker_state.WorkerState.TheVariants.{Runs, Answered, Gone}
 use Rattle.like_core.specs.declared.sight.Sight.{Sight}
@@ -15,7 +15,7 @@ use Rattle.like_limits.specs.Limits.{hot_pages}
 use Rattle.like_core.specs.Phase.{IsJoined}
 use Rattle.like_core.specs.OpeningLimits.{has_slots}
 use Rattle.like_core.specs.Slots.{IsChoice, mask_of_slots}
-use Rattle.like_core.specs.WorkerState.{RunsSplit, phase_of, seen}
+use Rattle.like_core.specs.WorkerState.{RunsSplit, phase_of, running_sight, seen}
 use Rattle.like_core.specs.Post.{PostView, slices}
 
 -- a worker's view before its seat made a step: it runs phase 0, and did nothing yet
@@ -67,6 +67,14 @@ answered_view v = record v { state = Answered (phase_of v.state); slots = [] }
 -- a worker's view after it retired
 abbrev pub retired_view : WorkerSeatView → WorkerSeatView
 retired_view v = record v { state = Gone; slots = [] }
+
+-- a worker's view after it came back and runs this phase, which its exchange of the word told like a look
+abbrev pub returned_view : WorkerSeatView → ℕ → WorkerSeatView
+returned_view v phase = record v {
+  state = Runs phase;
+  last = Some (running_sight phase);
+  looks = v.looks ++ look_after (running_sight phase) v.additions v.reads v.glances ∷ [];
+}
 
 -- a worker's view after it added n to a page's count, which was `old` before
 abbrev pub added_view : WorkerSeatView → ℕ → ℕ → ℕ → WorkerSeatView
@@ -140,7 +148,7 @@ looked_coord c word sight = record c {
   last = Some sight;
   looks = c.looks + 1;
   word = word;
-  all_in = sight.all_in;
+  all_in = sight.ending && sight.all_in;
   published = None;
 }
 

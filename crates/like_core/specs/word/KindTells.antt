@@ -4,7 +4,7 @@ use Rattle.like_core.specs.declared.worker_state.WorkerState.{WorkerState}
 use Rattle.like_core.specs.declared.worker_state.WorkerState.TheVariants.{Runs, Answered, Gone}
 use Rattle.like_core.specs.declared.opening.Opening.{Opening}
 use Rattle.like_core.specs.core.State.{CoreState}
-use Rattle.like_core.specs.core.Reachable.{Reachable}
+use Rattle.like_core.specs.core.Moves.{Reached}
 use Rattle.like_core.specs.word.ShownWord.{shown_word}
 
 -- the phase that a word of this kind tells a worker in this state. If it has answered phase j, that is j if the kind is
@@ -17,5 +17,5 @@ phase_told kind Gone = 0
 -- in each state that can be reached, the kind of the phase word tells each worker that is not gone the present phase
 abbrev pub KindTellsPhase : Type 0
 KindTellsPhase =
-    (z : Opening) (s : CoreState) (i : ℕ) → Reachable z s → s.state i ≢ Gone
+    (z : Opening) (s : CoreState) (i : ℕ) → Reached z s → s.state i ≢ Gone
     → phase_told (shown_word z s % 4) (s.state i) ≡ s.phase

@@ -1,0 +1,76 @@
+-- The moves of a board: the events, and a worker that was gone and comes back. That is a service's, and no event.
+use Rattle.std.specs.Prelude.{◌≡◌, ◌≢◌, ℕ, ◌<◌, true, false, List, [], ◌∷◌}
+use Rattle.like_core.specs.declared.worker_state.WorkerState.TheVariants.{Runs, Gone}
+use Rattle.like_core.specs.declared.event.Event.{Event}
+use Rattle.like_core.specs.declared.event.Event.TheVariants.{Release}
+use Rattle.like_core.specs.declared.form.Form.TheVariants.{Counts}
+use Rattle.like_core.specs.declared.limits.Limits.{Limits}
+use Rattle.like_core.specs.declared.opening.Opening.{Opening}
+use Rattle.like_core.specs.Functions.{update}
+use Rattle.like_core.specs.core.Numbers.{AllIn}
+use Rattle.like_core.specs.core.Table.{Permits}
+use Rattle.like_core.specs.core.State.{CoreState, start, after, numbers}
+use Rattle.like_core.specs.core.Reachable.{Reachable}
+
+-- an event, or this worker comes back
+pub data Move : Type 0 where
+  makes : Event → Move
+  comes_back : ℕ → Move
+
+-- workers come back to a board whose word counts who is gone: to that of a service
+abbrev pub LetsReturn : Limits → Type 0
+LetsReturn l = l.form ≡ Counts
+
+-- the state after worker i came back: it runs the present phase
+abbrev pub after_return : CoreState → ℕ → CoreState
+after_return s i = record s { state = update s.state i (Runs s.phase) }
+
+-- worker i may come back: it is gone, and the phase isn't ending
+pub record MayReturn (z : Opening) (s : CoreState) (i : ℕ) : Type 0 where
+  pub lets : LetsReturn z.limits
+  pub there : i < z.workers
+  pub gone : s.state i ≡ Gone
+  pub running : s.ending ≡ false
+
+-- the state after the move
+abbrev pub after_move : Opening → CoreState → Move → CoreState
+after_move z s (makes event) = after z s event
+after_move z s (comes_back i) = after_return s i
+
+-- the move may be made
+abbrev pub MayMove : Opening → CoreState → Move → Type 0
+MayMove z s (makes event) = Permits (numbers z s) event
+MayMove z s (comes_back i) = MayReturn z s i
+
+-- the state after a list of moves
+abbrev pub after_moves : Opening → CoreState → List Move → CoreState
+after_moves z s [] = s
+after_moves z s (move ∷ moves) = after_moves z (after_move z s move) moves
+
+-- each move of the list may be made after those before it
+abbrev pub MayMoveAll : Opening → CoreState → List Move → Type 0
+MayMoveAll z s [] = Unit {0}
+MayMoveAll z s (move ∷ moves) = MayMove z s move × MayMoveAll z (after_move z s move) moves
+
+-- some list of moves leads from the start to the state
+pub record Reached (z : Opening) (s : CoreState) : Type 0 where
+  pub moves : List Move
+  pub may : MayMoveAll z (start z) moves
+  pub reached : after_moves z (start z) moves ≡ s
+
+-- moves reach what events reach, and where nobody comes back they reach nothing else
+abbrev pub NobodyReturns : Type 0
+NobodyReturns =
+    (z : Opening) (s : CoreState)
+    → (Reachable z s → Reached z s) × (¬ LetsReturn z.limits → Reached z s → Reachable z s)
+
+-- none of the moves releases a phase
+abbrev pub NoneReleases : List Move → Type 0
+NoneReleases [] = Unit {0}
+NoneReleases (move ∷ moves) = ((mask : ℕ) → move ≢ makes (Release mask)) × NoneReleases moves
+
+-- once all are in at an ending, no moves before the release change the state
+abbrev pub AllInStays : Type 0
+AllInStays =
+    (z : Opening) (s : CoreState) (moves : List Move) → s.ending ≡ true → AllIn (numbers z s)
+    → MayMoveAll z s moves → NoneReleases moves → after_moves z s moves ≡ s

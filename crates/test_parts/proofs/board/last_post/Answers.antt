@@ -1,0 +1,23 @@
+use Rattle.std.proofs.Common.{◌++◌, ap, ◌∙◌}
+use Rattle.std.specs.Option.{option_to_list}
+use Rattle.test_parts.proofs.Walk.{last_fresh}
+use Rattle.test_parts.proofs.board.last_post.Goals as goal
+
+pub at-requires : goal.at-requires
+at-requires g c =
+    let left = c.pop.new.self.items in
+    let popped = c.pop.ensures.items ∙ ap (λ o. left ++ option_to_list o) c.expect-seat.ensures in
+    (last_fresh _ _ _ left c.expect-seat.result c.requires.fresh popped).0
+
+pub returns-clause-fresh : goal.returns-clause-fresh
+returns-clause-fresh g c =
+    let left = c.pop.new.self.items in
+    let popped = c.pop.ensures.items ∙ ap (λ o. left ++ option_to_list o) c.expect-seat.ensures in
+    rw c.at.ensures.meaning (last_fresh _ _ _ left c.expect-seat.result c.requires.fresh popped).2
+
+pub returns-clause-limits : goal.returns-clause-limits
+returns-clause-limits g c =
+    let left = c.pop.new.self.items in
+    let popped = c.pop.ensures.items ∙ ap (λ o. left ++ option_to_list o) c.expect-seat.ensures in
+    let fresh = last_fresh _ _ _ left c.expect-seat.result c.requires.fresh popped in
+    ap (λ v. v.limits) c.at.ensures.meaning ∙ ap (λ v. v.opening.limits) fresh.1 ∙ c.requires.limits_are
