@@ -41,8 +41,8 @@ type Service struct {
 	c     *C.likes_service
 	pages int
 	users int
-	calls []chan call
-	seats sync.WaitGroup
+	seats []*seat
+	all   sync.WaitGroup
 }
 
 type call struct {
@@ -65,10 +65,10 @@ func Open(options Options, counts []uint64) (*Service, error) {
 		return nil, err
 	}
 	for number := uint32(0); number < options.Seats; number++ {
-		calls := make(chan call, 4*row)
-		service.calls = append(service.calls, calls)
-		service.seats.Add(1)
-		go service.serve(number, calls)
+		it := &seat{calls: make(chan call, 4*row), waits: map[uint64]chan<- C.likes_answer{}}
+		service.seats = append(service.seats, it)
+		service.all.Add(1)
+		go service.serve(number, it)
 	}
 	return service, nil
 }
@@ -120,6 +120,20 @@ func (s *Service) Counts() []uint64 {
 	return counts
 }
 
+// Snapshot writes the counts of all pages and the last likes of all users, of one moment, as Open takes them: as many
+// as the service has of each. Likes and looks wait meanwhile.
+func (s *Service) Snapshot(counts []uint64, lasts []uint32) error {
+	for _, it := range s.seats {
+		it.runs.Lock()
+		defer it.runs.Unlock()
+	}
+	told := C.likes_service_counts(s.c, countsAt(counts), C.size_t(len(counts)))
+	if err := wanted(told, Counted); err != nil {
+		return err
+	}
+	return wanted(C.likes_service_lasts(s.c, pagesAt(lasts), C.size_t(len(lasts))), OK)
+}
+
 // Close ends the service and gives the final counts. No goroutine calls it any more.
 func (s *Service) Close() []uint64 {
 	counts, _ := s.CloseWithLasts()
@@ -128,10 +142,10 @@ func (s *Service) Close() []uint64 {
 
 // CloseWithLasts does the same, and gives the last likes too, as Options takes them.
 func (s *Service) CloseWithLasts() ([]uint64, []uint32) {
-	for _, calls := range s.calls {
-		close(calls)
+	for _, it := range s.seats {
+		close(it.calls)
 	}
-	s.seats.Wait()
+	s.all.Wait()
 	totals, lasts := make([]uint64, s.pages), make([]uint32, s.users)
 	C.likes_service_retire(s.c)
 	C.likes_service_lasts(s.c, pagesAt(lasts), C.size_t(s.users))
@@ -149,13 +163,15 @@ func (s *Service) see(op, user, page uint32) (Seen, error) {
 func (s *Service) ask(op, user, page uint32) C.likes_answer {
 	reply := make(chan C.likes_answer, 1)
 	request := C.likes_request{user: C.uint32_t(user), page: C.uint32_t(page), op: C.uint32_t(op)}
-	s.calls[int(user)%len(s.calls)] <- call{request, reply}
+	s.seats[int(user)%len(s.seats)].calls <- call{request, reply}
 	return <-reply
 }
 
-// seat is what the goroutine of a seat keeps: the row that it runs, and the looks that wait, by tag.
+// seat is what the goroutine of a seat keeps: the row that it runs, and the looks that wait, by tag. While a row runs,
+// runs is held.
 type seat struct {
-	calls    <-chan call
+	runs     sync.Mutex
+	calls    chan call
 	replies  []chan<- C.likes_answer
 	requests []C.likes_request
 	answers  [row]C.likes_answer
@@ -166,16 +182,17 @@ type seat struct {
 }
 
 // serve is the goroutine of a seat.
-func (s *Service) serve(number uint32, calls <-chan call) {
-	defer s.seats.Done()
-	it := &seat{calls: calls, waits: map[uint64]chan<- C.likes_answer{}}
+func (s *Service) serve(number uint32, it *seat) {
+	defer s.all.Done()
 	for it.collect() {
 		var first *C.likes_request
 		if len(it.requests) > 0 {
 			first = &it.requests[0]
 		}
 		var taken C.size_t
+		it.runs.Lock()
 		done := C.run_row(s.c, C.uint32_t(number), first, C.size_t(len(it.requests)), &it.answers[0], &it.found[0], row, &taken)
+		it.runs.Unlock()
 		it.tell(int(done), int(taken))
 	}
 }

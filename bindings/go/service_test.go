@@ -63,6 +63,61 @@ func TestGoroutines(t *testing.T) {
 	}
 }
 
+// round has two users of two seats like page 1 and then page 2, until it is told to end.
+func round(service *Service, end <-chan struct{}) error {
+	for {
+		for _, page := range []uint32{1, 2} {
+			for user := uint32(0); user < 2; user++ {
+				if err := service.Like(user, page); err != nil {
+					return err
+				}
+			}
+		}
+		select {
+		case <-end:
+			return nil
+		default:
+		}
+	}
+}
+
+// isMoment says whether counts and last likes can be of one moment of such rounds: a user who last liked page 1 has
+// liked it once more than page 2, and all others as often.
+func isMoment(counts []uint64, lasts []uint32) bool {
+	ones := uint64(0)
+	for _, page := range lasts {
+		if page == 1 {
+			ones++
+		}
+	}
+	return counts[0] == 0 && counts[1] == counts[2]+ones
+}
+
+func TestSnapshots(t *testing.T) {
+	service := start(t, Options{Seats: 2, Users: 2, Room: 4, Marks: []uint32{1}, Period: short}, 0, 0, 0)
+	end, ended := make(chan struct{}), make(chan error)
+	go func() { ended <- round(service, end) }()
+	counts, lasts := make([]uint64, 3), make([]uint32, 2)
+	for times := 0; times < 200; times++ {
+		if err := service.Snapshot(counts, lasts); err != nil || !isMoment(counts, lasts) {
+			t.Errorf("%v, %v: %v", counts, lasts, err)
+		}
+	}
+	if err := service.Snapshot(counts[1:], lasts); err != WrongRange {
+		t.Error(err)
+	}
+	if err := service.Snapshot(counts, lasts[1:]); err != WrongRange {
+		t.Error(err)
+	}
+	close(end)
+	if err := <-ended; err != nil {
+		t.Error(err)
+	}
+	if totals, last := service.CloseWithLasts(); totals[1] != totals[2] || !reflect.DeepEqual(last, []uint32{2, 2}) {
+		t.Errorf("totals %v, last likes %v", totals, last)
+	}
+}
+
 func TestGoingOn(t *testing.T) {
 	first := start(t, Options{Seats: 2, Users: 3, Room: 4, Period: short}, 5, 7)
 	if err := first.Like(2, 1); err != nil {
