@@ -1,5 +1,6 @@
 // A load for the server: clients that like and look. Each has users of its own, so it knows what a look has to show of
-// them. In the end the server's counts have to be what they were and the likes that were made.
+// them. In the end the server's counts have to be what they were and the likes that were made. The pages come up as
+// they are liked.
 package main
 
 import (
@@ -11,7 +12,6 @@ import (
 	"net/http"
 	"net/url"
 	"os"
-	"sort"
 	"strconv"
 	"sync"
 	"time"
@@ -21,6 +21,7 @@ var (
 	at       = flag.String("url", "http://127.0.0.1:8080", "where the server is")
 	clients  = flag.Int("clients", 16, "how many clients")
 	requests = flag.Int("requests", 100000, "how many requests in all, the same for each client")
+	pages    = flag.Int("pages", 8, "how many pages are liked")
 	users    = flag.Int("users", 1000, "how many users like and look, those with the lowest numbers")
 )
 
@@ -64,7 +65,8 @@ func (c *client) look(web *http.Client, user int, page string) error {
 		Count uint64
 		Last  string
 	}
-	if err := get(web, fmt.Sprintf("%s/page/%s?user=%d", *at, page, user), &seen); err != nil {
+	asked := url.Values{"user": {strconv.Itoa(user)}, "page": {page}}
+	if err := get(web, *at+"/look?"+asked.Encode(), &seen); err != nil {
 		return err
 	}
 	if last, isKnown := c.last[user]; isKnown && seen.Last != last {
@@ -76,15 +78,15 @@ func (c *client) look(web *http.Client, user int, page string) error {
 	return nil
 }
 
-// run makes a client's requests: a quarter are looks, and low pages are more popular.
-func (c *client) run(web *http.Client, pages []string, each int) error {
+// run makes a client's requests: a quarter are looks, of pages that it has liked, and low pages are more popular.
+func (c *client) run(web *http.Client, each int) error {
 	random := rand.New(rand.NewSource(int64(c.number)))
-	popular := rand.NewZipf(random, 1.4, 1, uint64(len(pages)-1))
+	popular := rand.NewZipf(random, 1.4, 1, uint64(*pages-1))
 	for i := 0; i < each; i++ {
 		user := c.number + *clients*random.Intn(*users / *clients)
-		page := pages[popular.Uint64()]
+		page := fmt.Sprintf("page %d", popular.Uint64())
 		act := c.like
-		if random.Intn(4) == 0 {
+		if c.liked[page] > 0 && random.Intn(4) == 0 {
 			act = c.look
 		}
 		if err := act(web, user, page); err != nil {
@@ -104,11 +106,6 @@ func load() error {
 		return err
 	}
 	each := *requests / *clients
-	var pages []string
-	for page := range before {
-		pages = append(pages, page)
-	}
-	sort.Strings(pages)
 	began := time.Now()
 	errs, all := make(chan error, *clients), make([]*client, *clients)
 	var done sync.WaitGroup
@@ -117,7 +114,7 @@ func load() error {
 		done.Add(1)
 		go func(c *client) {
 			defer done.Done()
-			if err := c.run(web, pages, each); err != nil {
+			if err := c.run(web, each); err != nil {
 				errs <- err
 			}
 		}(all[number])
