@@ -74,13 +74,13 @@ def of_rust(live):
 
 @contextlib.contextmanager
 def server(live):
-    """The HTTP server, which is ended at the end. Gives its address, and the file that it writes to."""
+    """The HTTP server, which is ended at the end. Gives its address."""
     with open(f"{live.folder}/served", "wb") as out:
         child = subprocess.Popen(["./server", "-listen", "127.0.0.1:0"], cwd=live.folder, stdout=out)
     try:
         for _ in range(100):
             with open(f"{live.folder}/served", encoding="ascii") as lines:
-                found = re.match(r"listening at (\S+)\n", lines.read())
+                found = re.match(r"listening at (\S+)\nready: ", lines.read())
             if found:
                 break
             with contextlib.suppress(subprocess.TimeoutExpired):
@@ -96,8 +96,8 @@ def server(live):
 
 
 def of_go(live):
-    """The module's tests, the pool of goroutines, and the server under a load, whose final counts are the likes that
-    the load made."""
+    """The module's tests, the pool of goroutines, the HTTP server's tests, and the server under a load, whose final counts
+    are the likes that the load made."""
     if live.call(["go", "vet", "."], f"{BINDINGS}/go"):
         tests = ["go", "test", "-race", "-count=1", "."]
         live.hold("the module's tests", "go", tests, is_any, 600, f"{BINDINGS}/go")
@@ -107,9 +107,11 @@ def of_go(live):
         with server(live) as url:
             live.hold("the HTTP server", "go", ["./load", "-url", url, "-requests", "40000"], is_any)
         with open(f"{live.folder}/served", encoding="ascii") as lines:
-            totals = sum(int(line.split()[1]) for line in lines if not line.startswith("listening"))
-        if live.said.split()[2:3] != [str(totals)]:
-            live.wrong.append(f"the HTTP server ended with {totals} likes")
+            ended = lines.read().splitlines()[-1]
+        if ended != f"stopped: 8 pages, {''.join(live.said.split()[2:3])} likes":
+            live.wrong.append(f"the HTTP server ended with {ended!r}")
+    check = [f"{runs.ROOT}/checks/live-server", live.prefix]
+    live.hold("live-server", "go", check, is_any, 600)
 
 
 def same_programs(live):
