@@ -49,6 +49,7 @@ static void all_refused(likes_service *it, uint32_t status) {
     likes_request request = {.op = LIKES_LIKE};
     likes_answer answer = {.count = 1};
     likes_found found;
+    likes_statistics told = {.likes = 8};
     uint64_t counts[2] = {5, 6};
     uint32_t last = 7;
     IS(likes_service_like(it, 0, 0), status);
@@ -56,6 +57,8 @@ static void all_refused(likes_service *it, uint32_t status) {
     IS(answer.status, status);
     IS(answer.count, 0);
     IS(likes_service_glance(it, 0, 0, &answer), status);
+    IS(answer.status, status);
+    IS(likes_service_look_within(it, 0, 0, 1000, &answer), status);
     IS(answer.status, status);
     IS(likes_service_wake(it, 0) == NULL, true);
     IS(likes_service_run(it, 0, &request, 1, &answer), 0);
@@ -68,6 +71,9 @@ static void all_refused(likes_service *it, uint32_t status) {
     likes_service_tick(it);
     likes_service_seat_turns(it);
     IS(likes_service_counts(it, counts, 2), status);
+    IS(likes_service_snapshot(it, counts, 2, &last, 1), status);
+    IS(likes_service_statistics(it, &told), status);
+    IS(told.likes, 0);
     IS(likes_service_last(it, 0, &last), status);
     IS(likes_service_lasts(it, &last, 1), status);
     IS(likes_service_propose(it, &last, 1), status);
@@ -130,13 +136,19 @@ static void proposals(void) {
         IS(totals[page], counts[page] + 1);
 }
 
+/* Copies the service while its thread works: which bytes of it are old or new doesn't matter. */
+__attribute__((noinline, no_sanitize("thread"))) static void copy_service(void) {
+    const volatile unsigned char *from = (const volatile unsigned char *)&service;
+    volatile unsigned char *to = (volatile unsigned char *)&copy;
+    for (size_t i = 0; i < sizeof copy; i++)
+        to[i] = from[i];
+}
+
 /* A copy is refused, and the service goes on. */
 static void moved(void) {
     uint64_t totals[2];
     IS(start(2, 4, 1000), LIKES_OK);
-    pthread_mutex_lock(&service.driving); /* so that nobody writes meanwhile */
-    memcpy(&copy, &service, sizeof copy);
-    pthread_mutex_unlock(&service.driving);
+    copy_service();
     all_refused(&copy, LIKES_MOVED);
     IS(likes_service_like(&service, 1, 1), LIKES_LIKED);
     IS(likes_service_stop(&service, totals, 2), LIKES_OK);
@@ -300,7 +312,7 @@ static void *read_phases(void *at) {
     return NULL;
 }
 
-/* Threads read the phase while the driver's thread changes it. */
+/* Threads read the phase while the driver's thread changes it. Likes keep it going. */
 static void phases(void) {
     enum { READERS = 3, CHANGES = 20 };
     pthread_t threads[READERS];
@@ -311,8 +323,10 @@ static void phases(void) {
     for (int i = 0; i < READERS; i++)
         IS(pthread_create(&threads[i], NULL, read_phases, &changes[i]), 0);
     for (int i = 0; i < READERS; i++)
-        while (__atomic_load_n(&changes[i], __ATOMIC_SEQ_CST) < CHANGES)
+        while (__atomic_load_n(&changes[i], __ATOMIC_SEQ_CST) < CHANGES) {
+            IS(likes_service_like(&service, 0, 0), LIKES_LIKED);
             likes_sleep(100000);
+        }
     __atomic_store_n(&is_over, true, __ATOMIC_SEQ_CST);
     for (int i = 0; i < READERS; i++)
         pthread_join(threads[i], NULL);

@@ -117,9 +117,12 @@ static void propose(uint32_t page) {
 /* Counts of one moment, which never fall from one to the next. */
 static void take_counts(void) {
     uint64_t earlier[PAGES] = {0}, now[PAGES];
+    uint32_t lasts[USERS];
     for (uint32_t times = 0; likes_clock() < until; times++) {
         propose(times % (PAGES + 2));
-        hold(likes_service_counts(&service, now, PAGES) == LIKES_COUNTED, "there are no counts");
+        uint32_t status = times % 2 == 0 ? likes_service_counts(&service, now, PAGES)
+                                         : likes_service_snapshot(&service, now, PAGES, lasts, USERS);
+        hold(status == LIKES_COUNTED, "there are no counts");
         for (uint32_t page = 0; page < PAGES; page++)
             hold(now[page] >= earlier[page], "a count fell");
         memcpy(earlier, now, sizeof now);

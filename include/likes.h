@@ -308,7 +308,7 @@ static inline const char *likes_status_text(uint32_t status) {
         /* 113 */ "wrong seats", "wrong users", "wrong room", "wrong hot", "wrong lasts",
     };
     static const char *const helpers[] = {
-        /* 1000 */ "no thread", "wrong period", "not started", "moved", "unknown seat", "look lost",
+        /* 1000 */ "no thread", "wrong period", "not started", "moved", "unknown seat", "look lost", "late",
     };
     if (status < sizeof outcomes / sizeof *outcomes)
         return outcomes[status];

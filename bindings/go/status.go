@@ -50,6 +50,7 @@ const (
 	Moved         Status = C.LIKES_MOVED
 	UnknownSeat   Status = C.LIKES_UNKNOWN_SEAT
 	LookLost      Status = C.LIKES_LOOK_LOST
+	Late          Status = C.LIKES_LATE
 )
 
 // String is the name of a status, for messages.
