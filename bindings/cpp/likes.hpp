@@ -46,6 +46,12 @@ private:
     likes_seat *seat_;
 };
 
+// The counts of all pages and all last likes, by user number, at one moment.
+struct Moment {
+    std::vector<std::uint64_t> counts;
+    std::vector<std::uint32_t> lasts;
+};
+
 // A service with its driver's thread. Threads share it; the destructor ends it.
 class Service {
 public:
@@ -70,6 +76,15 @@ public:
     Seen look(std::uint32_t user, std::uint32_t page) {
         likes_answer answer;
         check(likes_service_look(service_.get(), user, page, &answer), LIKES_SEEN);
+        return seen(answer);
+    }
+
+    // The same, but no answer if it takes longer than so many microseconds.
+    std::optional<Seen> look_within(std::uint32_t user, std::uint32_t page, std::uint32_t microseconds) {
+        likes_answer answer;
+        if (likes_service_look_within(service_.get(), user, page, microseconds, &answer) == LIKES_LATE)
+            return std::nullopt;
+        check(answer.status, LIKES_SEEN);
         return seen(answer);
     }
 
@@ -112,6 +127,22 @@ public:
         std::vector<std::uint64_t> now(totals_.size());
         check(likes_service_counts(service_.get(), now.data(), now.size()), LIKES_COUNTED);
         return now;
+    }
+
+    // What another service is opened with to go on from this moment. The calling thread holds no seat.
+    Moment snapshot() {
+        Moment now{std::vector<std::uint64_t>(totals_.size()), std::vector<std::uint32_t>(lasts_.size())};
+        check(likes_service_snapshot(service_.get(), now.counts.data(), now.counts.size(), now.lasts.data(),
+                                     now.lasts.size()),
+              LIKES_COUNTED);
+        return now;
+    }
+
+    // What the service has done so far.
+    likes_statistics statistics() {
+        likes_statistics told;
+        check(likes_service_statistics(service_.get(), &told), LIKES_OK);
+        return told;
     }
 
     // The phase that was last released, and 0 after the end.

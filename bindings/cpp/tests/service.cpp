@@ -43,6 +43,12 @@ static void again() {
     hold(thrown([&] { first.last(3); }) == LIKES_UNKNOWN_USER, "the last like of a user too many");
     const std::vector<std::uint32_t> lasts = {LIKES_NO_PAGE, LIKES_NO_PAGE, 1};
     hold(first.lasts() == lasts, "all last likes");
+    likes::Moment moment = first.snapshot();
+    hold(moment.counts == std::vector<std::uint64_t>({5, 8}) && moment.lasts == lasts, "a snapshot");
+    std::optional<likes::Seen> look = first.look_within(2, 1, 1000000);
+    hold(look && look->count == 8 && look->last == 1u, "a look with a deadline");
+    hold(thrown([&] { first.look_within(3, 1, 1000000); }) == LIKES_UNKNOWN_USER, "a look of a user too many");
+    hold(first.statistics().likes == 1 && first.statistics().looks == 1, "the statistics");
     std::vector<std::uint64_t> counts = first.stop();
     hold(first.lasts() == lasts, "all last likes after the end");
     likes::Service second({2, 3, 4, 0, {}, first.lasts()}, counts);
