@@ -21,6 +21,7 @@ typedef struct {
     uint32_t period; /* of the live core: in microseconds, from the end of a split phase to that of the next */
     uint32_t look;   /* what its looks are */
     bool drives;     /* whether its seats make turns of the driver */
+    bool is_free;    /* its threads hold no seats */
 } kind;
 
 /* What a user liked last, as a record with a version. */
@@ -42,6 +43,8 @@ struct player {
     user_record *users; /* in place of `last`, for transactions */
     uint64_t *shard;
     uint64_t done, rows, *began;
+    likes_request (*buffers)[ROW]; /* a row for each seat, with so many likes */
+    uint32_t buffered[MOST_THREADS];
     waits waits;
     pthread_t thread;
     char apart[128];

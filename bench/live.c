@@ -99,18 +99,99 @@ static void single(player *it, const likes_request *row, likes_answer *answers) 
     after_row(it, true);
 }
 
+/* The user in whose name a request is made where a thread serves all users: in turn one of each seat. */
+static uint32_t any_user(const player *it, const likes_request *request, size_t i) {
+    return request->user - it->number + (uint32_t)(i % it->threads);
+}
+
+/* An atomic number for each page, and a table of all users' last likes that all threads write. */
+static void relaxed_any(player *it, const likes_request *row, likes_answer *answers) {
+    for (size_t i = 0; i < ROW; i++) {
+        uint32_t user = any_user(it, &row[i], i), *last = &players[user % it->threads].last[user / it->threads];
+        if (row[i].op == LIKES_LIKE) {
+            __atomic_fetch_add(&counts.words[WORD(row[i].page)], 1, __ATOMIC_RELAXED);
+            __atomic_store_n(last, row[i].page, __ATOMIC_RELAXED);
+        } else {
+            answers[i].count = __atomic_load_n(&counts.words[WORD(row[i].page)], __ATOMIC_RELAXED);
+            answers[i].last = __atomic_load_n(last, __ATOMIC_RELAXED);
+        }
+    }
+}
+
+/* One request by a call of the helpers, which takes the seat's lock. */
+static void locked_call(player *it, uint32_t user, const likes_request *request, likes_answer *answer) {
+    if (request->op == LIKES_LIKE)
+        likes_service_like(&service, user, request->page);
+    else
+        likes_service_glance(&service, user, request->page, answer);
+}
+
+static void tick_after(player *it) {
+    if (it->of->drives && ++it->rows % 4 == 0)
+        likes_service_tick(&service);
+}
+
+static void locked_own(player *it, const likes_request *row, likes_answer *answers) {
+    for (size_t i = 0; i < ROW; i++)
+        locked_call(it, row[i].user, &row[i], &answers[i]);
+    tick_after(it);
+}
+
+static void locked_any(player *it, const likes_request *row, likes_answer *answers) {
+    for (size_t i = 0; i < ROW; i++)
+        locked_call(it, any_user(it, &row[i], i), &row[i], &answers[i]);
+    tick_after(it);
+}
+
+/* Hands over what a thread has kept for a seat. */
+static void hand_over(player *it, uint32_t seat) {
+    likes_answer answers[ROW];
+    if (it->buffered[seat] == 0)
+        return;
+    likes_service_wake(&service, seat);
+    likes_service_run(&service, seat, it->buffers[seat], it->buffered[seat], answers);
+    likes_service_rest(&service, seat);
+    it->buffered[seat] = 0;
+}
+
+/* Likes are kept in a row for each seat, and handed over when it is full, or when the driver has a turn to make. Others
+ * miss them until then. */
+static void buffered(player *it, const likes_request *row, likes_answer *answers) {
+    for (size_t i = 0; i < ROW; i++) {
+        uint32_t user = any_user(it, &row[i], i), seat = user % it->threads;
+        if (row[i].op != LIKES_LIKE) {
+            locked_call(it, user, &row[i], &answers[i]);
+            continue;
+        }
+        likes_request *kept = &it->buffers[seat][it->buffered[seat]++];
+        *kept = row[i];
+        kept->user = user;
+        if (it->buffered[seat] == ROW)
+            hand_over(it, seat);
+    }
+    if (++it->rows % 4 == 0 && likes_time_left(&service.next, likes_clock()) == 0) {
+        for (uint32_t seat = 0; seat < it->threads; seat++)
+            hand_over(it, seat);
+        likes_service_drive(&service);
+    }
+}
+
 static const kind kinds[] = {
-    {"atomic", relaxed, 0, LIKES_LOOK, false},
-    {"seqcst", sequential, 0, LIKES_LOOK, false},
-    {"mutex", mutex, 0, LIKES_LOOK, false},
-    {"sharded", sharded, 0, LIKES_LOOK, false},
-    {"2pl", locking, 0, LIKES_LOOK, false},
-    {"occ", optimistic, 0, LIKES_LOOK, false},
-    {"look", live, 1000, LIKES_LOOK, true},
-    {"look,thread", live, 1000, LIKES_LOOK, false},
-    {"glance", live, 1000, LIKES_GLANCE, true},
-    {"glance,20ms", live, 20000, LIKES_GLANCE, true},
-    {"look,single", single, 1000, LIKES_LOOK, true},
+    {"atomic", relaxed, 0, LIKES_LOOK, false, false},
+    {"atomic,any", relaxed_any, 0, LIKES_LOOK, false, false},
+    {"seqcst", sequential, 0, LIKES_LOOK, false, false},
+    {"mutex", mutex, 0, LIKES_LOOK, false, false},
+    {"sharded", sharded, 0, LIKES_LOOK, false, false},
+    {"2pl", locking, 0, LIKES_LOOK, false, false},
+    {"occ", optimistic, 0, LIKES_LOOK, false, false},
+    {"look", live, 1000, LIKES_LOOK, true, false},
+    {"look,thread", live, 1000, LIKES_LOOK, false, false},
+    {"glance", live, 1000, LIKES_GLANCE, true, false},
+    {"glance,20ms", live, 20000, LIKES_GLANCE, true, false},
+    {"look,single", single, 1000, LIKES_LOOK, true, false},
+    {"locked", locked_own, 1000, LIKES_GLANCE, true, true},
+    {"locked,any", locked_any, 1000, LIKES_GLANCE, true, true},
+    {"buffered", buffered, 1000, LIKES_GLANCE, true, true},
 };
 enum { KINDS = sizeof kinds / sizeof *kinds };
 
@@ -163,17 +244,19 @@ static void draw(const load *of, uint32_t threads) {
 static void *play(void *at) {
     player *it = (player *)at;
     likes_answer answers[ROW];
-    bool is_live = it->of->period > 0;
+    bool is_held = it->of->period > 0 && !it->of->is_free;
     pthread_barrier_wait(&begin);
-    if (is_live)
+    if (is_held)
         likes_service_wake(&service, it->number);
     uint64_t done = 0;
     while (!__atomic_load_n(&is_over, __ATOMIC_RELAXED)) {
         it->of->row(it, &it->ring[done & (ring - 1)], answers);
         done += ROW;
     }
-    if (is_live)
+    if (is_held)
         likes_service_rest(&service, it->number);
+    for (uint32_t seat = 0; seat < it->threads; seat++)
+        hand_over(it, seat);
     it->done = done;
     return NULL;
 }
@@ -205,6 +288,7 @@ static void start(const kind *of, uint32_t threads) {
         memset(shards[i], 0, words * sizeof *shards[i]);
         it->rows = 0;
         memset(&it->waits, 0, sizeof it->waits);
+        memset(it->buffered, 0, sizeof it->buffered);
         memset(it->last, 0xff, (asked.users / threads + 1) * sizeof *it->last);
         if (has_records(of))
             memset(it->users, 0, (asked.users / threads + 1) * sizeof *it->users);
@@ -396,6 +480,7 @@ static void write_row(FILE *file, uint32_t threads, const load *at, const measur
 /* Stops the driver's thread of a live service, so that phases change only where this program says so. */
 static void stop_thread(void) {
     __atomic_store_n(&service.is_stopping, true, __ATOMIC_SEQ_CST);
+    likes_service_call(&service);
     pthread_join(service.thread, NULL);
     service.has_thread = false;
     likes_set_time(&service.next, UINT64_MAX);
@@ -458,9 +543,10 @@ static void make_room(uint32_t threads) {
         players[i].ring = (likes_request *)calloc(ring, sizeof *players[i].ring);
         players[i].began = (uint64_t *)calloc(ring / ROW, sizeof *players[i].began);
         players[i].last = (uint32_t *)calloc(asked.users + 1, sizeof *players[i].last);
+        players[i].buffers = (likes_request(*)[ROW])calloc(threads, sizeof *players[i].buffers);
         players[i].users = (user_record *)calloc(asked.users + 1, sizeof *players[i].users);
         if (players[i].ring == NULL || players[i].began == NULL || players[i].last == NULL ||
-            players[i].users == NULL)
+            players[i].users == NULL || players[i].buffers == NULL)
             fail("out of memory");
     }
 }
