@@ -9,8 +9,8 @@
  *   ticks  the same as `early`, while another thread runs rows and ticks. On one processor it is only told
  *   counts the longest of 1,000 looks, while three threads ask for counts as fast as they can: 20 ms
  *   turns  the same, while three threads make turns of the driver and of the seats as fast as they can
- *   held   what processor a like, a look, a glance, a row and a thread that asks for counts take, each by a thread of
- *          its own, while another thread holds a seat for half a second: 5 ms each, and all 25 ms
+ *   held   what processor a like, a look, a row and a thread that asks for counts take, each by a thread of its own,
+ *          while another thread holds a seat for half a second: 5 ms each, and all 25 ms
  *   idle   how often a second the threads of an idle service wake up: 5 times
  *   first  how long the first like takes after the service was idle: 20 microseconds in the median of 100
  *

@@ -558,10 +558,8 @@ static inline void likes_service_pause(likes_service *service, unsigned tries) {
 
 /* Waits until a seat isn't lent, with the place's lock held. False: it is too late. */
 static inline bool likes_place_await_back(likes_place *place, uint64_t until) {
-    __atomic_fetch_add(&place->lock.waiting, 1, __ATOMIC_SEQ_CST);
     while (place->is_lent && (until == UINT64_MAX || likes_clock() < until))
         likes_wait_until(&place->back, &place->lock.mutex, until);
-    __atomic_fetch_sub(&place->lock.waiting, 1, __ATOMIC_SEQ_CST);
     return !place->is_lent;
 }
 
