@@ -96,8 +96,8 @@ def server(live):
 
 
 def of_go(live):
-    """The module's tests, the pool of goroutines, the HTTP server's tests, and the server under a load, whose final counts
-    are the likes that the load made."""
+    """The module's tests, the pool of goroutines, the HTTP server's tests, and the server under a load, whose final
+    counts are the likes that the load made."""
     if live.call(["go", "vet", "."], f"{BINDINGS}/go"):
         tests = ["go", "test", "-race", "-count=1", "."]
         live.hold("the module's tests", "go", tests, is_any, 600, f"{BINDINGS}/go")

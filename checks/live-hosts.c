@@ -98,8 +98,8 @@ static likes_request draw(const game *it, uint32_t number, player *by, bool in_r
     return request;
 }
 
-/* Compares the phase, as its handle tells it to several threads at once, with a seat's own. A service is one phase ahead
- * of a seat that has answered. It is told one behind when its driver has only just released a phase. */
+/* Compares the phase, as its handle tells it to several threads at once, with a seat's own. A service is one phase
+ * ahead of a seat that has answered. It is told one behind when its driver has only just released a phase. */
 static void check_phase(game *it, uint32_t number) {
     uint64_t seat_phase = it->seats[number].phase;
     bool is_left = it->seats[number].status == LIKES_GONE || it->seats[number].status == LIKES_EMPTY;

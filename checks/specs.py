@@ -27,7 +27,7 @@ class Uses:
 
 
 class Module(Uses):
-    """A file of specs/: its first line, its definitions with their comments, and where the names that it uses are from."""
+    """A file of specs/: its first line, its definitions with their comments, and where the names it uses are from."""
 
     def __init__(self, name, text):
         super().__init__(text)
