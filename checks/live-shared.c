@@ -6,6 +6,7 @@
 #ifdef OPAQUE
 #include "likes_service.h"
 #else
+#define LIKES_COUNT_ROWS
 #include "likes_helpers.h"
 #endif
 

@@ -111,7 +111,7 @@ typedef struct likes_place {
     pthread_mutex_t asleep; /* for those that wait for looks. It may be taken with `lock` held */
     pthread_cond_t found;
     uint64_t founds; /* how often looks were found. Read under one of the two locks, written under both */
-    uint64_t row_phase, row_waits; /* how many looks of rows wait since that phase */
+    uint64_t row_phase, row_waits; /* about how many looks of rows wait in that phase */
     char apart[128];
     likes_seat seat;
     char apart_too[128];
@@ -677,18 +677,28 @@ LIKES_SERVICE_CALL void likes_service_rest(likes_service *service, uint32_t numb
         likes_place_give(service, &service->places[number]);
 }
 
-/* Counts the likes of a row, and its looks that wait. Whether these take half of the seat's room. */
-static inline bool likes_place_count(likes_place *place, const likes_answer *answers, size_t length) {
-    uint64_t likes = 0, waits = 0;
-    for (size_t i = 0; i < length; i++) {
+/* Counts the likes of a row, for statistics. That costs a few percent of a row, so it is done on request. */
+static inline void likes_place_count(likes_place *place, const likes_answer *answers, size_t length) {
+#ifdef LIKES_COUNT_ROWS
+    uint64_t likes = 0;
+    for (size_t i = 0; i < length; i++)
         likes += answers[i].status == LIKES_LIKED;
-        waits += answers[i].status == LIKES_WAITS;
-    }
     likes_add(&place->tally.likes, likes);
+#else
+    (void)place, (void)answers, (void)length;
+#endif
+}
+
+/* Whether looks that wait may take half of the seat's room by now, after a row. It looks at about eight answers. */
+static inline bool likes_place_is_half_full(likes_place *place, const likes_answer *answers, size_t length) {
+    uint64_t waits = 0, phase;
+    size_t step = length / 8 + 1;
+    for (size_t i = 0; i < length; i += step)
+        waits += answers[i].status == LIKES_WAITS;
     if (waits == 0)
         return false;
-    uint64_t phase = likes_seat_phase(&place->seat);
-    place->row_waits = waits + (place->row_phase == phase ? place->row_waits : 0);
+    phase = likes_seat_phase(&place->seat);
+    place->row_waits = waits * step + (place->row_phase == phase ? place->row_waits : 0);
     place->row_phase = phase;
     return place->row_waits >= place->others.room / 4;
 }
@@ -712,7 +722,8 @@ LIKES_SERVICE_CALL size_t likes_service_run(likes_service *service, uint32_t num
             done += likes_seat_run(&place->seat, requests + done, length - done, answers + done, length - done);
     }
     likes_place_deliver(place);
-    if (likes_place_count(place, answers, done) || done < length)
+    likes_place_count(place, answers, done);
+    if (likes_place_is_half_full(place, answers, done) || done < length)
         likes_service_advance(service);
     return done;
 }

@@ -45,7 +45,8 @@ typedef struct likes_service likes_service;
 /* What a service has done since it was started. */
 typedef struct likes_statistics {
     uint64_t phases;       /* how many phases have ended */
-    uint64_t likes;        /* how many likes were counted, those of likes_service_run among them */
+    uint64_t likes;        /* how many likes were counted. Those of likes_service_run count in liblikes_service; inline
+                              they do where LIKES_COUNT_ROWS is defined, since that makes rows a little slower */
     uint64_t looks;        /* how many looks were answered by likes_service_look and likes_service_look_within */
     uint64_t waits;        /* how many of these looks had to wait for a phase */
     uint64_t wait_time;    /* how long they waited in all, in nanoseconds */

@@ -1,6 +1,7 @@
 /* liblikes_service: the calls of likes_service.h, for languages that can't include a header. tools/liblikes builds it.
  * The code is that of likes_helpers.h, and not proved. */
 #define LIKES_SERVICE_CALL __attribute__((visibility("default")))
+#define LIKES_COUNT_ROWS
 #include "likes_helpers.h"
 
 LIKES_SERVICE_CALL uint32_t likes_service_open(const likes_options *options, const uint64_t *counts, size_t pages,
