@@ -168,9 +168,8 @@ impl FoundRow {
     }
 }
 
-// Answers a row that asks for no like. An operation that is none has a status of its own. This stands apart, so that
-// a like costs less.
-#[inline(never)]
+// Answers a row that asks for no like. An operation that is none has a status of its own.
+#[inline(always)]
 fn answer_other(seat: &mut LiveSeat<SharedPost>, request: &RequestRow, row: &mut AnswerRow)
     requires { request.now.op ≢ like_op }
     ensures { AnswersRow seat.old request.now row.new seat.new }

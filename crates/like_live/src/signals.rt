@@ -31,28 +31,25 @@ impl Model for Signals {
 }
 
 impl Signals {
-    /// Those of a new seat.
-    pub fn new(hint: Hint, mut sampler: Sampler) -> Signals {
-        let stop = u64::from(sampler.gap());
+    /// Those of a new seat, whose first request is a sample.
+    pub fn new(hint: Hint, sampler: Sampler) -> Signals {
         Signals {
             hint,
             sampler,
-            stop,
+            stop: 0,
         }
     }
 
-    /// Whether a seat with so many likes may count one more, of this page.
+    /// Whether a seat with so many likes may count one more that is no sample. Mostly it may.
     #[inline(always)]
-    pub fn admits(&mut self, likes: u64, page: u32) -> bool
-        ensures { IsTrue result ↔ likes < 2 ^ 56 }
+    pub fn allows(&self, likes: u64) -> bool
+        ensures { IsTrue result → likes < 2 ^ 56 }
     {
-        likes < self.stop || self.admits_late(likes, page)
+        likes < self.stop
     }
 
-    // The same, where a sample is due or there is no more room.
-    #[cold]
-    #[inline(never)]
-    fn admits_late(&mut self, likes: u64, page: u32) -> bool
+    /// Whether it may count one more, of this page, which is stored as a sample.
+    pub fn admits(&mut self, likes: u64, page: u32) -> bool
         ensures { IsTrue result ↔ likes < 2 ^ 56 }
     {
         if likes >= MAX_LIKES {

@@ -287,7 +287,9 @@ fn for_any_thread<T: Send + Sync>(_value: &T) {}
 
 // Ends phase 0 of a service with one seat.
 fn ends_the_first(rt: &impl Abort, service: &mut Service<Guided>, phase: &PhaseNow) {
-    assert!(rt; service.driver.turn(End::IfItServes) == DriverAnswer::Announced && phase.get() == 0);
+    assert!(rt;
+        service.driver.turn(End::IfItServes) == DriverAnswer::Announced && phase.get() == 0
+    );
     let seat = service.seats.first_mut().expect(rt, "a seat is there");
     assert!(rt; seat.turn() == TurnAnswer::Between);
     assert!(rt; service.driver.turn(End::IfItServes) == DriverAnswer::Released && phase.get() == 1);

@@ -61,6 +61,22 @@ impl<P: Post> LiveSeat<P> {
         let Some(placed) = self.accepts(user, page) else {
             return LikeAnswer::Refused(self.refusal(user, page));
         };
+        if self.signals.allows(self.seat.likes()) {
+            self.seat.count_like_at(placed, page);
+            return LikeAnswer::Liked;
+        }
+        self.like_late(placed, page)
+    }
+
+    // A like that is a sample, or too many. It stands apart, so that between the tests of other likes there is no call.
+    #[cold]
+    #[inline(never)]
+    fn like_late(&mut self, placed: Placed, page: u32) -> LikeAnswer
+        requires running { IsRunning self.old.seat.post.state }
+        requires accepted { IsAccepted self.old.seat placed.user page placed }
+        ensures case { LikesNow self.old placed.user page result self.new }
+        ensures keeps { IsLive self.new }
+    {
         if !self.signals.admits(self.seat.likes(), page) {
             return LikeAnswer::Full;
         }
