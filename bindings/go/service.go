@@ -123,15 +123,13 @@ func (s *Service) Counts() []uint64 {
 // Snapshot writes the counts of all pages and the last likes of all users, of one moment, as Open takes them: as many
 // as the service has of each. Likes and looks wait meanwhile.
 func (s *Service) Snapshot(counts []uint64, lasts []uint32) error {
+	// No row runs, so no seat is held, for which the snapshot would wait in vain.
 	for _, it := range s.seats {
 		it.runs.Lock()
 		defer it.runs.Unlock()
 	}
-	told := C.likes_service_counts(s.c, countsAt(counts), C.size_t(len(counts)))
-	if err := wanted(told, Counted); err != nil {
-		return err
-	}
-	return wanted(C.likes_service_lasts(s.c, pagesAt(lasts), C.size_t(len(lasts))), OK)
+	told := C.likes_service_snapshot(s.c, countsAt(counts), C.size_t(len(counts)), pagesAt(lasts), C.size_t(len(lasts)))
+	return wanted(told, Counted)
 }
 
 // Close ends the service and gives the final counts. No goroutine calls it any more.

@@ -145,6 +145,10 @@ func TestProposals(t *testing.T) {
 			t.Error(err)
 		}
 		for !reflect.DeepEqual(service.SplitPages(), []uint32{page}) {
+			// While nobody calls, phases stand still.
+			if err := service.Like(0, 0); err != nil {
+				t.Fatal(err)
+			}
 			time.Sleep(short)
 		}
 	}
