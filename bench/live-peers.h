@@ -42,7 +42,7 @@ struct player {
     uint32_t *last;
     user_record *users; /* in place of `last`, for transactions */
     uint64_t *shard;
-    uint64_t done, rows, *began;
+    uint64_t done, rows, *began, worked; /* the processor time that it took, in nanoseconds */
     likes_request (*buffers)[ROW]; /* a row for each seat, with so many likes */
     uint32_t buffered[MOST_THREADS];
     waits waits;

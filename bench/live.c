@@ -241,6 +241,13 @@ static void draw(const load *of, uint32_t threads) {
     free(shares);
 }
 
+/* The processor time that this thread has had, in nanoseconds. */
+static uint64_t worked(void) {
+    struct timespec time;
+    clock_gettime(CLOCK_THREAD_CPUTIME_ID, &time);
+    return (uint64_t)time.tv_sec * UINT64_C(1000000000) + (uint64_t)time.tv_nsec;
+}
+
 static void *play(void *at) {
     player *it = (player *)at;
     likes_answer answers[ROW];
@@ -248,7 +255,7 @@ static void *play(void *at) {
     pthread_barrier_wait(&begin);
     if (is_held)
         likes_service_wake(&service, it->number);
-    uint64_t done = 0;
+    uint64_t done = 0, before = worked();
     while (!__atomic_load_n(&is_over, __ATOMIC_RELAXED)) {
         it->of->row(it, &it->ring[done & (ring - 1)], answers);
         done += ROW;
@@ -257,6 +264,7 @@ static void *play(void *at) {
         likes_service_rest(&service, it->number);
     for (uint32_t seat = 0; seat < it->threads; seat++)
         hand_over(it, seat);
+    it->worked = worked() - before;
     it->done = done;
     return NULL;
 }
@@ -341,8 +349,9 @@ static parts check(const kind *of, uint32_t threads) {
     return told;
 }
 
-/* Measures a system once, in millions of requests a second. Where looks are timed, it takes five times as long. */
-static double measure(const kind *of, uint32_t threads, bool is_timed, parts *to) {
+/* Measures a system once, in millions of requests a second, and in nanoseconds of a processor for a request. Where looks
+ * are timed, it takes five times as long. */
+static double measure(const kind *of, uint32_t threads, bool is_timed, parts *to, double *nanoseconds) {
     start(of, threads);
     pthread_barrier_init(&begin, NULL, threads + 1);
     is_over = false;
@@ -355,11 +364,13 @@ static double measure(const kind *of, uint32_t threads, bool is_timed, parts *to
     uint64_t began = likes_clock();
     likes_sleep((is_timed ? TIMED : 1) * asked.milliseconds * UINT64_C(1000000));
     __atomic_store_n(&is_over, true, __ATOMIC_RELAXED);
-    uint64_t took = likes_clock() - began, done = 0;
+    uint64_t took = likes_clock() - began, done = 0, all_worked = 0;
     for (uint32_t i = 0; i < threads; i++) {
         pthread_join(players[i].thread, NULL);
         done += players[i].done;
+        all_worked += players[i].worked;
     }
+    *nanoseconds = (double)all_worked / (double)done;
     pthread_barrier_destroy(&begin);
     *to = check(of, threads);
     return done * 1000.0 / took;
@@ -391,8 +402,8 @@ static waits all_waits(uint32_t threads) {
 
 /* What was measured of a workload: each time, what is told of it, and how long the looks of some waited. */
 typedef struct {
-    double times[MOST_WORDS][MOST_TIMES];
-    double millions[MOST_WORDS], ratio[MOST_WORDS];
+    double times[MOST_WORDS][MOST_TIMES], nanoseconds[MOST_WORDS][MOST_TIMES];
+    double millions[MOST_WORDS], ratio[MOST_WORDS], worked[MOST_WORDS];
     waits waits[MOST_WORDS];
     parts parts[MOST_WORDS];
 } measured;
@@ -422,19 +433,23 @@ static void sum_up(measured *it) {
             ratios[time] = it->times[n][time] / first[time];
         it->millions[n] = told(it->times[n]);
         it->ratio[n] = asked.is_median ? told(ratios) : it->millions[n] / it->millions[0];
+        qsort(it->nanoseconds[n], asked.times, sizeof *it->nanoseconds[n], compare);
+        it->worked[n] = it->nanoseconds[n][asked.is_median ? asked.times / 2 : 0];
     }
 }
 
 static void measure_all(const load *at, uint32_t threads, measured *to) {
+    double nanoseconds;
     memset(to, 0, sizeof *to);
     draw(at, threads);
     for (uint32_t time = 0; time < asked.times; time++)
         for (uint32_t n = 0; n < asked.kinds.length; n++)
-            to->times[n][time] = measure(kinds_asked[n], threads, false, &to->parts[n]);
+            to->times[n][time] =
+                measure(kinds_asked[n], threads, false, &to->parts[n], &to->nanoseconds[n][time]);
     sum_up(to);
     for (uint32_t n = 0; n < asked.kinds.length; n++) {
         if (may_wait(kinds_asked[n], at)) {
-            measure(kinds_asked[n], threads, true, &to->parts[n]);
+            measure(kinds_asked[n], threads, true, &to->parts[n], &nanoseconds);
             to->waits[n] = all_waits(threads);
         }
     }
@@ -455,6 +470,9 @@ static void print_row(const load *at, const measured *it) {
     printf("\n%16s", "");
     for (uint32_t n = 0; n < asked.kinds.length; n++)
         printf(" %10.2fx", it->ratio[n]);
+    printf("\n%16s", "");
+    for (uint32_t n = 0; n < asked.kinds.length; n++)
+        printf(" %9.1fns", it->worked[n]);
     puts("");
     for (uint32_t n = 0; n < asked.kinds.length; n++)
         if (kinds_asked[n]->period > 0)

@@ -16,7 +16,8 @@
  *     driver's turns are passed on in the same way. The driver's thread looks again from time to time.
  *   - A thread whose seat is between two phases tries again for LIKES_SPIN_TIME. Then it sleeps until the next phase is
  *     released, and lends the seat meanwhile: others may do its phase work and read its last likes, and whoever else
- *     wants the seat sleeps too. No split phase ends before each such thread has made its call (`starving`).
+ *     wants the seat sleeps too. If its call comes too late LIKES_MISSES times, no split phase ends before the call is
+ *     made (`starving`).
  *   - A service without calls. After LIKES_QUIET_ROUNDS rounds without a call and without a seat that is held, a joined
  *     phase goes on, and the driver's thread sleeps for a second at a time. The next call wakes it (`is_resting`).
  */
@@ -66,6 +67,9 @@ extern "C" {
 #define LIKES_DRIVER_NAP UINT64_C(1000000)
 #define LIKES_LONG_NAP UINT64_C(1000000000)
 
+/* After so many phases in which a thread's call came too late, the driver waits for the thread. */
+#define LIKES_MISSES 8u
+
 /* After so many rounds without a call, phases stand still. */
 #define LIKES_QUIET_ROUNDS 2u
 
@@ -102,7 +106,8 @@ typedef struct likes_tally {
 /* A seat behind its lock. Rooms of 128 bytes keep what one thread writes out of the cache lines of others. */
 typedef struct likes_place {
     likes_lock lock;
-    bool is_lent; /* a thread that waits for a phase has the seat, and sleeps */
+    bool is_lent;             /* a thread that waits for a phase has the seat, and sleeps */
+    bool has_found, has_back; /* threads have to be woken once the lock is given back */
     likes_wait *first, **last; /* the looks of likes_service_look that wait, in the order of asking */
     likes_tally tally;
     pthread_cond_t back; /* the seat isn't lent any more */
@@ -130,7 +135,7 @@ struct likes_service {
     uint64_t released; /* the phase that was last released; atomic, written under `changing` */
     char apart_too[128];
     likes_place places[LIKES_MAX_SEATS];
-    uint32_t starving; /* how many threads wait for a phase, to make a call; atomic */
+    uint32_t starving; /* how many threads have missed phases, and wait for the next one to make a call; atomic */
     uint32_t was_held; /* LIKES_HELD_NAP, LIKES_HELD_ROUND: a seat's lock was taken when somebody tried it; atomic */
     likes_lock driving;
     likes_driver driver;      /* used under `driving` */
@@ -340,8 +345,20 @@ static inline void likes_place_deliver(likes_place *place) {
     likes_place_hand_all(place, phase);
     place->founds += place->first != first;
     pthread_mutex_unlock(&place->asleep);
-    if (place->first != first)
+    place->has_found |= place->first != first;
+}
+
+/* Gives a place's lock back. Whether somebody tried it in vain. Threads are woken after that: on a busy processor, one
+ * that is woken may take this thread's place. */
+static inline bool likes_place_unlock(likes_place *place) {
+    bool has_found = place->has_found, has_back = place->has_back;
+    place->has_found = place->has_back = false;
+    bool is_missed = likes_lock_give(&place->lock);
+    if (has_found)
         pthread_cond_broadcast(&place->found);
+    if (has_back)
+        pthread_cond_broadcast(&place->back);
+    return is_missed;
 }
 
 /* Does the phase work of a place's seat, or leaves it to the thread that has the lock. Whether it could. */
@@ -350,7 +367,7 @@ static inline bool likes_place_turn(likes_place *place) {
     while (is_missed && likes_lock_try(&place->lock)) {
         likes_seat_turn(&place->seat);
         likes_place_deliver(place);
-        is_missed = likes_lock_give(&place->lock);
+        is_missed = likes_place_unlock(place);
         could = true;
     }
     return could;
@@ -411,7 +428,7 @@ static inline void likes_service_begin_rest(likes_service *service) {
     __atomic_store_n(&service->is_resting, true, __ATOMIC_SEQ_CST);
     for (uint32_t i = 0; i < service->seats && is_quiet; i++) {
         is_quiet = pthread_mutex_trylock(&service->places[i].lock.mutex) == 0;
-        if (is_quiet && likes_lock_give(&service->places[i].lock))
+        if (is_quiet && likes_place_unlock(&service->places[i]))
             likes_place_turn(&service->places[i]);
     }
     if (!is_quiet || likes_service_calls(service) != service->calls) {
@@ -422,22 +439,22 @@ static inline void likes_service_begin_rest(likes_service *service) {
     }
 }
 
-/* Makes a turn of the driver with `driving` held, and tells those that wait for a phase. */
+/* Makes a turn of the driver with `driving` held. */
 static inline uint32_t likes_service_turn(likes_service *service, uint32_t end) {
     uint32_t status = likes_driver_turn(&service->driver, end);
     if (status == LIKES_ANNOUNCED)
         service->is_ending = true;
     if (status == LIKES_RELEASED) {
+        uint64_t phase = likes_driver_phase(&service->driver);
         service->is_ending = false;
         pthread_mutex_lock(&service->changing);
-        likes_set_time(&service->released, likes_driver_phase(&service->driver));
+        likes_set_time(&service->released, phase);
         pthread_mutex_unlock(&service->changing);
-        pthread_cond_broadcast(&service->changed);
     }
     return status;
 }
 
-/* Whether threads wait for the present phase, which is split, to make their calls in it. With `driving` held. */
+/* Whether the present phase, which is split, has to go on for threads that missed others. With `driving` held. */
 static inline bool likes_service_starves(const likes_service *service) {
     return !service->is_ending && __atomic_load_n(&service->starving, __ATOMIC_SEQ_CST) > 0;
 }
@@ -485,18 +502,23 @@ static inline uint32_t likes_service_joined_turn(likes_service *service, uint64_
     return status;
 }
 
-/* The driver's turn, with `driving` held. `has_work` is set where seats have phase work to do. */
-static inline uint32_t likes_service_driver_turn(likes_service *service, bool *has_work) {
+/* The driver's turn, with `driving` held. `has_work` is set where seats have phase work to do, and `has_news` where the
+ * threads have to be told that sleep until a phase is released. They sleep on in a joined phase that ends at once, and
+ * their seats are lent meanwhile. */
+static inline uint32_t likes_service_driver_turn(likes_service *service, bool *has_work, bool *has_news) {
     uint64_t now = likes_clock();
     uint32_t status;
     if (likes_driver_phase(&service->driver) % 2 == 0) {
         status = likes_service_joined_turn(service, now, false);
         *has_work |= status == LIKES_ANNOUNCED;
+        *has_news |= status == LIKES_RELEASED;
     } else {
         status = likes_service_split_turn(service, now);
         *has_work |= status == LIKES_ANNOUNCED || status == LIKES_RELEASED;
-        if (status == LIKES_RELEASED)
+        if (status == LIKES_RELEASED) {
             status = likes_service_joined_turn(service, now, true);
+            *has_news |= status != LIKES_ANNOUNCED;
+        }
     }
     return status;
 }
@@ -504,11 +526,13 @@ static inline uint32_t likes_service_driver_turn(likes_service *service, bool *h
 /* Makes a turn, or leaves it to the thread that is making one. */
 static inline uint32_t likes_service_try_turn(likes_service *service, bool *has_work) {
     uint32_t status = LIKES_NOT_ALL_IN;
-    bool is_missed = true;
+    bool is_missed = true, has_news = false;
     while (is_missed && likes_lock_try(&service->driving)) {
-        status = likes_service_driver_turn(service, has_work);
+        status = likes_service_driver_turn(service, has_work, &has_news);
         is_missed = likes_lock_give(&service->driving);
     }
+    if (has_news)
+        pthread_cond_broadcast(&service->changed);
     return status;
 }
 
@@ -570,7 +594,7 @@ static inline bool likes_place_take(likes_place *place, uint64_t until) {
         likes_add(&place->tally.calls, 1);
         return true;
     }
-    if (has_lock ? likes_lock_give(&place->lock) : __atomic_load_n(&place->lock.is_missed, __ATOMIC_SEQ_CST))
+    if (has_lock ? likes_place_unlock(place) : __atomic_load_n(&place->lock.is_missed, __ATOMIC_SEQ_CST))
         likes_place_turn(place);
     return false;
 }
@@ -578,7 +602,7 @@ static inline bool likes_place_take(likes_place *place, uint64_t until) {
 /* Gives a place's lock back, and does what others left to this thread. */
 static inline void likes_place_give(likes_service *service, likes_place *place) {
     likes_place_deliver(place);
-    if (likes_lock_give(&place->lock)) {
+    if (likes_place_unlock(place)) {
         likes_place_turn(place);
         likes_service_advance(service);
     }
@@ -605,14 +629,14 @@ static inline likes_patience likes_patience_until(uint64_t until) {
 static inline void likes_place_lend(likes_service *service, likes_place *place, uint64_t phase, uint64_t until) {
     uint64_t nap = likes_clock() + LIKES_PHASE_NAP;
     place->is_lent = true;
-    likes_lock_give(&place->lock);
+    likes_place_unlock(place);
     pthread_mutex_lock(&service->changing);
     if (service->released <= phase)
         likes_wait_until(&service->changed, &service->changing, nap < until ? nap : until);
     pthread_mutex_unlock(&service->changing);
     likes_lock_take(&place->lock, UINT64_MAX);
     place->is_lent = false;
-    pthread_cond_broadcast(&place->back);
+    place->has_back = true;
 }
 
 /* Waits for the next phase, with the lock held of a place whose seat is between two phases. It may come back early.
@@ -621,11 +645,11 @@ static inline bool likes_place_await_phase(likes_service *service, likes_place *
     uint64_t phase = likes_seat_phase(&place->seat);
     bool is_released = false;
     for (unsigned tries = 0; !is_released && likes_clock() < patience.spins_until; tries++) {
-        if (tries % 4 == 0)
+        if (tries % 8 == 0)
             likes_service_advance(service);
         for (unsigned looks = 0; !is_released && looks < LIKES_SPINS; looks++)
             is_released = __atomic_load_n(&service->released, __ATOMIC_ACQUIRE) > phase;
-        if (!is_released)
+        if (!is_released && tries % LIKES_SPINS == LIKES_SPINS - 1)
             sched_yield();
     }
     if (is_released)
@@ -637,19 +661,24 @@ static inline bool likes_place_await_phase(likes_service *service, likes_place *
     return true;
 }
 
-/* Makes a request again until the seat isn't between two phases, with the place's lock held. No split phase ends before
- * it was made in one. */
+/* Makes a request again until the seat isn't between two phases, with the place's lock held. Once it came too late in
+ * several phases, no split phase ends before it is made. */
 static inline void likes_place_retry(likes_service *service, likes_place *place, const likes_request *request,
                                      uint64_t until, likes_answer *answer) {
     likes_patience patience = likes_patience_until(until);
-    __atomic_fetch_add(&service->starving, 1, __ATOMIC_SEQ_CST);
+    uint64_t phase = likes_seat_phase(&place->seat), earlier;
+    unsigned misses = 0;
     do {
+        earlier = phase;
         if (!likes_place_await_phase(service, place, patience))
             likes_refuse(answer, LIKES_LATE);
         else
             likes_seat_run(&place->seat, request, 1, answer, 1);
+        phase = likes_seat_phase(&place->seat);
+        if (answer->status == LIKES_BETWEEN && phase != earlier && ++misses == LIKES_MISSES)
+            __atomic_fetch_add(&service->starving, 1, __ATOMIC_SEQ_CST);
     } while (answer->status == LIKES_BETWEEN);
-    if (__atomic_fetch_sub(&service->starving, 1, __ATOMIC_SEQ_CST) == 1)
+    if (misses >= LIKES_MISSES && __atomic_fetch_sub(&service->starving, 1, __ATOMIC_SEQ_CST) == 1)
         likes_service_advance(service);
 }
 
@@ -967,7 +996,7 @@ static inline uint32_t likes_service_moment_lasts(likes_service *service, uint32
             likes_service_pass(began);
         }
         likes_service_seat_lasts(service, number, lasts);
-        if (likes_lock_give(&place->lock))
+        if (likes_place_unlock(place))
             likes_place_turn(place);
     }
     return LIKES_COUNTED;
@@ -983,6 +1012,7 @@ static inline uint32_t likes_service_moment(likes_service *service, uint64_t *co
     likes_set_time(&service->due, 0);
     likes_set_time(&service->next, 0);
     likes_lock_give(&service->driving);
+    pthread_cond_broadcast(&service->changed);
     likes_service_advance(service);
     likes_service_call(service);
     return status;
