@@ -112,7 +112,7 @@ static void no_thread(void) {
     IS(totals[0], 10);
 }
 
-/* Pages that are proposed one after the other: each is split after a while, and no other. */
+/* Pages that are proposed one after the other, without a call: each is split after a while, and no other. */
 static void proposals(void) {
     static const uint64_t counts[] = {10, 20, 30};
     uint64_t totals[3];
@@ -128,8 +128,10 @@ static void proposals(void) {
             split[0] = UINT32_MAX;
             IS(likes_service_split_pages(&service, split, LIKES_MAX_SPLIT) <= 1, true);
         } while (split[0] != page);
-        IS(likes_service_like(&service, 1, page), LIKES_LIKED);
+        likes_sleep(5000000); /* until the service rests */
     }
+    for (uint32_t page = 0; page < 3; page++)
+        IS(likes_service_like(&service, 1, page), LIKES_LIKED);
     IS(likes_service_propose(&service, NULL, 0), LIKES_OK);
     IS(likes_service_stop(&service, totals, 3), LIKES_OK);
     for (uint32_t page = 0; page < 3; page++)

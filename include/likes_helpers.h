@@ -421,6 +421,12 @@ static inline void likes_service_end_round(likes_service *service) {
     service->calls = calls;
 }
 
+/* Makes the next round one with a call, with `driving` held: so the next two split phases come. */
+static inline void likes_service_stir(likes_service *service) {
+    service->quiet = 0;
+    service->calls = UINT64_MAX;
+}
+
 /* Lets the driver's thread sleep until it is called, with `driving` held. Calls are made under a seat's lock. So a call
  * was made before this thread has had that lock, and is seen here, or it sees that the driver rests. */
 static inline void likes_service_begin_rest(likes_service *service) {
@@ -435,7 +441,7 @@ static inline void likes_service_begin_rest(likes_service *service) {
         __atomic_store_n(&service->is_resting, false, __ATOMIC_SEQ_CST);
         likes_set_time(&service->due, 0);
         likes_set_time(&service->next, 0);
-        service->quiet = 0;
+        likes_service_stir(service);
     }
 }
 
@@ -1008,7 +1014,7 @@ static inline uint32_t likes_service_moment(likes_service *service, uint64_t *co
     uint32_t status = likes_service_go_to_moment(service, counts, pages);
     if (status == LIKES_COUNTED && lasts != NULL)
         status = likes_service_moment_lasts(service, lasts);
-    service->quiet = 0;
+    likes_service_stir(service);
     likes_set_time(&service->due, 0);
     likes_set_time(&service->next, 0);
     likes_lock_give(&service->driving);
@@ -1070,7 +1076,7 @@ LIKES_SERVICE_CALL uint32_t likes_service_propose(likes_service *service, const 
         return fault;
     likes_lock_take(&service->driving, UINT64_MAX);
     uint32_t status = likes_driver_propose(&service->driver, pages, pages_len);
-    service->quiet = 0;
+    likes_service_stir(service);
     if (likes_driver_phase(&service->driver) % 2 == 0) {
         likes_set_time(&service->due, 0);
         likes_set_time(&service->next, 0);
