@@ -231,9 +231,15 @@ static inline size_t likes_seat_run(likes_seat *seat, const likes_request *reque
 /* Does what the phase asks of the seat, and nothing else: LIKES_RUNS, BETWEEN, GONE or EMPTY. */
 uint32_t likes_seat_turn(likes_seat *seat);
 
-/* Leaves for good, where the seat runs a joined phase, ending or not: LIKES_GONE. Looks that waited are found first. In
- * a split phase, and between two phases, it is likes_seat_turn: call it again. */
+/* Leaves, where the seat runs a joined phase, ending or not: LIKES_GONE. Looks that waited are found first. In a split
+ * phase, and between two phases, it is likes_seat_turn: call it again. A seat that is gone holds nobody up. It keeps its
+ * likes, its users' last likes and its found looks. */
 uint32_t likes_seat_retire(likes_seat *seat);
+
+/* Comes back, of a seat that is gone, into the phase that goes on now: LIKES_RUNS. Nothing is done where that phase is
+ * ending, or where other seats kept changing the phase word: LIKES_BETWEEN. Call it again, after a turn of the driver.
+ * Once last counts were written, it is LIKES_BETWEEN for good. Of a seat that isn't gone it is likes_seat_turn. */
+uint32_t likes_seat_come_back(likes_seat *seat);
 
 /* The phase that the seat runs or has answered last, and 0 once it is gone. Phases with odd numbers are split. */
 uint64_t likes_seat_phase(likes_seat *seat);
@@ -284,8 +290,8 @@ uint64_t likes_driver_phase(likes_driver *driver);
  * likes_driver_snapshot LIKES_NO_MOMENT and likes_driver_take_seat LIKES_ALL_TAKEN. The driver stays until it is freed.
  *
  * Else nothing is written: the first that applies of LIKES_EMPTY, WRONG_RANGE and NOT_ENDED, where a seat isn't gone or
- * a split phase goes on. Then call likes_driver_turn with LIKES_END_IF_IT_SERVES until it answers LIKES_ENDED, and try
- * again. */
+ * a split phase goes on. The joined phase is ending then if a seat came back during the call. Call likes_driver_turn with
+ * LIKES_END_IF_IT_SERVES until it answers LIKES_ENDED, and try again. */
 static inline uint32_t likes_driver_last_counts(likes_driver *driver, uint32_t from, uint64_t *counts,
                                                 size_t counts_len);
 

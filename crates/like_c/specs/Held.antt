@@ -13,7 +13,7 @@ use Rattle.like_live.specs.declared.asked.Found.{Found}
 use Rattle.like_live.specs.declared.driver_answer.DriverAnswer.{DriverAnswer}
 use Rattle.like_live.specs.declared.driver_end.End.{End}
 use Rattle.like_live.specs.declared.driver_end.End.TheVariants.{No, IfItServes, Always}
-use Rattle.like_live.specs.Calls.{GlanceCase, LikeCase, LookCase, RetireCase, TakesFound}
+use Rattle.like_live.specs.Calls.{ComeBackCase, GlanceCase, LikeCase, LookCase, RetireCase, TakesFound}
 use Rattle.like_live.specs.Driver.{DriverTurns, TakesLast, TakesSnapshot}
 use Rattle.like_live.specs.Lasts.{AreLastsAt, TellsLast, users_of}
 use Rattle.like_live.specs.Moves.{Moves}
@@ -63,6 +63,11 @@ abbrev pub RetiresAt : Option BoxedSeat → ℕ → Option BoxedSeat → Type 0
 RetiresAt at result after =
     At (result ≡ status.empty) (λ s t. (answer : TurnAnswer)
     × RetireCase s.seat answer t.seat × (result ≡ turn_status answer)) at after
+
+abbrev pub ComesBackAt : Option BoxedSeat → ℕ → Option BoxedSeat → Type 0
+ComesBackAt at result after =
+    At (result ≡ status.empty) (λ s t. (answer : TurnAnswer)
+    × ComeBackCase s.seat answer t.seat × (result ≡ turn_status answer)) at after
 
 -- a phase is asked for, and nothing changes
 abbrev pub PhaseAt : Option BoxedSeat → ℕ → Option BoxedSeat → Type 0

@@ -3,7 +3,7 @@
 #![tactic(auto)]
 
 ghost use Rattle.std.specs.Prelude.{◌≡◌, ◌<◌, ◌≤◌, ℕ, length, slice_get, None};
-ghost use Rattle.like_c.specs.Held.{DriverPhaseAt, DrivesAt, GlancesAt, HandsPhase, HandsSeat, LastAt, LastLikeAt, LastLikesAt, LikesAt, LooksAt, OpensAt, PhaseAt, PhaseNowAt, ProposesAt, RetiresAt, RunsAt, SnapshotAt, SplitPagesAt, TakesFoundAt, TurnsAt, end_of};
+ghost use Rattle.like_c.specs.Held.{ComesBackAt, DriverPhaseAt, DrivesAt, GlancesAt, HandsPhase, HandsSeat, LastAt, LastLikeAt, LastLikesAt, LikesAt, LooksAt, OpensAt, PhaseAt, PhaseNowAt, ProposesAt, RetiresAt, RunsAt, SnapshotAt, SplitPagesAt, TakesFoundAt, TurnsAt, end_of};
 ghost use Rattle.like_c.specs.Status.{version};
 
 mod driver_handle;
@@ -352,6 +352,16 @@ pub extern "C" fn likes_seat_retire(seat: &mut SeatHandle) -> u32
         return status::EMPTY;
     };
     status::of_turn(boxed.seat.retire())
+}
+
+#[unsafe(no_mangle)]
+pub extern "C" fn likes_seat_come_back(seat: &mut SeatHandle) -> u32
+    ensures { ComesBackAt seat.old.home result seat.new.home }
+{
+    let Some(boxed) = seat.get() else {
+        return status::EMPTY;
+    };
+    status::of_turn(boxed.seat.come_back())
 }
 
 #[unsafe(no_mangle)]

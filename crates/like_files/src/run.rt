@@ -20,10 +20,10 @@ use std::io::{Read, Write};
 use std::sync::Wait;
 use std::thread::Threads;
 
-/// Reads the pages file, then the request files in parallel, makes the run that they ask for, on threads, and writes its
-/// report, or its totals alone, with its places where the options ask for them. The fault is that of the first file at
-/// fault, though later request files may have been read by then. Threads take the readers, so they are `Send`. After
-/// `Write` and `Memory` nothing is said of how much was written.
+/// Reads the pages file, and the request files in parallel; makes their run on threads; and writes its report. The options
+/// say whether that has the totals alone, and whether it has places. The fault is that of the first file at fault, though
+/// later ones may have been read by then. After `Write` and `Memory` a part of the report may have been written. Threads
+/// take the readers, so they are `Send`.
 pub fn run_files<T: Threads + Wait + Sync, R: Read + Drop + Send, W: Write>(
     rt: &T,
     alloc: Global,

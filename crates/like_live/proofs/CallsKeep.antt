@@ -1,7 +1,9 @@
 -- What each call keeps of what the seat read and glanced at.
-use Rattle.std.proofs.Common.{ℕ, ◌<◌, Bool, length, Option, ap, sym, ◌∙◌, subst, [], append-nil}
+use Rattle.std.proofs.Common.{◌≡◌, ℕ, ◌<◌, inl, inr, Bool, length, Option, ap, sym, ◌∙◌, subst, [], append-nil}
 use Rattle.std.proofs.lemmas.List.Elements.{All-drop}
 use Rattle.like_core.specs.WorkerState.{RunsJoined}
+use Rattle.like_core.specs.declared.worker_state.WorkerState.TheVariants.{Gone}
+use Rattle.like_seat.specs.Steps.{came_back}
 use Rattle.like_live.specs.declared.answer.GlanceAnswer.{GlanceAnswer}
 use Rattle.like_live.specs.declared.answer.LikeAnswer.{LikeAnswer}
 use Rattle.like_live.specs.declared.answer.LookAnswer.{LookAnswer}
@@ -10,8 +12,8 @@ use Rattle.like_live.specs.declared.asked.Found.{Found}
 use Rattle.like_live.specs.LiveView.{LiveView, with_seat}
 use Rattle.like_live.specs.Answers.{IsRead, found_count}
 use Rattle.like_live.specs.Calls as calls
-use Rattle.like_live.specs.Calls.{GlanceCase, GlancesNow, LikeCase, LikesNow, LookCase, LooksNow, RetireCase, RetireWorks, TakesFound}
-use Rattle.like_live.specs.History.{Does, Told, glance, like, look, retire, take_found, turn}
+use Rattle.like_live.specs.Calls.{ComeBackCase, GlanceCase, GlancesNow, LikeCase, LikesNow, LookCase, LooksNow, RetireCase, RetireWorks, TakesFound}
+use Rattle.like_live.specs.History.{Does, Told, come_back, glance, like, look, retire, take_found, turn}
 use Rattle.like_live.specs.Moves.{Moves}
 use Rattle.like_live.proofs.Calling.{page_there}
 use Rattle.like_live.proofs.Keeping.{Keeps, Keeps-all, Keeps-both, Keeps-by, Keeps-counts, Keeps-finds, Keeps-glanced, Keeps-moves, Keeps-read, Keeps-stopped, Keeps-works}
@@ -86,6 +88,32 @@ Keeps-retire_works v after ending answer sized (calls.stays split works) =
 Keeps-retires : (v after : LiveView) (answer : TurnAnswer) → IsSized v → RetireCase v answer after → Keeps v after
 Keeps-retires v after answer sized m = Keeps-by RetireWorks Keeps-retire_works v after answer sized m
 
+-- a seat that was gone had no like in its slice
+Keeps-came_back : (v : LiveView) (phase mask : ℕ) → v.seat.post.state ≡ Gone
+    → Keeps v (with_seat v (came_back v.seat phase mask))
+Keeps-came_back v phase mask gone = record {
+  reads = λ r there. there;
+  glances = λ r there. there;
+  more = [];
+  additions = sym (append-nil v.seat.post.additions);
+  held = λ phase other from n h. record {
+    within = h.within;
+    split = h.split;
+    kept =
+        elim h.kept [
+          | inl added ↦ inl added
+          | inr still ↦ absurd (cc (gone, still.0))
+        ];
+  };
+  found = λ all. all;
+}
+
+Keeps-come_back : (v after : LiveView) (answer : TurnAnswer) → IsSized v → ComeBackCase v answer after → Keeps v after
+Keeps-come_back v after answer sized (calls.runs s gone a back is) =
+    subst (Keeps v) (sym (is ∙ ap (with_seat v) back.1.1)) (Keeps-came_back v back.0 back.1.0 gone)
+Keeps-come_back v after answer sized (calls.between gone a is) = subst (Keeps v) (sym is) (Keeps-all v)
+Keeps-come_back v after answer sized (calls.there here m) = Keeps-moves v after answer sized m
+
 -- each call keeps what the seat read
 pub Keeps-does : (t : Told) (v after : LiveView) → IsSized v → Does v t after → Keeps v after
 Keeps-does (turn answer) v after sized m = Keeps-moves v after answer sized m
@@ -113,3 +141,4 @@ Keeps-does (glance user page answer) v after sized d = by_case d
         Keeps-both v now after (Keeps-moves v now _ sized m) (Keeps-glances now after user page answer l)
 Keeps-does (take_found taken) v after sized d = Keeps-takes v after taken d
 Keeps-does (retire answer) v after sized d = Keeps-retires v after answer sized d
+Keeps-does (come_back answer) v after sized d = Keeps-come_back v after answer sized d

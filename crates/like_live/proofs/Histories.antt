@@ -20,9 +20,9 @@ use Rattle.like_live.specs.declared.asked.Found.{Found}
 use Rattle.like_live.specs.LiveView.{LiveView, tally, waiting, with_seat}
 use Rattle.like_live.specs.Calls as calls
 use Rattle.like_live.specs.Calls.{GlanceCase, GlancesNow, LikeCase, LikesNow, LookCase, LooksNow, TakesFound, asked_now}
-use Rattle.like_live.specs.History.{Ask, Does, HasDone, HistoriesAreCounted, IsUnused, NoneWaitsOnceGone, Told, ask_of, ask_taken, ask_told, ask_waiting, asks_left, asks_taken, asks_told, glance, like, like_told, likes_told, look, page_liked, pages_liked, retire, take_found, turn}
+use Rattle.like_live.specs.History.{Ask, Does, HasDone, HistoriesAreCounted, IsUnused, NoneWaitsOnceGone, Told, ask_of, ask_taken, ask_told, ask_waiting, asks_left, asks_taken, asks_told, come_back, glance, like, like_told, likes_told, look, page_liked, pages_liked, retire, take_found, turn}
 use Rattle.like_live.proofs.Calling.{LikesNow-tallies}
-use Rattle.like_live.proofs.Telling.{IsQuiet, IsQuiet-both, IsQuiet-moves, IsQuiet-retires, IsQuiet-same, IsTold, IsTold-after, IsTold-quiet, IsWhole, TellsNothing, is_counted, last-more, merged-asks, user_there}
+use Rattle.like_live.proofs.Telling.{IsQuiet, IsQuiet-both, IsQuiet-come_back, IsQuiet-moves, IsQuiet-retires, IsQuiet-same, IsTold, IsTold-after, IsTold-quiet, IsWhole, TellsNothing, is_counted, last-more, merged-asks, user_there}
 
 -- a like at a seat that runs a phase
 told-like : (v after : LiveView) (user page : ℕ) (answer : LikeAnswer)
@@ -192,6 +192,9 @@ told-does (glance user page answer) v after whole d = told-glance v after user p
 told-does (take_found taken) v after whole d = told-take v after taken whole d
 told-does (retire answer) v after whole d =
     IsTold-quiet v after (retire answer) (IsQuiet-retires v after answer whole d)
+    (record { likes = λ p. refl; pages = λ u. refl; taken = refl; told = refl })
+told-does (come_back answer) v after whole d =
+    IsTold-quiet v after (come_back answer) (IsQuiet-come_back v after answer whole d)
     (record { likes = λ p. refl; pages = λ u. refl; taken = refl; told = refl })
 
 -- calls tell what they do, one after the other

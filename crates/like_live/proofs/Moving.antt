@@ -9,7 +9,9 @@ use Rattle.like_seat.proofs.MergedLikes.{merged-tally}
 use Rattle.like_live.specs.declared.answer.TurnAnswer.{TurnAnswer}
 use Rattle.like_live.specs.declared.asked.Asked.{Asked}
 use Rattle.like_live.specs.LiveView.{IsSameSeat, KeepsTallies, LiveView, with_seat}
-use Rattle.like_live.specs.Calls.{RetireCase, RetireWorks, retired_seat, retires, stays}
+use Rattle.like_seat.specs.Steps.{came_back}
+use Rattle.like_live.specs.Calls as calls
+use Rattle.like_live.specs.Calls.{ComeBackCase, RetireCase, RetireWorks, retired_seat, retires, stays}
 use Rattle.like_live.specs.Moves.{FindsAll, Moves, MovesBy, Works, is_gone, looked, acknowledged, waits, works, runs_joined, acknowledges, runs_split, reports}
 
 -- the slice has a number for each page
@@ -132,3 +134,20 @@ Leaves-retire_works v after ending answer sized (stays split does) = Leaves-work
 
 pub Leaves-retires : (v after : LiveView) (answer : TurnAnswer) → IsSized v → RetireCase v answer after → Leaves v after
 Leaves-retires = Leaves-by RetireWorks Leaves-retire_works
+
+Leaves-came_back : (v : LiveView) (phase mask : ℕ) → Leaves v (with_seat v (came_back v.seat phase mask))
+Leaves-came_back v phase mask = record {
+  same = record { board = refl; worker = refl; marks = refl; share = refl };
+  tallies = λ page. refl;
+  last = refl;
+  sized = refl;
+}
+
+pub Leaves-come_back : (v after : LiveView) (answer : TurnAnswer)
+    → IsSized v
+    → ComeBackCase v answer after
+    → Leaves v after
+Leaves-come_back v after answer sized (calls.runs s gone a back is) =
+    subst (Leaves v) (sym (is ∙ ap (with_seat v) back.1.1)) (Leaves-came_back v back.0 back.1.0)
+Leaves-come_back v after answer sized (calls.between gone a is) = subst (Leaves v) (sym is) (Leaves-all v)
+Leaves-come_back v after answer sized (calls.there here m) = Leaves-moves v after answer sized m

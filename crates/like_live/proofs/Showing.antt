@@ -22,7 +22,7 @@ use Rattle.like_live.specs.LiveView.{LiveView, with_seat}
 use Rattle.like_live.specs.Answers.{IfShown, IsRead, Shown, counted_now, found_count}
 use Rattle.like_live.specs.Calls as calls
 use Rattle.like_live.specs.Calls.{GlanceCase, GlancesNow, LikeCase, LikesNow, LookCase, LooksNow, RetireCase, TakesFound}
-use Rattle.like_live.specs.History.{Does, Told, glance, like, look, retire, take_found, turn}
+use Rattle.like_live.specs.History.{Does, Told, come_back, glance, like, look, retire, take_found, turn}
 use Rattle.like_live.specs.Moves as moves
 use Rattle.like_live.specs.Moves.{Moves, Works}
 use Rattle.like_live.proofs.Finding.{running}
@@ -201,3 +201,4 @@ shows (look user page tag answer) v after found d = shows-look v after user page
 shows (glance user page answer) v after found d = shows-glance v after user page answer d
 shows (take_found taken) v after found d = shows-take v after taken found d
 shows (retire answer) v after found d = tt
+shows (come_back answer) v after found d = tt

@@ -19,9 +19,9 @@ use Rattle.like_live.specs.LiveView.{KeepsTallies, LiveView, tally, waiting, wit
 use Rattle.like_live.specs.Moves as moves
 use Rattle.like_live.specs.Moves.{FindsAll, Moves, MovesBy, Works, looked}
 use Rattle.like_live.specs.Calls as calls
-use Rattle.like_live.specs.Calls.{RetireCase, RetireWorks, verdict_at}
+use Rattle.like_live.specs.Calls.{ComeBackCase, RetireCase, RetireWorks, verdict_at}
 use Rattle.like_live.specs.History.{Told, ask_of, ask_taken, ask_told, ask_waiting, asks_left, like_told, page_liked}
-use Rattle.like_live.proofs.Moving.{IsSized, Leaves, Leaves-moves, Leaves-retires}
+use Rattle.like_live.proofs.Moving.{IsSized, Leaves, Leaves-come_back, Leaves-moves, Leaves-retires}
 
 -- a seat with a number for each page and an entry for each user, at which nothing waits once it is gone
 pub record IsWhole (v : LiveView) : Type 0 where
@@ -212,6 +212,28 @@ pub IsQuiet-retires : (v after : LiveView) (answer : TurnAnswer)
 IsQuiet-retires v after answer whole m =
     IsQuiet-by RetireWorks (record { empty = empty-retire_works; asks = retire_works-asks }) v after answer whole
     (Leaves-retires v after answer whole.sized m) m
+
+-- so is a return
+pub IsQuiet-come_back : (v after : LiveView) (answer : TurnAnswer)
+    → IsWhole v
+    → ComeBackCase v answer after
+    → IsQuiet v after
+IsQuiet-come_back v after answer whole (calls.runs s gone a back is) =
+    let l = Leaves-come_back v after answer whole.sized (calls.runs s gone a back is) in
+    let held = is ∙ ap (with_seat v) back.1.1 in
+    record {
+      whole = record {
+        sized = l.sized ∙ whole.sized ∙ ap length (sym l.same.marks);
+        table = ap (λ (t : UserTable). length t.last) l.last ∙ whole.table
+            ∙ ap (λ (t : UserTable). t.share.users) (sym l.last);
+        empty = λ other. ap waiting held ∙ whole.empty gone;
+      };
+      tallies = l.tallies;
+      last = l.last;
+      asks = ap asks_left held;
+    }
+IsQuiet-come_back v after answer whole (calls.between gone a is) = subst (IsQuiet v) (sym is) (IsQuiet-same v whole)
+IsQuiet-come_back v after answer whole (calls.there here m) = IsQuiet-moves v after answer whole m
 
 -- the user of a request that is accepted has an entry
 first_test : (a : Bool) (rest : Verdict) → cond (not a) UnknownUser rest ≡ Accepted → a ≡ true

@@ -2,6 +2,7 @@
 use Rattle.std.specs.Prelude.{◌≡◌, ◌≢◌, ℕ, ◌+◌, ◌<◌, ◌==◌, nat_lt, if◌then◌else◌, Bool, true, false, drop, length, slice_get, Option}
 use Rattle.like_core.specs.Post.{pages_of, retired, slices}
 use Rattle.like_core.specs.WorkerState.{RunsJoined, RunsSplit}
+use Rattle.like_core.specs.declared.worker_state.WorkerState.TheVariants as state
 use Rattle.like_requests.specs.declared.request.Op.TheVariants.{Look}
 use Rattle.like_requests.specs.declared.request.PageRef.{PageRef}
 use Rattle.like_requests.specs.declared.request.PageRef.TheVariants.{Known, Unknown}
@@ -10,7 +11,7 @@ use Rattle.like_requests.specs.declared.verdict.Verdict.TheVariants.{Accepted}
 use Rattle.like_requests.specs.Verdict.{verdict_of}
 use Rattle.like_seat.specs.declared.seen.Seen.{Seen}
 use Rattle.like_seat.specs.StationView.{StationView, likes_of, phase_at}
-use Rattle.like_seat.specs.Steps.{CountsLike, Glances, Reads, holding}
+use Rattle.like_seat.specs.Steps.{ComesBack, CountsLike, Glances, Reads, holding}
 use Rattle.like_tables.specs.Placed.{IsPlaced}
 use Rattle.like_tables.specs.UserTable.{UserTable, with_last}
 use Rattle.like_tables.specs.declared.placed.Placed.{Placed}
@@ -126,6 +127,15 @@ pub data RetireWorks (v : LiveView) (ending : Bool) (answer : TurnAnswer) (after
 -- retire case: the answer, and the seat after
 abbrev pub RetireCase : LiveView → TurnAnswer → LiveView → Type 0
 RetireCase = MovesBy RetireWorks
+
+-- come back case: the answer, and the seat after. A seat that is gone comes back into some phase and runs it; or nothing
+-- of it is done, where that phase is ending or other seats changed the phase word meanwhile. Of any other seat this is a
+-- turn
+pub data ComeBackCase (v : LiveView) (answer : TurnAnswer) (after : LiveView) : Type 0 where
+  runs : (s : StationView Asked) → v.seat.post.state ≡ state.Gone → answer ≡ turn.Runs
+      → ComesBack v.seat s → after ≡ with_seat v s → ComeBackCase v answer after
+  between : v.seat.post.state ≡ state.Gone → answer ≡ turn.Between → after ≡ v → ComeBackCase v answer after
+  there : v.seat.post.state ≢ state.Gone → Moves v answer after → ComeBackCase v answer after
 
 -- the first of the found looks is taken, if there is one
 abbrev pub TakesFound : LiveView → Option Found → LiveView → Type 0

@@ -15,7 +15,7 @@ use Rattle.like_live.specs.declared.asked.Asked.{Asked}
 use Rattle.like_live.specs.declared.asked.Found.{Found}
 use Rattle.like_live.specs.LiveView.{LiveView, IsNewLive, tally, waiting}
 use Rattle.like_live.specs.Moves.{Moves}
-use Rattle.like_live.specs.Calls.{GlanceCase, LikeCase, LookCase, RetireCase, TakesFound, told_of}
+use Rattle.like_live.specs.Calls.{ComeBackCase, GlanceCase, LikeCase, LookCase, RetireCase, TakesFound, told_of}
 
 -- a call of a seat, with its answer
 pub data Told : Type 0 where
@@ -25,6 +25,7 @@ pub data Told : Type 0 where
   glance : (user page : ℕ) → GlanceAnswer → Told
   take_found : Option Found → Told
   retire : TurnAnswer → Told
+  come_back : TurnAnswer → Told
 
 -- the call does this to a seat
 abbrev pub Does : LiveView → Told → LiveView → Type 0
@@ -34,6 +35,7 @@ Does v (look user page tag answer) after = LookCase v user page tag answer after
 Does v (glance user page answer) after = GlanceCase v user page answer after
 Does v (take_found taken) after = TakesFound v taken after
 Does v (retire answer) after = RetireCase v answer after
+Does v (come_back answer) after = ComeBackCase v answer after
 
 -- the calls were made one after the other
 abbrev pub HasDone : LiveView → List Told → LiveView → Type 0

@@ -7,7 +7,7 @@ ghost use Rattle.like_core.specs.WorkerState.{IsRunning};
 ghost use Rattle.like_seat.specs.StationView.{phase_at};
 ghost use Rattle.like_live.specs.LiveView.{IsLive, IsNewLive, IsSameSeat, KeepsTallies, RanNext, tally};
 ghost use Rattle.like_live.specs.Moves.{Moves};
-ghost use Rattle.like_live.specs.Calls.{GlanceCase, LikeCase, LookCase, RetireCase, TakesFound, TalliesLike, last_after};
+ghost use Rattle.like_live.specs.Calls.{ComeBackCase, GlanceCase, LikeCase, LookCase, RetireCase, TakesFound, TalliesLike, last_after};
 
 mod batch;
 mod lasts;
@@ -17,10 +17,10 @@ mod requests;
 use crate::answer::{GlanceAnswer, LikeAnswer, LookAnswer, TurnAnswer};
 use crate::asked::{Asked, Found};
 use crate::signals::Signals;
-use like_core::{Post, SlotPost};
+use like_core::{Post, Returns, SlotPost};
 use like_seat::Station;
 use like_tables::{Home, Stash, Users};
-use moves::work_or_retire;
+use moves::{returns, work_or_retire};
 use std::alloc::{AllocError, Global};
 use std::marker::Model;
 
@@ -56,9 +56,8 @@ impl<P: Post> Model for LiveSeat<P> {
 }
 
 impl<P: Post + Drop> LiveSeat<P> {
-    /// A seat that has done nothing yet, of a board with so many pages, none of them marked, which have their buckets by
-    /// this factor; with room for so many looks that wait or were found, and with these last likes. All its room is made
-    /// here: its calls take no memory.
+    /// A new seat of a board with so many pages, none of them marked, whose buckets are by this factor. It has room for so
+    /// many looks that wait or were found, and these last likes. All memory is taken here, and none by its calls.
     pub(crate) fn new(
         alloc: Global,
         post: P,
@@ -220,5 +219,26 @@ impl<P: SlotPost> LiveSeat<P> {
         ensures slice { self.seat.post.state ≡ Gone → (page : ℕ) → tally self page ≡ additions_of self.seat.post page }
     {
         self.seat.leave()
+    }
+}
+
+impl<P: SlotPost + Returns> LiveSeat<P> {
+    /// Comes back, of a seat that is gone, into the present phase, unless that is ending: it runs it, of a split one with
+    /// its slots read. `Between`, with nothing done, where it is ending, or where others changed the phase word at each of
+    /// 64 tries. Of any other seat this is a turn.
+    pub fn come_back(&mut self) -> TurnAnswer
+        ensures case { ComeBackCase self.old result self.new }
+        ensures keeps { IsLive self.new }
+        ensures same { IsSameSeat self.old self.new }
+        ensures tallies { KeepsTallies self.old self.new }
+        ensures last { self.new.seat.last ≡ self.old.seat.last }
+    {
+        if !self.seat.is_gone() {
+            return self.turn();
+        }
+        if returns(&mut self.seat) {
+            return TurnAnswer::Runs;
+        }
+        TurnAnswer::Between
     }
 }

@@ -98,9 +98,9 @@ fn release(lead: &mut Lead, choices: &mut Choices, board: &Board, phase: u32)
 }
 
 impl Coordinator {
-    /// The coordinator that counts so many turns in each phase, of a board that was made with these counts. Where `hot`
-    /// is a number, a page is hot in a split phase if it got as many likes since the choice before. All its room is made
-    /// here: its turns take no memory.
+    /// A coordinator of a board with these first counts, which counts so many turns in each phase. If `hot` is a number, a
+    /// page is hot in a split phase once it got as many likes since the choice before. All memory is taken here, and none
+    /// by its turns.
     pub fn new(
         alloc: Global,
         seat: CoordSeat,

@@ -30,7 +30,7 @@ mod submitters;
 mod worker;
 mod workers;
 
-/// Makes a run, as `run_noting`, with as many threads as it needs. The workers note their additions.
+/// Makes a run with as many threads as it needs. Its report has places.
 pub fn run<R: Threads + Wait + Sync, G: Gate>(
     rt: &R,
     alloc: Global,
@@ -46,7 +46,7 @@ pub fn run<R: Threads + Wait + Sync, G: Gate>(
     run_limited(rt, alloc, setup, plans, gate, u32::MAX)
 }
 
-/// Makes a run, as `run`, with at most `starts` threads.
+/// The same with at most `starts` threads.
 pub fn run_limited<R: Threads + Wait + Sync, G: Gate>(
     rt: &R,
     alloc: Global,
@@ -64,11 +64,10 @@ pub fn run_limited<R: Threads + Wait + Sync, G: Gate>(
     run_noting(rt, alloc, setup, plans, gate, starts, true)
 }
 
-/// Makes a run: each worker and each submitter has its own thread, and the coordinator uses the calling thread. A
-/// submitter sends its requests to its worker through a line. No thread starts work until all exist. If one can't
-/// start, the others exit and no request is taken. Once `starts` threads exist, a further one can't start. The workers
-/// note their additions if `notes` says so. If not, no memory is taken for them, and the report has no places. On a
-/// fault the lists are dropped. The program makes this call.
+/// Makes a run, as the program does. Each worker and each submitter has a thread of its own, and the coordinator has the
+/// calling thread. A submitter sends its requests to its worker through a line. No thread works until all exist: if one
+/// can't start, or would be one more than `starts`, the others end and no request is taken. If `notes`, the workers note
+/// their additions and the report has places. Else these take no memory. On a fault the lists are dropped.
 pub fn run_noting<R: Threads + Wait + Sync, G: Gate>(
     rt: &R,
     alloc: Global,

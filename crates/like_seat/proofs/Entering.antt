@@ -6,7 +6,7 @@ use Rattle.like_core.specs.declared.sight.Sight.{Sight}
 use Rattle.like_core.specs.declared.view.PhaseMask.{PhaseMask}
 use Rattle.like_core.specs.declared.worker_state.WorkerState.{WorkerState}
 use Rattle.like_core.specs.declared.worker_state.WorkerState.TheVariants as state
-use Rattle.like_core.specs.declared.worker_state.WorkerState.TheVariants.{Answered, Runs}
+use Rattle.like_core.specs.declared.worker_state.WorkerState.TheVariants.{Answered, Gone, Runs}
 use Rattle.like_core.specs.Additions.{all_added}
 use Rattle.like_core.specs.Phase.{IsJoined, IsSplit, is_hot_by, is_marked}
 use Rattle.like_core.specs.Functions.{has_bit}
@@ -15,7 +15,7 @@ use Rattle.like_core.specs.PhaseMasks.{HasMask, mask_of}
 use Rattle.like_core.specs.Slots.{IsChoice, mask_of_slots}
 use Rattle.like_core.proofs.Slots.{slots_tell}
 use Rattle.like_limits.specs.Limits.{hot_pages}
-use Rattle.like_core.specs.Post.{PostView, looked_at, pages_of}
+use Rattle.like_core.specs.Post.{PostView, looked_at, pages_of, returned}
 use Rattle.like_core.specs.WorkerState.{RunsSplit, seen}
 use Rattle.like_tables.specs.SplitSlice.{IsSplitSlice, SplitSlice, by_page, has_split, likes_in}
 use Rattle.like_tables.proofs.ByPage.{by_page-none, length-by_page, likes_in-none, likes_in-other}
@@ -29,35 +29,50 @@ use Rattle.like_seat.proofs.Keeping.{in-split, of-run, of-service, splits-none}
 parity : (n : ℕ) → IsSplit n ⊎ IsJoined n
 parity n = elim (cases_eq (n % 2) 1) [ inl odd ↦ inl odd | inr even ↦ inr (omega arith) ]
 
--- who has answered has no page split
-unsplit : {W : Type 0} (post : PostView) (t : Tables W) (k : ℕ) → IsKept post t → t.state ≡ Answered k
-    → (page : ℕ) → has_split t.slice page ≡ false
-unsplit post t k kept is = splits-none post t.slice kept.splits (λ runs. absurd (subst RunsSplit (kept.state ∙ is) runs))
+-- who has answered, or is gone, runs no split phase
+pub idle-answered : (s : WorkerState) (k : ℕ) → s ≡ Answered k → RunsSplit s → ⊥
+idle-answered s k is runs = absurd (subst RunsSplit is runs)
 
--- so it may enter the next phase
-pub MayEnter-kept : {W : Type 0} (post looked : PostView) (t : Tables W) (sight : Sight) (k : ℕ) → IsKept post t
-    → t.state ≡ Answered k → sight.waits ≡ false → looked ≡ looked_at post sight → MayEnter looked t.slice (k + 1)
-MayEnter-kept post looked t sight k kept is goes look =
+pub idle-gone : (s : WorkerState) → s ≡ Gone → RunsSplit s → ⊥
+idle-gone s is runs = absurd (subst RunsSplit is runs)
+
+-- the post when it runs a phase, as it has looked by now
+abbrev pub ran : PostView → PostView → ℕ → PostView
+ran post looked phase = record post { state = Runs phase; last = looked.last; looks = looked.looks }
+
+-- so it does after a look that showed the next phase, and after it came back
+pub ran-looked : (post looked : PostView) (sight : Sight) (k : ℕ) → looked ≡ looked_at post sight
+    → post.state ≡ Answered k → sight.waits ≡ false → looked ≡ ran post looked (k + 1)
+ran-looked post looked sight k look is goes =
     let runs : seen post.state sight ≡ Runs (k + 1) =
-    ap (λ s. seen s sight) (kept.state ∙ is) ∙ ap (λ (b : Bool). cond b (Answered k) (Runs (k + 1))) goes in
-    let may : MayEnter (looked_at post sight) t.slice (k + 1) = record {
-      runs = runs;
+    ap (λ s. seen s sight) is ∙ ap (λ (b : Bool). cond b (Answered k) (Runs (k + 1))) goes in
+    subst (λ (p : PostView). p ≡ ran post p (k + 1)) (sym look) (λ i. record (looked_at post sight) { state = runs i })
+
+pub ran-returned : (post looked : PostView) (phase : ℕ) → looked ≡ returned post phase → looked ≡ ran post looked phase
+ran-returned post looked phase back = subst (λ (p : PostView). p ≡ ran post p phase) (sym back) refl
+
+-- who ran no split phase may enter the phase that it runs
+pub MayEnter-kept : {W : Type 0} (post looked : PostView) (t : Tables W) (phase : ℕ) → IsKept post t
+    → (RunsSplit post.state → ⊥) → looked ≡ ran post looked phase → MayEnter looked t.slice phase
+MayEnter-kept post looked t phase kept idle look =
+    let may : MayEnter (ran post looked phase) t.slice phase = record {
+      runs = refl;
       limits = kept.seat.limits;
       few_pages = kept.seat.few_pages;
-      unsplit = record { slice = kept.slice; factor = kept.factor; none = unsplit post t k kept is };
-    } in subst (λ (p : PostView). MayEnter p t.slice (k + 1)) (sym look) may
+      unsplit = record { slice = kept.slice; factor = kept.factor; none = splits-none post t.slice kept.splits idle };
+    } in subst (λ (p : PostView). MayEnter p t.slice phase) (sym look) may
 
-pub IsOfRun-looked : {W : Type 0} (post looked : PostView) (t : Tables W) (sight : Sight) → IsKept post t
-    → looked ≡ looked_at post sight → has_slots post.limits ≡ false → IsOfRun looked t.marks.items
-IsOfRun-looked post looked t sight kept look plain =
+pub IsOfRun-ran : {W : Type 0} (post looked : PostView) (t : Tables W) (phase : ℕ) → IsKept post t
+    → looked ≡ ran post looked phase → has_slots post.limits ≡ false → IsOfRun looked t.marks.items
+IsOfRun-ran post looked t phase kept look plain =
     subst (λ (p : PostView). IsOfRun p t.marks.items) (sym look)
-    (of-run post (looked_at post sight) t.marks.items t.marks.items refl refl refl refl kept.run plain)
+    (of-run post (ran post looked phase) t.marks.items t.marks.items refl refl refl refl kept.run plain)
 
-pub IsOfService-looked : {W : Type 0} (post looked : PostView) (t : Tables W) (sight : Sight) → IsKept post t
-    → looked ≡ looked_at post sight → has_slots post.limits ≡ true → IsOfService looked
-IsOfService-looked post looked t sight kept look slotted =
+pub IsOfService-ran : {W : Type 0} (post looked : PostView) (t : Tables W) (phase : ℕ) → IsKept post t
+    → looked ≡ ran post looked phase → has_slots post.limits ≡ true → IsOfService looked
+IsOfService-ran post looked t phase kept look slotted =
     subst (λ (p : PostView). IsOfService p) (sym look)
-    (of-service post (looked_at post sight) refl refl kept.service slotted)
+    (of-service post (ran post looked phase) refl refl kept.service slotted)
 
 -- in a run the pages that are marked or hot are split
 pub filled-run : (post : PostView) (marks : List Bool) (mask : ℕ) (s after : SplitSlice) → IsOfRun post marks
@@ -105,12 +120,13 @@ filled-service post slots word s after service limits few choice f = record {
 }
 
 -- a slice with these numbers, of which no page was split, has no like
-empty : {W : Type 0} (post : PostView) (t : Tables W) (k : ℕ) (s : SplitSlice) → IsKept post t → t.state ≡ Answered k
+empty : {W : Type 0} (post : PostView) (t : Tables W) (s : SplitSlice) → IsKept post t → (RunsSplit post.state → ⊥)
     → s.counts ≡ t.slice.counts → by_page s (pages_of post) ≡ by_page t.slice (pages_of post)
-empty post t k s kept is same =
+empty post t s kept idle same =
     let n : ℕ = pages_of post in
+    let unsplit = splits-none post t.slice kept.splits idle in
     let none : (page : ℕ) → likes_in t.slice page ≡ 0 =
-    λ page. likes_in-other t.slice page (unsplit post t k kept is page) in
+    λ page. likes_in-other t.slice page (unsplit page) in
     by_page-none s n (likes_in-none s
     (λ b. ap (λ (xs : List ℕ). get_or xs b 0) same ∙ counts-none t.slice kept.slice none b))
     ∙ sym (by_page-none t.slice n none)
@@ -130,17 +146,15 @@ entered-has masks phase mask odd =
     (ap (λ (b : Bool). b || list_any (λ (m : PhaseMask). m.phase == phase) masks) (eq-eqb phase phase refl))
 
 -- the post that has entered a phase
-abbrev pub entered : PostView → Sight → ℕ → ℕ → PostView
-entered post sight phase mask = record (looked_at post sight) {
-  state = Runs phase;
-  masks = masks_entered post.masks phase mask;
-}
+abbrev pub entered : PostView → PostView → ℕ → ℕ → PostView
+entered post looked phase mask =
+    record (ran post looked phase) { masks = masks_entered post.masks phase mask }
 
 -- the pages that are to be split are those that are sliced
-fills : (post : PostView) (sight : Sight) (phase mask : ℕ) (s : SplitSlice) → IsSplit phase
+fills : (post looked : PostView) (phase mask : ℕ) (s : SplitSlice) → IsSplit phase
     → ((page : ℕ) → has_split s page ≡ (nat_lt page (pages_of post) && is_split_by post mask page))
-    → SplitsPages (entered post sight phase mask) s
-fills post sight phase mask s odd splits page =
+    → SplitsPages (entered post looked phase mask) s
+fills post looked phase mask s odd splits page =
     let test : ℕ → Bool = λ m. is_split_by post m page in
     let masks = entered-mask post.masks phase mask odd in (
       λ held.
@@ -163,17 +177,17 @@ pub record IsEntered (post : PostView) (s s' : SplitSlice) : Type 0 where
   pub counts : s'.counts ≡ s.counts
   pub splits : SplitsPages post s'
 
-entered-slice : {W : Type 0} (post looked now : PostView) (t after : Tables W) (sight : Sight) (k mask : ℕ)
-    → IsKept post t → t.state ≡ Answered k → looked ≡ looked_at post sight → EntersBy looked (k + 1) mask now t after
-    → IsEntered (entered post sight (k + 1) mask) t.slice after.slice
-entered-slice {W} post looked now t after sight k mask kept is look e = elim (parity (k + 1)) [
+entered-slice : {W : Type 0} (post looked now : PostView) (t after : Tables W) (phase mask : ℕ)
+    → IsKept post t → (RunsSplit post.state → ⊥) → looked ≡ ran post looked phase → EntersBy looked phase mask now t after
+    → IsEntered (entered post looked phase mask) t.slice after.slice
+entered-slice {W} post looked now t after phase mask kept idle look e = elim (parity phase) [
   | inl odd ↦
       let filled = e.split odd in
       record {
         lawful = filled.slice;
         factor = filled.factor ∙ kept.factor;
         counts = filled.counts;
-        splits = fills post sight (k + 1) mask after.slice odd
+        splits = fills post looked phase mask after.slice odd
             (subst (λ (p : PostView). (page : ℕ)
             → has_split after.slice page ≡ (nat_lt page (pages_of p) && is_split_by p mask page)) look filled.splits);
       }
@@ -184,38 +198,37 @@ entered-slice {W} post looked now t after sight k mask kept is look e = elim (pa
         factor = ap (λ (s : SplitSlice). s.splits.factor) same ∙ kept.factor;
         counts = ap (λ (s : SplitSlice). s.counts) same;
         splits = λ page. (
-          λ held. absurd (cc (ap (λ (s : SplitSlice). has_split s page) same, unsplit post t k kept is page, held)),
+          λ held. absurd (cc (
+            ap (λ (s : SplitSlice). has_split s page) same,
+            splits-none post t.slice kept.splits idle page,
+            held,
+          )),
           λ sliced. absurd (omega (arith, even, sliced.0)),
         );
       }
 ]
 
-module _ {W : Type 0} (post looked now : PostView) (t after : Tables W) (sight : Sight) (k mask : ℕ)
-    (kept : IsKept post t) (is : t.state ≡ Answered k) (goes : sight.waits ≡ false)
-    (look : looked ≡ looked_at post sight) (e : EntersBy looked (k + 1) mask now t after) where
+module _ {W : Type 0} (post looked now : PostView) (t after : Tables W) (phase mask : ℕ)
+    (kept : IsKept post t) (idle : RunsSplit post.state → ⊥)
+    (look : looked ≡ ran post looked phase) (e : EntersBy looked phase mask now t after) where
   -- its post now
-  pub now-entered : now ≡ entered post sight (k + 1) mask
-  now-entered =
-      let runs : seen post.state sight ≡ Runs (k + 1) =
-      ap (λ s. seen s sight) (kept.state ∙ is) ∙ ap (λ (b : Bool). cond b (Answered k) (Runs (k + 1))) goes in
-      e.at_post
-      ∙ ap (λ (p : PostView). record p { masks = masks_entered p.masks (k + 1) mask }) look
-      ∙ (λ i. record (looked_at post sight) { state = runs i; masks = masks_entered post.masks (k + 1) mask })
+  pub now-entered : now ≡ entered post looked phase mask
+  now-entered = e.at_post ∙ ap (λ (p : PostView). record p { masks = masks_entered p.masks phase mask }) look
 
   -- its slice is empty, as it was
   pub empty-entered : by_page after.slice (pages_of now) ≡ by_page t.slice (pages_of post)
   empty-entered =
       ap (λ (p : PostView). by_page after.slice (pages_of p)) now-entered
-      ∙ empty post t k after.slice kept is (entered-slice post looked now t after sight k mask kept is look e).counts
+      ∙ empty post t after.slice kept idle (entered-slice post looked now t after phase mask kept idle look e).counts
 
   -- its tables are those of the post
-  pub IsKept-entered : k + 1 ≤ post.limits.last_phase → IsKept now after
+  pub IsKept-entered : phase ≤ post.limits.last_phase → IsKept now after
   IsKept-entered within =
-      let s = entered-slice post looked now t after sight k mask kept is look e in
+      let s = entered-slice post looked now t after phase mask kept idle look e in
       let n : ℕ = pages_of post in
-      let same = empty post t k after.slice kept is s.counts in
-      let at : PostView = entered post sight (k + 1) mask in
-      let tables : Tables W = record t { state = Runs (k + 1); slice = after.slice } in
+      let same = empty post t after.slice kept idle s.counts in
+      let at : PostView = entered post looked phase mask in
+      let tables : Tables W = record t { state = Runs phase; slice = after.slice } in
       let likes : t.likes ≡ all_added post.additions + sum (by_page after.slice n) =
       kept.likes ∙ ap (λ (xs : List ℕ). all_added post.additions + sum xs) (sym same) in
       let keeps : IsKept at tables = record {
@@ -233,7 +246,7 @@ module _ {W : Type 0} (post looked now : PostView) (t after : Tables W) (sight :
           factor = kept.seat.factor;
           within = within;
           sized = length-by_page after.slice n;
-          masked = λ odd. entered-has post.masks (k + 1) mask odd;
+          masked = λ odd. entered-has post.masks phase mask odd;
           split = in-split at after.slice s.splits;
           few = omega (arith, likes, kept.likes, kept.seat.few);
           waiting = kept.seat.waiting;

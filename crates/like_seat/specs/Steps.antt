@@ -2,7 +2,7 @@
 use Rattle.std.specs.Prelude.{◌≡◌, ◌≢◌, ℕ, ◌+◌, ◌%◌, ◌<◌, ◌≤◌, ◌==◌, if◌then◌else◌, true, false, List, [], ◌∷◌, ◌++◌, drop, length, replicate, slice_index, slice_set, Option, MatchOption}
 use Rattle.like_core.specs.declared.sight.Sight.{Sight}
 use Rattle.like_core.specs.declared.view.PhaseMask.{PhaseMask}
-use Rattle.like_core.specs.Post.{PostView, added, additions_of, has_glanced, has_read, looked_at, slices}
+use Rattle.like_core.specs.Post.{PostView, added, additions_of, has_glanced, has_read, looked_at, returned, slices}
 use Rattle.like_core.specs.WorkerState.{IsRunning, IsSightOf, SeesEndingStill, phase_of, seen}
 use Rattle.like_limits.specs.Buckets.{bucket}
 use Rattle.like_tables.specs.UserTable.{UserTable, last_of, with_last}
@@ -52,6 +52,18 @@ pub record LooksAndEnters {W : Type 0} (s : StationView W) (shown : Sight) (afte
   pub looks : Looks s shown after
   pub runs : shown.waits ≡ false → IsRunning after.post.state
   pub seat : IsStation after
+
+-- the post after it came back into a phase; of a split one it has also read that phase's mask, which is this
+abbrev pub returned_at : PostView → ℕ → ℕ → PostView
+returned_at post phase mask = record (returned post phase) { masks = masks_entered post.masks phase mask }
+
+-- the seat after it came back into a phase
+abbrev pub came_back : {W : Type 0} → StationView W → ℕ → ℕ → StationView W
+came_back s phase mask = record s { post = returned_at s.post phase mask }
+
+-- a seat comes back, into some phase
+abbrev pub ComesBack : {W : Type 0} → StationView W → StationView W → Type 0
+ComesBack s after = (phase : ℕ) × ((mask : ℕ) × (after ≡ came_back s phase mask))
 
 -- one more like of a page in the slice, after all looks so far
 abbrev pub sliced : {W : Type 0} → StationView W → ℕ → StationView W

@@ -128,8 +128,8 @@ impl Lead {
         read_range(&mut self.seat, board, from, counts);
     }
 
-    /// Chooses the hot pages of the split phase that comes next, on a board without slots: the mask of those of the first
-    /// 64 pages whose counts rose enough since its last choice.
+    /// Chooses the hot pages of the next split phase, on a board without slots: those of the first 64 pages whose counts
+    /// rose enough since its last choice. It gives their mask.
     pub fn choose(&mut self, board: &Board) -> u64
         requires here { self.old.board ≡ board_id board.now }
         requires saw { SawAllIn self.old.seat }

@@ -50,8 +50,8 @@ pub struct NoStation<P: Post> {
 }
 
 impl<P: Post, W: Copy> Station<P, W> {
-    /// A seat of a run that has done nothing yet, with these marks of split pages, with room for so many that wait, and
-    /// with these last likes. All its room is made here: its steps take no memory.
+    /// A new seat of a run, with these marks of split pages, room for so many that wait, and these last likes. All memory
+    /// is taken here, and none by its steps.
     pub fn new(
         alloc: Global,
         post: P,

@@ -26,6 +26,7 @@ fn is_seat_answer(seat: &mut LiveSeat<SharedPost>, call: OnSeat) -> bool {
         OnSeat::Glance(user, page, wanted) => seat.glance(user, page) == wanted,
         OnSeat::Turn(wanted) => seat.turn() == wanted,
         OnSeat::Retire(wanted) => seat.retire() == wanted,
+        OnSeat::ComeBack(wanted) => seat.come_back() == wanted,
         OnSeat::TakeFound(wanted) => seat.take_found() == wanted,
         OnSeat::Run(calls, made, wanted) => is_run(seat, calls, made, wanted),
         OnSeat::Phase(wanted) => seat.phase() == wanted,

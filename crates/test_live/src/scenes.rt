@@ -16,6 +16,7 @@ pub enum OnSeat {
     Glance(u32, u32, GlanceAnswer),
     Turn(TurnAnswer),
     Retire(TurnAnswer),
+    ComeBack(TurnAnswer),
     TakeFound(Option<Found>),
     /// A batch, how many of its calls were made, and the answers behind it.
     Run(&'static [Call; 5], usize, &'static [Answer; 5]),
@@ -142,6 +143,12 @@ macro_rules! retire {
     };
 }
 
+macro_rules! come_back {
+    ($seat:literal, $answer:ident) => {
+        Step::Seat($seat, OnSeat::ComeBack(TurnAnswer::$answer))
+    };
+}
+
 macro_rules! drive {
     ($end:ident, $answer:ident) => {
         Step::Driver(OnDriver::Turn(End::$end, DriverAnswer::$answer))
@@ -156,7 +163,14 @@ const CHANGE: &[Step] = &[
     drive!(IfItServes, Released),
 ];
 
-// The same of a phase that is not due.
+// The same where seat 0 is gone.
+const CHANGE_BY_SEAT_1: &[Step] = &[
+    drive!(IfItServes, Announced),
+    turn!(1, Between),
+    drive!(IfItServes, Released),
+];
+
+// The end of a phase that is not due, which both seats answer.
 const EARLY_CHANGE: &[Step] = &[
     drive!(No, Announced),
     turn!(0, Between),
@@ -358,5 +372,52 @@ const SCENES: &[Scene] = &[
             drive!(IfItServes, Ended),
             Step::Driver(OnDriver::LastCounts(true, [11, 20])),
         ]],
+    },
+    // Seat 0 is away in phases 1 and 2, and comes back in phase 3. Both leave phase 4 while it is ending, and seat 1 comes
+    // back in phase 5.
+    Scene {
+        name: "live_back",
+        seats: 2,
+        room: 1,
+        parts: &[
+            &[
+                like!(0, 0, 0),
+                retire!(0),
+                drive!(IfItServes, Announced),
+                come_back!(0, Between),
+                turn!(1, Between),
+                come_back!(0, Between),
+                drive!(IfItServes, Released),
+                like!(1, 1, 0),
+            ],
+            CHANGE_BY_SEAT_1,
+            CHANGE_BY_SEAT_1,
+            &[
+                come_back!(0, Runs),
+                Step::Seat(0, OnSeat::Phase(3)),
+                like!(0, 0, 0),
+                glance!(0, 0, 13),
+                come_back!(0, Runs),
+            ],
+            CHANGE,
+            &[
+                drive!(IfItServes, Announced),
+                retire!(0),
+                retire!(1),
+                come_back!(0, Between),
+                drive!(No, Released),
+                drive!(No, Ended),
+                come_back!(1, Runs),
+                like!(1, 1, 0),
+                drive!(No, Running),
+            ],
+            CHANGE_BY_SEAT_1,
+            &[
+                retire!(1),
+                drive!(IfItServes, Ended),
+                Step::Driver(OnDriver::LastCounts(true, [14, 20])),
+                come_back!(0, Between),
+            ],
+        ],
     },
 ];

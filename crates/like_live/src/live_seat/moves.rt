@@ -1,6 +1,9 @@
-ghost use Rattle.std.specs.Prelude.{◌≡◌, All, true};
+ghost use Rattle.std.specs.Prelude.{◌≡◌, All, IsTrue, false, true};
+ghost use Rattle.like_core.specs.declared.worker_state.WorkerState.TheVariants.{Gone};
+ghost use Rattle.like_core.specs.OpeningLimits.{service_limits};
 ghost use Rattle.like_core.specs.WorkerState.{IsRunning, RunsJoined, SawEnding};
 ghost use Rattle.like_seat.specs.StationView.{IsStation};
+ghost use Rattle.like_seat.specs.Steps.{ComesBack};
 ghost use Rattle.like_live.specs.LiveView.{IsLive, RanNext, live_of};
 ghost use Rattle.like_live.specs.Kept.{HasLooked};
 ghost use Rattle.like_live.specs.Moves.{FindsAll, Moves, Works};
@@ -9,7 +12,7 @@ ghost use Rattle.like_live.specs.Calls.{RetireWorks};
 use crate::answer::TurnAnswer;
 use crate::asked::{Asked, Found};
 use crate::live_seat::LiveSeat;
-use like_core::{Post, SlotPost};
+use like_core::{Post, Returns, SlotPost};
 use like_seat::Station;
 use like_tables::Stash;
 
@@ -135,4 +138,23 @@ fn find_all<P: Post>(seat: &mut Station<P, Asked>, found: &mut Stash<Found>)
             phase,
         });
     }
+}
+
+// How often a seat tries to come back, where others change the phase word meanwhile.
+const TRIES: u32 = 64;
+
+// Whether a seat that was gone has come back.
+pub(crate) fn returns<P: SlotPost + Returns>(seat: &mut Station<P, Asked>) -> bool
+    requires gone { seat.old.post.state ≡ Gone }
+    requires limits { seat.old.post.limits ≡ service_limits }
+    ensures back { IsTrue result → ComesBack seat.old seat.new }
+    ensures none { result ≡ false → seat.new ≡ seat.old }
+    ensures seat { IsStation seat.new }
+{
+    for _ in 1..TRIES {
+        if seat.come_back() {
+            return true;
+        }
+    }
+    seat.come_back()
 }

@@ -10,8 +10,8 @@ use crate::station::Station;
 use like_core::{Post, Sight, WorkerState};
 
 impl<P: Post, W: Copy> Station<P, W> {
-    /// Looks at the phase word, in a run, and enters the next phase where it was released; of a split one it then reads
-    /// the mask.
+    /// Looks at the phase word, in a run. If the next phase was released, it enters that, and reads the mask of a split
+    /// one.
     #[inline(always)]
     pub fn look(&mut self) -> Sight
         requires here { self.old.post.state ≢ Gone }

@@ -1,15 +1,17 @@
 //! What a seat of a service has in place of one of a run.
-ghost use Rattle.std.specs.Prelude.{◌≡◌, ◌≢◌, ◌^◌, ◌≤◌, false, true, IfErr, IfOk};
+ghost use Rattle.std.specs.Prelude.{◌≡◌, ◌≢◌, ◌^◌, ◌≤◌, false, true, IfErr, IfOk, IsTrue};
 ghost use Rattle.like_core.specs.declared.worker_state.WorkerState.TheVariants.{Gone};
 ghost use Rattle.like_core.specs.OpeningLimits.{AreLimits, has_slots};
+ghost use Rattle.like_core.specs.core.Moves.{LetsReturn};
 ghost use Rattle.like_core.specs.Post.{IsFresh, pages_of};
 ghost use Rattle.like_limits.specs.Limits.{max_stash};
 ghost use Rattle.like_seat.specs.Kept.{IsOfService};
-ghost use Rattle.like_seat.specs.Steps.{IsNewStation, LooksAndEnters};
+ghost use Rattle.like_seat.specs.StationView.{IsStation};
+ghost use Rattle.like_seat.specs.Steps.{ComesBack, IsNewStation, LooksAndEnters};
 
 use crate::station::{NoStation, Station};
 use crate::tables::Tables;
-use like_core::{Post, Sight, SlotPost, WorkerState};
+use like_core::{Post, Returns, Sight, SlotPost, WorkerState};
 use like_tables::Users;
 use std::alloc::Global;
 
@@ -41,8 +43,8 @@ impl<P: Post, W: Copy> Station<P, W> {
 }
 
 impl<P: SlotPost, W: Copy> Station<P, W> {
-    /// Looks at the phase word, in a service, and enters the next phase where it was released; of a split one it then
-    /// reads the slots.
+    /// Looks at the phase word, in a service. If the next phase was released, it enters that, and reads the slots of a
+    /// split one.
     #[inline(always)]
     pub fn look_with_slots(&mut self) -> Sight
         requires here { self.old.post.state ≢ Gone }
@@ -56,5 +58,24 @@ impl<P: SlotPost, W: Copy> Station<P, W> {
             }
         }
         sight
+    }
+}
+
+impl<P: SlotPost + Returns, W: Copy> Station<P, W> {
+    /// Comes back, of a seat that is gone: it runs the present phase, of a split one with its slots read. `false`, with
+    /// nothing done, where that phase is ending, or where another step changed the phase word meanwhile.
+    pub fn come_back(&mut self) -> bool
+        requires gone { self.old.post.state ≡ Gone }
+        requires slotted { has_slots self.old.post.limits ≡ true }
+        requires lets { LetsReturn self.old.post.limits }
+        ensures back { IsTrue result → ComesBack self.old self.new }
+        ensures none { result ≡ false → self.new ≡ self.old }
+        ensures seat { IsStation self.new }
+    {
+        let Some(phase) = self.post.come_back() else {
+            return false;
+        };
+        self.tables.enter_slots(&mut self.post, phase);
+        true
     }
 }

@@ -1,4 +1,4 @@
-use Rattle.std.proofs.Common.{◌≡◌, Bool, ap, sym, subst, ◌∙◌}
+use Rattle.std.proofs.Common.{Bool, ap, sym, subst, ◌∙◌}
 use Rattle.std.proofs.lemmas.Bool.{not-false, not-true}
 use Rattle.like_core.specs.Phase.{IsJoined}
 use Rattle.like_core.specs.declared.worker_state.WorkerState.{WorkerState}

@@ -1,5 +1,5 @@
-use Rattle.std.proofs.Common.{◌≡◌, ◌<◌, true, sym, subst, ◌∙◌}
-use Rattle.like_core.specs.Post.{PostView, pages_of, slices}
+use Rattle.std.proofs.Common.{◌≡◌, ◌<◌, sym, subst, ◌∙◌}
+use Rattle.like_core.specs.Post.{pages_of, slices}
 use Rattle.like_core.specs.WorkerState.{IsRunning}
 use Rattle.like_seat.specs.StationView.{StationView}
 use Rattle.like_seat.proofs.Keeping.{has_split-slices}

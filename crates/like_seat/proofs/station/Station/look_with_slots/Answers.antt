@@ -7,7 +7,7 @@ use Rattle.like_core.specs.WorkerState.{phase_of, seen}
 use Rattle.like_seat.specs.Kept.{view_of}
 use Rattle.like_seat.specs.StationView.{StationView}
 use Rattle.like_seat.specs.Steps.{masks_entered, saw, saw_at}
-use Rattle.like_seat.proofs.Entering.{IsKept-entered, IsKept-looked, IsOfService-looked, MayEnter-kept, empty-entered, stays}
+use Rattle.like_seat.proofs.Entering.{IsKept-entered, IsKept-looked, IsOfService-ran, MayEnter-kept, empty-entered, idle-answered, ran-looked, stays}
 use Rattle.like_seat.proofs.Looking.{saw-next}
 use Rattle.like_seat.proofs.station.Station.look_with_slots.Goals as goal
 
@@ -18,11 +18,13 @@ invariant_of-self g c =
     let k = c.in-Answered.phase in
     let is : p.state ≡ Answered k = c.self.invariant.state ∙ c.in-Answered.is in
     let goes = not-true sight.waits c.if-not-sight.true in
+    let looked = g.P.Post.view c.look-sight.new.self in
     let number : phase_of (seen p.state sight) ≡ k + 1 =
     ap (λ s. phase_of (seen s sight)) is ∙ ap (λ (b : Bool). phase_of (cond b (Answered k) (Runs (k + 1)))) goes in
-    IsKept-entered p (g.P.Post.view c.look-sight.new.self) (g.P.Post.view c.enter_slots.new.post) c.self.inside.tables
-    c.enter_slots.new.self sight k c.enter_slots.ensures.enters.0 c.self.invariant c.in-Answered.is goes c.look-sight.ensures.view
-    c.enter_slots.ensures.enters.1 (omega (arith, number, c.look-sight.ensures.within))
+    IsKept-entered p looked (g.P.Post.view c.enter_slots.new.post) c.self.inside.tables c.enter_slots.new.self (k + 1)
+    c.enter_slots.ensures.enters.0 c.self.invariant (idle-answered p.state k is)
+    (ran-looked p looked sight k c.look-sight.ensures.view is goes) c.enter_slots.ensures.enters.1
+    (omega (arith, number, c.look-sight.ensures.within))
 
 pub invariant_of-self-in_default : goal.invariant_of-self-in_default
 invariant_of-self-in_default g c =
@@ -33,16 +35,24 @@ invariant_of-self-in_default g c =
 
 pub enter_slots-requires-clause-may : goal.enter_slots-requires-clause-may
 enter_slots-requires-clause-may g c =
-    MayEnter-kept (g.P.Post.view c.self.inside.post) (g.P.Post.view c.look-sight.new.self) c.self.inside.tables
-    c.look-sight.result c.in-Answered.phase c.self.invariant c.in-Answered.is
-    (not-true c.look-sight.result.waits c.if-not-sight.true) c.look-sight.ensures.view
+    let p = g.P.Post.view c.self.inside.post in
+    let looked = g.P.Post.view c.look-sight.new.self in
+    let k = c.in-Answered.phase in
+    let is : p.state ≡ Answered k = c.self.invariant.state ∙ c.in-Answered.is in
+    MayEnter-kept p looked c.self.inside.tables (k + 1) c.self.invariant (idle-answered p.state k is)
+    (ran-looked p looked c.look-sight.result k c.look-sight.ensures.view is
+    (not-true c.look-sight.result.waits c.if-not-sight.true))
 
 pub enter_slots-requires-clause-service : goal.enter_slots-requires-clause-service
 enter_slots-requires-clause-service g c =
     let slotted = subst (λ (v : StationView g.row.W.Denot). has_slots v.post.limits ≡ true) (sym c.self.view_is)
     c.requires.slotted in
-    IsOfService-looked (g.P.Post.view c.self.inside.post) (g.P.Post.view c.look-sight.new.self) c.self.inside.tables
-    c.look-sight.result c.self.invariant c.look-sight.ensures.view slotted
+    let p = g.P.Post.view c.self.inside.post in
+    let looked = g.P.Post.view c.look-sight.new.self in
+    let k = c.in-Answered.phase in
+    IsOfService-ran p looked c.self.inside.tables (k + 1) c.self.invariant
+    (ran-looked p looked c.look-sight.result k c.look-sight.ensures.view (c.self.invariant.state ∙ c.in-Answered.is)
+    (not-true c.look-sight.result.waits c.if-not-sight.true)) slotted
 
 pub returns-then-not-sight : goal.returns-then-not-sight
 returns-then-not-sight g c =
@@ -59,8 +69,10 @@ returns-then-not-sight g c =
     let after : g.P.Post.view c.enter_slots.new.post ≡ saw_at p sight hot =
     ◌∙◌ {b = entered (looked_at p sight)} enters (sym (saw-next p sight hot k (c.self.invariant.state ∙ c.in-Answered.is)
     goes)) in
-    let slice = empty-entered p (g.P.Post.view c.look-sight.new.self) (g.P.Post.view c.enter_slots.new.post) t c.enter_slots.new.self
-    sight k hot c.self.invariant c.in-Answered.is goes c.look-sight.ensures.view e in record {
+    let looked = g.P.Post.view c.look-sight.new.self in
+    let is : p.state ≡ Answered k = c.self.invariant.state ∙ c.in-Answered.is in
+    let slice = empty-entered p looked (g.P.Post.view c.enter_slots.new.post) t c.enter_slots.new.self (k + 1) hot c.self.invariant
+    (idle-answered p.state k is) (ran-looked p looked sight k c.look-sight.ensures.view is goes) e in record {
       sight = search rules;
       ending = search rules;
       looks = (
