@@ -159,8 +159,12 @@ public:
     // Does what the phase asks of the seat: LIKES_RUNS, BETWEEN or GONE.
     likes_status turn() { return outcome(likes_seat_turn(&handle_)); }
 
-    // Leaves for good, where the seat runs a joined phase: LIKES_GONE. Else it is turn().
+    // Leaves, where the seat runs a joined phase: LIKES_GONE. Else it is turn().
     likes_status retire() { return outcome(likes_seat_retire(&handle_)); }
+
+    // Brings a seat back that is gone: LIKES_RUNS, or LIKES_BETWEEN where the phase is ending. Of any other seat it is
+    // turn().
+    likes_status come_back() { return outcome(likes_seat_come_back(&handle_)); }
 
     // The phase that the seat runs or has answered last, and 0 once it is gone.
     std::uint64_t phase() { return likes_seat_phase(&handle_); }

@@ -175,6 +175,21 @@ func TestLastCounts(t *testing.T) {
 	it.is(Empty)(it.driver.Turn(NoEnd))
 }
 
+func TestComeBack(t *testing.T) {
+	it := open(t)
+	counts := make([]uint64, 2)
+	it.is(Runs)(it.seats[0].ComeBack())
+	it.is(Gone)(it.seats[0].Retire())
+	it.is(Runs)(it.seats[0].ComeBack())
+	it.is(Liked)(it.seats[0].Like(2, 1))
+	for _, seat := range it.seats {
+		it.is(Gone)(seat.Retire())
+	}
+	it.is(Counted)(it.driver.LastCounts(0, counts))
+	it.same(counts, []uint64{10, 1})
+	it.is(Between)(it.seats[0].ComeBack())
+}
+
 func TestGoroutinesAtOneSeat(t *testing.T) {
 	it := open(t)
 	var all sync.WaitGroup

@@ -95,11 +95,18 @@ func (s *Seat) Turn() (Status, error) {
 	return outcome(C.likes_seat_turn(&s.c))
 }
 
-// Retire leaves for good, where the seat runs a joined phase: Gone. Else it is Turn.
+// Retire leaves, where the seat runs a joined phase: Gone. Else it is Turn.
 func (s *Seat) Retire() (Status, error) {
 	s.mutex.Lock()
 	defer s.mutex.Unlock()
 	return outcome(C.likes_seat_retire(&s.c))
+}
+
+// ComeBack brings a seat back that is gone: Runs, or Between where the phase is ending. Of any other seat it is Turn.
+func (s *Seat) ComeBack() (Status, error) {
+	s.mutex.Lock()
+	defer s.mutex.Unlock()
+	return outcome(C.likes_seat_come_back(&s.c))
 }
 
 // Phase is the phase that the seat runs or has answered last, and 0 once it is gone.

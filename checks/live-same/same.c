@@ -162,7 +162,7 @@ static void tell_split_pages(service *it) {
 
 /* One of the calls that come less often. */
 static void call_other(service *it, likes_seat *seat) {
-    switch (draw(6)) {
+    switch (draw(7)) {
     case 0:
         propose(it);
         break;
@@ -178,9 +178,12 @@ static void call_other(service *it, likes_seat *seat) {
     case 4:
         printf("phase %" PRIu64, likes_phase_now(&it->phase));
         break;
-    default:
+    case 5:
         if (draw(4) == 0)
             say("retire", likes_seat_retire(seat));
+        break;
+    default:
+        say("come back", likes_seat_come_back(seat));
     }
 }
 

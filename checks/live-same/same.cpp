@@ -162,7 +162,7 @@ struct Service {
 
     // One of the calls that come less often.
     void call_other(likes::Seat &seat) {
-        switch (draw(6)) {
+        switch (draw(7)) {
         case 0:
             return propose();
         case 1:
@@ -173,11 +173,14 @@ struct Service {
             return say("phase", [&] { return std::to_string(driver.phase()); });
         case 4:
             return say("phase", [&] { return std::to_string(phase->now()); });
-        default:
+        case 5:
             if (draw(4) == 0)
                 say("retire", [&] { return text(seat.retire()); });
             else
                 std::cout << "\n";
+            return;
+        default:
+            say("come back", [&] { return text(seat.come_back()); });
         }
     }
 

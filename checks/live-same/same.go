@@ -218,7 +218,7 @@ func (it *service) splitPages() {
 
 // other makes one of the calls that come less often.
 func (it *service) other(seat *likes.Seat) {
-	switch draw(6) {
+	switch draw(7) {
 	case 0:
 		it.propose()
 	case 1:
@@ -229,8 +229,11 @@ func (it *service) other(seat *likes.Seat) {
 		fmt.Fprintln(out, "phase", it.driver.Phase())
 	case 4:
 		fmt.Fprintln(out, "phase", it.phase.Now())
-	default:
+	case 5:
 		it.mayRetire(seat)
+	default:
+		status, _ := seat.ComeBack()
+		fmt.Fprintln(out, "come back", status)
 	}
 }
 

@@ -119,13 +119,15 @@ class Service:
 
     def other(self, seat):
         """One of the calls that come less often."""
-        kind = self.draws.draw(6)
+        kind = self.draws.draw(7)
         if kind == 0:
             self.propose()
         elif kind == 1:
             print(*["split", *self.driver.split_pages(self.draws.draw(4))])
         elif kind < 5:
             say("phase", [seat.phase, self.driver.phase, self.phase.now][kind - 2])
+        elif kind == 6:
+            say("come back", seat.come_back)
         elif self.draws.draw(4) == 0:
             say("retire", seat.retire)
         else:

@@ -199,7 +199,7 @@ impl<'a> Service<'a> {
 
     /// One of the calls that come less often.
     fn other(&mut self, number: usize) -> String {
-        match self.draws.draw(6) {
+        match self.draws.draw(7) {
             0 => {
                 let pages: Vec<_> = (0..self.draws.draw(3)).map(|_| self.page()).collect();
                 self.driver.propose(&pages);
@@ -212,8 +212,9 @@ impl<'a> Service<'a> {
             2 => format!("phase {}", self.seats[number].phase()),
             3 => format!("phase {}", self.driver.phase()),
             4 => format!("phase {}", self.phase.now()),
-            _ if self.draws.draw(4) == 0 => format!("retire {}", self.seats[number].retire()),
-            _ => String::new(),
+            5 if self.draws.draw(4) == 0 => format!("retire {}", self.seats[number].retire()),
+            5 => String::new(),
+            _ => format!("come back {}", self.seats[number].come_back()),
         }
     }
 

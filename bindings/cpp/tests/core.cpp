@@ -145,6 +145,16 @@ static void again() {
     hold(shows(driver.take_seat()->look(0, 1, 0), 1, 1), "a service that goes on");
 }
 
+static void comes_back() {
+    Two two;
+    likes::Seat &seat = two.seats[0];
+    hold(seat.come_back() == LIKES_RUNS && seat.retire() == LIKES_GONE, "a seat that is there");
+    hold(seat.come_back() == LIKES_RUNS && seat.like(2, 1) == LIKES_LIKED, "a seat that comes back");
+    hold(seat.retire() == LIKES_GONE && two.seats[1].retire() == LIKES_GONE, "both retire");
+    two.last_counts({10, 1});
+    hold(seat.come_back() == LIKES_BETWEEN, "after the last counts");
+}
+
 // Destroys a seat of two in some state. Phases go on to change, and its like is counted.
 static void destroy(const std::function<void(Two &)> &like) {
     Two two;
@@ -209,6 +219,7 @@ int main() {
     snapshots();
     split_pages();
     again();
+    comes_back();
     for (auto before : {like, like_in_split_phase, like_before_end, like_and_answer})
         destroy(before);
     threads();

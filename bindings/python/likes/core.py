@@ -107,8 +107,12 @@ class Seat(Held):
         return outcome(self.call(self.library.likes_seat_turn))
 
     def retire(self) -> Status:
-        """Leaves for good, where the seat runs a joined phase: GONE. Else it is turn."""
+        """Leaves, where the seat runs a joined phase: GONE. Else it is turn."""
         return outcome(self.call(self.library.likes_seat_retire))
+
+    def come_back(self) -> Status:
+        """Brings a seat back that is gone: RUNS, or BETWEEN where the phase is ending. Of any other seat it is turn."""
+        return outcome(self.call(self.library.likes_seat_come_back))
 
     def phase(self) -> int:
         """The phase that the seat runs or has answered last, and 0 once it is gone."""

@@ -65,6 +65,7 @@ CALLS: Any = {
     "seat_lasts_nonnull": ([HANDLE, c_uint32, PAGES, c_size_t], c_uint32),
     "seat_turn": ([HANDLE], c_uint32),
     "seat_retire": ([HANDLE], c_uint32),
+    "seat_come_back": ([HANDLE], c_uint32),
     "seat_phase": ([HANDLE], c_uint64),
     "seat_free_nonnull": ([HANDLE], None),
     "phase_now": ([HANDLE], c_uint64),

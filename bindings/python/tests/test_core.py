@@ -105,6 +105,14 @@ class Core(unittest.TestCase):
         self.assertEqual(self.driver.last_counts(), [10, 1])
         self.assertEqual((self.driver.last_counts(1), self.driver.turn()), ([1], Status.ENDED))
 
+    def test_come_back(self):
+        first = self.seats[0]
+        self.assertEqual((first.come_back(), first.retire(), first.come_back()),
+                         (Status.RUNS, Status.GONE, Status.RUNS))
+        first.like(2, 1)
+        self.assertEqual([seat.retire() for seat in self.seats], [Status.GONE] * 2)
+        self.assertEqual((self.driver.last_counts(), first.come_back()), ([10, 1], Status.BETWEEN))
+
     def test_close(self):
         first = self.seats[0]
         self.driver.close()

@@ -81,6 +81,7 @@ extern "C" {
     pub fn likes_seat_lasts_nonnull(seat: *mut Handle, from: u32, pages: *mut Last, pages_len: usize) -> u32;
     pub fn likes_seat_turn(seat: *mut Handle) -> u32;
     pub fn likes_seat_retire(seat: *mut Handle) -> u32;
+    pub fn likes_seat_come_back(seat: *mut Handle) -> u32;
     pub fn likes_seat_phase(seat: *mut Handle) -> u64;
     pub fn likes_seat_free_nonnull(seat: *mut Handle);
 

@@ -124,10 +124,18 @@ impl Seat {
         State::of(number).unwrap_or_else(|| unlisted(number))
     }
 
-    /// Leaves for good, where the seat runs a joined phase, ending or not: [`State::Gone`]. Looks that waited are found
+    /// Leaves, where the seat runs a joined phase, ending or not: [`State::Gone`]. Looks that waited are found
     /// first. In a split phase, and between two phases, it is [`turn`](Self::turn): call it again.
     pub fn retire(&mut self) -> State {
         self.handle.retire()
+    }
+
+    /// Brings a seat back that is gone, into the phase that goes on now: [`State::Runs`]. [`State::Between`], with
+    /// nothing done, where that phase is ending: call it again. Of any other seat it is [`turn`](Self::turn).
+    pub fn come_back(&mut self) -> State {
+        // SAFETY: the seat is borrowed for this call.
+        let number = unsafe { ffi::likes_seat_come_back(self.at()) };
+        State::of(number).unwrap_or_else(|| unlisted(number))
     }
 
     /// The phase that the seat runs or has answered last, and 0 once it is gone. Phases with odd numbers are split.

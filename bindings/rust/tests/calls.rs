@@ -170,6 +170,23 @@ fn a_service_goes_on_from_another() {
     assert_eq!(seats[0].look(2, 1, 0), Ok(Look::Seen(seen(Some(1), 8))));
 }
 
+#[test]
+fn a_seat_comes_back() {
+    let (mut driver, mut seats) = open(&Options::new(2, 3), &[5, 7]);
+    assert_eq!(seats[0].come_back(), State::Runs);
+    assert_eq!(seats[0].like(2, 1), Ok(Like::Liked));
+    assert_eq!(seats[0].retire(), State::Gone);
+    assert_eq!(seats[0].come_back(), State::Runs);
+    assert_eq!(seats[0].like(2, 1), Ok(Like::Liked));
+    for seat in &mut seats {
+        assert_eq!(seat.retire(), State::Gone);
+    }
+    let mut counts = [0; 2];
+    assert_eq!(driver.last_counts(0, &mut counts), Ok(LastCounts::Counted));
+    assert_eq!(counts, [5, 9]);
+    assert_eq!(seats[0].come_back(), State::Between);
+}
+
 /// Drops a seat of two in some state, and sees that phases change and that its likes are counted.
 fn drop_a_seat(before: impl FnOnce(&mut Driver, &mut [Seat])) {
     let (mut driver, mut seats) = open_two();
