@@ -43,11 +43,11 @@ static void sleep_for(uint64_t nanoseconds) {
     nanosleep(&length, NULL);
 }
 
-/* A service in which page 0 is split in every split phase, and others may be. */
-static void start(uint32_t room, uint32_t period) {
+/* A service in which page 0 is split in every split phase; and others, where hot pages are found. */
+static void start(uint32_t room, uint32_t period, uint32_t hot) {
     static const uint64_t counts[PAGES];
     static const uint32_t marks[] = {0};
-    likes_options options = {.seats = SEATS, .users = USERS, .room = room, .hot = 512};
+    likes_options options = {.seats = SEATS, .users = USERS, .room = room, .hot = hot};
 #ifdef OPAQUE
     IS(likes_service_open(&options, counts, PAGES, marks, 1, NULL, 0, period, &service), LIKES_OK);
 #else
@@ -115,7 +115,7 @@ static void moments(uint32_t period) {
     uint64_t counts[PAGES], likes = 0;
     uint32_t lasts[USERS], split[LIKES_MAX_SPLIT];
     likes_statistics told;
-    start(64, period);
+    start(64, period, 512);
     for (uint32_t i = 0; i < USERS; i++) {
         likers[i].user = i;
         likers[i].likes = 0;
@@ -178,7 +178,7 @@ static void late_looks(void) {
     likes_statistics told;
     likes_found found;
     uint64_t totals[PAGES];
-    start(8, 1000000);
+    start(8, 1000000, 0);
     uint64_t phase = go_to_split();
     IS(likes_service_look_within(service, 0, 2, 1000000, &answer), LIKES_SEEN);
     for (int n = 0; n < 3; n++)
@@ -217,7 +217,7 @@ static void held_seat(void) {
     uint32_t held = 1, lasts[USERS];
     uint64_t totals[PAGES];
     likes_answer answer;
-    start(8, 1000);
+    start(8, 1000, 512);
     IS(pthread_create(&thread, NULL, hold_seat, &held), 0);
     sleep_for(20 * MS);
     be_late(1, 2);
@@ -254,7 +254,7 @@ static void deadlines(uint32_t room, uint32_t period) {
     static liker likers[USERS];
     likes_statistics told;
     uint64_t totals[PAGES];
-    start(room, period);
+    start(room, period, 512);
     for (uint32_t i = 0; i < USERS; i++) {
         likers[i].user = i;
         likers[i].likes = 0;

@@ -19,7 +19,7 @@
  *     wants the seat sleeps too. If its call comes too late LIKES_MISSES times, no split phase ends before the call is
  *     made (`starving`).
  *   - A service without calls. After LIKES_QUIET_ROUNDS rounds without a call and without a seat that is held, a joined
- *     phase goes on, and the driver's thread sleeps for a second at a time. The next call wakes it (`is_resting`).
+ *     phase goes on, and the driver's thread sleeps until the next call wakes it (`is_resting`).
  */
 #ifndef LIKES_HELPERS_H
 #define LIKES_HELPERS_H
@@ -61,8 +61,8 @@ extern "C" {
 /* So long a call tries again before it sleeps, in nanoseconds. */
 #define LIKES_SPIN_TIME UINT64_C(50000)
 
-/* So long a thread sleeps at most if nobody wakes it: one that waits for a phase, the driver's thread while phases
- * change, and while the service has no calls, in nanoseconds. */
+/* So long a thread sleeps at most if nobody wakes it, in nanoseconds: one that waits for a phase; the driver's thread
+ * while threads hold their seats; and else while a phase goes on. */
 #define LIKES_PHASE_NAP UINT64_C(10000000)
 #define LIKES_DRIVER_NAP UINT64_C(1000000)
 #define LIKES_LONG_NAP UINT64_C(1000000000)
@@ -395,9 +395,9 @@ static inline void likes_service_call(likes_service *service) {
     pthread_cond_signal(&service->woken);
 }
 
-/* The driver's thread sleeps for so many nanoseconds, or until it is called. */
+/* The driver's thread sleeps for so many nanoseconds, or without end for UINT64_MAX, or until it is called. */
 static inline void likes_service_sleep(likes_service *service, uint64_t nanoseconds) {
-    uint64_t until = likes_clock() + nanoseconds;
+    uint64_t until = nanoseconds == UINT64_MAX ? UINT64_MAX : likes_clock() + nanoseconds;
     pthread_mutex_lock(&service->napping);
     while (!service->is_called && likes_clock() < until)
         likes_wait_until(&service->woken, &service->napping, until);
@@ -1096,9 +1096,12 @@ LIKES_SERVICE_CALL size_t likes_service_split_pages(likes_service *service, uint
     return written;
 }
 
-/* How long the driver's thread sleeps in a phase that runs: until the phase is due. Where threads hold their seats,
- * that is a millisecond at most: those that call their seats directly don't tell when looks take half of the room. */
+/* How long the driver's thread sleeps in a phase that runs: until the phase is due, and without end where the service
+ * rests. Where threads hold their seats, that is a millisecond at most: those that call their seats directly don't tell
+ * when looks take half of the room. */
 static inline uint64_t likes_service_nap(likes_service *service) {
+    if (__atomic_load_n(&service->is_resting, __ATOMIC_SEQ_CST))
+        return UINT64_MAX;
     uint64_t left = likes_time_left(&service->due, likes_clock());
     uint64_t most = likes_service_was_held(service, LIKES_HELD_NAP) ? LIKES_DRIVER_NAP : LIKES_LONG_NAP;
     return left < LIKES_SPIN_TIME ? LIKES_SPIN_TIME : left > most ? most : left;
