@@ -56,10 +56,12 @@ void *realloc(void *block, size_t size) {
 }
 
 enum { PAGES = 1000000, USERS = 1000000, ROOM = 256, TOUCHED = 12000000, SPLIT = 64, TIMES = 21, CHANGES = 1001 };
+enum { SEATS = 4, RETURNS = 1000000 };
 
 static uint64_t counts[PAGES];
 static likes_driver driver;
 static likes_seat seats[LIKES_MAX_SEATS];
+static bool is_over;
 
 static void hold(bool is_right, const char *text) {
     if (!is_right) {
@@ -159,6 +161,58 @@ static void measure_changes(uint32_t number, uint32_t pages) {
     free_service(number);
 }
 
+/* Likes a page as fast as it can. */
+static void *like_on(void *at) {
+    uint32_t number = (uint32_t)((likes_seat *)at - seats);
+    while (!__atomic_load_n(&is_over, __ATOMIC_RELAXED))
+        hold(likes_seat_like((likes_seat *)at, number, 0) == LIKES_LIKED, "no like");
+    return NULL;
+}
+
+/* Has a seat retire and come back in a joined phase, beside so many threads that like the same page. */
+static void measure_returns(uint32_t threads) {
+    pthread_t others[SEATS];
+    open_service(SEATS, 1000, SEATS, ROOM, SPLIT);
+    for (uint32_t i = 0; i < SEATS; i++)
+        hold(likes_driver_take_seat(&driver, &seats[i]) == LIKES_OK, "no seat was taken");
+    is_over = false;
+    for (uint32_t i = 0; i < threads; i++)
+        hold(pthread_create(&others[i], NULL, like_on, &seats[1 + i]) == 0, "no thread was started");
+    uint32_t returned = 0;
+    double began = worked();
+    for (uint32_t i = 0; i < RETURNS; i++) {
+        likes_seat_retire(&seats[0]);
+        returned += likes_seat_come_back(&seats[0]) == LIKES_RUNS;
+    }
+    double took = worked() - began;
+    __atomic_store_n(&is_over, true, __ATOMIC_RELAXED);
+    for (uint32_t i = 0; i < threads; i++)
+        pthread_join(others[i], NULL);
+    printf("%7u %12.0f %12u\n", threads, took * 1e3 / RETURNS, RETURNS - returned);
+    free_service(SEATS);
+}
+
+/* Has a seat come back into a split phase, with 64 split pages. */
+static void measure_split_returns(void) {
+    static double times[CHANGES];
+    open_service(2, 1000, 2, ROOM, SPLIT);
+    for (uint32_t i = 0; i < 2; i++)
+        hold(likes_driver_take_seat(&driver, &seats[i]) == LIKES_OK, "no seat was taken");
+    for (int time = 0; time < CHANGES; time++) {
+        hold(likes_seat_retire(&seats[0]) == LIKES_GONE, "a seat did not retire");
+        hold(likes_driver_turn(&driver, LIKES_END_IF_IT_SERVES) == LIKES_ANNOUNCED, "no end was announced");
+        likes_seat_turn(&seats[1]);
+        hold(likes_driver_turn(&driver, LIKES_NO_END) == LIKES_RELEASED, "no phase was released");
+        double began = worked();
+        hold(likes_seat_come_back(&seats[0]) == LIKES_RUNS, "a seat did not come back");
+        times[time] = worked() - began;
+        likes_seat_turn(&seats[1]);
+        change(2);
+    }
+    printf("\ninto a split phase with %d split pages: %.1f us\n", SPLIT, median(times, CHANGES));
+    free_service(2);
+}
+
 int main(void) {
     static const uint32_t numbers[] = {1, 16, 64};
     /* Large blocks are new ones each time, which the system has yet to give pages for. */
@@ -173,5 +227,10 @@ int main(void) {
         measure_changes(numbers[i], 1000);
     for (int i = 1; i < 3; i++)
         measure_changes(numbers[i], PAGES);
+    printf("\na retirement and a return in a joined phase, beside threads that like, mean of %d\n", RETURNS);
+    printf("%7s %12s %12s\n", "threads", "ns", "refused");
+    measure_returns(0);
+    measure_returns(SEATS - 1);
+    measure_split_returns();
     return 0;
 }

@@ -802,6 +802,56 @@ static void rows(void) {
     free_service(&it);
 }
 
+static void change_by_seat_1(opened *it) {
+    IS(likes_driver_turn(&it->driver, LIKES_END_IF_IT_SERVES), LIKES_ANNOUNCED);
+    IS(likes_seat_come_back(&it->seats[0]), LIKES_BETWEEN);
+    IS(likes_seat_turn(&it->seats[1]), LIKES_BETWEEN);
+    IS(likes_seat_come_back(&it->seats[0]), LIKES_BETWEEN);
+    IS(likes_driver_turn(&it->driver, LIKES_END_IF_IT_SERVES), LIKES_RELEASED);
+}
+
+/* Seat 0 is away in phases 1 and 2, and comes back in phase 3. Both leave phase 4 while it is ending, and seat 1 comes
+ * back in phase 5. After the last counts nobody does. */
+static void comes_back(void) {
+    const uint64_t counts[] = {10, 20};
+    const uint32_t marks[] = {0};
+    uint64_t last[2];
+    likes_answer answer;
+    likes_seat none = {0};
+    IS(likes_seat_come_back(&none), LIKES_EMPTY);
+    opened it = open_service((likes_options){.seats = 2, .users = 4, .room = 1, .hot = 0}, counts, 2, marks, 1);
+    IS(likes_seat_come_back(&it.seats[0]), LIKES_RUNS);
+    IS(likes_seat_like(&it.seats[0], 0, 0), LIKES_LIKED);
+    IS(likes_seat_retire(&it.seats[0]), LIKES_GONE);
+    change_by_seat_1(&it);
+    IS(likes_seat_like(&it.seats[1], 1, 0), LIKES_LIKED);
+    change_by_seat_1(&it);
+    change_by_seat_1(&it);
+    IS(likes_seat_come_back(&it.seats[0]), LIKES_RUNS);
+    IS(likes_seat_phase(&it.seats[0]), 3);
+    IS(likes_seat_like(&it.seats[0], 0, 0), LIKES_LIKED);
+    IS(likes_seat_glance(&it.seats[0], 0, 0, &answer), LIKES_SEEN);
+    IS(answer.count, 13);
+    IS(likes_seat_come_back(&it.seats[0]), LIKES_RUNS);
+    change_phase(&it, 2);
+    IS(likes_driver_turn(&it.driver, LIKES_END_IF_IT_SERVES), LIKES_ANNOUNCED);
+    IS(likes_seat_retire(&it.seats[0]), LIKES_GONE);
+    IS(likes_seat_retire(&it.seats[1]), LIKES_GONE);
+    IS(likes_seat_come_back(&it.seats[0]), LIKES_BETWEEN);
+    IS(likes_driver_turn(&it.driver, LIKES_NO_END), LIKES_RELEASED);
+    IS(likes_driver_turn(&it.driver, LIKES_NO_END), LIKES_ENDED);
+    IS(likes_seat_come_back(&it.seats[1]), LIKES_RUNS);
+    IS(likes_driver_turn(&it.driver, LIKES_NO_END), LIKES_GOES_ON);
+    IS(likes_seat_like(&it.seats[1], 1, 0), LIKES_LIKED);
+    change_by_seat_1(&it);
+    IS(likes_seat_retire(&it.seats[1]), LIKES_GONE);
+    IS(likes_driver_last_counts(&it.driver, 0, last, 2), LIKES_COUNTED);
+    IS(last[0], 14);
+    IS(last[1], 20);
+    IS(likes_seat_come_back(&it.seats[0]), LIKES_BETWEEN);
+    free_service(&it);
+}
+
 /* Calls after the seat is gone: a status, and found looks can still be taken. */
 static void after_gone(void) {
     const uint64_t counts[] = {10, 20};
@@ -1205,6 +1255,7 @@ int main(int count, char **words) {
     order_of_refusals();
     rows();
     after_gone();
+    comes_back();
     last_counts();
     all_gone_in_split();
     last_of_ending();

@@ -1,4 +1,4 @@
-/* Random hosts: rounds of threads that like and look at whichever seat is free, pause, rest and retire seats, over
+/* Random hosts: rounds of threads that like and look at whichever seat is free, pause, rest, retire and come back, over
  * phases of random lengths. What the calls answer is compared with a model that was written from likes.h alone
  * (live-model.h, live-events.h).
  *
@@ -21,7 +21,8 @@
 /* A round in numbers. */
 typedef struct {
     uint32_t threads, calls, longest;
-    uint32_t end_share; /* in how many of 100 turns the end may be asked for; 0: the first phase never ends */
+    uint32_t end_share; /* in how many of 100 turns the end may be asked for; 0: in split phases alone, which only come
+                           where last counts have ended a phase into which a seat came back */
     bool is_shared;     /* whether the seats' threads make turns of the driver too */
     bool is_abandoned;  /* whether the driver is freed while seats go on */
 } schedule;
@@ -157,15 +158,18 @@ static void act(player *by, uint32_t number) {
         take_some(by, number);
     else if (choice < 960)
         look_at_last(by, number);
-    else if (choice < 985)
+    else if (choice < 980)
         turn_seat(by->game, number);
+    else if (choice < 985)
+        return_seat(by->game, number);
     else if (choice < 990)
         check_phase(by->game, number);
     else if (choice < 995)
         pause_for(&by->random, by->plan->longest);
 }
 
-/* A seat that has made its calls retires. Then it is called a few times more, and it may be freed before or after. */
+/* A seat that has made its calls retires. Then it is called a few times more. It may come back a few times, and be freed
+ * in the end. */
 static void leave(player *by, uint32_t number) {
     game *it = by->game;
     seat *at = &it->seats[number];
@@ -179,6 +183,12 @@ static void leave(player *by, uint32_t number) {
         at->late_calls -= is_left;
         if (is_left)
             act(by, number);
+        return;
+    }
+    if (at->status == LIKES_GONE && at->returns > 0) {
+        at->returns--;
+        at->calls = (uint32_t)low(&by->random, 200);
+        return_seat(it, number);
         return;
     }
     if (at->status != LIKES_EMPTY && one_in(&by->random, 4)) {
@@ -297,7 +307,8 @@ static void hold_up(game *it, uint64_t *random) {
 /* What a thread does with the driver that it holds. It holds no seat. */
 static void lead(game *it, const schedule *plan, uint64_t *random) {
     uint64_t choice = below(random, 64);
-    bool may_end = below(random, 100) < plan->end_share;
+    bool is_split = it->record.phases_len % 2 == 0;
+    bool may_end = below(random, 100) < plan->end_share || (plan->end_share == 0 && is_split);
     if (choice < 8 && it->record.moments_len < 256)
         take_counts(it, random, likes_driver_snapshot);
     else if (choice == 8)
@@ -486,6 +497,7 @@ static void open_game(game *it, const schedule *plan, uint64_t *random) {
         at->waits = (wait *)calloc(of->options.room, sizeof *at->waits);
         at->calls = (uint32_t)below(random, plan->calls);
         at->late_calls = (uint32_t)low(random, 20);
+        at->returns = (uint32_t)low(random, 50);
         if (at->waits == NULL)
             abort();
     }
@@ -562,10 +574,14 @@ int main(int count, char **words) {
                (unsigned long long)all_split);
         return 1;
     }
+    if (rounds > 100 && load(&all_returns) == 0) {
+        puts("no seat came back");
+        return 1;
+    }
     printf("%llu rounds held, with %llu events, %llu phases, %llu looks that waited, %llu ranges of counts, %llu pages "
-           "that were proposed, of which %llu were split, and %llu that were found\n",
+           "that were proposed, of which %llu were split, %llu that were found, and %u returns\n",
            (unsigned long long)rounds, (unsigned long long)all_events, (unsigned long long)all_phases,
            (unsigned long long)all_waits, (unsigned long long)all_moments, (unsigned long long)all_proposed,
-           (unsigned long long)all_split, (unsigned long long)all_found);
+           (unsigned long long)all_split, (unsigned long long)all_found, load(&all_returns));
     return 0;
 }

@@ -22,11 +22,11 @@ typedef struct {
     pthread_mutex_t lock;
     likes_seat handle;
     uint32_t status; /* LIKES_RUNS, LIKES_BETWEEN or LIKES_GONE, as of its last call; LIKES_EMPTY: freed */
-    uint64_t phase, likes;
+    uint64_t phase, likes, left; /* `left`: the phase from which it may have retired */
     wait *waits; /* a ring of as many as it has room for */
     uint32_t first, length;
     bool is_leaving, is_done;
-    uint32_t calls, late_calls; /* how many it has left, until it retires and after that */
+    uint32_t calls, late_calls, returns; /* how many it has left, until it retires and after that */
 } seat;
 
 /* Pages that are proposed for split phases. */
@@ -41,9 +41,12 @@ typedef struct {
     record record;
     seat seats[LIKES_MAX_SEATS];
     uint32_t leaving, gone, done; /* how many seats are; atomic */
+    uint32_t returns, over;       /* how often a seat tried to come back; whether last counts were written; atomic */
     pthread_mutex_t driving;      /* of the driver and what is known of it, down to `phase` */
     likes_driver driver;
     bool is_ending, is_over;
+    bool may_be_ending; /* likes_driver_last_counts may have announced the end, at some time of `maybe` */
+    span maybe;
     bool is_all_in;  /* every seat has answered the phase that is ending, for certain */
     bool is_held_up; /* a seat has not */
     proposal asked;  /* what is proposed now */
@@ -55,6 +58,9 @@ typedef struct {
 
 /* How many pages were proposed, of these how many were split, and how many the library has found. */
 static uint64_t all_proposed, all_split, all_found;
+
+/* How many seats came back; atomic. */
+static uint32_t all_returns;
 
 static void spoil(void *at, size_t size) {
     memset(at, UNWRITTEN, size);
@@ -71,6 +77,32 @@ static uint32_t load(const uint32_t *at) {
 
 static void count(uint32_t *at) {
     __atomic_add_fetch(at, 1, __ATOMIC_SEQ_CST);
+}
+
+static void discount(uint32_t *at) {
+    __atomic_sub_fetch(at, 1, __ATOMIC_SEQ_CST);
+}
+
+/* How many seats tried to come back, were leaving and were gone, before a call of the driver. */
+typedef struct {
+    uint32_t returns, leaving, gone;
+} before;
+
+static before look_before(const game *it) {
+    before now = {.returns = load(&it->returns)};
+    now.gone = load(&it->gone);
+    now.leaving = load(&it->leaving);
+    return now;
+}
+
+/* Whether all seats were gone for certain while a call was made, and whether they may have been at some time. */
+static bool were_gone(const game *it, before then) {
+    return then.gone == it->record.options.seats && load(&it->returns) == then.returns;
+}
+
+static bool may_be_gone(const game *it, before then) {
+    uint32_t seats = it->record.options.seats;
+    return then.leaving == seats || load(&it->leaving) == seats || load(&it->returns) != then.returns;
 }
 
 /* A seat enters a joined phase: all that waits is found, in this call. */
@@ -371,8 +403,41 @@ static uint32_t retire_seat(game *it, uint32_t number) {
              (unsigned long long)at->phase);
     find_all(it, at, of.start, of.end);
     at->status = LIKES_GONE;
+    at->left = at->phase;
     at->phase = 0;
     count(&it->gone);
+    return status;
+}
+
+/* Has a seat come back. One that is gone runs the present phase, or nothing is done. Nobody comes back once last counts
+ * were written. */
+static uint32_t return_seat(game *it, uint32_t number) {
+    seat *at = &it->seats[number];
+    bool was_gone = at->status == LIKES_GONE, is_over = load(&it->over) != 0;
+    if (was_gone) {
+        discount(&it->gone);
+        count(&it->returns);
+    }
+    span of = {time_before(&it->record), 0};
+    uint32_t status = likes_seat_come_back(&at->handle);
+    of.end = time_after(&it->record);
+    if (!was_gone) {
+        take_turn(it, number, status, of);
+        return status;
+    }
+    uint64_t phase = likes_seat_phase(&at->handle);
+    if (status == LIKES_RUNS ? is_over || phase < at->left : status != LIKES_BETWEEN || phase != 0)
+        fail(&it->record, "seat %u, which left phase %llu, came back into phase %llu: %s", number,
+             (unsigned long long)at->left, (unsigned long long)phase, likes_status_text(status));
+    if (status != LIKES_RUNS) {
+        count(&it->gone);
+        return status;
+    }
+    at->status = status;
+    at->phase = phase;
+    at->is_leaving = false;
+    discount(&it->leaving);
+    count(&all_returns);
     return status;
 }
 
@@ -389,9 +454,10 @@ static bool would_split(const game *it) {
     return it->record.marks_len > 0 || (!it->taken.is_sampled && has_page(it, &it->taken));
 }
 
-/* Whether a turn of the driver may give this answer. All seats may be gone, or are for certain. */
-static bool may_turn(const game *it, uint32_t end, bool are_gone, uint32_t status) {
+/* Whether a turn of the driver may give this answer. */
+static bool may_turn(const game *it, uint32_t end, before then, uint32_t status) {
     const record *of = &it->record;
+    bool are_gone = were_gone(it, then);
     bool is_split = of->phases_len % 2 == 0;
     bool splits = would_split(it) || has_page(it, &it->asked), finds = it->taken.is_sampled || it->asked.is_sampled;
     if (end > LIKES_END)
@@ -402,7 +468,7 @@ static bool may_turn(const game *it, uint32_t end, bool are_gone, uint32_t statu
         return status == LIKES_RELEASED ? !it->is_held_up : status == LIKES_NOT_ALL_IN && !it->is_all_in && !are_gone;
     bool is_asked = end == LIKES_END || (end == LIKES_END_IF_IT_SERVES && (is_split || splits));
     if (status == LIKES_ENDED)
-        return load(&it->leaving) == of->options.seats && !(is_split && is_asked);
+        return may_be_gone(it, then) && !(is_split && is_asked);
     if (are_gone && !is_split)
         return false;
     if (status == LIKES_ANNOUNCED)
@@ -410,11 +476,12 @@ static bool may_turn(const game *it, uint32_t end, bool are_gone, uint32_t statu
     return status == LIKES_GOES_ON && !is_asked && !are_gone;
 }
 
-/* Takes what is proposed, where a turn does: it has ended a split phase, or it may end a joined one, and no page would
- * be split in the next. The library alone knows whether it has found pages before: then these may stay. */
+/* Takes what is proposed, where a turn does: it has ended a split phase, or it may end a joined one that not all seats
+ * have left, and no page would be split in the next. The library alone knows whether it has found pages before: then these may stay. */
 static void take_proposal(game *it, uint32_t end, uint32_t status) {
     bool is_split = it->record.phases_len % 2 == 0, may_end = end == LIKES_END_IF_IT_SERVES || end == LIKES_END;
-    if (is_split ? status != LIKES_ANNOUNCED : it->is_ending || !may_end || would_split(it))
+    bool may_take = may_end && !it->is_ending && status != LIKES_ENDED && !would_split(it);
+    if (is_split ? status != LIKES_ANNOUNCED : !may_take)
         return;
     bool may_stay = !is_split && it->taken.is_sampled && status == LIKES_ANNOUNCED;
     it->taken = it->asked;
@@ -497,14 +564,24 @@ static void propose(game *it, const uint32_t *pages, size_t length) {
         it->asked.pages[n] = pages[n];
 }
 
-/* Makes a turn of the driver. */
+/* The phase is ending, by a call that wasn't told so. */
+static void note_ending(game *it) {
+    note_announcement(&it->record, it->maybe.start, it->maybe.end, false);
+    it->is_ending = true;
+    it->may_be_ending = false;
+}
+
+/* Makes a turn of the driver. It tells whether the phase was ending. */
 static uint32_t turn_driver(game *it, uint32_t end) {
     record *of = &it->record;
-    bool are_gone = load(&it->gone) == of->options.seats;
+    before then = look_before(it);
     uint64_t start = time_before(of);
     uint32_t status = likes_driver_turn(&it->driver, end);
     uint64_t after = time_after(of);
-    if (!may_turn(it, end, are_gone, status))
+    if (it->may_be_ending && (status == LIKES_NOT_ALL_IN || status == LIKES_RELEASED))
+        note_ending(it);
+    it->may_be_ending &= status == LIKES_UNKNOWN_END;
+    if (!may_turn(it, end, then, status))
         fail(of, "phase %zu: a turn of the driver, for end %u, was answered %s", of->phases_len - 1, end,
              likes_status_text(status));
     take_proposal(it, end, status);
@@ -526,17 +603,33 @@ static uint32_t turn_driver(game *it, uint32_t end) {
 /* A call that writes the counts of a range of pages: likes_driver_snapshot or likes_driver_last_counts. */
 typedef uint32_t ranged(likes_driver *driver, uint32_t from, uint64_t *counts, size_t counts_len);
 
-/* Whether a call may be answered so about a range that is there. All seats may have been gone before it for certain. */
-static bool may_be_told(const game *it, ranged *call, bool are_gone, uint32_t status) {
+/* Whether a call may be answered so about a range that is there. */
+static bool may_be_told(const game *it, ranged *call, before then, uint32_t status) {
     bool is_joined = it->record.phases_len % 2 == 1;
-    uint32_t seats = it->record.options.seats;
     if (call == likes_driver_last_counts) {
-        bool must = it->is_over || (is_joined && are_gone);
-        bool may = it->is_over || (is_joined && load(&it->leaving) == seats && !it->is_held_up);
+        bool must = it->is_over || (is_joined && were_gone(it, then));
+        bool may = it->is_over || (is_joined && may_be_gone(it, then) && !it->is_held_up);
         return status == LIKES_COUNTED ? may : status == LIKES_NOT_ENDED && !must;
     }
-    bool may = it->is_ending && is_joined && !it->is_over && !it->is_held_up;
+    bool may = (it->is_ending || it->may_be_ending) && is_joined && !it->is_over && !it->is_held_up;
     return status == LIKES_COUNTED ? may : status == LIKES_NO_MOMENT && !(may && it->is_all_in);
+}
+
+/* Notes what an answer about counts tells of the phase. Last counts announce the end of a joined phase that all seats
+ * have left, also where one comes back before they look again. */
+static void take_told(game *it, ranged *call, before then, uint32_t status, span of) {
+    if (status == LIKES_COUNTED && call == likes_driver_snapshot) {
+        if (it->may_be_ending)
+            note_ending(it);
+        it->is_all_in = true;
+    } else if (status == LIKES_COUNTED) {
+        it->is_over = true;
+        if (load(&it->over) == 0)
+            count(&it->over);
+    } else if (status == LIKES_NOT_ENDED && it->record.phases_len % 2 == 1 && !it->is_ending && may_be_gone(it, then)) {
+        it->maybe = (span){it->may_be_ending ? it->maybe.start : of.start, of.end};
+        it->may_be_ending = true;
+    }
 }
 
 /* Has the counts of a range written, and keeps them for the end of the round. Gives the answer. */
@@ -545,19 +638,18 @@ static uint32_t write_counts(game *it, ranged *call, uint32_t from, size_t lengt
     if (room == NULL)
         abort();
     spoil(room, (length + 2) * sizeof *room);
-    bool are_gone = load(&it->gone) == it->record.options.seats;
+    before then = look_before(it);
+    span of = {time_before(&it->record), 0};
     uint32_t status = call(&it->driver, from, length == 0 ? NULL : room + 1, length);
+    of.end = time_after(&it->record);
     bool is_there = from <= it->record.pages && length <= it->record.pages - from;
-    if (is_there ? !may_be_told(it, call, are_gone, status) : status != LIKES_WRONG_RANGE)
+    if (is_there ? !may_be_told(it, call, then, status) : status != LIKES_WRONG_RANGE)
         fail(&it->record, "phase %zu: the counts of %zu pages from %u are answered %s", it->record.phases_len - 1,
              length, from, likes_status_text(status));
     size_t written = status == LIKES_COUNTED ? length : 0;
     if (!is_spoilt(room, sizeof *room) || !is_spoilt(room + 1 + written, (length + 1 - written) * sizeof *room))
         fail(&it->record, "the answer %s wrote beside %zu counts", likes_status_text(status), written);
-    if (status == LIKES_COUNTED && call == likes_driver_last_counts)
-        it->is_over = true;
-    if (status == LIKES_COUNTED && call == likes_driver_snapshot)
-        it->is_all_in = true;
+    take_told(it, call, then, status, of);
     if (written == 0) {
         free(room);
         return status;

@@ -196,8 +196,11 @@ static void end(void) {
     uint64_t counts[PAGES];
     IS(likes_driver_last_counts(&driver, 0, counts, PAGES), LIKES_NOT_ENDED);
     IS(likes_driver_last_counts(&driver, 1, counts, PAGES), LIKES_WRONG_RANGE);
-    for (uint32_t i = 0; i < SEATS; i++)
+    for (uint32_t i = 0; i < SEATS; i++) {
         IS(likes_seat_retire(&seats[i]), LIKES_GONE);
+        IS(likes_seat_come_back(&seats[i]), LIKES_RUNS);
+        IS(likes_seat_retire(&seats[i]), LIKES_GONE);
+    }
     IS(likes_driver_turn(&driver, LIKES_END_IF_IT_SERVES), LIKES_ENDED);
     IS(likes_driver_last_counts(&driver, 0, counts, PAGES), LIKES_COUNTED);
     IS(likes_driver_last_counts(&driver, 10, counts, 20), LIKES_COUNTED);
