@@ -12,19 +12,19 @@ import runs
 # What is typed in new spaces of mounts and networks: it makes a root over this machine's, whose changes are in memory.
 ENTERED = """\
 mount -t tmpfs tmpfs memory
-mkdir memory/upper memory/work memory/root
-mount -t overlay overlay -o lowerdir=/,upperdir=memory/upper,workdir=memory/work memory/root
+mkdir memory/upper memory/work memory/whole
+mount -t overlay overlay -o lowerdir=/,upperdir=memory/upper,workdir=memory/work memory/whole
 """
 
 # What makes that root ready, where AWAY stands for what isn't to be there, and goes into it.
 PREPARED = """\
-rm -rf AWAY memory/root/usr/local/include/likes* memory/root/usr/local/lib/liblikes*
-mount --rbind /dev memory/root/dev
-mount -t proc proc memory/root/proc
+rm -rf AWAY memory/whole/usr/local/include/likes* memory/whole/usr/local/lib/liblikes*
+mount --rbind /dev memory/whole/dev
+mount -t proc proc memory/whole/proc
 ip link set lo up
-mkdir memory/root/try
-cp package.deb typed.sh memory/root/try
-env -i HOME=/try PATH="$PATH" GOPROXY=off chroot memory/root sh -e /try/typed.sh
+mkdir memory/whole/try
+cp package.deb typed.sh memory/whole/try
+env -i HOME=/try PATH="$PATH" GOPROXY=off chroot memory/whole sh -e /try/typed.sh
 """
 
 # What is typed in the root before the lines of the examples, and after them.
@@ -84,7 +84,7 @@ def tried(package, folder):
     with open(f"{folder}/typed.sh", "w", encoding="utf-8") as file:
         file.write(f"{BEFORE}{lines}{AFTER}")
     kit = os.path.dirname(os.path.dirname(os.path.realpath(shutil.which("rt"))))
-    away = " ".join(shlex.quote(f"memory/root{name}") for name in (kit, shutil.which("rt"), runs.ROOT))
+    away = " ".join(shlex.quote(f"memory/whole{name}") for name in (kit, shutil.which("rt"), runs.ROOT))
     ended = runs.run([*enters, ENTERED + PREPARED.replace("AWAY", away)], folder, seconds=600)
     told = ended.out.decode(errors="replace")
     is_right = ended.status == 0 and not ended.errors and re.fullmatch(rf"{printed}nothing is left\n", told)

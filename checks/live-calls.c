@@ -802,6 +802,7 @@ static void rows(void) {
     free_service(&it);
 }
 
+/* Changes the phase by the calls of seat 1. Seat 0, which is gone, can't come back meanwhile. */
 static void change_by_seat_1(opened *it) {
     IS(likes_driver_turn(&it->driver, LIKES_END_IF_IT_SERVES), LIKES_ANNOUNCED);
     IS(likes_seat_come_back(&it->seats[0]), LIKES_BETWEEN);
