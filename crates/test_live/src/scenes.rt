@@ -373,14 +373,16 @@ const SCENES: &[Scene] = &[
             Step::Driver(OnDriver::LastCounts(true, [11, 20])),
         ]],
     },
-    // Seat 0 is away in phases 1 and 2, and comes back in phase 3. Both leave phase 4 while it is ending, and seat 1 comes
-    // back in phase 5.
+    // Seat 0 leaves phase 0 twice, is away in phases 1 and 2, and comes back in phase 3. Both leave phase 4 while it is
+    // ending, and seat 1 comes back in phase 5.
     Scene {
         name: "live_back",
         seats: 2,
         room: 1,
         parts: &[
             &[
+                retire!(0),
+                come_back!(0, Runs),
                 like!(0, 0, 0),
                 retire!(0),
                 drive!(IfItServes, Announced),
