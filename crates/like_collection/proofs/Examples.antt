@@ -1,8 +1,8 @@
 -- The entries of a request, and the answer of one: numbers count from 1.
 use Rattle.std.proofs.Common.{◌≡◌, ℕ, [], ◌∷◌, None, Some, false, refl}
-use Rattle.like_service.specs.declared.log.Ran.{Ran}
-use Rattle.like_service.specs.declared.reply.Reply.TheVariants.{Liked}
-use Rattle.like_service.specs.Collected.{answer_at, answer_of, entries_of}
+use Rattle.like_promises.specs.declared.log.Ran.{Ran}
+use Rattle.like_promises.specs.declared.reply.Reply.TheVariants.{Liked}
+use Rattle.like_promises.specs.Collected.{answer_at, answer_of, entries_of}
 
 -- a like by a submitter, as it ran
 abbrev ran : ℕ → ℕ → Ran

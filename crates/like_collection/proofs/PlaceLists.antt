@@ -8,10 +8,10 @@ use Rattle.std.specs.List.Sorted.{IsNonDecreasingBy, IsStableByKey, ties}
 use Rattle.std.specs.Ordering.{is_lt, nat_cmp}
 use Rattle.std.specs.declared.cmp.Ordering.TheVariants.{Less, Equal, Greater}
 use Rattle.std.specs.List.{enumerate_from, filter, flat_map}
-use Rattle.like_service.specs.declared.log.Added.{Added}
-use Rattle.like_service.specs.declared.log.WorkerLog.{WorkerLog}
-use Rattle.like_service.specs.declared.place.Place.{Place}
-use Rattle.like_service.specs.places.Places.{AreByOld, lists_in, place_made, places_of, places_in}
+use Rattle.like_promises.specs.declared.log.Added.{Added}
+use Rattle.like_promises.specs.declared.log.WorkerLog.{WorkerLog}
+use Rattle.like_promises.specs.declared.place.Place.{Place}
+use Rattle.like_promises.specs.places.Places.{AreByOld, lists_in, place_made, places_of, places_in}
 use Rattle.like_collection.proofs.Lists.{enumerate_from-append}
 
 -- the place of an addition, where it is to the page

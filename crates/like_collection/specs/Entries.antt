@@ -1,7 +1,7 @@
 -- The requests that entries of run lists are of.
 use Rattle.std.specs.Prelude.{◌≡◌, ◌⊎◌, ℕ, ◌<◌, ◌≤◌, ◌==◌, ◌&&◌, All, Bool, List, length, slice_index}
-use Rattle.like_service.specs.declared.log.Ran.{Ran}
-use Rattle.like_service.specs.Collected.{entries_of}
+use Rattle.like_promises.specs.declared.log.Ran.{Ran}
+use Rattle.like_promises.specs.Collected.{entries_of}
 
 -- the submitter has a request with this number, where the submitters have so many each: numbers count from 1
 pub record IsRequest (sizes : List ℕ) (submitter number : ℕ) : Type 0 where

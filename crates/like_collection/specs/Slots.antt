@@ -2,12 +2,12 @@
 use Rattle.std.specs.Prelude.{◌≡◌, ◌≢◌, ℕ, zero, suc, ◌+◌, ◌-◌, ◌<◌, ◌≤◌, All, Bool, if◌then◌else◌, List, [], length, map, slice_index_or, slice_set, Option, Some, None, ⊤}
 use Rattle.std.specs.List.{zip}
 use Rattle.std.specs.Option.{option_to_list}
-use Rattle.like_service.specs.declared.log.Ran.{Ran}
-use Rattle.like_service.specs.declared.answer.Answer.{Answer}
+use Rattle.like_promises.specs.declared.log.Ran.{Ran}
+use Rattle.like_promises.specs.declared.answer.Answer.{Answer}
 use Rattle.like_collection.specs.declared.collect_fault.CollectFault.{CollectFault}
 use Rattle.like_collection.specs.declared.collect_fault.CollectFault.TheVariants.{Stranger, Double, Missing, Memory}
 use Rattle.like_collection.specs.Entries.{IsRequest, Precedes}
-use Rattle.like_service.specs.Collected.{answer_of, entries_of}
+use Rattle.like_promises.specs.Collected.{answer_of, entries_of}
 
 -- the answers at places, of which those marked are there
 abbrev pub answers_there : List Bool → List Answer → List (Option Answer)

@@ -1,14 +1,14 @@
 ghost use Rattle.std.specs.Prelude.{◌≤◌, MatchResult, length};
 ghost use Rattle.like_limits.specs.Limits.{max_submitters};
 ghost use Rattle.like_collection.specs.CollectFaults.{IsCollectFault};
-ghost use Rattle.like_service.specs.Collected.{IsCollected, rows_of, entries_in};
+ghost use Rattle.like_promises.specs.Collected.{IsCollected, rows_of, entries_in};
 
 mod slot_row;
 mod slots;
 
 use self::slots::Slots;
 use crate::collect_fault::CollectFault;
-use like_service::{Replies, WorkerLog};
+use like_promises::{Replies, WorkerLog};
 use std::alloc::Global;
 
 /// Collects the answer of each request from the workers' logs, where the submitters have so many requests each.

@@ -1,9 +1,9 @@
 ghost use Rattle.std.specs.Prelude.{◌≡◌, ◌<◌, ◌≤◌, ◌∷◌, [], ◌++◌, ℕ, All, List, IfOk, OnOk, length, replicate, slice_index_or, slice_set};
 ghost use Rattle.like_limits.specs.Limits.{max_workers};
-ghost use Rattle.like_service.specs.places.Places.{ArePlaces, AreByOld, lists_in, places_of};
-ghost use Rattle.like_service.specs.declared.place.Place.{Place as Entry};
+ghost use Rattle.like_promises.specs.places.Places.{ArePlaces, AreByOld, lists_in, places_of};
+ghost use Rattle.like_promises.specs.declared.place.Place.{Place as Entry};
 
-use like_service::{Added, Place, WorkerLog};
+use like_promises::{Added, Place, WorkerLog};
 use std::alloc::{AllocError, Global};
 
 /// The places of all additions of the workers to each of so many pages, by rising counts before; those with the same one

@@ -12,7 +12,7 @@ use Rattle.like_roles.specs.coordinator.CoordTurns as turns
 use Rattle.like_roles.specs.coordinator.CoordTurns.{Acts, CoordTurns, CoordinatorView, surveyed}
 use Rattle.like_crew.specs.Server.{ServerGoesOn, ServerView}
 use Rattle.like_crew.specs.declared.crew.Crew.{Crew}
-use Rattle.like_crew.specs.Crew.{GoesOn, HasInbox, CaptainGoesOn}
+use Rattle.like_crew.specs.Crew.{GoesOn, HasInbox, CoordinatorGoesOn}
 use Rattle.like_crew.proofs.servers.Later.{all-further-both, all-same}
 use Rattle.like_crew.proofs.lists.Pairs.{pairs-length}
 
@@ -67,21 +67,21 @@ hot-acts v sight answer w (turns.releases g e i seat choice r a x) =
     ap (λ (y : CoordinatorView). y.choice.hot) x ∙ release-hot _ _ _ _ r
 hot-acts v sight answer w (turns.waits g e i a x) = ap (λ (y : CoordinatorView). y.choice.hot) x
 
-pub captain-goes-on : (v : CoordinatorView) (answer : CoordTurn) (w : CoordinatorView)
+pub coordinator-goes-on : (v : CoordinatorView) (answer : CoordTurn) (w : CoordinatorView)
     → CoordTurns v answer w
-    → CaptainGoesOn v w
-captain-goes-on v answer w t = record {
+    → CoordinatorGoesOn v w
+coordinator-goes-on v answer w t = record {
   board = board-acts (surveyed v t.word t.sight) t.sight answer w t.acts;
   opening = opening-acts (surveyed v t.word t.sight) t.sight answer w t.acts;
   turns = turns-acts (surveyed v t.word t.sight) t.sight answer w t.acts;
   hot = hot-acts (surveyed v t.word t.sight) t.sight answer w t.acts;
 }
 
-pub captain-same : (v : CoordinatorView) → CaptainGoesOn v v
-captain-same v = record { board = refl; opening = refl; turns = refl; hot = refl }
+pub coordinator-same : (v : CoordinatorView) → CoordinatorGoesOn v v
+coordinator-same v = record { board = refl; opening = refl; turns = refl; hot = refl }
 
-pub captain-further : (u v w : CoordinatorView) → CaptainGoesOn u v → CaptainGoesOn v w → CaptainGoesOn u w
-captain-further u v w a b =
+pub coordinator-further : (u v w : CoordinatorView) → CoordinatorGoesOn u v → CoordinatorGoesOn v w → CoordinatorGoesOn u w
+coordinator-further u v w a b =
     record {
       board =
           b.board ∙ a.board;
@@ -92,11 +92,11 @@ captain-further u v w a b =
 
 -- the crew
 pub crew-same : {I : Type 0} (c : Crew I) → GoesOn c c
-crew-same c = record { captain = captain-same c.captain; servers = all-same c.servers.items }
+crew-same c = record { coordinator = coordinator-same c.coordinator; servers = all-same c.servers.items }
 
 pub crew-further : {I : Type 0} (b c d : Crew I) → GoesOn b c → GoesOn c d → GoesOn b d
 crew-further b c d e f = record {
-  captain = captain-further b.captain c.captain d.captain e.captain f.captain;
+  coordinator = coordinator-further b.coordinator c.coordinator d.coordinator e.coordinator f.coordinator;
   servers = all-further-both b.servers.items c.servers.items d.servers.items e.servers f.servers;
 }
 

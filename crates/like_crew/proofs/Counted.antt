@@ -8,17 +8,17 @@ use Rattle.std.proofs.lemmas.List.Concat.{flat_map-cons}
 use Rattle.std.proofs.lemmas.List.Sums.{sum_by-append, sum_by-cons}
 use Rattle.like_requests.specs.declared.request.Request.{Request}
 use Rattle.like_tables.specs.Share.{worker_of}
-use Rattle.like_service.specs.declared.log.Ran.{Ran}
-use Rattle.like_service.specs.declared.log.Took.{Took}
-use Rattle.like_service.specs.declared.log.WorkerLog.{WorkerLog}
-use Rattle.like_service.specs.Order.{Entry, entry_of}
-use Rattle.like_service.specs.Service.{Service}
-use Rattle.like_service.specs.Log.{IsLog, numbers_taken}
+use Rattle.like_promises.specs.declared.log.Ran.{Ran}
+use Rattle.like_promises.specs.declared.log.Took.{Took}
+use Rattle.like_promises.specs.declared.log.WorkerLog.{WorkerLog}
+use Rattle.like_promises.specs.Order.{Entry, entry_of}
+use Rattle.like_promises.specs.Workload.{Workload}
+use Rattle.like_promises.specs.Log.{IsLog, numbers_taken}
 use Rattle.like_crew.proofs.Ordered.{order-weighs}
 
 -- the plan of a submitter, which is empty where there is no such submitter
-abbrev pub plan_of : Service → ℕ → List Request
-plan_of service submitter = get_or service.plans submitter []
+abbrev pub plan_of : Workload → ℕ → List Request
+plan_of workload submitter = get_or workload.plans submitter []
 
 eqb_swap : (a b : ℕ) → eqb a b ≡ eqb b a
 eqb_swap a b = elim (eqb_tells a b) [
@@ -128,35 +128,35 @@ module _ (submitter number : ℕ) where
         by_test false = zero-add (count_by (λ n. eqb n number) (numbers_taken submitter taken))
 
   -- in the run list of one worker
-  count-in-log : (service : Service) (workers worker : ℕ) (log : WorkerLog) → IsLog service workers worker log
+  count-in-log : (workload : Workload) (workers worker : ℕ) (log : WorkerLog) → IsLog workload workers worker log
       → sum_by (λ e. this_one e.submitter e.number) log.ran.items
-      ≡ cond (eqb worker (worker_of workers submitter)) (in_range 1 (1 + length (plan_of service submitter)) number 1) 0
-  count-in-log service workers worker log l =
+      ≡ cond (eqb worker (worker_of workers submitter)) (in_range 1 (1 + length (plan_of workload submitter)) number 1) 0
+  count-in-log workload workers worker log l =
       sym (sum-entries log.ran.items)
       ∙ ap (sum_by (λ (e : Entry). this_one e.submitter e.number)) l.ran
-      ∙ order-weighs this_one service log.taken.items
+      ∙ order-weighs this_one workload log.taken.items
       ∙ sum-taken log.taken.items
       ∙ ap (count_by (λ n. eqb n number)) (l.taken submitter)
       ∙ by_test (eqb (worker_of workers submitter) worker)
-      ∙ ap (λ b. cond b (in_range 1 (1 + length (plan_of service submitter)) number 1) 0)
+      ∙ ap (λ b. cond b (in_range 1 (1 + length (plan_of workload submitter)) number 1) 0)
       (eqb_swap (worker_of workers submitter) worker) where
         by_test : (b : Bool)
-            → count_by (λ n. eqb n number) (cond b (range_with_len 1 (length (plan_of service submitter))) [])
-            ≡ cond b (in_range 1 (1 + length (plan_of service submitter)) number 1) 0
-        by_test true = count-range 1 (length (plan_of service submitter)) number
+            → count_by (λ n. eqb n number) (cond b (range_with_len 1 (length (plan_of workload submitter))) [])
+            ≡ cond b (in_range 1 (1 + length (plan_of workload submitter)) number 1) 0
+        by_test true = count-range 1 (length (plan_of workload submitter)) number
         by_test false = refl
 
   -- in the run lists of all
-  pub count-in-all : (service : Service) (workers : ℕ) (logs : List WorkerLog) → length logs ≡ workers → 0 < workers
-      → ((worker : ℕ) (log : WorkerLog) → slice_get logs worker ≡ Some log → IsLog service workers worker log)
+  pub count-in-all : (workload : Workload) (workers : ℕ) (logs : List WorkerLog) → length logs ≡ workers → 0 < workers
+      → ((worker : ℕ) (log : WorkerLog) → slice_get logs worker ≡ Some log → IsLog workload workers worker log)
       → sum_by (λ e. this_one e.submitter e.number) (flat_map (λ (log : WorkerLog). log.ran.items) logs)
-      ≡ in_range 1 (1 + length (plan_of service submitter)) number 1
-  count-in-all service workers logs sized some each =
+      ≡ in_range 1 (1 + length (plan_of workload submitter)) number 1
+  count-in-all workload workers logs sized some each =
       let worker : ℕ = worker_of workers submitter in
       let there : worker < workers = mod-lt submitter some in
-      let size : ℕ = in_range 1 (1 + length (plan_of service submitter)) number 1 in
+      let size : ℕ = in_range 1 (1 + length (plan_of workload submitter)) number 1 in
       sum-lists (λ e. this_one e.submitter e.number) worker size logs 0
-      (λ k log e. count-in-log service workers k log (each k log e)
+      (λ k log e. count-in-log workload workers k log (each k log e)
       ∙ ap (λ n. cond (eqb n worker) size 0) (sym (zero-add k)))
       ∙ ap (λ b. cond (leb 0 worker && b) size 0) (lt-ltb worker (0 + length logs) (omega (arith, there, sized)))
       ∙ ap (λ b. cond (b && true) size 0) (le-leb 0 worker (omega arith))

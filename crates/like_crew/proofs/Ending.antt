@@ -7,11 +7,11 @@ use Rattle.std.proofs.lemmas.List.FromFn.{length-range_with_len}
 use Rattle.std.proofs.lemmas.Option.{slice_get-get_or, slice_get_within}
 use Rattle.like_board.specs.Seats.{board_id, board_numbers}
 use Rattle.like_tables.specs.Share.{Share, place_of}
-use Rattle.like_service.specs.Service.{Service, submitters}
+use Rattle.like_promises.specs.Workload.{Workload, submitters}
 use Rattle.like_crew.specs.declared.ended.Ended.{Ended}
 use Rattle.like_crew.specs.declared.crew.Crew.{Crew}
 use Rattle.like_crew.specs.declared.site.Site.{Site}
-use Rattle.like_service.specs.Asked.{service_of}
+use Rattle.like_promises.specs.WorkloadOf.{workload_of}
 use Rattle.like_crew.specs.Crew.{GoesOn, HasInbox, IsCrew}
 use Rattle.like_crew.specs.Ended.{HasEnded, IsEnded}
 use Rattle.like_requests.specs.declared.request.Request.{Request}
@@ -20,64 +20,64 @@ use Rattle.like_core.specs.declared.view.CoordSeatView.{CoordSeatView}
 use Rattle.like_roles.specs.coordinator.Choice.{AreTotals, HasChosen}
 use Rattle.like_crew.specs.Servers.{AreServers, IsServer}
 use Rattle.like_crew.specs.Server.{ServerGoesOn, ServerView, plans_of}
-use Rattle.like_crew.proofs.Coordinated.{captain-further}
+use Rattle.like_crew.proofs.Coordinated.{coordinator-further}
 use Rattle.like_crew.proofs.servers.Later.{all-further-both}
 use Rattle.like_crew.proofs.servers.Shares.{plan-at}
 use Rattle.like_crew.proofs.lists.Pairs.{pairs-at, pairs-both, pairs-length}
 
 -- the servers of a run, later
-pub servers-later : (service : Service) (workers : ℕ) (board : List ℕ) (notes : Bool) (ss ts : List ServerView)
-    → AreServers service workers board notes ss
+pub servers-later : (workload : Workload) (workers : ℕ) (board : List ℕ) (notes : Bool) (ss ts : List ServerView)
+    → AreServers workload workers board notes ss
     → AllZip ServerGoesOn ss ts
-    → AreServers service workers board notes ts
-servers-later service workers board notes ss ts are later =
-    pairs-both (IsServer service workers board notes) ServerGoesOn (IsServer service workers board notes)
+    → AreServers workload workers board notes ts
+servers-later workload workers board notes ss ts are later =
+    pairs-both (IsServer workload workers board notes) ServerGoesOn (IsServer workload workers board notes)
     (range_with_len 0 workers) ss ts
     (λ worker s t is on. record {
       share = on.share ∙ is.share;
       whose = on.whose ∙ is.whose;
       board_is = on.board ∙ is.board_is;
       notes_are = on.notes ∙ is.notes_are;
-      works = λ hot. on.works (record service { hot = hot }) (is.works hot);
+      works = λ hot. on.works (record workload { hot = hot }) (is.works hot);
     }) are later
 
 -- there are as many servers as workers
-pub as-many : (service : Service) (workers : ℕ) (board : List ℕ) (notes : Bool) (servers : List ServerView)
-    → AreServers service workers board notes servers
+pub as-many : (workload : Workload) (workers : ℕ) (board : List ℕ) (notes : Bool) (servers : List ServerView)
+    → AreServers workload workers board notes servers
     → length servers ≡ workers
-as-many service workers board notes servers are =
-    sym (pairs-length (IsServer service workers board notes) (range_with_len 0 workers) servers are)
+as-many workload workers board notes servers are =
+    sym (pairs-length (IsServer workload workers board notes) (range_with_len 0 workers) servers are)
     ∙ length-range_with_len 0 workers
 
 -- each submitter of the run has an inbox
-pub has-inbox : (service : Service) (workers : ℕ) (board : List ℕ) (notes : Bool) (servers : List ServerView)
+pub has-inbox : (workload : Workload) (workers : ℕ) (board : List ℕ) (notes : Bool) (servers : List ServerView)
     (submitter : ℕ)
-    → AreServers service workers board notes servers
+    → AreServers workload workers board notes servers
     → 0 < workers
-    → submitter < submitters service
+    → submitter < submitters workload
     → HasInbox servers submitter
-has-inbox service workers board notes servers submitter are some there =
-    let sized : workers ≡ length servers = sym (as-many service workers board notes servers are) in (
+has-inbox workload workers board notes servers submitter are some there =
+    let sized : workers ≡ length servers = sym (as-many workload workers board notes servers are) in (
       omega (arith, some, sized),
       λ s at.
           let worker : ℕ = submitter % length servers in
-          let is : IsServer service workers board notes worker s =
-          subst (λ n. IsServer service workers board notes n s) (zero-add worker)
-          (pairs-at (IsServer service workers board notes) 0 workers servers worker s are at) in
+          let is : IsServer workload workers board notes worker s =
+          subst (λ n. IsServer workload workers board notes n s) (zero-add worker)
+          (pairs-at (IsServer workload workers board notes) 0 workers servers worker s are at) in
           let share : Share = s.worker.last.share in
           let by : share.workers ≡ length servers = ap (λ (x : Share). x.workers) is.share ∙ sized in
           let mine : share.worker ≡ worker = ap (λ (x : Share). x.worker) is.share in
           let place : ℕ = place_of share.workers submitter in
           let whole : share.worker + share.workers * place ≡ submitter =
           by_place submitter share.worker share.workers (length servers) by mine in
-          let plan : slice_get (plans_of s.inboxes) place ≡ slice_get service.plans submitter =
-          plan-at service share.workers share.worker s.inboxes place (omega (arith, some, sized, by))
-          (is.works service.hot).plans ∙ ap (slice_get service.plans) whole in
-          let found : slice_get (plans_of s.inboxes) place ≡ Some (get_or service.plans submitter []) =
-          plan ∙ slice_get-get_or service.plans submitter [] there in
+          let plan : slice_get (plans_of s.inboxes) place ≡ slice_get workload.plans submitter =
+          plan-at workload share.workers share.worker s.inboxes place (omega (arith, some, sized, by))
+          (is.works workload.hot).plans ∙ ap (slice_get workload.plans) whole in
+          let found : slice_get (plans_of s.inboxes) place ≡ Some (get_or workload.plans submitter []) =
+          plan ∙ slice_get-get_or workload.plans submitter [] there in
           omega (
             arith,
-            slice_get_within (plans_of s.inboxes) place (get_or service.plans submitter []) found,
+            slice_get_within (plans_of s.inboxes) place (get_or workload.plans submitter []) found,
             length-map s.inboxes (λ i. i.plan),
           ),
     ) where
@@ -92,20 +92,20 @@ pub has-ended : {I : Type 0} (setup : Setup) (plans : List (List Request)) (site
     → IsEnded setup plans site e
 has-ended setup plans site c e is h = record {
   servers = h.left.servers;
-  are_servers = servers-later (service_of setup plans) setup.workers
+  are_servers = servers-later (workload_of setup plans) setup.workers
       (board_numbers (board_id site.board)) site.notes c.servers.items h.left.servers is.servers h.left.later;
   gone = h.left.gone;
   logs = h.left.logs_are;
   seats = h.left.seats_are;
-  coord = h.captain_is.coord ∙ h.later.board ∙ is.board;
-  opening = ap (λ (v : CoordSeatView). v.opening) h.captain_is.view ∙ h.later.opening ∙ is.opening;
-  phases = h.captain_is.phases ∙ h.captain_is.ended.phase ∙ ap (λ (v : CoordSeatView). v.phase) (sym h.captain_is.view);
-  joined = subst (λ n. n % 2 ≡ 0) (sym h.captain_is.phases) h.captain_is.ended.joined;
-  choice = h.captain.choice;
+  coord = h.coordinator_is.coord ∙ h.later.board ∙ is.board;
+  opening = ap (λ (v : CoordSeatView). v.opening) h.coordinator_is.view ∙ h.later.opening ∙ is.opening;
+  phases = h.coordinator_is.phases ∙ h.coordinator_is.ended.phase ∙ ap (λ (v : CoordSeatView). v.phase) (sym h.coordinator_is.view);
+  joined = subst (λ n. n % 2 ≡ 0) (sym h.coordinator_is.phases) h.coordinator_is.ended.joined;
+  choice = h.coordinator.choice;
   hot = h.later.hot ∙ is.hot;
-  chosen = h.captain_is.chosen;
+  chosen = h.coordinator_is.chosen;
   chose = subst (λ (v : CoordSeatView). (total : ℕ → ℕ → ℕ) → AreTotals total v.counted
-      → HasChosen v h.captain.choice total) (sym h.captain_is.view) h.captain_is.chose;
+      → HasChosen v h.coordinator.choice total) (sym h.coordinator_is.view) h.coordinator_is.chose;
 }
 
 -- what is left of a crew later is left of the crew
@@ -118,7 +118,7 @@ ended-later c d e on h = record {
     logs_are = h.left.logs_are;
     seats_are = h.left.seats_are;
   };
-  captain = h.captain;
-  later = captain-further c.captain d.captain h.captain on.captain h.later;
-  captain_is = h.captain_is;
+  coordinator = h.coordinator;
+  later = coordinator-further c.coordinator d.coordinator h.coordinator on.coordinator h.later;
+  coordinator_is = h.coordinator_is;
 }

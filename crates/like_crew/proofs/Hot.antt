@@ -6,13 +6,13 @@ use Rattle.std.proofs.lemmas.List.Sums.{sum_by-cons}
 use Rattle.like_limits.specs.Limits.{hot_pages}
 use Rattle.like_core.specs.Functions.{mask}
 use Rattle.like_core.proofs.word.Masks.{mask_same}
-use Rattle.like_service.specs.declared.log.Ran.{Ran}
-use Rattle.like_service.specs.declared.log.Took.{Took}
+use Rattle.like_promises.specs.declared.log.Ran.{Ran}
+use Rattle.like_promises.specs.declared.log.Took.{Took}
 use Rattle.like_roles.specs.coordinator.Choice.{likes_counted, total_before}
-use Rattle.like_service.specs.HotPages.{chosen_below, hot_by, liked_pages, likes_lately, max_chosen}
-use Rattle.like_service.specs.Likes.{likes_among, likes_below}
-use Rattle.like_service.specs.Order.{Entry, block, entry_in, is_due, is_prompt, order, phases_of, stashed_in, took_to_wait}
-use Rattle.like_service.specs.Service.{Service}
+use Rattle.like_promises.specs.HotPages.{chosen_below, hot_by, liked_pages, likes_lately, max_chosen}
+use Rattle.like_promises.specs.Likes.{likes_among, likes_below}
+use Rattle.like_promises.specs.Order.{Entry, block, entry_in, is_due, is_prompt, order, phases_of, stashed_in, took_to_wait}
+use Rattle.like_promises.specs.Workload.{Workload}
 use Rattle.like_roles.proofs.choice.Totals.{total_before-next}
 use Rattle.like_roles.proofs.counts.Tallied.{likes_among-append}
 
@@ -51,22 +51,22 @@ one-lately p k n some = elim (cases_eq (p + 2) k) [
       ]
 ]
 
-module _ (service : Service) (page : ℕ) where
+module _ (workload : Workload) (page : ℕ) where
   -- the likes of entries that a test takes, entry by entry
   one-more : (b : Bool) (e : Ran) (xs : List Ran)
-      → likes_among service page (cond b (e ∷ xs) xs)
-      ≡ cond b (likes_among service page (e ∷ [])) 0 + likes_among service page xs
-  one-more true e xs = likes_among-append service page (e ∷ []) xs
+      → likes_among workload page (cond b (e ∷ xs) xs)
+      ≡ cond b (likes_among workload page (e ∷ [])) 0 + likes_among workload page xs
+  one-more true e xs = likes_among-append workload page (e ∷ []) xs
   one-more false e xs = omega arith
 
   ran-lately : (k : ℕ) → 1 ≤ k → (ran : List Ran)
-      → likes_among service page (filter (λ e. ltb e.phase k) ran)
-      ≡ likes_among service page (filter (λ e. ltb e.phase (k - 2)) ran)
-      + likes_among service page (filter (λ e. lately e.phase k) ran)
+      → likes_among workload page (filter (λ e. ltb e.phase k) ran)
+      ≡ likes_among workload page (filter (λ e. ltb e.phase (k - 2)) ran)
+      + likes_among workload page (filter (λ e. lately e.phase k) ran)
   ran-lately k some [] = refl
   ran-lately k some (e ∷ ran) =
       let rest = ran-lately k some ran in
-      let here = one-lately e.phase k (likes_among service page (e ∷ [])) some in
+      let here = one-lately e.phase k (likes_among workload page (e ∷ [])) some in
       let first = one-more (ltb e.phase k) e (filter (λ x. ltb x.phase k) ran) in
       let second = one-more (ltb e.phase (k - 2)) e (filter (λ x. ltb x.phase (k - 2)) ran) in
       let third = one-more (lately e.phase k) e (filter (λ x. lately x.phase k) ran) in
@@ -74,26 +74,26 @@ module _ (service : Service) (page : ℕ) where
 
   -- likes before a phase are those before the two phases before it, and those of these two
   below-lately : (k : ℕ) → 1 ≤ k → (runs : List (List Ran))
-      → likes_below service page runs k ≡ likes_below service page runs (k - 2) + likes_lately service runs k page
+      → likes_below workload page runs k ≡ likes_below workload page runs (k - 2) + likes_lately workload runs k page
   below-lately k some [] = refl
   below-lately k some (ran ∷ runs) =
       let rest = below-lately k some runs in
       let here = ran-lately k some ran in
-      let first = sum_by-cons (λ (xs : List Ran). likes_among service page (filter (λ e. ltb e.phase k) xs)) ran runs in
+      let first = sum_by-cons (λ (xs : List Ran). likes_among workload page (filter (λ e. ltb e.phase k) xs)) ran runs in
       let second = sum_by-cons
-      (λ (xs : List Ran). likes_among service page (filter (λ e. ltb e.phase (k - 2)) xs)) ran runs in
+      (λ (xs : List Ran). likes_among workload page (filter (λ e. ltb e.phase (k - 2)) xs)) ran runs in
       let third = sum_by-cons
-      (λ (xs : List Ran). likes_among service page (filter (λ e. lately e.phase k) xs)) ran runs in
+      (λ (xs : List Ran). likes_among workload page (filter (λ e. lately e.phase k) xs)) ran runs in
       omega arith
 
   -- no like is before phase 0
-  below-none : (runs : List (List Ran)) → likes_below service page runs 0 ≡ 0
+  below-none : (runs : List (List Ran)) → likes_below workload page runs 0 ≡ 0
   below-none [] = refl
   below-none (ran ∷ runs) =
       let rest = below-none runs in
-      let here : likes_among service page (filter (λ e. ltb e.phase 0) ran) ≡ 0 =
-      ap (likes_among service page) (none ran) in
-      omega (arith, sum_by-cons (λ (xs : List Ran). likes_among service page (filter (λ e. ltb e.phase 0) xs)) ran runs)
+      let here : likes_among workload page (filter (λ e. ltb e.phase 0) ran) ≡ 0 =
+      ap (likes_among workload page) (none ran) in
+      omega (arith, sum_by-cons (λ (xs : List Ran). likes_among workload page (filter (λ e. ltb e.phase 0) xs)) ran runs)
     where
       none : (xs : List Ran) → filter (λ e. ltb e.phase 0) xs ≡ []
       none [] = refl
@@ -101,38 +101,38 @@ module _ (service : Service) (page : ℕ) where
           ap (λ (b : Bool). cond b (x ∷ filter (λ e. ltb e.phase 0) xs) (filter (λ e. ltb e.phase 0) xs))
           (le-ltb x.phase 0 (omega arith)) ∙ none xs
 
-module _ (service : Service) (runs : List (List Ran)) (counts : List ℕ) where
+module _ (workload : Workload) (runs : List (List Ran)) (counts : List ℕ) where
   -- a page's total at the end of a phase, by the run lists
   abbrev pub total : ℕ → ℕ → ℕ
-  total phase page = get_or counts page 0 + likes_below service page runs (phase + 1)
+  total phase page = get_or counts page 0 + likes_below workload page runs (phase + 1)
 
   -- what is counted between two choices are the likes of the two phases before the split one
-  counted-lately : (k page : ℕ) → k % 2 ≡ 1 → likes_counted counts total k page ≡ likes_lately service runs k page
+  counted-lately : (k page : ℕ) → k % 2 ≡ 1 → likes_counted counts total k page ≡ likes_lately workload runs k page
   counted-lately k page odd =
       let back : k - 1 ≡ k - 1 = refl in
       by_phase (k - 1) (omega (arith, odd)) where
-        by_phase : (m : ℕ) → k ≡ suc m → likes_counted counts total k page ≡ likes_lately service runs k page
+        by_phase : (m : ℕ) → k ≡ suc m → likes_counted counts total k page ≡ likes_lately workload runs k page
         by_phase m is = ap (λ n. total n page - total_before counts total n page) pred ∙ at m is
           where
             pred : k - 1 ≡ m
             pred = omega (arith, is)
 
             at : (m : ℕ) → k ≡ suc m
-                → total m page - total_before counts total m page ≡ likes_lately service runs k page
+                → total m page - total_before counts total m page ≡ likes_lately workload runs k page
             at zero first =
-                let split = below-lately service page k (omega (arith, first)) runs in
-                let none = below-none service page runs in
-                let up : likes_below service page runs (0 + 1) ≡ likes_below service page runs k =
-                ap (likes_below service page runs) (omega (arith, first)) in
-                let low : likes_below service page runs (k - 2) ≡ likes_below service page runs 0 =
-                ap (likes_below service page runs) (omega (arith, first)) in
+                let split = below-lately workload page k (omega (arith, first)) runs in
+                let none = below-none workload page runs in
+                let up : likes_below workload page runs (0 + 1) ≡ likes_below workload page runs k =
+                ap (likes_below workload page runs) (omega (arith, first)) in
+                let low : likes_below workload page runs (k - 2) ≡ likes_below workload page runs 0 =
+                ap (likes_below workload page runs) (omega (arith, first)) in
                 omega (arith, split, none, up, low)
             at (suc j) later =
-                let split = below-lately service page k (omega (arith, later)) runs in
-                let up : likes_below service page runs (suc j + 1) ≡ likes_below service page runs k =
-                ap (likes_below service page runs) (omega (arith, later)) in
-                let low : likes_below service page runs (j - j % 2 + 1) ≡ likes_below service page runs (k - 2) =
-                ap (likes_below service page runs) (omega (arith, later, odd)) in
+                let split = below-lately workload page k (omega (arith, later)) runs in
+                let up : likes_below workload page runs (suc j + 1) ≡ likes_below workload page runs k =
+                ap (likes_below workload page runs) (omega (arith, later)) in
+                let low : likes_below workload page runs (j - j % 2 + 1) ≡ likes_below workload page runs (k - 2) =
+                ap (likes_below workload page runs) (omega (arith, later, odd)) in
                 let next : suc j ≡ j + 1 = omega arith in
                 let was : total_before counts total (suc j) page ≡ total (j - j % 2) page =
                 ap (λ n. total_before counts total n page) next ∙ total_before-next counts total j page in
@@ -140,22 +140,22 @@ module _ (service : Service) (runs : List (List Ran)) (counts : List ℕ) where
 
   -- so the hot pages are the same
   pub hot-same : (hot : Option ℕ) (pages k : ℕ)
-      → hot_by hot pages (likes_counted counts total) k ≡ hot_by hot pages (likes_lately service runs) k
+      → hot_by hot pages (likes_counted counts total) k ≡ hot_by hot pages (likes_lately workload runs) k
   hot-same None pages k = refl
   hot-same (Some least) pages k =
       ap (λ (f : ℕ → ℕ). cond (ltb (length (chosen_below f k)) max_chosen) (f k) 0) (λ i n. liked n i)
     where
       by_test : (b : Bool) (n : ℕ)
           → (b ≡ true → mask (λ page. leb least (likes_counted counts total n page)) (min hot_pages pages)
-          ≡ mask (λ page. leb least (likes_lately service runs n page)) (min hot_pages pages))
+          ≡ mask (λ page. leb least (likes_lately workload runs n page)) (min hot_pages pages))
           → cond b (mask (λ page. leb least (likes_counted counts total n page)) (min hot_pages pages)) 0
-          ≡ cond b (mask (λ page. leb least (likes_lately service runs n page)) (min hot_pages pages)) 0
+          ≡ cond b (mask (λ page. leb least (likes_lately workload runs n page)) (min hot_pages pages)) 0
       by_test true n same = same refl
       by_test false n same = refl
 
       liked : (n : ℕ)
           → liked_pages least pages (likes_counted counts total) n
-          ≡ liked_pages least pages (likes_lately service runs) n
+          ≡ liked_pages least pages (likes_lately workload runs) n
       liked n = by_test (eqb (n % 2) 1) n
           (λ yes_. mask_same _ _ (min hot_pages pages)
           (λ page below. ap (leb least) (counted-lately n page (eqb-true (n % 2) 1 yes_))))
@@ -167,34 +167,34 @@ filter-same p q (x ∷ xs) all =
     ap (λ b. cond b (x ∷ filter p xs) (filter p xs)) (all 0 x (omega arith))
     ∙ ap (λ ys. cond (q x) (x ∷ ys) ys) (filter-same p q xs (λ k d h. all (suc k) d (omega (arith, h))))
 
-module _ (service : Service) (hot other : ℕ → ℕ) (phases : ℕ) (taken : List Took)
+module _ (workload : Workload) (hot other : ℕ → ℕ) (phases : ℕ) (taken : List Took)
     (same : (k : ℕ) → k ≤ phases → hot k ≡ other k) (all : All (λ t. t.phase ≤ phases) taken) where
   waits-same : All
-      (λ t. took_to_wait (record service { hot = hot }) t ≡ took_to_wait (record service { hot = other }) t) taken
+      (λ t. took_to_wait (record workload { hot = hot }) t ≡ took_to_wait (record workload { hot = other }) t) taken
   waits-same k d h =
-      ap (λ (m : ℕ). took_to_wait (record service { hot = λ _. m }) (get_or taken k d))
+      ap (λ (m : ℕ). took_to_wait (record workload { hot = λ _. m }) (get_or taken k d))
       (same (get_or taken k d).phase (all k d h))
 
   due-same : (k : ℕ)
-      → filter (is_due (record service { hot = hot }) k) taken
-      ≡ filter (is_due (record service { hot = other }) k) taken
-  due-same k = filter-same (is_due (record service { hot = hot }) k) (is_due (record service { hot = other }) k) taken
+      → filter (is_due (record workload { hot = hot }) k) taken
+      ≡ filter (is_due (record workload { hot = other }) k) taken
+  due-same k = filter-same (is_due (record workload { hot = hot }) k) (is_due (record workload { hot = other }) k) taken
       (λ i d h. ap (λ b. eqb ((get_or taken i d).phase + 1) k && b) (waits-same i d h))
 
-  blocks : (k : ℕ) → block (record service { hot = hot }) taken k ≡ block (record service { hot = other }) taken k
+  blocks : (k : ℕ) → block (record workload { hot = hot }) taken k ≡ block (record workload { hot = other }) taken k
   blocks k =
       ap (λ xs. map (entry_in k true) xs
-      ++ map (entry_in k false) (filter (is_prompt (record service { hot = hot }) k) taken)) (due-same k)
-      ∙ ap (λ xs. map (entry_in k true) (filter (is_due (record service { hot = other }) k) taken)
+      ++ map (entry_in k false) (filter (is_prompt (record workload { hot = hot }) k) taken)) (due-same k)
+      ∙ ap (λ xs. map (entry_in k true) (filter (is_due (record workload { hot = other }) k) taken)
       ++ map (entry_in k false) xs)
-      (filter-same (is_prompt (record service { hot = hot }) k) (is_prompt (record service { hot = other }) k) taken
+      (filter-same (is_prompt (record workload { hot = hot }) k) (is_prompt (record workload { hot = other }) k) taken
       (λ i d h. ap (λ b. eqb (get_or taken i d).phase k && not b) (waits-same i d h)))
 
   -- the run order goes by the hot pages of the phases of taking alone
-  pub order-same : order (record service { hot = hot }) taken ≡ order (record service { hot = other }) taken
+  pub order-same : order (record workload { hot = hot }) taken ≡ order (record workload { hot = other }) taken
   order-same = ap (λ (f : ℕ → List Entry). flat_map f (range_with_len 0 (phases_of taken + 1))) (λ i k. blocks k i)
 
   -- and so does what comes out of the stash
   pub stashed-same : (k : ℕ)
-      → stashed_in (record service { hot = hot }) k taken ≡ stashed_in (record service { hot = other }) k taken
+      → stashed_in (record workload { hot = hot }) k taken ≡ stashed_in (record workload { hot = other }) k taken
   stashed-same k = ap length (due-same k)

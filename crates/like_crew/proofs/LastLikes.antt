@@ -3,7 +3,7 @@ use Rattle.std.proofs.Common.{◌≡◌, ℕ, ◌+◌, ◌<◌, true, false, Lis
 use Rattle.std.proofs.lemmas.Bool.{cases_eq, lt-ltb, ne_eqb}
 use Rattle.std.proofs.lemmas.Option.{same_Some}
 use Rattle.like_requests.specs.Verdict.{home}
-use Rattle.like_service.specs.declared.log.WorkerLog.{WorkerLog}
+use Rattle.like_promises.specs.declared.log.WorkerLog.{WorkerLog}
 use Rattle.like_tables.specs.Share.{owns, worker_of}
 use Rattle.like_tables.specs.UserTable.{last_of}
 use Rattle.like_crew.specs.Gathered.{AreTables}

@@ -12,12 +12,12 @@ use Rattle.like_requests.specs.declared.setup.Setup.{Setup}
 use Rattle.like_core.specs.Post.{PostView}
 use Rattle.like_queue.specs.Inbox.{InboxView}
 use Rattle.like_tables.specs.Share.{dealt, share_of}
-use Rattle.like_roles.specs.worker.Follows.{IsServiceOf}
+use Rattle.like_roles.specs.worker.Follows.{IsWorkloadOf}
 use Rattle.like_roles.specs.worker.New.{IsPostOf}
-use Rattle.like_service.specs.Service.{Service}
+use Rattle.like_promises.specs.Workload.{Workload}
 use Rattle.like_crew.specs.Servers.{IsServer}
 use Rattle.like_crew.specs.Server.{AreInboxesFor, AreOwnPlans, AreUntouched, WorksFor, ServerView, plans_of, untouched}
-use Rattle.like_service.specs.Asked.{lists_of, service_of}
+use Rattle.like_promises.specs.WorkloadOf.{lists_of, workload_of}
 use Rattle.like_tables.proofs.Dealt.{get-dealt, map-dealt, there-dealt}
 use Rattle.like_crew.proofs.servers.Shares.{plans-untouched}
 use Rattle.like_crew.proofs.lists.Pairs.{pairs-more}
@@ -51,7 +51,7 @@ all-dealt P n k xs some all place d h =
 
 -- what was dealt has the plans
 pub own-plans : (setup : Setup) (worker : ℕ) (inboxes own : List InboxView) → own ≡ dealt setup.workers worker inboxes
-    → AreOwnPlans (service_of setup (plans_of inboxes)) setup.workers worker own
+    → AreOwnPlans (workload_of setup (plans_of inboxes)) setup.workers worker own
 own-plans setup worker inboxes own is =
     ap plans_of is ∙ map-dealt (λ (i : InboxView). i.plan) setup.workers worker inboxes
 
@@ -80,9 +80,9 @@ pub is-server : (setup : Setup) (sizes : List ℕ) (worker : ℕ) (inboxes own :
     → post.board ≡ board
     → s.worker.last.share ≡ share_of setup.users (length sizes) setup.workers worker
     → s.worker.post ≡ post → s.worker.notes ≡ notes
-    → ((service : Service) → IsServiceOf setup sizes service → AreOwnPlans service setup.workers worker own
-    → WorksFor service s)
-    → IsServer (service_of setup (plans_of inboxes)) setup.workers board notes worker s
+    → ((workload : Workload) → IsWorkloadOf setup sizes workload → AreOwnPlans workload setup.workers worker own
+    → WorksFor workload s)
+    → IsServer (workload_of setup (plans_of inboxes)) setup.workers board notes worker s
 is-server setup sizes worker inboxes own post board notes s sized is fresh here share at noting works = record {
   share = share
       ∙ ap (λ n. share_of setup.users n setup.workers worker)
@@ -90,7 +90,7 @@ is-server setup sizes worker inboxes own post board notes s sized is fresh here 
   whose = ap (λ (p : PostView). p.worker) at ∙ fresh.is_his;
   board_is = ap (λ (p : PostView). p.board) at ∙ here;
   notes_are = noting;
-  works = λ hot. works (record (service_of setup (plans_of inboxes)) { hot = hot })
+  works = λ hot. works (record (workload_of setup (plans_of inboxes)) { hot = hot })
       (record { users_are = refl; pages_are = refl; stash_is = refl; sizes_are = sym sized })
       (own-plans setup worker inboxes own is);
 }

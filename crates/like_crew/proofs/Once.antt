@@ -2,11 +2,11 @@
 use Rattle.std.proofs.Common.{◌≡◌, ◌≢◌, ℕ, suc, ◌+◌, ◌<◌, ◌≤◌, Bool, true, false, cond, List, [], ◌∷◌, ◌++◌, length, filter, refl, sym, ap, ◌∙◌, arith, zero-add}
 use Rattle.std.proofs.lemmas.Bool.{eq-eqb, lt-ltb}
 use Rattle.like_tables.specs.Share.{owns, share_of, worker_of}
-use Rattle.like_service.specs.declared.log.Ran.{Ran}
+use Rattle.like_promises.specs.declared.log.Ran.{Ran}
 use Rattle.like_collection.specs.declared.collect_fault.CollectFault.{CollectFault}
 use Rattle.like_collection.specs.declared.collect_fault.CollectFault.TheVariants.{Stranger, Double, Missing, Memory}
 use Rattle.like_collection.specs.CollectFaults.{IsCollectFault, IsFirstBadEntry}
-use Rattle.like_service.specs.Collected.{entries_of}
+use Rattle.like_promises.specs.Collected.{entries_of}
 use Rattle.like_collection.specs.Entries.{is_of}
 use Rattle.like_requests.specs.Verdict.{home}
 use Rattle.like_crew.specs.Gathered.{RunsOnce}

@@ -4,10 +4,10 @@ use Rattle.std.specs.List.{sum_by}
 use Rattle.std.proofs.Math.Nat.{le-max_left, le-max_right}
 use Rattle.std.proofs.lemmas.Bool.{cases_eq, cases_lt, eq-eqb, ne_eqb, le-ltb, lt-ltb}
 use Rattle.std.proofs.lemmas.List.Sums.{sum_by-append, sum_by-cons}
-use Rattle.like_service.specs.declared.log.Took.{Took}
-use Rattle.like_service.specs.Order.{Entry, block, entry_in, is_due, is_prompt, order, order_below, phases_of, took_to_wait}
-use Rattle.like_service.specs.Service.{Service}
-use Rattle.like_service.proofs.Blocks.{order_below-more}
+use Rattle.like_promises.specs.declared.log.Took.{Took}
+use Rattle.like_promises.specs.Order.{Entry, block, entry_in, is_due, is_prompt, order, order_below, phases_of, took_to_wait}
+use Rattle.like_promises.specs.Workload.{Workload}
+use Rattle.like_promises.proofs.Blocks.{order_below-more}
 
 -- h is what a request weighs, by its submitter and its number
 module _ (h : ℕ → ℕ → ℕ) where
@@ -36,17 +36,17 @@ module _ (h : ℕ → ℕ → ℕ) where
         by_test false rest = rest ∙ sym (zero-add _)
 
   -- a block
-  sum-block : (service : Service) (taken : List Took) (k : ℕ)
-      → sum_by weight_run (block service taken k)
-      ≡ sum_by (λ t. cond (is_due service k t) (weight_taken t) 0) taken
-      + sum_by (λ t. cond (is_prompt service k t) (weight_taken t) 0) taken
-  sum-block service taken k =
-      sum_by-append weight_run (map (entry_in k true) (filter (is_due service k) taken))
-      (map (entry_in k false) (filter (is_prompt service k) taken))
-      ∙ ap (λ n. n + sum_by weight_run (map (entry_in k false) (filter (is_prompt service k) taken)))
-      (sum-passed (is_due service k) k true taken)
-      ∙ ap (λ n. sum_by (λ t. cond (is_due service k t) (weight_taken t) 0) taken + n)
-      (sum-passed (is_prompt service k) k false taken)
+  sum-block : (workload : Workload) (taken : List Took) (k : ℕ)
+      → sum_by weight_run (block workload taken k)
+      ≡ sum_by (λ t. cond (is_due workload k t) (weight_taken t) 0) taken
+      + sum_by (λ t. cond (is_prompt workload k t) (weight_taken t) 0) taken
+  sum-block workload taken k =
+      sum_by-append weight_run (map (entry_in k true) (filter (is_due workload k) taken))
+      (map (entry_in k false) (filter (is_prompt workload k) taken))
+      ∙ ap (λ n. n + sum_by weight_run (map (entry_in k false) (filter (is_prompt workload k) taken)))
+      (sum-passed (is_due workload k) k true taken)
+      ∙ ap (λ n. sum_by (λ t. cond (is_due workload k t) (weight_taken t) 0) taken + n)
+      (sum-passed (is_prompt workload k) k false taken)
 
   -- sums of three tests at once
   sum-three : (a b c d : Took → ℕ) → ((t : Took) → a t + (b t + c t) ≡ d t) → (taken : List Took)
@@ -64,8 +64,8 @@ module _ (h : ℕ → ℕ → ℕ) where
       )
 
   -- the block in which a request runs
-  abbrev runs_in : Service → Took → ℕ
-  runs_in service t = cond (took_to_wait service t) (t.phase + 1) t.phase
+  abbrev runs_in : Workload → Took → ℕ
+  runs_in workload t = cond (took_to_wait workload t) (t.phase + 1) t.phase
 
   step : (n k v : ℕ) → cond (ltb n k) v 0 + cond (eqb n k) v 0 ≡ cond (ltb n (k + 1)) v 0
   step n k v =
@@ -86,11 +86,11 @@ module _ (h : ℕ → ℕ → ℕ) where
       ]
 
   -- it runs in that block alone
-  runs-once : (service : Service) (k : ℕ) (t : Took)
-      → cond (ltb (runs_in service t) k) (weight_taken t) 0
-      + (cond (is_due service k t) (weight_taken t) 0 + cond (is_prompt service k t) (weight_taken t) 0)
-      ≡ cond (ltb (runs_in service t) (k + 1)) (weight_taken t) 0
-  runs-once service k t = by_wait (took_to_wait service t) where
+  runs-once : (workload : Workload) (k : ℕ) (t : Took)
+      → cond (ltb (runs_in workload t) k) (weight_taken t) 0
+      + (cond (is_due workload k t) (weight_taken t) 0 + cond (is_prompt workload k t) (weight_taken t) 0)
+      ≡ cond (ltb (runs_in workload t) (k + 1)) (weight_taken t) 0
+  runs-once workload k t = by_wait (took_to_wait workload t) where
     and-true : (b : Bool) → (b && true) ≡ b
     and-true true = refl
     and-true false = refl
@@ -121,43 +121,43 @@ module _ (h : ℕ → ℕ → ℕ) where
       sum_by-cons (λ (u : Took). cond (ltb (n u) 0) (weight_taken u) 0) t taken
       ∙ rw (le-ltb (n t) 0 (omega arith), none-below n taken) refl
 
-  sum-below : (service : Service) (taken : List Took) (k : ℕ)
-      → sum_by weight_run (order_below service taken k)
-      ≡ sum_by (λ t. cond (ltb (runs_in service t) k) (weight_taken t) 0) taken
-  sum-below service taken zero = sym (none-below (runs_in service) taken)
-  sum-below service taken (suc k) =
-      ap (λ n. sum_by weight_run (order_below service taken n)) (sym (add-one k))
-      ∙ ap (sum_by weight_run) (order_below-more service taken k)
-      ∙ sum_by-append weight_run (order_below service taken k) (block service taken k)
-      ∙ ap (λ n. n + sum_by weight_run (block service taken k)) (sum-below service taken k)
-      ∙ ap (λ n. sum_by (λ t. cond (ltb (runs_in service t) k) (weight_taken t) 0) taken + n)
-      (sum-block service taken k)
-      ∙ sum-three (λ t. cond (ltb (runs_in service t) k) (weight_taken t) 0)
-      (λ t. cond (is_due service k t) (weight_taken t) 0) (λ t. cond (is_prompt service k t) (weight_taken t) 0)
-      (λ t. cond (ltb (runs_in service t) (k + 1)) (weight_taken t) 0) (runs-once service k) taken
-      ∙ ap (λ n. sum_by (λ t. cond (ltb (runs_in service t) n) (weight_taken t) 0) taken) (add-one k)
+  sum-below : (workload : Workload) (taken : List Took) (k : ℕ)
+      → sum_by weight_run (order_below workload taken k)
+      ≡ sum_by (λ t. cond (ltb (runs_in workload t) k) (weight_taken t) 0) taken
+  sum-below workload taken zero = sym (none-below (runs_in workload) taken)
+  sum-below workload taken (suc k) =
+      ap (λ n. sum_by weight_run (order_below workload taken n)) (sym (add-one k))
+      ∙ ap (sum_by weight_run) (order_below-more workload taken k)
+      ∙ sum_by-append weight_run (order_below workload taken k) (block workload taken k)
+      ∙ ap (λ n. n + sum_by weight_run (block workload taken k)) (sum-below workload taken k)
+      ∙ ap (λ n. sum_by (λ t. cond (ltb (runs_in workload t) k) (weight_taken t) 0) taken + n)
+      (sum-block workload taken k)
+      ∙ sum-three (λ t. cond (ltb (runs_in workload t) k) (weight_taken t) 0)
+      (λ t. cond (is_due workload k t) (weight_taken t) 0) (λ t. cond (is_prompt workload k t) (weight_taken t) 0)
+      (λ t. cond (ltb (runs_in workload t) (k + 1)) (weight_taken t) 0) (runs-once workload k) taken
+      ∙ ap (λ n. sum_by (λ t. cond (ltb (runs_in workload t) n) (weight_taken t) 0) taken) (add-one k)
 
   -- all blocks
-  all-below : (service : Service) (taken : List Took) (k : ℕ) → phases_of taken ≤ k
-      → sum_by (λ t. cond (ltb (runs_in service t) (k + 1)) (weight_taken t) 0) taken ≡ sum_by weight_taken taken
-  all-below service [] k h = refl
-  all-below service (t ∷ taken) k h =
+  all-below : (workload : Workload) (taken : List Took) (k : ℕ) → phases_of taken ≤ k
+      → sum_by (λ t. cond (ltb (runs_in workload t) (k + 1)) (weight_taken t) 0) taken ≡ sum_by weight_taken taken
+  all-below workload [] k h = refl
+  all-below workload (t ∷ taken) k h =
       let first : t.phase + 1 ≤ k = omega (arith, le-max_left (t.phase + 1) (phases_of taken), h) in
       let others : phases_of taken ≤ k = omega (arith, le-max_right (t.phase + 1) (phases_of taken), h) in
-      sum_by-cons (λ (u : Took). cond (ltb (runs_in service u) (k + 1)) (weight_taken u) 0) t taken
+      sum_by-cons (λ (u : Took). cond (ltb (runs_in workload u) (k + 1)) (weight_taken u) 0) t taken
       ∙ ap (λ b. cond b (weight_taken t) 0
-      + sum_by (λ u. cond (ltb (runs_in service u) (k + 1)) (weight_taken u) 0) taken)
-      (lt-ltb (runs_in service t) (k + 1) (early (took_to_wait service t) first))
-      ∙ ap (λ n. weight_taken t + n) (all-below service taken k others)
+      + sum_by (λ u. cond (ltb (runs_in workload u) (k + 1)) (weight_taken u) 0) taken)
+      (lt-ltb (runs_in workload t) (k + 1) (early (took_to_wait workload t) first))
+      ∙ ap (λ n. weight_taken t + n) (all-below workload taken k others)
       ∙ sym (sum_by-cons weight_taken t taken) where
         early : (w : Bool) → t.phase + 1 ≤ k → cond w (t.phase + 1) t.phase < k + 1
         early true e = omega (arith, e)
         early false e = omega (arith, e)
 
   -- run order weighs what was taken
-  pub order-weighs : (service : Service) (taken : List Took)
-      → sum_by weight_run (order service taken) ≡ sum_by weight_taken taken
-  order-weighs service taken =
-      ap (λ n. sum_by weight_run (order_below service taken n)) refl
-      ∙ sum-below service taken (phases_of taken + 1)
-      ∙ all-below service taken (phases_of taken) (omega arith)
+  pub order-weighs : (workload : Workload) (taken : List Took)
+      → sum_by weight_run (order workload taken) ≡ sum_by weight_taken taken
+  order-weighs workload taken =
+      ap (λ n. sum_by weight_run (order_below workload taken n)) refl
+      ∙ sum-below workload taken (phases_of taken + 1)
+      ∙ all-below workload taken (phases_of taken) (omega arith)

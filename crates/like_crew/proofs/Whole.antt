@@ -27,26 +27,26 @@ use Rattle.like_board.proofs.Meanings.{same_board}
 use Rattle.like_core.specs.declared.worker_state.WorkerState.TheVariants.{Gone}
 use Rattle.like_tables.specs.Share.{Share, share_of, worker_of}
 use Rattle.like_tables.specs.UserTable.{last_of}
-use Rattle.like_service.specs.declared.log.Ran.{Ran}
-use Rattle.like_service.specs.declared.log.Took.{Took}
-use Rattle.like_service.specs.declared.log.WorkerLog.{WorkerLog}
-use Rattle.like_service.specs.Likes.{initial_count, last_like, likes, likes_among, likes_below}
+use Rattle.like_promises.specs.declared.log.Ran.{Ran}
+use Rattle.like_promises.specs.declared.log.Took.{Took}
+use Rattle.like_promises.specs.declared.log.WorkerLog.{WorkerLog}
+use Rattle.like_promises.specs.Likes.{initial_count, last_like, likes, likes_among, likes_below}
 use Rattle.like_roles.proofs.choice.Choosing.{chosen-more}
 use Rattle.like_roles.proofs.choice.Releasing.{none-even}
 use Rattle.like_roles.proofs.counts.RightCounts.{below-is, right-counts}
-use Rattle.like_service.specs.Replies.{HasRightCounts}
+use Rattle.like_promises.specs.Replies.{HasRightCounts}
 use Rattle.like_roles.specs.coordinator.Choice.{AreTotals, likes_counted}
-use Rattle.like_service.specs.HotPages.{chosen_below, hot_by, likes_lately}
-use Rattle.like_service.specs.Service.{Service, submitters}
+use Rattle.like_promises.specs.HotPages.{chosen_below, hot_by, likes_lately}
+use Rattle.like_promises.specs.Workload.{Workload, submitters}
 use Rattle.like_collection.specs.Entries.{IsRequest}
-use Rattle.like_service.specs.Collected.{entries_in, entries_of}
+use Rattle.like_promises.specs.Collected.{entries_in, entries_of}
 use Rattle.like_crew.specs.declared.ended.Ended.{Ended}
 use Rattle.like_crew.specs.declared.site.Site.{Site}
-use Rattle.like_service.specs.EndToEnd.{AreCounts, AreLastLikes, AreLogs, runs_of}
+use Rattle.like_promises.specs.EndToEnd.{AreCounts, AreLastLikes, AreLogs, runs_of}
 use Rattle.like_crew.specs.Gathered.{AreTables, RunsOnce}
-use Rattle.like_service.specs.Log.{IsLog}
+use Rattle.like_promises.specs.Log.{IsLog}
 use Rattle.like_crew.specs.Server.{NoneAbove, HasWorkedFor, IsLogOf, ReadMasksOf, ServerView}
-use Rattle.like_service.specs.Asked.{asked, service_of}
+use Rattle.like_promises.specs.WorkloadOf.{workload_of_run, workload_of}
 use Rattle.like_crew.specs.Ended.{IsEnded, IsSeatOf}
 use Rattle.like_crew.specs.Site.{opening_of}
 use Rattle.like_crew.specs.Servers.{IsServer}
@@ -88,12 +88,12 @@ with-fact R P (a ∷ xs) (b ∷ ys) each all =
     ((each zero a refl, all.0), with-fact R P xs ys (λ k x e. each (suc k) x e) all.1)
 
 -- a page's count at the start
-pub initial-at : (service : Service) (page : ℕ)
-    → get_or (map (λ (p : Page). p.count) service.pages) page 0 ≡ initial_count service.pages page
-initial-at service page =
-    sym (unwrap_or-slice_get (map (λ (p : Page). p.count) service.pages) page 0)
-    ∙ ap (λ o. unwrap_or o 0) (slice_get-map (λ (p : Page). p.count) service.pages page)
-    ∙ by_page (slice_get service.pages page)
+pub initial-at : (workload : Workload) (page : ℕ)
+    → get_or (map (λ (p : Page). p.count) workload.pages) page 0 ≡ initial_count workload.pages page
+initial-at workload page =
+    sym (unwrap_or-slice_get (map (λ (p : Page). p.count) workload.pages) page 0)
+    ∙ ap (λ o. unwrap_or o 0) (slice_get-map (λ (p : Page). p.count) workload.pages page)
+    ∙ by_page (slice_get workload.pages page)
   where
     by_page : (o : Option Page)
         → unwrap_or (option_map (λ (p : Page). p.count) o) 0 ≡ option_map_or (λ (p : Page). p.count) o 0
@@ -110,27 +110,27 @@ module _ (setup : Setup) (plans : List (List Request)) (site : Site) (e : Ended)
   hot_known = mask_of (coord_view e.coord).masks
 
   -- the run with these masks
-  abbrev pub known : Service
-  known = record (service_of setup plans) { hot = hot_known }
+  abbrev pub known : Workload
+  known = record (workload_of setup plans) { hot = hot_known }
 
   abbrev pub z : Opening
   z = opening_of setup
 
-  -- the run that is asked for, with the hot pages that its run lists tell
-  abbrev pub served : Service
-  served = asked setup plans (runs_of e.logs.items)
+  -- the run that is workload_of_run for, with the hot pages that its run lists tell
+  abbrev pub served : Workload
+  served = workload_of_run setup plans (runs_of e.logs.items)
 
   -- the server of a worker
   pub server-at : (worker : ℕ) (s : ServerView) → slice_get h.servers worker ≡ Some s
-      → IsServer (service_of setup plans) setup.workers (board_numbers board) site.notes worker s
+      → IsServer (workload_of setup plans) setup.workers (board_numbers board) site.notes worker s
   server-at worker s at =
-      subst (λ n. IsServer (service_of setup plans) setup.workers (board_numbers board) site.notes n s)
+      subst (λ n. IsServer (workload_of setup plans) setup.workers (board_numbers board) site.notes n s)
       (zero-add worker)
-      (pairs-at (IsServer (service_of setup plans) setup.workers (board_numbers board) site.notes) 0 setup.workers
+      (pairs-at (IsServer (workload_of setup plans) setup.workers (board_numbers board) site.notes) 0 setup.workers
       h.servers worker s h.are_servers at)
 
   servers-size : length h.servers ≡ setup.workers
-  servers-size = sym (pairs-length (IsServer (service_of setup plans) setup.workers (board_numbers board) site.notes)
+  servers-size = sym (pairs-length (IsServer (workload_of setup plans) setup.workers (board_numbers board) site.notes)
       (range_with_len 0 setup.workers) h.servers h.are_servers) ∙ length-range_with_len 0 setup.workers
 
   pub logs-size : length e.logs.items ≡ setup.workers
@@ -276,7 +276,7 @@ module _ (setup : Setup) (plans : List (List Request)) (site : Site) (e : Ended)
 
   -- the counts that the coordinator read are the totals by the run lists
   are-totals : HaveReadMasks (coord_view e.coord).masks e.seats.items → AreCounted (coord_view e.coord) e.seats.items
-      → AreTotals (total (service_of setup plans) (runs_of e.logs.items) z.counts) (coord_view e.coord).counted
+      → AreTotals (total (workload_of setup plans) (runs_of e.logs.items) z.counts) (coord_view e.coord).counted
   are-totals masks counted = λ k d within.
       let r : PageCount = get_or (coord_view e.coord).counted k d in
       counted k d within
@@ -287,36 +287,36 @@ module _ (setup : Setup) (plans : List (List Request)) (site : Site) (e : Ended)
   hot-is : (k : ℕ)
       → hot_by h.choice.hot (length (coord_view e.coord).opening.counts)
       (likes_counted (coord_view e.coord).opening.counts
-      (total (service_of setup plans) (runs_of e.logs.items) z.counts)) k ≡ served.hot k
+      (total (workload_of setup plans) (runs_of e.logs.items) z.counts)) k ≡ served.hot k
   hot-is k =
       ap (λ (x : Opening). hot_by h.choice.hot (length x.counts)
-      (likes_counted x.counts (total (service_of setup plans) (runs_of e.logs.items) z.counts)) k) h.opening
+      (likes_counted x.counts (total (workload_of setup plans) (runs_of e.logs.items) z.counts)) k) h.opening
       ∙ ap (λ o. hot_by o (length z.counts)
-      (likes_counted z.counts (total (service_of setup plans) (runs_of e.logs.items) z.counts)) k) h.hot
+      (likes_counted z.counts (total (workload_of setup plans) (runs_of e.logs.items) z.counts)) k) h.hot
       ∙ ap (λ n. hot_by setup.hot n
-      (likes_counted z.counts (total (service_of setup plans) (runs_of e.logs.items) z.counts)) k)
+      (likes_counted z.counts (total (workload_of setup plans) (runs_of e.logs.items) z.counts)) k)
       (length-map setup.pages (λ (p : Page). p.count))
-      ∙ hot-same (service_of setup plans) (runs_of e.logs.items) z.counts setup.hot (length setup.pages) k
+      ∙ hot-same (workload_of setup plans) (runs_of e.logs.items) z.counts setup.hot (length setup.pages) k
 
   -- the phases were released with the masks of these pages
   pub masks-known : HaveReadMasks (coord_view e.coord).masks e.seats.items
       → AreCounted (coord_view e.coord) e.seats.items → (k : ℕ) → k ≤ e.phases → hot_known k ≡ served.hot k
   masks-known masks counted k within =
-      (h.chose (total (service_of setup plans) (runs_of e.logs.items) z.counts) (are-totals masks counted)).masks k
+      (h.chose (total (workload_of setup plans) (runs_of e.logs.items) z.counts) (are-totals masks counted)).masks k
       (omega (arith, within, h.phases)) ∙ hot-is k
 
   -- the choices are those phases that have any
   pub chosen-are : HaveReadMasks (coord_view e.coord).masks e.seats.items
       → AreCounted (coord_view e.coord) e.seats.items → e.chosen.items ≡ chosen_below served.hot e.phases
   chosen-are masks counted =
-      h.chosen ∙ (h.chose (total (service_of setup plans) (runs_of e.logs.items) z.counts)
+      h.chosen ∙ (h.chose (total (workload_of setup plans) (runs_of e.logs.items) z.counts)
       (are-totals masks counted)).chosen
       ∙ ap (λ (f : ℕ → ℕ). chosen_below f ((coord_view e.coord).phase + 1)) (λ i k. hot-is k i)
       ∙ ap (λ n. chosen_below served.hot (n + 1)) (sym h.phases)
       ∙ chosen-more served.hot e.phases
       ∙ ap (λ m. chosen_below served.hot e.phases ++ cond (ltb 0 m) (record { phase = e.phases; mask = m } ∷ []) [])
       (none-even setup.hot (length setup.pages)
-      (likes_lately (service_of setup plans) (runs_of e.logs.items)) e.phases h.joined)
+      (likes_lately (workload_of setup plans) (runs_of e.logs.items)) e.phases h.joined)
       ∙ append-nil (chosen_below served.hot e.phases)
 
   pub logs-are : HaveReadMasks (coord_view e.coord).masks e.seats.items → AreCounted (coord_view e.coord) e.seats.items
@@ -338,10 +338,10 @@ module _ (setup : Setup) (plans : List (List Request)) (site : Site) (e : Ended)
         record {
           taken = it.taken;
           rising = it.rising;
-          ran = it.ran ∙ order-same (service_of setup plans) hot_known served.hot e.phases log.taken.items
+          ran = it.ran ∙ order-same (workload_of setup plans) hot_known served.hot e.phases log.taken.items
               (masks-known masks counted) within;
           stashed = λ phase. rw (sym (stashed-same
-              (service_of setup plans) hot_known served.hot e.phases log.taken.items
+              (workload_of setup plans) hot_known served.hot e.phases log.taken.items
               (masks-known masks counted) within phase)) (it.stashed phase);
           answers = it.answers;
           last = it.last;
@@ -380,20 +380,20 @@ module _ (setup : Setup) (plans : List (List Request)) (site : Site) (e : Ended)
       between
 
 -- the last likes of all users
-pub last-likes-are : (service : Service) (workers : ℕ) (logs : List WorkerLog) (last : List (Option ℕ))
+pub last-likes-are : (workload : Workload) (workers : ℕ) (logs : List WorkerLog) (last : List (Option ℕ))
     → length logs ≡ workers
     → 0 < workers
-    → ((worker : ℕ) (log : WorkerLog) → slice_get logs worker ≡ Some log → IsLog service workers worker log)
-    → length last ≡ service.users
-    → ((user : ℕ) (log : WorkerLog) → user < service.users
-    → slice_get logs (worker_of (length logs) (home (submitters service) user)) ≡ Some log
+    → ((worker : ℕ) (log : WorkerLog) → slice_get logs worker ≡ Some log → IsLog workload workers worker log)
+    → length last ≡ workload.users
+    → ((user : ℕ) (log : WorkerLog) → user < workload.users
+    → slice_get logs (worker_of (length logs) (home (submitters workload) user)) ≡ Some log
     → slice_get last user ≡ Some (last_of log.last user))
-    → AreLastLikes service workers logs last
-last-likes-are service workers logs last sized some each users told = record {
+    → AreLastLikes workload workers logs last
+last-likes-are workload workers logs last sized some each users told = record {
   users = users;
   each = λ user there.
-      let worker : ℕ = worker_of workers (home (submitters service) user) in
-      let within : worker < length logs = omega (arith, mod-lt (home (submitters service) user) some, sized) in
+      let worker : ℕ = worker_of workers (home (submitters workload) user) in
+      let within : worker < length logs = omega (arith, mod-lt (home (submitters workload) user) some, sized) in
       by_log user there (slice_get logs worker) refl (cases_of logs worker within);
 } where
   run-at : (xs : List WorkerLog) (k : ℕ) (x : WorkerLog) → slice_get xs k ≡ Some x
@@ -407,17 +407,17 @@ last-likes-are service workers logs last sized some each users told = record {
   cases_of (x ∷ xs) zero h = (x, refl)
   cases_of (x ∷ xs) (suc k) h = cases_of xs k (omega (arith, h))
 
-  by_log : (user : ℕ) → user < service.users → (o : Option WorkerLog)
-      → slice_get logs (worker_of workers (home (submitters service) user)) ≡ o
-      → ((x : WorkerLog) × (slice_get logs (worker_of workers (home (submitters service) user)) ≡ Some x))
+  by_log : (user : ℕ) → user < workload.users → (o : Option WorkerLog)
+      → slice_get logs (worker_of workers (home (submitters workload) user)) ≡ o
+      → ((x : WorkerLog) × (slice_get logs (worker_of workers (home (submitters workload) user)) ≡ Some x))
       → slice_get last user
-      ≡ Some (last_like service user
-      (get_or (runs_of logs) (worker_of workers (home (submitters service) user)) []))
+      ≡ Some (last_like workload user
+      (get_or (runs_of logs) (worker_of workers (home (submitters workload) user)) []))
   by_log user there o e found =
-      told user found.0 there (ap (λ n. slice_get logs (worker_of n (home (submitters service) user))) sized ∙ found.1)
-      ∙ ap Some ((each (worker_of workers (home (submitters service) user)) found.0 found.1).last user
-      ∙ ap (last_like service user)
-      (sym (run-at logs (worker_of workers (home (submitters service) user)) found.0 found.1)))
+      told user found.0 there (ap (λ n. slice_get logs (worker_of n (home (submitters workload) user))) sized ∙ found.1)
+      ∙ ap Some ((each (worker_of workers (home (submitters workload) user)) found.0 found.1).last user
+      ∙ ap (last_like workload user)
+      (sym (run-at logs (worker_of workers (home (submitters workload) user)) found.0 found.1)))
 
 -- each request has one entry
 range-in : (m k : ℕ) → 1 ≤ m → m ≤ k → in_range 1 (1 + k) m 1 ≡ 1
@@ -438,20 +438,20 @@ range-out m k out =
       | inr other ↦ rw other.0 refl
     ]
 
-pub runs-once : (service : Service) (workers : ℕ) (logs : List WorkerLog) (sizes : List ℕ)
-    → sizes ≡ map length service.plans
+pub runs-once : (workload : Workload) (workers : ℕ) (logs : List WorkerLog) (sizes : List ℕ)
+    → sizes ≡ map length workload.plans
     → length logs ≡ workers
     → 0 < workers
-    → ((worker : ℕ) (log : WorkerLog) → slice_get logs worker ≡ Some log → IsLog service workers worker log)
+    → ((worker : ℕ) (log : WorkerLog) → slice_get logs worker ≡ Some log → IsLog workload workers worker log)
     → RunsOnce sizes (entries_in logs)
-runs-once service workers logs sizes sized size some each = record {
+runs-once workload workers logs sizes sized size some each = record {
   requests = λ submitter number r.
       let r' : IsRequest sizes submitter number = r in
       counted submitter number
-      ∙ range-in number (length (plan_of service submitter)) r'.from_one
+      ∙ range-in number (length (plan_of workload submitter)) r'.from_one
       (omega (arith, r'.within, size-at submitter));
   others = λ submitter number no_request.
-      counted submitter number ∙ range-out number (length (plan_of service submitter)) (λ within.
+      counted submitter number ∙ range-out number (length (plan_of workload submitter)) (λ within.
       no_request (record {
         there = there submitter (omega (arith, within.0, within.1, size-at submitter));
         from_one = within.0;
@@ -460,17 +460,17 @@ runs-once service workers logs sizes sized size some each = record {
 } where
   counted : (submitter number : ℕ)
       → length (entries_of submitter number (entries_in logs))
-      ≡ in_range 1 (1 + length (plan_of service submitter)) number 1
+      ≡ in_range 1 (1 + length (plan_of workload submitter)) number 1
   counted submitter number =
       length-filter (λ (e : Ran). eqb e.submitter submitter && eqb e.number number) (entries_in logs)
-      ∙ count-in-all submitter number service workers logs size some each
+      ∙ count-in-all submitter number workload workers logs size some each
 
-  size-at : (submitter : ℕ) → get_or sizes submitter 0 ≡ length (plan_of service submitter)
+  size-at : (submitter : ℕ) → get_or sizes submitter 0 ≡ length (plan_of workload submitter)
   size-at submitter =
-      ap (λ xs. get_or xs submitter 0) sized ∙ sym (unwrap_or-slice_get (map length service.plans) submitter 0)
-      ∙ ap (λ o. unwrap_or o 0) (slice_get-map length service.plans submitter)
-      ∙ by_plan (slice_get service.plans submitter)
-      ∙ ap (λ (xs : List Request). length xs) (unwrap_or-slice_get service.plans submitter []) where
+      ap (λ xs. get_or xs submitter 0) sized ∙ sym (unwrap_or-slice_get (map length workload.plans) submitter 0)
+      ∙ ap (λ o. unwrap_or o 0) (slice_get-map length workload.plans submitter)
+      ∙ by_plan (slice_get workload.plans submitter)
+      ∙ ap (λ (xs : List Request). length xs) (unwrap_or-slice_get workload.plans submitter []) where
         by_plan : (o : Option (List Request)) → unwrap_or (option_map length o) 0 ≡ length (unwrap_or o [])
         by_plan None = refl
         by_plan (Some plan) = refl

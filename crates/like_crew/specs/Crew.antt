@@ -9,14 +9,14 @@ use Rattle.like_roles.specs.coordinator.CoordTurns.{CoordinatorView}
 use Rattle.like_tables.specs.Share.{place_of, worker_of}
 use Rattle.like_crew.specs.declared.crew.Crew.{Crew}
 use Rattle.like_crew.specs.declared.site.Site.{Site}
-use Rattle.like_service.specs.Asked.{service_of}
+use Rattle.like_promises.specs.WorkloadOf.{workload_of}
 use Rattle.like_crew.specs.Server.{ServerGoesOn, ServerView}
 use Rattle.like_crew.specs.Servers.{AreServers}
 use Rattle.like_crew.specs.Site.{opening_of}
 
 -- the same coordinator, later: of the same board, which opened in the same way, with as many turns in each phase and as
 -- many likes that make a page hot
-pub record CaptainGoesOn (v w : CoordinatorView) : Type 0 where
+pub record CoordinatorGoesOn (v w : CoordinatorView) : Type 0 where
   pub board : w.board ≡ v.board
   pub opening : w.seat.opening ≡ v.seat.opening
   pub turns : w.turns ≡ v.turns
@@ -24,16 +24,16 @@ pub record CaptainGoesOn (v w : CoordinatorView) : Type 0 where
 
 -- the same crew, later
 pub record GoesOn {I : Type 0} (c d : Crew I) : Type 0 where
-  pub captain : CaptainGoesOn c.captain d.captain
+  pub coordinator : CoordinatorGoesOn c.coordinator d.coordinator
   pub servers : AllZip ServerGoesOn c.servers.items d.servers.items
 
 -- the crew of a run of these plans, at the board of this site
 pub record IsCrew {I : Type 0} (setup : Setup) (plans : List (List Request)) (site : Site) (c : Crew I) : Type 0 where
-  pub board : c.captain.board ≡ board_id site.board
-  pub opening : c.captain.seat.opening ≡ opening_of setup
-  pub turns : c.captain.turns ≡ setup.turns
-  pub hot : c.captain.choice.hot ≡ setup.hot
-  pub servers : AreServers (service_of setup plans) setup.workers (board_numbers (board_id site.board)) site.notes
+  pub board : c.coordinator.board ≡ board_id site.board
+  pub opening : c.coordinator.seat.opening ≡ opening_of setup
+  pub turns : c.coordinator.turns ≡ setup.turns
+  pub hot : c.coordinator.choice.hot ≡ setup.hot
+  pub servers : AreServers (workload_of setup plans) setup.workers (board_numbers (board_id site.board)) site.notes
       c.servers.items
 
 -- among these servers a submitter has an inbox: that of its worker has it

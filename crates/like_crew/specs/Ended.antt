@@ -7,16 +7,16 @@ use Rattle.like_board.specs.declared.coord_seat.CoordSeat.{CoordSeat}
 use Rattle.like_board.specs.declared.worker_seat.WorkerSeat.{WorkerSeat}
 use Rattle.like_board.specs.Seats.{AreAll, BoardId, board_id, board_numbers, coord_board, coord_view, seat_board, seat_meaning}
 use Rattle.like_roles.specs.coordinator.CoordTurns.{ChoseByCounts, CoordinatorView, HasEndedJoined}
-use Rattle.like_service.specs.declared.log.WorkerLog.{WorkerLog}
+use Rattle.like_promises.specs.declared.log.WorkerLog.{WorkerLog}
 use Rattle.like_requests.specs.declared.request.Request.{Request}
 use Rattle.like_requests.specs.declared.setup.Setup.{Setup}
 use Rattle.like_roles.specs.coordinator.Choice.{AreTotals, ChoiceView, HasChosen}
 use Rattle.like_crew.specs.declared.crew.Crew.{Crew}
 use Rattle.like_crew.specs.declared.ended.Ended.{Ended}
 use Rattle.like_crew.specs.declared.site.Site.{Site}
-use Rattle.like_service.specs.Asked.{service_of}
+use Rattle.like_promises.specs.WorkloadOf.{workload_of}
 use Rattle.like_crew.specs.Site.{opening_of}
-use Rattle.like_crew.specs.Crew.{AreGone, CaptainGoesOn}
+use Rattle.like_crew.specs.Crew.{AreGone, CoordinatorGoesOn}
 use Rattle.like_crew.specs.Server.{IsLogOf, ServerGoesOn, ServerView}
 use Rattle.like_crew.specs.Servers.{AreServers}
 
@@ -49,7 +49,7 @@ pub record AreLeft (board : BoardId) (coord : CoordSeat) (seats : List WorkerSea
 
 -- the coordinator found the run ended, in a joined phase, and chose by the counts that it read; and it left this phase,
 -- this seat and its choices
-pub record IsCaptainOf (v : CoordinatorView) (e : Ended) : Type 0 where
+pub record IsCoordinatorOf (v : CoordinatorView) (e : Ended) : Type 0 where
   pub ended : HasEndedJoined v
   pub coord : coord_board e.coord ≡ v.board
   pub view : coord_view e.coord ≡ v.seat
@@ -60,16 +60,16 @@ pub record IsCaptainOf (v : CoordinatorView) (e : Ended) : Type 0 where
 -- a crew went on from this one until its run had ended, and left this
 pub record HasEnded {I : Type 0} (c : Crew I) (e : Ended) : Type 0 where
   pub left : HaveLeft c.servers.items e.logs.items e.seats.items
-  pub captain : CoordinatorView
-  pub later : CaptainGoesOn c.captain captain
-  pub captain_is : IsCaptainOf captain e
+  pub coordinator : CoordinatorView
+  pub later : CoordinatorGoesOn c.coordinator coordinator
+  pub coordinator_is : IsCoordinatorOf coordinator e
 
 -- a run of these plans at this site that has ended: its workers are gone, and their servers left these logs and seats;
 -- and it ended in a joined phase, which is the last one that the coordinator's seat knows; and the coordinator chose by
 -- its counts
 pub record IsEnded (setup : Setup) (plans : List (List Request)) (site : Site) (e : Ended) : Type 0 where
   pub servers : List ServerView
-  pub are_servers : AreServers (service_of setup plans) setup.workers (board_numbers (board_id site.board)) site.notes
+  pub are_servers : AreServers (workload_of setup plans) setup.workers (board_numbers (board_id site.board)) site.notes
       servers
   pub gone : AreGone servers
   pub logs : AllZip IsLogOf servers e.logs.items

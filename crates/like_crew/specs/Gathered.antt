@@ -1,9 +1,9 @@
 -- What is gathered from the logs of all workers.
 use Rattle.std.specs.Prelude.{◌≡◌, ℕ, List, length, slice_get, Some}
-use Rattle.like_service.specs.declared.log.Ran.{Ran}
-use Rattle.like_service.specs.declared.log.WorkerLog.{WorkerLog}
+use Rattle.like_promises.specs.declared.log.Ran.{Ran}
+use Rattle.like_promises.specs.declared.log.WorkerLog.{WorkerLog}
 use Rattle.like_collection.specs.Entries.{IsRequest}
-use Rattle.like_service.specs.Collected.{entries_of}
+use Rattle.like_promises.specs.Collected.{entries_of}
 use Rattle.like_tables.specs.Share.{share_of}
 
 -- each request has one entry, and there is no other entry

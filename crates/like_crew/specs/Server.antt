@@ -13,12 +13,12 @@ use Rattle.like_queue.specs.Inbox.{InboxView}
 use Rattle.like_tables.specs.Share.{Share, dealt, place_of, serves}
 use Rattle.like_roles.specs.worker.Follows.{AreNoted, Follows}
 use Rattle.like_roles.specs.worker.Shown.{shown_by, shown_in}
-use Rattle.like_service.specs.declared.log.Took.{Took}
-use Rattle.like_service.specs.declared.log.WorkerLog.{WorkerLog}
-use Rattle.like_service.specs.Likes.{likes_among, likes_within}
-use Rattle.like_service.specs.Service.{Service}
+use Rattle.like_promises.specs.declared.log.Took.{Took}
+use Rattle.like_promises.specs.declared.log.WorkerLog.{WorkerLog}
+use Rattle.like_promises.specs.Likes.{likes_among, likes_within}
+use Rattle.like_promises.specs.Workload.{Workload}
 use Rattle.like_roles.specs.worker.WorkerView.{WorkerView, phase_at}
-use Rattle.like_service.specs.Log.{IsLog, numbers_taken}
+use Rattle.like_promises.specs.Log.{IsLog, numbers_taken}
 
 -- the worker, the inboxes of its submitters by place, and how many items of each are open to it
 pub record ServerView : Type 0 where
@@ -58,18 +58,18 @@ pub record AgreesAt (v : WorkerView) (place : ℕ) (i : InboxView) : Type 0 wher
   pub there : All (λ r. IsThere (pages_of v.post) r.page) i.plan
 
 -- the inboxes have the plans of a worker's submitters
-abbrev pub AreOwnPlans : Service → ℕ → ℕ → List InboxView → Type 0
-AreOwnPlans service workers worker inboxes = plans_of inboxes ≡ dealt workers worker service.plans
+abbrev pub AreOwnPlans : Workload → ℕ → ℕ → List InboxView → Type 0
+AreOwnPlans workload workers worker inboxes = plans_of inboxes ≡ dealt workers worker workload.plans
 
--- the masks that a server's worker read are those of the service
-abbrev pub ReadMasksOf : Service → ServerView → Type 0
-ReadMasksOf service s = AreMasksOf service.hot s.worker.post.masks
+-- the masks that a server's worker read are those of the workload
+abbrev pub ReadMasksOf : Workload → ServerView → Type 0
+ReadMasksOf workload s = AreMasksOf workload.hot s.worker.post.masks
 
--- a server works for a service: its inboxes have the plans of its submitters, and its worker does as they say, where
--- the masks that it read are the service's
-pub record WorksFor (service : Service) (s : ServerView) : Type 0 where
-  pub plans : AreOwnPlans service s.worker.last.share.workers s.worker.last.share.worker s.inboxes
-  pub follows : ReadMasksOf service s → Follows service s.worker
+-- a server works for a workload: its inboxes have the plans of its submitters, and its worker does as they say, where
+-- the masks that it read are the workload's
+pub record WorksFor (workload : Workload) (s : ServerView) : Type 0 where
+  pub plans : AreOwnPlans workload s.worker.last.share.workers s.worker.last.share.worker s.inboxes
+  pub follows : ReadMasksOf workload s → Follows workload s.worker
 
 -- the phases of taking never fall
 abbrev pub IsRising : List Took → Type 0
@@ -100,7 +100,7 @@ pub record AreInboxesFor (s : Setup) (sizes : List ℕ) (worker : ℕ) (inboxes 
   pub untouched : AreUntouched inboxes
   pub plans : All (λ i. IsPlan s.pages i.plan) inboxes
 
--- the same server, later: at the same place of the same board, and at work for the same services; its worker notes its
+-- the same server, later: at the same place of the same board, and at work for the same workloads; its worker notes its
 -- additions if it did before
 pub record ServerGoesOn (s t : ServerView) : Type 0 where
   pub share : t.worker.last.share ≡ s.worker.last.share
@@ -108,29 +108,29 @@ pub record ServerGoesOn (s t : ServerView) : Type 0 where
   pub whose : t.worker.post.worker ≡ s.worker.post.worker
   pub board : t.worker.post.board ≡ s.worker.post.board
   pub inboxes : length t.inboxes ≡ length s.inboxes
-  pub works : (service : Service) → WorksFor service s → WorksFor service t
+  pub works : (workload : Workload) → WorksFor workload s → WorksFor workload t
 
--- a server has worked for a service: it works for it, and the masks that it read are the service's
-abbrev pub HasWorkedFor : Service → ServerView → Type 0
-HasWorkedFor service s = WorksFor service s × ReadMasksOf service s
+-- a server has worked for a workload: it works for it, and the masks that it read are the workload's
+abbrev pub HasWorkedFor : Workload → ServerView → Type 0
+HasWorkedFor workload s = WorksFor workload s × ReadMasksOf workload s
 
--- a server's log is right for a service: it is a log of the service; its accepted likes are the additions of the
+-- a server's log is right for a workload: it is a log of the workload; its accepted likes are the additions of the
 -- server's post, in all and phase by phase; its accepted looks are the post's reads; and the additions are noted if
 -- they are to be
-pub record IsLogFor (service : Service) (s : ServerView) (log : WorkerLog) : Type 0 where
-  pub is_log : IsLog service s.worker.last.share.workers s.worker.last.share.worker log
-  pub likes : (page : ℕ) → likes_among service page log.ran.items ≡ additions_of s.worker.post page
+pub record IsLogFor (workload : Workload) (s : ServerView) (log : WorkerLog) : Type 0 where
+  pub is_log : IsLog workload s.worker.last.share.workers s.worker.last.share.worker log
+  pub likes : (page : ℕ) → likes_among workload page log.ran.items ≡ additions_of s.worker.post page
   pub by_phase : (phase page : ℕ)
-      → likes_within service page log.ran.items phase ≡ additions_in s.worker.post phase page
-  pub looks : shown_in service log.ran.items ≡ map (shown_by s.worker.post.additions) s.worker.post.reads
-  pub noted : s.worker.notes ≡ true → AreNoted service s.worker
+      → likes_within workload page log.ran.items phase ≡ additions_in s.worker.post phase page
+  pub looks : shown_in workload log.ran.items ≡ map (shown_by s.worker.post.additions) s.worker.post.reads
+  pub noted : s.worker.notes ≡ true → AreNoted workload s.worker
 
 -- a server leaves this log: it is what its worker ran and noted, has nothing taken above the phase that it saw last,
--- and is right for each service that the server worked for
+-- and is right for each workload that the server worked for
 pub record IsLogOf (s : ServerView) (log : WorkerLog) : Type 0 where
   pub share : log.last.share ≡ s.worker.last.share
   pub ran : log.ran.items ≡ s.worker.ran
   pub adds : log.adds.items ≡ s.worker.adds
   pub unnoted : s.worker.notes ≡ false → log.adds.items ≡ []
   pub above : NoneAbove s.worker.post.last log.taken.items
-  pub each : (service : Service) → HasWorkedFor service s → IsLogFor service s log
+  pub each : (workload : Workload) → HasWorkedFor workload s → IsLogFor workload s log

@@ -27,5 +27,5 @@ LeadsOn v w = (answer : CoordTurn) × CoordTurns v answer w
 
 -- a round: a turn of the coordinator, and one of each worker
 pub record IsRound {I : Type 0} (c d : Crew I) : Type 0 where
-  pub captain : LeadsOn c.captain d.captain
+  pub coordinator : LeadsOn c.coordinator d.coordinator
   pub servers : AllZip MakesTurn c.servers.items d.servers.items

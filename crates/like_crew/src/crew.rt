@@ -4,7 +4,7 @@ ghost use Rattle.like_queue.specs.Inbox.{view_of};
 ghost use Rattle.like_requests.specs.Setup.{FitsRun};
 ghost use Rattle.std.specs.List.{AllZip};
 ghost use Rattle.like_roles.specs.coordinator.CoordTurns.{CoordTurns, HasEndedJoined};
-ghost use Rattle.like_service.specs.Asked.{lists_of};
+ghost use Rattle.like_promises.specs.WorkloadOf.{lists_of};
 ghost use Rattle.like_crew.specs.Crew.{AreGone, GoesOn, HasInbox, IsCrew};
 ghost use Rattle.like_crew.specs.Ended.{HasEnded};
 ghost use Rattle.like_crew.specs.Server.{AreUntouched, plans_of, untouched};
@@ -22,20 +22,20 @@ use like_requests::{Request, Setup};
 use like_roles::{CoordTurn, Turn};
 use std::alloc::{AllocError, Global};
 
-mod captain;
+mod coordinator_at;
 mod hands;
 mod new_servers;
 mod server;
 mod servers;
 
-pub use captain::Captain;
+pub use coordinator_at::CoordinatorAt;
 pub use server::Server;
 
 /// The crew of a run: the coordinator at its board, and for each worker, in order, its server, which takes from inboxes
 /// of one kind.
 #[derive(Drop)]
 pub struct Crew<'a, I: Inbox> {
-    pub captain: Captain<'a>,
+    pub coordinator: CoordinatorAt<'a>,
     pub servers: Vec<Server<BoardPost<'a>, I>>,
 }
 
@@ -65,7 +65,7 @@ impl<'a, I: Inbox> Crew<'a, I> {
             workers,
             inboxes,
         )?;
-        let captain = Captain::new(
+        let coordinator = CoordinatorAt::new(
             alloc,
             &site.board,
             coord,
@@ -73,18 +73,24 @@ impl<'a, I: Inbox> Crew<'a, I> {
             setup.hot,
             &site.counts,
         )?;
-        Ok(Crew { captain, servers })
+        Ok(Crew {
+            coordinator,
+            servers,
+        })
     }
 
     /// Takes a crew apart whose run has ended.
     pub fn finish(self, alloc: Global) -> Result<Ended, AllocError>
-        requires ended { HasEndedJoined self.captain }
+        requires ended { HasEndedJoined self.coordinator }
         requires gone { AreGone self.servers.items }
         ensures { IfOk result (HasEnded self.entry) }
     {
-        let Crew { captain, servers } = self;
+        let Crew {
+            coordinator,
+            servers,
+        } = self;
         let (logs, seats) = finish_all(alloc, servers)?;
-        Ok(Ended::new(captain, logs, seats))
+        Ok(Ended::new(coordinator, logs, seats))
     }
 }
 
@@ -110,28 +116,28 @@ impl<'a> Crew<'a, ListInbox> {
     pub fn round(&mut self) -> bool
         ensures round { IsRound self.old self.new }
         ensures goes_on { GoesOn self.old self.new }
-        ensures ended { result ≡ true → HasEndedJoined self.new.captain }
+        ensures ended { result ≡ true → HasEndedJoined self.new.coordinator }
         ensures gone { result ≡ true → AreGone self.new.servers.items }
     {
-        let ended = self.captain.ends();
+        let ended = self.coordinator.ends();
         let gone = turns(&mut self.servers);
         ended && gone
     }
 
     /// Makes one turn of the coordinator.
     pub fn turn(&mut self) -> CoordTurn
-        ensures case { CoordTurns self.old.captain result self.new.captain }
+        ensures case { CoordTurns self.old.coordinator result self.new.coordinator }
         ensures rest { self.new.servers ≡ self.old.servers }
         ensures goes_on { GoesOn self.old self.new }
     {
-        self.captain.turn()
+        self.coordinator.turn()
     }
 
     /// Makes one turn of a worker.
     pub fn turn_of(&mut self, worker: u32) -> Turn
         requires { worker < length self.old.servers.items }
         ensures case { AtServer worker (ServerTurns result) self.old.servers.items self.new.servers.items }
-        ensures rest { self.new.captain ≡ self.old.captain }
+        ensures rest { self.new.coordinator ≡ self.old.coordinator }
         ensures goes_on { GoesOn self.old self.new }
     {
         turn_of(&mut self.servers, worker)
@@ -141,7 +147,7 @@ impl<'a> Crew<'a, ListInbox> {
     pub fn open_one(&mut self, submitter: u32)
         requires { HasInbox self.old.servers.items submitter }
         ensures opens { OpensMore submitter self.old.servers.items self.new.servers.items }
-        ensures rest { self.new.captain ≡ self.old.captain }
+        ensures rest { self.new.coordinator ≡ self.old.coordinator }
         ensures goes_on { GoesOn self.old self.new }
     {
         open_one(&mut self.servers, submitter);
@@ -150,7 +156,7 @@ impl<'a> Crew<'a, ListInbox> {
     /// Opens all lists.
     pub fn open_all(&mut self)
         ensures opens { AllZip OpensAll self.old.servers.items self.new.servers.items }
-        ensures rest { self.new.captain ≡ self.old.captain }
+        ensures rest { self.new.coordinator ≡ self.old.coordinator }
         ensures goes_on { GoesOn self.old self.new }
     {
         open_all(&mut self.servers);

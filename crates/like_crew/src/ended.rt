@@ -1,10 +1,10 @@
 ghost use Rattle.std.specs.Prelude.{◌≡◌};
 ghost use Rattle.like_roles.specs.coordinator.CoordTurns.{HasEndedJoined};
-ghost use Rattle.like_crew.specs.Ended.{IsCaptainOf};
+ghost use Rattle.like_crew.specs.Ended.{IsCoordinatorOf};
 
-use crate::crew::Captain;
+use crate::crew::CoordinatorAt;
 use like_board::{CoordSeat, WorkerSeat};
-use like_service::{Chosen, WorkerLog};
+use like_promises::{Chosen, WorkerLog};
 
 /// What a crew leaves when its run has ended.
 #[derive(Drop)]
@@ -20,13 +20,13 @@ pub struct Ended {
 
 impl Ended {
     /// What a coordinator leaves, with the logs and the seats of the workers.
-    pub fn new(captain: Captain<'_>, logs: Vec<WorkerLog>, seats: Vec<WorkerSeat>) -> Ended
-        requires { HasEndedJoined captain }
-        ensures captain { IsCaptainOf captain.entry result }
+    pub fn new(done: CoordinatorAt<'_>, logs: Vec<WorkerLog>, seats: Vec<WorkerSeat>) -> Ended
+        requires { HasEndedJoined done }
+        ensures coordinator { IsCoordinatorOf done.entry result }
         ensures logs { result.logs ≡ logs }
         ensures seats { result.seats ≡ seats }
     {
-        let coordinator = captain.coordinator;
+        let coordinator = done.coordinator;
         let phases = coordinator.phase();
         let (coord, chosen) = coordinator.finish();
         Ended {

@@ -7,7 +7,7 @@ mod ended;
 mod report;
 mod site;
 
-pub use crew::{Captain, Crew, Server};
+pub use crew::{CoordinatorAt, Crew, Server};
 pub use ended::Ended;
 pub use report::report_of;
 pub use site::{Seats, Site};

@@ -2,18 +2,18 @@ ghost use Rattle.std.specs.Prelude.{◌≡◌, false, true, IfOk, length};
 ghost use Rattle.like_requests.specs.Setup.{FitsRun};
 ghost use Rattle.like_board.specs.Closed.{IsClosedBoard};
 ghost use Rattle.like_board.specs.Seats.{board_id, coord_view};
-ghost use Rattle.like_service.specs.Asked.{lists_of};
-ghost use Rattle.like_service.specs.EndToEnd.{IsRightReport};
+ghost use Rattle.like_promises.specs.WorkloadOf.{lists_of};
+ghost use Rattle.like_promises.specs.EndToEnd.{IsRightReport};
 ghost use Rattle.like_crew.specs.Ended.{AreLeft, IsEnded};
 ghost use Rattle.like_crew.specs.Site.{IsSite};
-ghost use Rattle.like_service.specs.places.Tiling.{HasNoPlaces, HasRightPlaces};
+ghost use Rattle.like_promises.specs.places.Tiling.{HasNoPlaces, HasRightPlaces};
 
 use crate::ended::Ended;
 use crate::report::gathered::{last_likes, places_of, replies_of};
 use crate::site::Site;
 use like_board::{Board, CoordSeat, WorkerSeat};
+use like_promises::Report;
 use like_requests::{Request, Setup};
-use like_service::Report;
 use std::alloc::{AllocError, Global};
 use std::snapshot::Snapshot;
 

@@ -5,11 +5,11 @@ use Rattle.std.proofs.lemmas.List.Elements.{All-head, All-tail}
 use Rattle.std.specs.List.{fold}
 use Rattle.std.specs.Io.KnownBytes.{Appends}
 use Rattle.like_requests.specs.declared.setup.Setup.{Setup}
-use Rattle.like_service.specs.declared.answer.Answer.{Answer}
-use Rattle.like_service.specs.declared.place.Place.{Place}
-use Rattle.like_service.specs.declared.report.Report.{Report}
-use Rattle.like_service.specs.EndToEnd.{IsRightReport}
-use Rattle.like_service.specs.places.Tiling.{HasNoPlaces, HasRightPlaces}
+use Rattle.like_promises.specs.declared.answer.Answer.{Answer}
+use Rattle.like_promises.specs.declared.place.Place.{Place}
+use Rattle.like_promises.specs.declared.report.Report.{Report}
+use Rattle.like_promises.specs.EndToEnd.{IsRightReport}
+use Rattle.like_promises.specs.places.Tiling.{HasNoPlaces, HasRightPlaces}
 use Rattle.like_limits.specs.Limits.{max_requests}
 use Rattle.like_requests.specs.Pages.{Page}
 use Rattle.like_requests.proofs.Planned.{fits-run}
@@ -20,9 +20,9 @@ use Rattle.like_replies.specs.declared.write_fault.WriteFault.TheVariants as wri
 use Rattle.like_run.specs.Rounds as run
 use Rattle.like_run.specs.declared.rounds.fault.ReplayFault.{ReplayFault}
 use Rattle.like_run.specs.declared.rounds.fault.ReplayFault.TheVariants as why
-use Rattle.like_service.specs.RunFault as on_threads
-use Rattle.like_service.specs.declared.run_fault.RunFault.{RunFault}
-use Rattle.like_service.specs.declared.run_fault.RunFault.TheVariants as threads
+use Rattle.like_promises.specs.RunFault as on_threads
+use Rattle.like_promises.specs.declared.run_fault.RunFault.{RunFault}
+use Rattle.like_promises.specs.declared.run_fault.RunFault.TheVariants as threads
 use Rattle.like_requests.specs.declared.script.Turned.{Turned}
 use Rattle.like_command.specs.declared.options.Options.{Options}
 use Rattle.like_replies.specs.PlaceRows.{text_of}

@@ -6,13 +6,13 @@ use Rattle.like_requests.specs.declared.request.Op.TheVariants.{Like, Look}
 use Rattle.like_requests.specs.declared.request.PageRef.TheVariants.{Known, Unknown}
 use Rattle.like_requests.specs.declared.request.Request.{Request}
 use Rattle.like_requests.specs.declared.verdict.Verdict.TheVariants.{OtherHome, UnknownPage, UnknownUser}
-use Rattle.like_service.specs.declared.reply.Reply.{Reply}
-use Rattle.like_service.specs.declared.reply.Reply.TheVariants.{Liked, Seen, Refused}
-use Rattle.like_service.specs.HotPages.{chosen_below, hot_in}
-use Rattle.like_service.specs.Likes.{Between, initial_count, last_like, likes, likes_below, likes_within}
-use Rattle.like_service.specs.declared.log.Ran.{Ran}
-use Rattle.like_service.specs.Replies.{IsRightAnswer}
-use Rattle.like_service.specs.Service.{Service}
+use Rattle.like_promises.specs.declared.reply.Reply.{Reply}
+use Rattle.like_promises.specs.declared.reply.Reply.TheVariants.{Liked, Seen, Refused}
+use Rattle.like_promises.specs.HotPages.{chosen_below, hot_in}
+use Rattle.like_promises.specs.Likes.{Between, initial_count, last_like, likes, likes_below, likes_within}
+use Rattle.like_promises.specs.declared.log.Ran.{Ran}
+use Rattle.like_promises.specs.Replies.{IsRightAnswer}
+use Rattle.like_promises.specs.Workload.{Workload}
 
 abbrev page_a : ℕ → Page
 page_a count = record { name = codes "a"; count = count; split = true }
@@ -28,7 +28,7 @@ runs_at phase submitter number reply =
     record { phase = phase; submitter = submitter; number = number; stashed = false; reply = reply }
 
 -- three likes of two users
-abbrev plain : Service
+abbrev plain : Workload
 plain = record {
   users =
       2;
@@ -51,7 +51,7 @@ plain_first : last_like plain 0 [] ≡ None
 plain_first = refl
 
 -- two submitters, and the verdicts on three requests of the first
-abbrev judged : Service
+abbrev judged : Workload
 judged = record {
   users =
       2;
@@ -73,7 +73,7 @@ unknown_page : IsRightAnswer judged [] (runs_at 0 0 3 (Refused UnknownPage))
 unknown_page = refl
 
 -- two workers: two likes in phase 1, then a look in phase 2
-abbrev sliced : Service
+abbrev sliced : Workload
 sliced = record {
   users =
       2;
@@ -104,7 +104,7 @@ below_2 : likes_below sliced 0 sliced_runs 2 ≡ 2
 below_2 = refl
 
 -- one user's likes in phases 1 and 2, and a look that waited for phase 4
-abbrev chosen : Service
+abbrev chosen : Workload
 chosen = record {
   users =
       1;

@@ -14,22 +14,22 @@ use Rattle.like_requests.specs.declared.request.PageRef.{PageRef}
 use Rattle.like_requests.specs.declared.request.PageRef.TheVariants.{Known, Unknown}
 use Rattle.like_requests.specs.declared.request.Request.{Request}
 use Rattle.like_requests.specs.declared.verdict.Verdict.TheVariants.{Accepted, UnknownUser, OtherHome, UnknownPage}
-use Rattle.like_service.specs.declared.log.Ran.{Ran}
-use Rattle.like_service.specs.declared.log.WorkerLog.{WorkerLog}
-use Rattle.like_service.specs.declared.reply.Reply.{Reply}
-use Rattle.like_service.specs.declared.reply.Reply.TheVariants.{Refused}
-use Rattle.like_service.specs.Likes.{AcceptedLike, accepted_like, last_like, like_of, likes_ran}
-use Rattle.like_service.specs.Looks.{count_in}
-use Rattle.like_service.specs.Replies.{HasRightAnswers, IsRightAnswer, answer_to, reply_to}
-use Rattle.like_service.specs.Service.{Service, numbered_in, request_at, request_of, submitters}
-use Rattle.like_service.specs.declared.answer.Answer.{Answer}
-use Rattle.like_service.specs.declared.report.Report.{Report}
-use Rattle.like_service.specs.Collected.{answer_at, rows_of, answer_of, entries_in, entries_of}
+use Rattle.like_promises.specs.declared.log.Ran.{Ran}
+use Rattle.like_promises.specs.declared.log.WorkerLog.{WorkerLog}
+use Rattle.like_promises.specs.declared.reply.Reply.{Reply}
+use Rattle.like_promises.specs.declared.reply.Reply.TheVariants.{Refused}
+use Rattle.like_promises.specs.Likes.{AcceptedLike, accepted_like, last_like, like_of, likes_ran}
+use Rattle.like_promises.specs.Looks.{count_in}
+use Rattle.like_promises.specs.Replies.{HasRightAnswers, IsRightAnswer, answer_to, reply_to}
+use Rattle.like_promises.specs.Workload.{Workload, numbered_in, request_at, request_of, submitters}
+use Rattle.like_promises.specs.declared.answer.Answer.{Answer}
+use Rattle.like_promises.specs.declared.report.Report.{Report}
+use Rattle.like_promises.specs.Collected.{answer_at, rows_of, answer_of, entries_in, entries_of}
 use Rattle.like_collection.specs.Entries.{is_of}
 use Rattle.like_replies.specs.Reported.{reported}
 use Rattle.like_replies.specs.Rows.{IsShowable, IsWritable}
 use Rattle.like_tables.specs.Share.{worker_of}
-use Rattle.like_service.specs.EndToEnd.{IsEndToEnd, runs_of}
+use Rattle.like_promises.specs.EndToEnd.{IsEndToEnd, runs_of}
 
 -- what holds of each element by its place holds of all
 all_from_get : {X : Type 0} (P : X → Type 0) (xs : List X)
@@ -117,115 +117,115 @@ answer_there pages users submitters submitter r given shows =
       by_tests true false k = record { there = tt; answer = λ e. cc }
       by_tests false b k = record { there = tt; answer = λ e. cc }
 
-module _ (service : Service) (planned : All (IsPlan service.pages) service.plans) where
+module _ (workload : Workload) (planned : All (IsPlan workload.pages) workload.plans) where
   -- the page that a request of a plan knows is there
-  in_plan : (plan : List Request) (number : ℕ) (r : Request) → IsPlan service.pages plan
-      → numbered_in plan number ≡ Some r → IsThere (length service.pages) r.page
+  in_plan : (plan : List Request) (number : ℕ) (r : Request) → IsPlan workload.pages plan
+      → numbered_in plan number ≡ Some r → IsThere (length workload.pages) r.page
   in_plan plan zero r is at = absurd (let no : None ≡ Some r = at in cc no)
   in_plan plan (suc n) r is at =
-      subst (λ (x : Request). IsThere (length service.pages) x.page) (get_or_from_slice_get plan n r r at)
+      subst (λ (x : Request). IsThere (length workload.pages) x.page) (get_or_from_slice_get plan n r r at)
       (is.there n r (slice_get_within plan n r at))
 
-  asked_there : (submitter number : ℕ) (r : Request) → request_at service submitter number ≡ Some r
-      → IsThere (length service.pages) r.page
-  asked_there submitter number r at = by_plan (slice_get service.plans submitter) refl at where
-    by_plan : (o : Option (List Request)) → slice_get service.plans submitter ≡ o
-        → option_and_then (λ plan. numbered_in plan number) o ≡ Some r → IsThere (length service.pages) r.page
+  asked_there : (submitter number : ℕ) (r : Request) → request_at workload submitter number ≡ Some r
+      → IsThere (length workload.pages) r.page
+  asked_there submitter number r at = by_plan (slice_get workload.plans submitter) refl at where
+    by_plan : (o : Option (List Request)) → slice_get workload.plans submitter ≡ o
+        → option_and_then (λ plan. numbered_in plan number) o ≡ Some r → IsThere (length workload.pages) r.page
     by_plan None is h = absurd (let no : None ≡ Some r = h in cc no)
     by_plan (Some plan) is h =
         in_plan plan number r
-        (subst (IsPlan service.pages) (get_or_from_slice_get service.plans submitter plan plan is)
-        (planned submitter plan (slice_get_within service.plans submitter plan is))) h
+        (subst (IsPlan workload.pages) (get_or_from_slice_get workload.plans submitter plan plan is)
+        (planned submitter plan (slice_get_within workload.plans submitter plan is))) h
 
   -- so are the pages of all accepted likes
-  ran_there : (entries : List Ran) → AllByRecursion (LikesThere service.pages) (likes_ran service entries)
+  ran_there : (entries : List Ran) → AllByRecursion (LikesThere workload.pages) (likes_ran workload entries)
   ran_there [] = tt
   ran_there (e ∷ rest) =
-      by_request (request_of service e) (λ r at. asked_there e.submitter e.number r at) (ran_there rest) where
-        by_request : (o : Option Request) → ((r : Request) → o ≡ Some r → IsThere (length service.pages) r.page)
-            → AllByRecursion (LikesThere service.pages) (likes_ran service rest)
-            → AllByRecursion (LikesThere service.pages)
-            (cons_option (option_and_then (accepted_like service.users (submitters service) e.submitter) o)
-            (likes_ran service rest))
+      by_request (request_of workload e) (λ r at. asked_there e.submitter e.number r at) (ran_there rest) where
+        by_request : (o : Option Request) → ((r : Request) → o ≡ Some r → IsThere (length workload.pages) r.page)
+            → AllByRecursion (LikesThere workload.pages) (likes_ran workload rest)
+            → AllByRecursion (LikesThere workload.pages)
+            (cons_option (option_and_then (accepted_like workload.users (submitters workload) e.submitter) o)
+            (likes_ran workload rest))
         by_request None there all = all
         by_request (Some r) there all =
-            likes_there service.pages (is_accepted service.users (submitters service) e.submitter r) r.op r.user r.page
-            (likes_ran service rest) (there r refl) all
+            likes_there workload.pages (is_accepted workload.users (submitters workload) e.submitter r) r.op r.user r.page
+            (likes_ran workload rest) (there r refl) all
 
   -- and each last like
   last_there : (user : ℕ) (entries : List Ran)
-      → ForSome (last_like service user entries) (λ p. p < length service.pages)
+      → ForSome (last_like workload user entries) (λ p. p < length workload.pages)
   last_there user entries = λ p h.
-      all_get (λ q. q < length service.pages) _ _ p
-      (all_map (λ (l : AcceptedLike). l.page) (λ q. q < length service.pages)
-      (filter (λ (l : AcceptedLike). eqb l.user user) (likes_ran service entries))
-      (all_filter (LikesThere service.pages) (λ (l : AcceptedLike). eqb l.user user) (likes_ran service entries)
+      all_get (λ q. q < length workload.pages) _ _ p
+      (all_map (λ (l : AcceptedLike). l.page) (λ q. q < length workload.pages)
+      (filter (λ (l : AcceptedLike). eqb l.user user) (likes_ran workload entries))
+      (all_filter (LikesThere workload.pages) (λ (l : AcceptedLike). eqb l.user user) (likes_ran workload entries)
       (ran_there entries))) h
 
   -- an entry with a right answer can be shown
-  entry_shows : (before : List Ran) (e : Ran) → IsRightAnswer service before e → IsShowable service.pages e.reply
-  entry_shows before e right = by_request (request_of service e) right where
-    by_request : (o : Option Request) → IsSomeAnd o (λ r. e.reply ≡ answer_to service before e r)
-        → IsShowable service.pages e.reply
+  entry_shows : (before : List Ran) (e : Ran) → IsRightAnswer workload before e → IsShowable workload.pages e.reply
+  entry_shows before e right = by_request (request_of workload e) right where
+    by_request : (o : Option Request) → IsSomeAnd o (λ r. e.reply ≡ answer_to workload before e r)
+        → IsShowable workload.pages e.reply
     by_request None h = absurd h
     by_request (Some r) h =
-        subst (IsShowable service.pages) (sym h)
-        (answer_there service.pages service.users (submitters service) e.submitter r
-        (reply_to r.op (last_like service r.user before) (count_in e.reply))
-        (reply_there service.pages r.op (last_like service r.user before) (count_in e.reply)
+        subst (IsShowable workload.pages) (sym h)
+        (answer_there workload.pages workload.users (submitters workload) e.submitter r
+        (reply_to r.op (last_like workload r.user before) (count_in e.reply))
+        (reply_there workload.pages r.op (last_like workload r.user before) (count_in e.reply)
         (last_there r.user before)))
 
-  list_shows : (ran : List Ran) → HasRightAnswers service ran
-      → AllByRecursion (λ (e : Ran). IsShowable service.pages e.reply) ran
+  list_shows : (ran : List Ran) → HasRightAnswers workload ran
+      → AllByRecursion (λ (e : Ran). IsShowable workload.pages e.reply) ran
   list_shows ran right =
-      all_from_get (λ (e : Ran). IsShowable service.pages e.reply) ran
+      all_from_get (λ (e : Ran). IsShowable workload.pages e.reply) ran
       (λ i e at. entry_shows (take i ran) e (right i e at))
 
-  module _ (workers : ℕ) (r : Report) (h : IsEndToEnd service workers r) where
+  module _ (workers : ℕ) (r : Report) (h : IsEndToEnd workload workers r) where
     -- all entries can be shown
-    all_show : AllByRecursion (λ (e : Ran). IsShowable service.pages e.reply) (entries_in r.logs.items)
+    all_show : AllByRecursion (λ (e : Ran). IsShowable workload.pages e.reply) (entries_in r.logs.items)
     all_show =
-        all_flat (λ (log : WorkerLog). log.ran.items) (λ (e : Ran). IsShowable service.pages e.reply) r.logs.items
+        all_flat (λ (log : WorkerLog). log.ran.items) (λ (e : Ran). IsShowable workload.pages e.reply) r.logs.items
         (all_from_get
-        (λ (log : WorkerLog). AllByRecursion (λ (e : Ran). IsShowable service.pages e.reply) log.ran.items)
+        (λ (log : WorkerLog). AllByRecursion (λ (e : Ran). IsShowable workload.pages e.reply) log.ran.items)
         r.logs.items
         (λ worker log at. list_shows log.ran.items (h.logs worker log at).0.answers))
 
     -- so can each answer, which is that of an entry
     answer_shows : (submitter place : ℕ) (a : Answer) → answer_at (rows_of r.replies) submitter (suc place) ≡ Some a
-        → IsShowable service.pages a.reply
+        → IsShowable workload.pages a.reply
     answer_shows submitter place a at =
         let one : map answer_of (entries_of submitter (suc place) (entries_in r.logs.items)) ≡ a ∷ [] =
         h.replies.each submitter (suc place) ∙ ap option_to_list at in
-        let shown = all_map answer_of (λ (x : Answer). IsShowable service.pages x.reply)
+        let shown = all_map answer_of (λ (x : Answer). IsShowable workload.pages x.reply)
         (entries_of submitter (suc place) (entries_in r.logs.items))
-        (all_filter (λ (e : Ran). IsShowable service.pages e.reply) (is_of submitter (suc place))
+        (all_filter (λ (e : Ran). IsShowable workload.pages e.reply) (is_of submitter (suc place))
         (entries_in r.logs.items) all_show) in
-        (subst (AllByRecursion (λ (x : Answer). IsShowable service.pages x.reply)) one shown).0
+        (subst (AllByRecursion (λ (x : Answer). IsShowable workload.pages x.reply)) one shown).0
 
     row_shows : (submitter : ℕ) (row : List Answer) → slice_get (rows_of r.replies) submitter ≡ Some row
-        → All (λ (a : Answer). IsShowable service.pages a.reply) row
+        → All (λ (a : Answer). IsShowable workload.pages a.reply) row
     row_shows submitter row at =
-        All-from_recursion (λ (a : Answer). IsShowable service.pages a.reply) row
-        (all_from_get (λ (a : Answer). IsShowable service.pages a.reply) row (λ place a there.
+        All-from_recursion (λ (a : Answer). IsShowable workload.pages a.reply) row
+        (all_from_get (λ (a : Answer). IsShowable workload.pages a.reply) row (λ place a there.
         answer_shows submitter place a
         (ap (λ xs. slice_get xs place) (get_or_from_slice_get (rows_of r.replies) submitter row [] at) ∙ there)))
 
     user_shows : (user : ℕ) (last : Option ℕ) → slice_get r.last.items user ≡ Some last
-        → ForSome last (λ page. page < length service.pages)
+        → ForSome last (λ page. page < length workload.pages)
     user_shows user last at =
-        let known : user < service.users = omega (arith, slice_get_within r.last.items user last at, h.last.users) in
+        let known : user < workload.users = omega (arith, slice_get_within r.last.items user last at, h.last.users) in
         let entries : List Ran =
-        get_or (runs_of r.logs.items) (worker_of workers (home (submitters service) user)) [] in
-        let same : Some (last_like service user entries) ≡ Some last = sym (h.last.each user known) ∙ at in
-        let is : last_like service user entries ≡ last = cc same in
-        subst (λ x. ForSome x (λ page. page < length service.pages)) is (last_there user entries)
+        get_or (runs_of r.logs.items) (worker_of workers (home (submitters workload) user)) [] in
+        let same : Some (last_like workload user entries) ≡ Some last = sym (h.last.each user known) ∙ at in
+        let is : last_like workload user entries ≡ last = cc same in
+        subst (λ x. ForSome x (λ page. page < length workload.pages)) is (last_there user entries)
 
     -- so the report may be written
-    pub IsWritable-end_to_end : IsWritable service.pages (reported r)
+    pub IsWritable-end_to_end : IsWritable workload.pages (reported r)
     IsWritable-end_to_end =
-        let P : List Answer → Type 0 = λ row. All (λ (a : Answer). IsShowable service.pages a.reply) row in
-        let Q : Option ℕ → Type 0 = λ last. ForSome last (λ page. page < length service.pages) in
+        let P : List Answer → Type 0 = λ row. All (λ (a : Answer). IsShowable workload.pages a.reply) row in
+        let Q : Option ℕ → Type 0 = λ last. ForSome last (λ page. page < length workload.pages) in
         record {
           counted = h.counts.pages;
           shown = All-from_recursion P (rows_of r.replies) (all_from_get P (rows_of r.replies) row_shows);

@@ -7,8 +7,8 @@ use Rattle.like_replies.specs.declared.write_fault.WriteFault.{WriteFault}
 use Rattle.like_replies.specs.declared.write_fault.WriteFault.TheVariants as write
 use Rattle.like_run.specs.declared.rounds.fault.ReplayFault.{ReplayFault}
 use Rattle.like_run.specs.declared.rounds.fault.ReplayFault.TheVariants as replay
-use Rattle.like_service.specs.declared.run_fault.RunFault.{RunFault}
-use Rattle.like_service.specs.declared.run_fault.RunFault.TheVariants as run
+use Rattle.like_promises.specs.declared.run_fault.RunFault.{RunFault}
+use Rattle.like_promises.specs.declared.run_fault.RunFault.TheVariants as run
 use Rattle.like_requests.specs.declared.script_file.ScriptFault.TheVariants as script
 use Rattle.like_files.specs.declared.fault.DriverFault.{DriverFault}
 use Rattle.like_files.specs.declared.fault.DriverFault.TheVariants.{Pages, Requests, Script, Settings, Start, Unfinished, Write, Memory}

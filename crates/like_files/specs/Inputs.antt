@@ -12,13 +12,13 @@ use Rattle.like_requests.specs.declared.pages_file.PagesFault.{PagesFault}
 use Rattle.like_requests.specs.declared.request.Request.{Request}
 use Rattle.like_requests.specs.declared.requests_file.RequestsFault.{RequestsFault}
 use Rattle.like_requests.specs.declared.setup.Setup.{Setup}
-use Rattle.like_service.specs.declared.report.Report.{Report}
+use Rattle.like_promises.specs.declared.report.Report.{Report}
 use Rattle.like_replies.specs.PlaceRows.{text_of}
 use Rattle.like_replies.specs.declared.extent.Extent.{Extent}
 use Rattle.like_replies.specs.Notices.{notice_of}
 use Rattle.like_replies.specs.declared.notice.Notice.{Notice}
-use Rattle.like_service.specs.EndToEnd.{IsRightReport}
-use Rattle.like_service.specs.places.Tiling.{HasNoPlaces, HasRightPlaces}
+use Rattle.like_promises.specs.EndToEnd.{IsRightReport}
+use Rattle.like_promises.specs.places.Tiling.{HasNoPlaces, HasRightPlaces}
 use Rattle.like_requests.specs.ScriptFile.{IsScriptFault, IsScriptFile}
 use Rattle.like_requests.specs.declared.script_file.ScriptFault.{ScriptFault}
 use Rattle.like_requests.specs.declared.script.Turned.{Turned}

@@ -4,9 +4,9 @@ use Rattle.like_requests.specs.Pages.{Page}
 use Rattle.like_requests.specs.Setup.{IsWithinLimits}
 use Rattle.like_requests.specs.declared.request.Request.{Request}
 use Rattle.like_requests.specs.declared.setup.Setup.{Setup}
-use Rattle.like_service.specs.RunFault as run
-use Rattle.like_service.specs.declared.run_fault.RunFault.{RunFault}
-use Rattle.like_service.specs.declared.run_fault.RunFault.TheVariants as why
+use Rattle.like_promises.specs.RunFault as run
+use Rattle.like_promises.specs.declared.run_fault.RunFault.{RunFault}
+use Rattle.like_promises.specs.declared.run_fault.RunFault.TheVariants as why
 use Rattle.like_files.specs.Inputs.{GivesLists, Inputs, RefusesLists, WritesReport, setup_of}
 use Rattle.like_replies.specs.declared.notice.Notice.{Notice}
 use Rattle.like_command.specs.declared.options.Options.{Options}

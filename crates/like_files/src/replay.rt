@@ -1,5 +1,5 @@
 ghost use Rattle.std.specs.Prelude.{◌≡◌, ◌≤◌, false, true, IfErr, IfOk, IsSomeAnd, MatchResult, OnOk, Option, is_some, length, option_map};
-ghost use Rattle.like_service.specs.Asked.{lists_of};
+ghost use Rattle.like_promises.specs.WorkloadOf.{lists_of};
 ghost use Rattle.like_records.specs.Reading.{ReadFailed};
 ghost use Rattle.like_limits.specs.Limits.{max_entries};
 ghost use Rattle.like_files.specs.FailedReads.{TellsRead};

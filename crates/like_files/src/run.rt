@@ -1,5 +1,5 @@
 ghost use Rattle.std.specs.Prelude.{◌≡◌, IfErr, IfOk, None, OnOk, Option, length};
-ghost use Rattle.like_service.specs.Asked.{lists_of};
+ghost use Rattle.like_promises.specs.WorkloadOf.{lists_of};
 ghost use Rattle.like_files.specs.FailedReads.{TellsRead};
 ghost use Rattle.like_files.specs.Faults.{IsBeforeOutput};
 ghost use Rattle.like_files.specs.Inputs.{inputs_of};

@@ -2,7 +2,7 @@
 use Rattle.std.proofs.Common.{◌≡◌, [], ◌∷◌, None, Some, false, refl}
 use Rattle.std.specs.Prelude.{codes, decimal}
 use Rattle.like_requests.specs.Pages.{Page}
-use Rattle.like_service.specs.declared.reply.Reply.TheVariants.{Liked}
+use Rattle.like_promises.specs.declared.reply.Reply.TheVariants.{Liked}
 use Rattle.like_replies.specs.Rows.{report_rows}
 
 abbrev page_a : Page

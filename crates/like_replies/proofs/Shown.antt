@@ -2,8 +2,8 @@
 use Rattle.std.proofs.Common.{◌≡◌, Bool, true, false, List, subst}
 use Rattle.std.proofs.lemmas.List.Elements.{All-nil}
 use Rattle.like_requests.specs.Pages.{Page}
-use Rattle.like_service.specs.declared.answer.Answer.{Answer}
-use Rattle.like_service.specs.declared.report.Report.{Report}
+use Rattle.like_promises.specs.declared.answer.Answer.{Answer}
+use Rattle.like_promises.specs.declared.report.Report.{Report}
 use Rattle.like_replies.specs.declared.report.section.Section.{Section}
 use Rattle.like_replies.specs.Reported.{reported, shown_of, shown_with}
 use Rattle.like_replies.specs.Rows.{IsWritable, report_rows}

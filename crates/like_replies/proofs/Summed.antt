@@ -2,8 +2,8 @@
 use Rattle.std.proofs.Common.{ℕ, ◌+◌, ◌<◌, ◌≤◌, ◌^◌, Bool, true, false, cond, List, [], ◌∷◌, length, arith}
 use Rattle.std.specs.List.{fold}
 use Rattle.std.specs.Str.{bytes_eq}
-use Rattle.like_service.specs.declared.answer.Answer.{Answer}
-use Rattle.like_service.specs.declared.replies.Replies.{Replies}
+use Rattle.like_promises.specs.declared.answer.Answer.{Answer}
+use Rattle.like_promises.specs.declared.replies.Replies.{Replies}
 use Rattle.like_replies.specs.Refusals.{is_refusal, refused_in, refused_of}
 use Rattle.like_replies.specs.Rows.{answer_word}
 use Rattle.like_replies.specs.Summary.{answered, answered_in, requests_in}

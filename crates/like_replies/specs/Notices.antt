@@ -1,6 +1,6 @@
 -- What is said of a report beside it.
 use Rattle.std.specs.Prelude.{ℕ, Bool, if◌then◌else◌, List, Option, None, Some, ◌==◌}
-use Rattle.like_service.specs.declared.report.Report.{Report}
+use Rattle.like_promises.specs.declared.report.Report.{Report}
 use Rattle.like_replies.specs.Refusals.{refusals_line, refusals_of, refused_in}
 use Rattle.like_replies.specs.Summary.{summary_of, summary_text}
 use Rattle.like_replies.specs.declared.notice.Notice.{Notice}

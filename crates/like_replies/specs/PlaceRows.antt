@@ -3,9 +3,9 @@ use Rattle.std.specs.Prelude.{ℕ, if◌then◌else◌, List, [], ◌∷◌, ◌
 use Rattle.std.specs.Io.KnownBytes.{Appends}
 use Rattle.std.specs.List.{enumerate_from, flat_map}
 use Rattle.like_requests.specs.Pages.{Page}
-use Rattle.like_service.specs.declared.place.Place.{Place}
-use Rattle.like_service.specs.declared.report.Report.{Report}
-use Rattle.like_service.specs.places.Places.{lists_in}
+use Rattle.like_promises.specs.declared.place.Place.{Place}
+use Rattle.like_promises.specs.declared.report.Report.{Report}
+use Rattle.like_promises.specs.places.Places.{lists_in}
 use Rattle.like_replies.specs.Reported.{shown_of}
 use Rattle.like_replies.specs.declared.extent.Extent.{Extent}
 use Rattle.like_replies.specs.Rows.{name_of, report_text, rows_text}

@@ -1,10 +1,10 @@
 -- The refused requests of a report in numbers, and the line on them.
 use Rattle.std.specs.Prelude.{ℕ, Bool, false, true, List, ◌++◌, codes, decimal, count_by, sum_by}
-use Rattle.like_service.specs.declared.answer.Answer.{Answer}
-use Rattle.like_service.specs.declared.replies.Replies.{Replies}
-use Rattle.like_service.specs.declared.reply.Reply.{Reply}
-use Rattle.like_service.specs.declared.reply.Reply.TheVariants.{Liked, Seen, Refused}
-use Rattle.like_service.specs.declared.report.Report.{Report}
+use Rattle.like_promises.specs.declared.answer.Answer.{Answer}
+use Rattle.like_promises.specs.declared.replies.Replies.{Replies}
+use Rattle.like_promises.specs.declared.reply.Reply.{Reply}
+use Rattle.like_promises.specs.declared.reply.Reply.TheVariants.{Liked, Seen, Refused}
+use Rattle.like_promises.specs.declared.report.Report.{Report}
 use Rattle.like_replies.specs.Summary.{answered, requests_in}
 use Rattle.like_replies.specs.declared.refusals.Refusals.{Refusals}
 

@@ -1,9 +1,9 @@
 -- What a report's text shows of it, as lists.
 use Rattle.std.specs.Prelude.{ℕ, Bool, if◌then◌else◌, List, [], Option}
-use Rattle.like_service.specs.declared.chosen.Chosen.{Chosen}
-use Rattle.like_service.specs.declared.answer.Answer.{Answer}
-use Rattle.like_service.specs.declared.report.Report.{Report}
-use Rattle.like_service.specs.Collected.{rows_of}
+use Rattle.like_promises.specs.declared.chosen.Chosen.{Chosen}
+use Rattle.like_promises.specs.declared.answer.Answer.{Answer}
+use Rattle.like_promises.specs.declared.report.Report.{Report}
+use Rattle.like_promises.specs.Collected.{rows_of}
 
 -- the answers by submitter and number, the final count of each page, the page of each user's last like, and the phases
 -- with hot pages

@@ -7,10 +7,10 @@ use Rattle.like_requests.specs.Pages.{Page}
 use Rattle.like_requests.specs.declared.verdict.Verdict.{Verdict}
 use Rattle.like_requests.specs.declared.verdict.Verdict.TheVariants.{Accepted, UnknownUser, OtherHome, UnknownPage}
 use Rattle.like_core.specs.Phase.{is_hot}
-use Rattle.like_service.specs.declared.chosen.Chosen.{Chosen}
-use Rattle.like_service.specs.declared.reply.Reply.{Reply}
-use Rattle.like_service.specs.declared.reply.Reply.TheVariants.{Liked, Seen, Refused}
-use Rattle.like_service.specs.declared.answer.Answer.{Answer}
+use Rattle.like_promises.specs.declared.chosen.Chosen.{Chosen}
+use Rattle.like_promises.specs.declared.reply.Reply.{Reply}
+use Rattle.like_promises.specs.declared.reply.Reply.TheVariants.{Liked, Seen, Refused}
+use Rattle.like_promises.specs.declared.answer.Answer.{Answer}
 use Rattle.like_replies.specs.Reported.{Reported}
 
 -- the name of a page

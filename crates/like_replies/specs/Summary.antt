@@ -1,10 +1,10 @@
 -- What a report comes to in numbers, and their text.
 use Rattle.std.specs.Prelude.{ℕ, List, ◌++◌, ◌+◌, length, codes, decimal, fold, bit_or, count_by, count_ones, sum_by}
 use Rattle.std.specs.Str.{bytes_eq}
-use Rattle.like_service.specs.declared.chosen.Chosen.{Chosen}
-use Rattle.like_service.specs.declared.answer.Answer.{Answer}
-use Rattle.like_service.specs.declared.report.Report.{Report}
-use Rattle.like_service.specs.declared.replies.Replies.{Replies}
+use Rattle.like_promises.specs.declared.chosen.Chosen.{Chosen}
+use Rattle.like_promises.specs.declared.answer.Answer.{Answer}
+use Rattle.like_promises.specs.declared.report.Report.{Report}
+use Rattle.like_promises.specs.declared.replies.Replies.{Replies}
 use Rattle.like_replies.specs.Rows.{answer_word}
 use Rattle.like_replies.specs.declared.summary.Summary.{Summary}
 

@@ -11,7 +11,7 @@ mod write_fault;
 
 pub use extent::Extent;
 pub use like_collection::{CollectFault, collect, places};
-pub use like_service::{Answer, Place, Replies, Report};
+pub use like_promises::{Answer, Place, Replies, Report};
 pub use notice::Notice;
 pub use refusals::Refusals;
 pub use report::text::{write_places, write_report, write_text, write_text_at_once};

@@ -5,7 +5,7 @@ ghost use Rattle.like_replies.specs.Summary.{requests_in};
 
 use crate::refusals::{Refusals, refused_in};
 use crate::summary::Summary;
-use like_service::Report;
+use like_promises::Report;
 use std::io;
 use std::io::Write;
 

@@ -4,7 +4,7 @@ ghost use Rattle.like_replies.specs.Refusals.{is_refusal, kind_text, refusals_li
 ghost use Rattle.like_replies.specs.Summary.{requests_in};
 
 use crate::summary::{answered, requests_in};
-use like_service::{Answer, Replies, Reply, Report};
+use like_promises::{Answer, Replies, Reply, Report};
 use std::io;
 use std::io::Write;
 

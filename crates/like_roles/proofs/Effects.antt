@@ -1,7 +1,7 @@
 -- What running a request leaves as it is, and what it writes.
 use Rattle.std.proofs.Common.{◌≡◌, Bool, [], ◌∷◌, ◌++◌, refl, ap, ◌∙◌}
 use Rattle.like_tables.specs.declared.held.Held.{Held}
-use Rattle.like_service.specs.declared.reply.Reply.{Reply}
+use Rattle.like_promises.specs.declared.reply.Reply.{Reply}
 use Rattle.like_roles.specs.worker.Serve.{Runs, ran_now}
 use Rattle.like_roles.specs.worker.WorkerView.{WorkerView}
 use Rattle.like_roles.proofs.Served.{GivesReply-keeps, GivesReply-state, counted_by}

@@ -24,21 +24,21 @@ use Rattle.like_core.specs.Phase.{IsJoined, IsSplit, split, split_by}
 use Rattle.like_core.specs.WorkerState.{IsRunning, RunsJoined, RunsSplit, RunsSome, phase_of, seen}
 use Rattle.like_core.specs.Post.{additions_in, answered, looked_at, pages_of, slices}
 use Rattle.like_tables.specs.declared.held.Held.{Held}
-use Rattle.like_service.specs.declared.log.Ran.{Ran}
-use Rattle.like_service.specs.declared.log.Took.{Took}
+use Rattle.like_promises.specs.declared.log.Ran.{Ran}
+use Rattle.like_promises.specs.declared.log.Took.{Took}
 use Rattle.like_roles.specs.declared.turn.Turn.{Turn}
 use Rattle.like_roles.specs.worker.Follows.{FitsStash, Follows, IsAsked, IsAskedBy, IsInOrder, IsNoted, IsServed, IsSized, IsTallied, IsUnmerged, HasNothingLater, Stands, entry_held, next_joined}
-use Rattle.like_service.specs.Order.{block, entry_of, order, order_below, stashed_in, took_to_wait}
+use Rattle.like_promises.specs.Order.{block, entry_of, order, order_below, stashed_in, took_to_wait}
 use Rattle.like_roles.specs.worker.WorkerView.{is_look_at_sliced, WorkerView, has_to_wait, phase_at, seat_of, submitter_at}
-use Rattle.like_service.specs.Looks.{accepted_look, page_looked_at}
+use Rattle.like_promises.specs.Looks.{accepted_look, page_looked_at}
 use Rattle.like_roles.specs.worker.Serve.{Runs, ran_now, verdict_at}
-use Rattle.like_service.specs.Service.{Service, is_split_in, request_at, submitters}
+use Rattle.like_promises.specs.Workload.{Workload, is_split_in, request_at, submitters}
 use Rattle.like_roles.specs.worker.Turns as turns
 use Rattle.like_roles.specs.worker.Turns.{CanGive, Gives, TakesAsk, Turns, Works, held_from, merged, saw, settled, trying, with_stashed, with_taken, without_first}
 use Rattle.like_requests.specs.Setup.{IsThere}
 use Rattle.like_roles.specs.worker.Merges.{Merges}
 use Rattle.like_seat.specs.StationView.{HasPhaseMask, IsSliceInSplit}
-use Rattle.like_service.proofs.Blocks.{block-next-prompt, block-next-waits, order-parts, order_below-prompt, order_below-waits, stashed-block, stashed-other, stashed-prompt, took_to_wait-joined}
+use Rattle.like_promises.proofs.Blocks.{block-next-prompt, block-next-waits, order-parts, order_below-prompt, order_below-waits, stashed-block, stashed-other, stashed-prompt, took_to_wait-joined}
 use Rattle.like_roles.proofs.Effects.{HasRunOne, Runs-effects}
 use Rattle.like_roles.proofs.InBlocks.{before-next, parity, parts, running-of_within, runs-phase, runs-weaker, within-of_running}
 use Rattle.like_roles.proofs.Keeps.{runs-keeps, works-keeps}
@@ -52,20 +52,20 @@ use Rattle.like_roles.proofs.counts.Shown.{after-more, shown_by-more}
 use Rattle.like_roles.proofs.counts.Tallied.{GivesReply-tallied, accepted-true}
 
 -- a worker that runs a phase follows the plans
-follows-running : (service : Service) (v : WorkerView)
+follows-running : (workload : Workload) (v : WorkerView)
     → IsRunning v.post.state
-    → IsServed service v
+    → IsServed workload v
     → IsSized v
-    → IsTallied service v
-    → (v.notes ≡ true → IsNoted service v.post.additions v.post.reads v.adds v.ran)
-    → (v.notes ≡ true → IsUnmerged service v.adds v.post.state)
-    → All (IsAsked service) v.held.held
-    → FitsStash service v.taken
-    → IsInOrder service v
+    → IsTallied workload v
+    → (v.notes ≡ true → IsNoted workload v.post.additions v.post.reads v.adds v.ran)
+    → (v.notes ≡ true → IsUnmerged workload v.adds v.post.state)
+    → All (IsAsked workload) v.held.held
+    → FitsStash workload v.taken
+    → IsInOrder workload v
     → HasNothingLater v (phase_at v)
     → ((place : ℕ) → v.pending ≡ Some place → RunsJoined v.post.state → v.held.held ≡ [])
-    → Follows service v
-follows-running service v run served sized t noted unmerged held fits in_order within trying = record {
+    → Follows workload v
+follows-running workload v run served sized t noted unmerged held fits in_order within trying = record {
   served = served;
   sized = sized;
   tallied = t;
@@ -78,53 +78,53 @@ follows-running service v run served sized t noted unmerged held fits in_order w
   trying = λ place e. (run, trying place e);
 }
 
--- which pages are split is the same by the service and by the worker, which has read its split phase's mask
-slices-alike : (service : Service) (v : WorkerView)
-    → IsServed service v
+-- which pages are split is the same by the workload and by the worker, which has read its split phase's mask
+slices-alike : (workload : Workload) (v : WorkerView)
+    → IsServed workload v
     → IsRunning v.post.state
     → HasPhaseMask v.post
     → (page : ℕ)
-    → is_split_in service (phase_at v) page ≡ slices v.post page
-slices-alike service v s run has page =
-    ap (λ xs. split (λ p. get_or xs p false) service.hot (phase_at v) page) s.marks_alike
-    ∙ ap (λ (l : Limits). split_by l.hot (λ p. get_or v.post.marks p false) service.hot (phase_at v) page) (sym s.run)
-    ∙ split-known v.post.limits.hot (λ p. get_or v.post.marks p false) service.hot v.post.masks (phase_at v) page s.hot_alike
+    → is_split_in workload (phase_at v) page ≡ slices v.post page
+slices-alike workload v s run has page =
+    ap (λ xs. split (λ p. get_or xs p false) workload.hot (phase_at v) page) s.marks_alike
+    ∙ ap (λ (l : Limits). split_by l.hot (λ p. get_or v.post.marks p false) workload.hot (phase_at v) page) (sym s.run)
+    ∙ split-known v.post.limits.hot (λ p. get_or v.post.marks p false) workload.hot v.post.masks (phase_at v) page s.hot_alike
     (λ odd _ _. has (runs-split v.post.state run odd))
 
 -- what a run does to a worker that follows the plans, where the order after it is known
-follows-run : (service : Service) (v after : WorkerView) (h : Held) (stashed : Bool)
+follows-run : (workload : Workload) (v after : WorkerView) (h : Held) (stashed : Bool)
     → Runs v h stashed after
     → IsRunning v.post.state
     → v.pending ≡ None
-    → IsServed service v
+    → IsServed workload v
     → IsSized v
-    → IsTallied service v
-    → (v.notes ≡ true → IsNoted service v.post.additions v.post.reads v.adds v.ran)
-    → (v.notes ≡ true → IsUnmerged service v.adds v.post.state)
+    → IsTallied workload v
+    → (v.notes ≡ true → IsNoted workload v.post.additions v.post.reads v.adds v.ran)
+    → (v.notes ≡ true → IsUnmerged workload v.adds v.post.state)
     → HasPhaseMask v.post
-    → IsAsked service h
+    → IsAsked workload h
     → ((page : ℕ) → verdict_at v h.submitter h.ask.request ≡ Accepted
     → page_looked_at h.ask.request.op h.ask.request.page ≡ Some page → get_or v.slice page 0 ≡ 0)
-    → All (IsAsked service) v.held.held
-    → FitsStash service v.taken
+    → All (IsAsked workload) v.held.held
+    → FitsStash workload v.taken
     → HasNothingLater v (phase_at v)
-    → ((e : HasRunOne v h stashed after) → IsInOrder service (record v { ran = after.ran }))
-    → Follows service after
-follows-run service v after h stashed run here none served sized t was un has asked clear held fits within ordered =
+    → ((e : HasRunOne v h stashed after) → IsInOrder workload (record v { ran = after.ran }))
+    → Follows workload after
+follows-run workload v after h stashed run here none served sized t was un has asked clear held fits within ordered =
     let e = Runs-effects v h stashed after run in
-    let done = GivesReply-tallied service v h stashed run.reply run.served served sized t asked clear run.serves in
+    let done = GivesReply-tallied workload v h stashed run.reply run.served served sized t asked clear run.serves in
     let stays = (runs-keeps v h stashed after run).notes in
-    let marked = λ (notes : v.notes ≡ true). GivesReply-noted service v h stashed run.reply run.served served notes
-    (was notes) (unmerged-running service v.adds (λ _. Unit {0}) v.post.state here (un notes)) asked
-    (slices-alike service v served here has) run.serves in
-    let all : IsServed service after × IsSized after × IsTallied service after
+    let marked = λ (notes : v.notes ≡ true). GivesReply-noted workload v h stashed run.reply run.served served notes
+    (was notes) (unmerged-running workload v.adds (λ _. Unit {0}) v.post.state here (un notes)) asked
+    (slices-alike workload v served here has) run.serves in
+    let all : IsServed workload after × IsSized after × IsTallied workload after
     × (v.notes ≡ true
-    → IsNoted service after.post.additions after.post.reads after.adds after.ran
-    × IsUnmerged service after.adds (state.Runs (phase_at v))) =
-    subst (λ x. IsServed service x × IsSized x × IsTallied service x
+    → IsNoted workload after.post.additions after.post.reads after.adds after.ran
+    × IsUnmerged workload after.adds (state.Runs (phase_at v))) =
+    subst (λ x. IsServed workload x × IsSized x × IsTallied workload x
     × (v.notes ≡ true
-    → IsNoted service x.post.additions x.post.reads x.adds x.ran
-    × IsUnmerged service x.adds (state.Runs (phase_at v)))) (sym run.noted) (
+    → IsNoted workload x.post.additions x.post.reads x.adds x.ran
+    × IsUnmerged workload x.adds (state.Runs (phase_at v)))) (sym run.noted) (
       record {
         users =
             done.0.users;
@@ -142,19 +142,19 @@ follows-run service v after h stashed run here none served sized t was un has as
     ) in
     let runs : IsRunning after.post.state = subst (λ s. RunsSome (λ _. Unit {0}) s) (sym e.state) here in
     let phase : phase_at v ≡ phase_at after = ap phase_of (sym e.state) in
-    let in_order : IsInOrder service after =
+    let in_order : IsInOrder workload after =
     ap (λ k. map entry_of after.ran ++ map (entry_held (k + k % 2)) after.held.held) (sym phase)
     ∙ ap (λ w. map entry_of after.ran ++ map (entry_held (next_joined v)) w.held) e.held
-    ∙ ordered e ∙ ap (order service) (sym e.taken) in
+    ∙ ordered e ∙ ap (order workload) (sym e.taken) in
     let now_within : HasNothingLater after (phase_at v) = (
       subst (λ xs. All (λ t. t.phase ≤ phase_at v) xs) (sym e.taken) within.0,
       subst (λ xs. All (λ x. x.phase ≤ phase_at v) xs) (sym e.ran)
           (All-push (λ (x : Ran). x.phase ≤ phase_at v) v.ran (ran_now v h stashed e.reply) within.1 (omega arith)),
     ) in
-    follows-running service after runs all.0 all.1 all.2 (λ notes. (all.3 (sym stays ∙ notes)).0)
-    (λ notes. running-unmerged service after.adds (λ _. Unit {0}) after.post.state runs
-    (subst (λ (k : ℕ). IsUnmerged service after.adds (state.Runs k)) phase (all.3 (sym stays ∙ notes)).1))
-    (subst (λ w. All (IsAsked service) w.held) (sym e.held) held) (subst (FitsStash service) (sym e.taken) fits)
+    follows-running workload after runs all.0 all.1 all.2 (λ notes. (all.3 (sym stays ∙ notes)).0)
+    (λ notes. running-unmerged workload after.adds (λ _. Unit {0}) after.post.state runs
+    (subst (λ (k : ℕ). IsUnmerged workload after.adds (state.Runs k)) phase (all.3 (sym stays ∙ notes)).1))
+    (subst (λ w. All (IsAsked workload) w.held) (sym e.held) held) (subst (FitsStash workload) (sym e.taken) fits)
     in_order (subst (HasNothingLater after) phase now_within) (λ place p. absurd (cc (e.pending, none, p)))
 
 -- the worker after a look, where its post has then read these masks
@@ -229,14 +229,14 @@ saw-kept slice sight (state.Answered k) splits here phase page =
 saw-kept slice sight state.Gone splits here phase page = absurd (here refl)
 
 -- a look
-follows-saw : (service : Service) (v : WorkerView) (sight : Sight) (masks : List PhaseMask)
-    → AreMasksOf service.hot masks
-    → Follows service v
+follows-saw : (workload : Workload) (v : WorkerView) (sight : Sight) (masks : List PhaseMask)
+    → AreMasksOf workload.hot masks
+    → Follows workload v
     → IsSliceInSplit v.post v.slice
     → v.post.state ≢ state.Gone
     → v.pending ≡ None
-    → Follows service (looking v sight masks)
-follows-saw service v sight masks right f kept here none = record {
+    → Follows workload (looking v sight masks)
+follows-saw workload v sight masks right f kept here none = record {
   served = record {
     users =
         f.served.users;
@@ -263,7 +263,7 @@ follows-saw service v sight masks right f kept here none = record {
     last = f.tallied.last;
   };
   noted = f.noted;
-  unmerged = λ notes. unmerged-seen service v.adds sight v.post.state (f.unmerged notes);
+  unmerged = λ notes. unmerged-seen workload v.adds sight v.post.state (f.unmerged notes);
   in_order = ap (λ zs. map entry_of v.ran ++ zs) (saw-next v sight v.post.state f.stands here) ∙ f.in_order;
   fits = f.fits;
   held = f.held;
@@ -272,19 +272,19 @@ follows-saw service v sight masks right f kept here none = record {
 }
 
 -- the first of what is held runs in a joined phase
-follows-held : (service : Service) (v : WorkerView) (first : Held) (rest : List Held) (after : WorkerView)
+follows-held : (workload : Workload) (v : WorkerView) (first : Held) (rest : List Held) (after : WorkerView)
     → v.pending ≡ None
-    → Follows service v
+    → Follows workload v
     → IsSliceInSplit v.post v.slice
     → RunsJoined v.post.state
     → v.held.held ≡ first ∷ rest
-    → Runs (without_first v rest) first true after → Follows service after
-follows-held service v first rest after none f kept j e run =
+    → Runs (without_first v rest) first true after → Follows workload after
+follows-held workload v first rest after none f kept j e run =
     let even = runs-phase IsJoined v.post.state j in
-    let all : All (IsAsked service) (first ∷ rest) = subst (All (IsAsked service)) e f.held in
+    let all : All (IsAsked workload) (first ∷ rest) = subst (All (IsAsked workload)) e f.held in
     let k = phase_at v in
     let same : next_joined v ≡ k = omega arith in
-    follows-run service (without_first v rest) after first true run
+    follows-run workload (without_first v rest) after first true run
     (runs-weaker IsJoined (λ _. Unit {0}) v.post.state (λ _ _. tt) j) none
     (record {
       users =
@@ -310,9 +310,9 @@ follows-held service v first rest after none f kept j e run =
       last = f.tallied.last;
     })
     f.noted f.unmerged (λ odd. absurd (not-split v.post.state j odd))
-    (All-head (IsAsked service) first rest all)
+    (All-head (IsAsked workload) first rest all)
     (λ page _ _. empty-unsplit v.post.state v.slice (λ p some. (kept p some).0) (not-split v.post.state j) page)
-    (All-tail (IsAsked service) first rest all) f.fits
+    (All-tail (IsAsked workload) first rest all) f.fits
     (within-of_running v IsJoined v.post.state j f.stands)
     (λ r. ap (λ n. map entry_of after.ran ++ map (entry_held n) rest) same
     ∙ ap (λ zs. zs ++ map (entry_held k) rest)
@@ -323,13 +323,13 @@ follows-held service v first rest after none f kept j e run =
     ∙ f.in_order)
 
 -- a submitter is tried
-follows-trying : (service : Service) (v : WorkerView) (place : ℕ)
-    → Follows service v
+follows-trying : (workload : Workload) (v : WorkerView) (place : ℕ)
+    → Follows workload v
     → IsRunning v.post.state
     → (RunsJoined v.post.state → v.held.held ≡ [])
-    → Follows service (trying v place)
-follows-trying service v place f run empty =
-    follows-running service (trying v place) run
+    → Follows workload (trying v place)
+follows-trying workload v place f run empty =
+    follows-running workload (trying v place) run
     (record {
       users =
           f.served.users;
@@ -357,13 +357,13 @@ follows-trying service v place f run empty =
     (λ _ _. empty)
 
 -- the worker answers its phase; in a joined one it holds nothing
-follows-answered : (service : Service) (v : WorkerView) (P : ℕ → Type 0)
-    → Follows service v
+follows-answered : (workload : Workload) (v : WorkerView) (P : ℕ → Type 0)
+    → Follows workload v
     → RunsSome P v.post.state
     → v.pending ≡ None
     → (IsJoined (phase_at v) → v.held.held ≡ [])
-    → Follows service (record v { post = answered v.post })
-follows-answered service v P f run none empty =
+    → Follows workload (record v { post = answered v.post })
+follows-answered workload v P f run none empty =
     record {
       served = record {
         users =
@@ -389,7 +389,7 @@ follows-answered service v P f run none empty =
         last = f.tallied.last;
       };
       noted = f.noted;
-      unmerged = λ notes. (unmerged-running service v.adds P v.post.state run (f.unmerged notes)).0;
+      unmerged = λ notes. (unmerged-running workload v.adds P v.post.state run (f.unmerged notes)).0;
       in_order = f.in_order;
       fits = f.fits;
       held = f.held;
@@ -398,22 +398,22 @@ follows-answered service v P f run none empty =
     }
 
 -- it merges its slice, and answers its phase
-follows-reported : (service : Service) (v : WorkerView) (adds : List Addition)
+follows-reported : (workload : Workload) (v : WorkerView) (adds : List Addition)
     → Merges (phase_at v) v.slice (pages_of v.post) adds
-    → Follows service v
+    → Follows workload v
     → RunsSplit v.post.state
     → v.pending ≡ None
     → IsSliceInSplit v.post v.slice
     → HasPhaseMask v.post
-    → Follows service (record (merged v adds) { post = answered (merged v adds).post })
-follows-reported service v adds merges f run none kept has =
+    → Follows workload (record (merged v adds) { post = answered (merged v adds).post })
+follows-reported workload v adds merges f run none kept has =
     let odd = runs-phase IsSplit v.post.state run in
     let here = runs-weaker IsSplit (λ _. Unit {0}) v.post.state (λ _ _. tt) run in
     let noted = λ (notes : v.notes ≡ true).
-    merge-noted service v adds merges f.tallied notes (f.noted notes)
-    (unmerged-running service v.adds IsSplit v.post.state run (f.unmerged notes))
+    merge-noted workload v adds merges f.tallied notes (f.noted notes)
+    (unmerged-running workload v.adds IsSplit v.post.state run (f.unmerged notes))
     (within-of_running v IsSplit v.post.state run f.stands).1 kept
-    (slices-alike service v f.served here has)
+    (slices-alike workload v f.served here has)
     in
     record {
       served = record {
@@ -447,16 +447,16 @@ follows-reported service v adds merges f run none kept has =
     }
 
 -- a worker that runs a phase
-follows-works : (service : Service) (v : WorkerView) (ending : Bool) (answer : Turn) (after : WorkerView)
+follows-works : (workload : Workload) (v : WorkerView) (ending : Bool) (answer : Turn) (after : WorkerView)
     → v.pending ≡ None
-    → Follows service v
+    → Follows workload v
     → IsSliceInSplit v.post v.slice
     → HasPhaseMask v.post
     → Works v ending answer after
-    → Follows service after
-follows-works service v ending answer after none f kept has (turns.runs_held first rest j e a run) =
-    follows-held service v first rest after none f kept j e run
-follows-works service v ending answer after none f kept has (turns.retires j e ended a x) =
+    → Follows workload after
+follows-works workload v ending answer after none f kept has (turns.runs_held first rest j e a run) =
+    follows-held workload v first rest after none f kept j e run
+follows-works workload v ending answer after none f kept has (turns.retires j e ended a x) =
     let none_kept = empty-unsplit v.post.state v.slice (λ p some. (kept p some).0) (not-split v.post.state j) in
     let zero_at : (b : Bool) (page : ℕ) → cond b (get_or v.slice page 0) 0 ≡ 0 =
     λ b page. ap (λ (n : ℕ). cond b n 0) (none_kept page) ∙ cond_same b 0 in
@@ -464,7 +464,7 @@ follows-works service v ending answer after none f kept has (turns.retires j e e
     → cond (phase_at v == phase) (get_or v.slice page 0) 0 ≡ cond (0 == phase) (get_or v.slice page 0) 0 =
     λ phase page. zero_at (phase_at v == phase) page ∙ sym (zero_at (0 == phase) page)
     in
-    subst (Follows service) (sym x) (record {
+    subst (Follows workload) (sym x) (record {
       served = record {
         users =
             f.served.users;
@@ -498,40 +498,40 @@ follows-works service v ending answer after none f kept has (turns.retires j e e
       stands = (e, ended);
       trying = λ place p. absurd (cc (none, p));
     })
-follows-works service v ending answer after none f kept has (turns.acknowledges j e ended seen a x) =
-    subst (Follows service) (sym x) (follows-answered service v IsJoined f j none (λ _. e))
-follows-works service v ending answer after none f kept has (turns.tries_joined place j e next seen a x) =
-    subst (Follows service) (sym x)
-    (follows-trying service v place f (runs-weaker IsJoined (λ _. Unit {0}) v.post.state (λ _ _. tt) j) (λ _. e))
-follows-works service v ending answer after none f kept has (turns.reports now s seen a m x) =
+follows-works workload v ending answer after none f kept has (turns.acknowledges j e ended seen a x) =
+    subst (Follows workload) (sym x) (follows-answered workload v IsJoined f j none (λ _. e))
+follows-works workload v ending answer after none f kept has (turns.tries_joined place j e next seen a x) =
+    subst (Follows workload) (sym x)
+    (follows-trying workload v place f (runs-weaker IsJoined (λ _. Unit {0}) v.post.state (λ _ _. tt) j) (λ _. e))
+follows-works workload v ending answer after none f kept has (turns.reports now s seen a m x) =
     let is : after ≡ record (merged v m.0) { post = answered (merged v m.0).post } =
     x ∙ ap {A = WorkerView} (λ w. record w { post = answered w.post }) m.1.1 in
-    subst (Follows service) (sym is) (follows-reported service v m.0 m.1.0 f s none kept has)
-follows-works service v ending answer after none f kept has (turns.idles s seen stuck a x) =
-    subst (Follows service) (sym x) f
-follows-works service v ending answer after none f kept has (turns.tries_split place s seen room next a x) =
+    subst (Follows workload) (sym is) (follows-reported workload v m.0 m.1.0 f s none kept has)
+follows-works workload v ending answer after none f kept has (turns.idles s seen stuck a x) =
+    subst (Follows workload) (sym x) f
+follows-works workload v ending answer after none f kept has (turns.tries_split place s seen room next a x) =
     let odd = runs-phase IsSplit v.post.state s in
-    subst (Follows service) (sym x)
-    (follows-trying service v place f (runs-weaker IsSplit (λ _. Unit {0}) v.post.state (λ _ _. tt) s)
+    subst (Follows workload) (sym x)
+    (follows-trying workload v place f (runs-weaker IsSplit (λ _. Unit {0}) v.post.state (λ _ _. tt) s)
     (λ j. let even = runs-phase IsJoined v.post.state j in absurd (omega arith)))
 
 -- a turn
-pub follows-turn : (service : Service) (v : WorkerView) (answer : Turn) (after : WorkerView)
+pub follows-turn : (workload : Workload) (v : WorkerView) (answer : Turn) (after : WorkerView)
     → v.pending ≡ None
     → IsSliceInSplit v.post v.slice
     → HasPhaseMask v.post
-    → AreMasksOf service.hot after.post.masks
+    → AreMasksOf workload.hot after.post.masks
     → Turns v answer after
-    → Follows service v
-    → Follows service after
-follows-turn service v answer after none kept has right (turns.is_gone gone a x) f = subst (Follows service) (sym x) f
-follows-turn service v answer after none kept has right (turns.waits sight here i w a x) f =
-    subst (Follows service) (sym x) (follows-saw service v sight v.post.masks f.served.hot_alike f kept here none)
-follows-turn service v answer after none kept has right (turns.works sight mask here i w x) f =
-    let all = masks-before service.hot (saw v sight mask).post.masks after.post.masks
+    → Follows workload v
+    → Follows workload after
+follows-turn workload v answer after none kept has right (turns.is_gone gone a x) f = subst (Follows workload) (sym x) f
+follows-turn workload v answer after none kept has right (turns.waits sight here i w a x) f =
+    subst (Follows workload) (sym x) (follows-saw workload v sight v.post.masks f.served.hot_alike f kept here none)
+follows-turn workload v answer after none kept has right (turns.works sight mask here i w x) f =
+    let all = masks-before workload.hot (saw v sight mask).post.masks after.post.masks
     (works-keeps (saw v sight mask) sight.ending answer after x).masks right in
-    follows-works service (saw v sight mask) sight.ending answer after none
-    (follows-saw service v sight (saw v sight mask).post.masks all f kept here none)
+    follows-works workload (saw v sight mask) sight.ending answer after none
+    (follows-saw workload v sight (saw v sight mask).post.masks all f kept here none)
     (splits-after v.post v.slice sight mask kept) (has-after v.post sight mask has) x
 
 -- a worker that runs a phase that is joined runs a joined phase
@@ -541,8 +541,8 @@ runs-joined (state.Answered k) r j = absurd r
 runs-joined state.Gone r j = absurd r
 
 -- nothing is tried any more
-follows-settled : (service : Service) (v : WorkerView) → Follows service v → Follows service (settled v)
-follows-settled service v f = record {
+follows-settled : (workload : Workload) (v : WorkerView) → Follows workload v → Follows workload (settled v)
+follows-settled workload v f = record {
   served = record {
     users =
         f.served.users;
@@ -576,38 +576,38 @@ follows-settled service v f = record {
 }
 
 -- what is taken has to wait where its request does
-took_to_wait-is : (service : Service) (t : Took) (r : Request) → request_at service t.submitter t.number ≡ Some r
-    → took_to_wait service t
-    ≡ is_look_at_sliced service.users (submitters service) (is_split_in service t.phase) t.submitter r
-took_to_wait-is service t r asked =
-    ap (λ o. option_map_or (is_split_in service t.phase)
-    (option_and_then (accepted_look service.users (submitters service) t.submitter) o) false) asked
-    ∙ by_test (is_accepted service.users (submitters service) t.submitter r)
+took_to_wait-is : (workload : Workload) (t : Took) (r : Request) → request_at workload t.submitter t.number ≡ Some r
+    → took_to_wait workload t
+    ≡ is_look_at_sliced workload.users (submitters workload) (is_split_in workload t.phase) t.submitter r
+took_to_wait-is workload t r asked =
+    ap (λ o. option_map_or (is_split_in workload t.phase)
+    (option_and_then (accepted_look workload.users (submitters workload) t.submitter) o) false) asked
+    ∙ by_test (is_accepted workload.users (submitters workload) t.submitter r)
   where
     by_test : (b : Bool)
-        → option_map_or (is_split_in service t.phase) (cond b (page_looked_at r.op r.page) None) false
-        ≡ (b && option_map_or (is_split_in service t.phase) (page_looked_at r.op r.page) false)
+        → option_map_or (is_split_in workload t.phase) (cond b (page_looked_at r.op r.page) None) false
+        ≡ (b && option_map_or (is_split_in workload t.phase) (page_looked_at r.op r.page) false)
     by_test true = refl
     by_test false = refl
 
--- whether a request has to wait is the same by the service and by the worker, which has read its split phase's mask
-waits-alike : (service : Service) (v : WorkerView) (submitter number : ℕ) (r : Request)
-    → request_at service submitter number ≡ Some r
-    → IsServed service v
+-- whether a request has to wait is the same by the workload and by the worker, which has read its split phase's mask
+waits-alike : (workload : Workload) (v : WorkerView) (submitter number : ℕ) (r : Request)
+    → request_at workload submitter number ≡ Some r
+    → IsServed workload v
     → IsRunning v.post.state
     → HasPhaseMask v.post
-    → took_to_wait service (record { phase = phase_at v; submitter = submitter; number = number })
+    → took_to_wait workload (record { phase = phase_at v; submitter = submitter; number = number })
     ≡ has_to_wait v submitter r
-waits-alike service v submitter number r asked s run has =
-    took_to_wait-is service (record { phase = phase_at v; submitter = submitter; number = number }) r asked
-    ∙ ap (λ u. is_look_at_sliced u (submitters service) (is_split_in service (phase_at v)) submitter r) s.users
-    ∙ ap (λ m. is_look_at_sliced v.last.share.users m (is_split_in service (phase_at v)) submitter r) s.submitters_alike
+waits-alike workload v submitter number r asked s run has =
+    took_to_wait-is workload (record { phase = phase_at v; submitter = submitter; number = number }) r asked
+    ∙ ap (λ u. is_look_at_sliced u (submitters workload) (is_split_in workload (phase_at v)) submitter r) s.users
+    ∙ ap (λ m. is_look_at_sliced v.last.share.users m (is_split_in workload (phase_at v)) submitter r) s.submitters_alike
     ∙ ap (λ xs. is_look_at_sliced v.last.share.users v.last.share.submitters
-    (λ page. split (λ p. get_or xs p false) service.hot (phase_at v) page) submitter r) s.marks_alike
+    (λ page. split (λ p. get_or xs p false) workload.hot (phase_at v) page) submitter r) s.marks_alike
     ∙ ap (λ (l : Limits). is_look_at_sliced v.last.share.users v.last.share.submitters
-    (λ page. split_by l.hot (λ p. get_or v.post.marks p false) service.hot (phase_at v) page) submitter r) (sym s.run)
+    (λ page. split_by l.hot (λ p. get_or v.post.marks p false) workload.hot (phase_at v) page) submitter r) (sym s.run)
     ∙ (λ m. is_look_at_sliced v.last.share.users v.last.share.submitters
-    (λ page. split-known v.post.limits.hot (λ p. get_or v.post.marks p false) service.hot v.post.masks (phase_at v) page s.hot_alike
+    (λ page. split-known v.post.limits.hot (λ p. get_or v.post.marks p false) workload.hot v.post.masks (phase_at v) page s.hot_alike
     (λ odd _ _. has (runs-split v.post.state run odd)) m) submitter r)
 
 -- the slice has nothing of the page of a look that need not wait
@@ -628,40 +628,40 @@ clear-prompt v submitter r page kept prompt accepted look = elim (cases_eq (get_
 ]
 
 -- no more comes out of the stash in a phase where what is taken runs at once
-fits-prompt : (service : Service) (xs : List Took) (t : Took)
-    → took_to_wait service t ≡ false
-    → FitsStash service xs
-    → FitsStash service (xs ++ t ∷ [])
-fits-prompt service xs t w fits k = rw (stashed-prompt service xs t k w) (fits k)
+fits-prompt : (workload : Workload) (xs : List Took) (t : Took)
+    → took_to_wait workload t ≡ false
+    → FitsStash workload xs
+    → FitsStash workload (xs ++ t ∷ [])
+fits-prompt workload xs t w fits k = rw (stashed-prompt workload xs t k w) (fits k)
 
 -- and where it waits, all that waits with it has room
-fits-waits : (service : Service) (xs : List Took) (t : Took)
-    → FitsStash service xs
-    → length (block service (xs ++ t ∷ []) (t.phase + 1)) ≤ service.stash
-    → FitsStash service (xs ++ t ∷ [])
-fits-waits service xs t fits few k = elim (cases_eq (t.phase + 1) k) [
-  | inl same ↦ subst (λ j. stashed_in service j (xs ++ t ∷ []) ≤ service.stash) same
-      (omega (arith, few, stashed-block service (xs ++ t ∷ []) (t.phase + 1)))
-  | inr other ↦ rw (stashed-other service xs t k other) (fits k)
+fits-waits : (workload : Workload) (xs : List Took) (t : Took)
+    → FitsStash workload xs
+    → length (block workload (xs ++ t ∷ []) (t.phase + 1)) ≤ workload.stash
+    → FitsStash workload (xs ++ t ∷ [])
+fits-waits workload xs t fits few k = elim (cases_eq (t.phase + 1) k) [
+  | inl same ↦ subst (λ j. stashed_in workload j (xs ++ t ∷ []) ≤ workload.stash) same
+      (omega (arith, few, stashed-block workload (xs ++ t ∷ []) (t.phase + 1)))
+  | inr other ↦ rw (stashed-other workload xs t k other) (fits k)
 ]
 
 -- a request that is taken from the submitter at a place
-follows-takes : (service : Service) (v : WorkerView) (place : ℕ) (ask : Numbered) (answer : Turn) (after : WorkerView)
+follows-takes : (workload : Workload) (v : WorkerView) (place : ℕ) (ask : Numbered) (answer : Turn) (after : WorkerView)
     → v.pending ≡ None
-    → Follows service v
+    → Follows workload v
     → IsSliceInSplit v.post v.slice
     → HasPhaseMask v.post
     → IsRunning v.post.state
     → (RunsJoined v.post.state → v.held.held ≡ [])
-    → request_at service (submitter_at v place) ask.number ≡ Some ask.request
-    → IsThere (length (marks_of service.pages)) ask.request.page
-    → length after.held.held ≤ after.held.capacity → TakesAsk v place ask answer after → Follows service after
-follows-takes service v place ask answer after none f kept has run empty asked there room (turns.stashes w a x) =
+    → request_at workload (submitter_at v place) ask.number ≡ Some ask.request
+    → IsThere (length (marks_of workload.pages)) ask.request.page
+    → length after.held.held ≤ after.held.capacity → TakesAsk v place ask answer after → Follows workload after
+follows-takes workload v place ask answer after none f kept has run empty asked there room (turns.stashes w a x) =
     let t : Took = record { phase = phase_at v; submitter = submitter_at v place; number = ask.number } in
     let h : Held = held_from v place ask in
-    let to_wait : took_to_wait service t ≡ true =
-    waits-alike service v (submitter_at v place) ask.number ask.request asked f.served run has ∙ w in
-    let not_even : IsJoined (phase_at v) → ⊥ = λ j. cc (to_wait, took_to_wait-joined service t j) in
+    let to_wait : took_to_wait workload t ≡ true =
+    waits-alike workload v (submitter_at v place) ask.number ask.request asked f.served run has ∙ w in
+    let not_even : IsJoined (phase_at v) → ⊥ = λ j. cc (to_wait, took_to_wait-joined workload t j) in
     let p = phase_at v in
     let odd : IsSplit p = elim (parity p) [
       | inl even ↦ absurd (not_even even)
@@ -671,15 +671,15 @@ follows-takes service v place ask answer after none f kept has run empty asked t
     let within = within-of_running v (λ _. Unit {0}) v.post.state run f.stands in
     let more : All (λ u. u.phase ≤ p) (v.taken ++ t ∷ []) =
     All-push (λ (u : Took). u.phase ≤ p) v.taken t within.0 (omega arith) in
-    let both = parts service v f.in_order within (λ j. absurd (not_even j)) in
-    let held_is : block service (v.taken ++ t ∷ []) (p + 1) ≡ map (entry_held (next_joined v)) (v.held.held ++ h ∷ []) =
-    block-next-waits service v.taken t to_wait (before-next v.taken p within.0)
+    let both = parts workload v f.in_order within (λ j. absurd (not_even j)) in
+    let held_is : block workload (v.taken ++ t ∷ []) (p + 1) ≡ map (entry_held (next_joined v)) (v.held.held ++ h ∷ []) =
+    block-next-waits workload v.taken t to_wait (before-next v.taken p within.0)
     ∙ ap (λ zs. zs ++ entry_held (p + 1) h ∷ []) (sym both.1)
     ∙ ap (λ n. map (entry_held (next_joined v)) v.held.held ++ entry_held n h ∷ []) (sym same)
     ∙ sym (map-append (entry_held (next_joined v)) v.held.held (h ∷ [])) in
     let enough : length (v.held.held ++ h ∷ []) ≤ v.held.capacity =
     subst (λ (w : WorkerView). length w.held.held ≤ w.held.capacity) x room in
-    subst (Follows service) (sym x) (follows-running service (with_stashed (with_taken v place ask) h) run
+    subst (Follows workload) (sym x) (follows-running workload (with_stashed (with_taken v place ask) h) run
     (record {
       users =
           f.served.users;
@@ -704,8 +704,8 @@ follows-takes service v place ask answer after none f kept has run empty asked t
       last = f.tallied.last;
     })
     f.noted f.unmerged
-    (All-push (IsAsked service) v.held.held h f.held (record { asked = asked; there = there }))
-    (fits-waits service v.taken t f.fits
+    (All-push (IsAsked workload) v.held.held h f.held (record { asked = asked; there = there }))
+    (fits-waits workload v.taken t f.fits
     (omega (
       arith,
       enough,
@@ -714,23 +714,23 @@ follows-takes service v place ask answer after none f kept has run empty asked t
       length-map (v.held.held ++ h ∷ []) (entry_held (next_joined v)),
     )))
     (ap (λ hs. map entry_of v.ran ++ hs) (sym held_is)
-    ∙ ap (λ rs. rs ++ block service (v.taken ++ t ∷ []) (p + 1))
-    (both.0 ∙ sym (order_below-waits service v.taken t to_wait))
-    ∙ sym (order-parts service (v.taken ++ t ∷ []) p (before-next (v.taken ++ t ∷ []) p more)))
+    ∙ ap (λ rs. rs ++ block workload (v.taken ++ t ∷ []) (p + 1))
+    (both.0 ∙ sym (order_below-waits workload v.taken t to_wait))
+    ∙ sym (order-parts workload (v.taken ++ t ∷ []) p (before-next (v.taken ++ t ∷ []) p more)))
     (more, within.1)
     (λ k e. absurd (cc (none, e))))
-follows-takes service v place ask answer after none f kept has run empty asked there room (turns.runs w a r) =
+follows-takes workload v place ask answer after none f kept has run empty asked there room (turns.runs w a r) =
     let t : Took = record { phase = phase_at v; submitter = submitter_at v place; number = ask.number } in
     let h : Held = held_from v place ask in
     let p = phase_at v in
-    let at_once : took_to_wait service t ≡ false =
-    waits-alike service v (submitter_at v place) ask.number ask.request asked f.served run has ∙ w in
+    let at_once : took_to_wait workload t ≡ false =
+    waits-alike workload v (submitter_at v place) ask.number ask.request asked f.served run has ∙ w in
     let within = within-of_running v (λ _. Unit {0}) v.post.state run f.stands in
     let more : All (λ u. u.phase ≤ p) (v.taken ++ t ∷ []) =
     All-push (λ (u : Took). u.phase ≤ p) v.taken t within.0 (omega arith) in
-    let both = parts service v f.in_order within (λ j. empty (runs-joined v.post.state run j)) in
+    let both = parts workload v f.in_order within (λ j. empty (runs-joined v.post.state run j)) in
     let held_next = map (entry_held (next_joined v)) v.held.held in
-    follows-run service (with_taken v place ask) after h false r run none
+    follows-run workload (with_taken v place ask) after h false r run none
     (record {
       users =
           f.served.users;
@@ -757,32 +757,32 @@ follows-takes service v place ask answer after none f kept has run empty asked t
     f.noted f.unmerged has
     (record { asked = asked; there = there })
     (λ page a look. clear-prompt v (submitter_at v place) ask.request page kept w a look) f.held
-    (fits-prompt service v.taken t at_once f.fits)
+    (fits-prompt workload v.taken t at_once f.fits)
     (more, within.1)
     (λ e.
     ap (λ rs. rs ++ held_next)
     (ap (map entry_of) e.ran ∙ map-append entry_of v.ran (ran_now (with_taken v place ask) h false e.reply ∷ [])
     ∙ ap (λ rs. rs ++ entry_of (ran_now (with_taken v place ask) h false e.reply) ∷ []) both.0
-    ∙ sym (order_below-prompt service v.taken t at_once))
-    ∙ ap (λ hs. order_below service (v.taken ++ t ∷ []) (p + 1) ++ hs)
-    (both.1 ∙ sym (block-next-prompt service v.taken t at_once))
-    ∙ sym (order-parts service (v.taken ++ t ∷ []) p (before-next (v.taken ++ t ∷ []) p more)))
+    ∙ sym (order_below-prompt workload v.taken t at_once))
+    ∙ ap (λ hs. order_below workload (v.taken ++ t ∷ []) (p + 1) ++ hs)
+    (both.1 ∙ sym (block-next-prompt workload v.taken t at_once))
+    ∙ sym (order-parts workload (v.taken ++ t ∷ []) p (before-next (v.taken ++ t ∷ []) p more)))
 
 -- what is given
-pub follows-give : (service : Service) (v : WorkerView) (took : Taken) (answer : Turn) (after : WorkerView)
+pub follows-give : (workload : Workload) (v : WorkerView) (took : Taken) (answer : Turn) (after : WorkerView)
     → CanGive v took
-    → IsAskedBy service v took
+    → IsAskedBy workload v took
     → IsSliceInSplit v.post v.slice
     → HasPhaseMask v.post
     → length after.held.held ≤ after.held.capacity
     → Gives v took answer after
-    → Follows service v
-    → Follows service after
-follows-give service v took answer after can asked kept has room (turns.nothing t a x) f =
-    subst (Follows service) (sym x) (follows-settled service v f)
-follows-give service v took answer after can asked kept has room (turns.ends place p t a x) f =
+    → Follows workload v
+    → Follows workload after
+follows-give workload v took answer after can asked kept has room (turns.nothing t a x) f =
+    subst (Follows workload) (sym x) (follows-settled workload v f)
+follows-give workload v took answer after can asked kept has room (turns.ends place p t a x) f =
     let run = (f.trying place p).0 in
-    subst (Follows service) (sym x) (follows-running service (record (settled v) { ended = set v.ended place true }) run
+    subst (Follows workload) (sym x) (follows-running workload (record (settled v) { ended = set v.ended place true }) run
     (record {
       users =
           f.served.users;
@@ -808,11 +808,11 @@ follows-give service v took answer after can asked kept has room (turns.ends pla
     })
     f.noted f.unmerged f.held f.fits f.in_order (within-of_running v (λ _. Unit {0}) v.post.state run f.stands)
     (λ k e. absurd (cc e)))
-follows-give service v took answer after can asked kept has room (turns.asks place ask p t x) f =
+follows-give workload v took answer after can asked kept has room (turns.asks place ask p t x) f =
     let run = f.trying place p in
-    let by_plan = (subst (λ y. IsAskedBy service v y) t asked) place p in
+    let by_plan = (subst (λ y. IsAskedBy workload v y) t asked) place p in
     let next = (subst (λ y. CanGive v y) t can) place p in
     let P : ℕ → Type 0 = λ n. IsThere n ask.request.page in
     let there = subst P (ap length (sym f.served.marks_alike)) next.there in
-    follows-takes service (settled v) place ask answer after refl
-    (follows-settled service v f) kept has run.0 run.1 by_plan there room x
+    follows-takes workload (settled v) place ask answer after refl
+    (follows-settled workload v f) kept has run.0 run.1 by_plan there room x

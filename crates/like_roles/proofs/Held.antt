@@ -24,7 +24,7 @@ use Rattle.like_seat.specs.StationView.{IsStation, StationView}
 use Rattle.like_seat.specs.Steps.{holding, without_first}
 use Rattle.like_roles.specs.declared.worker.desk.Desk.{Desk}
 use Rattle.like_roles.specs.worker.WorkerView.{is_look_at_sliced}
-use Rattle.like_service.specs.Looks.{page_looked_at}
+use Rattle.like_promises.specs.Looks.{page_looked_at}
 use Rattle.like_roles.specs.worker.Desk.{CanServe, HasRoom, HasRoomForOne, HasSubmitters, IsJudged, IsOwn, IsSettled, IsSound, view_of}
 use Rattle.like_roles.specs.worker.Turns.{trying}
 

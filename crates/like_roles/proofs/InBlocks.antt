@@ -6,12 +6,12 @@ use Rattle.like_core.specs.declared.worker_state.WorkerState.{WorkerState}
 use Rattle.like_core.specs.declared.worker_state.WorkerState.TheVariants as state
 use Rattle.like_core.specs.Phase.{IsJoined}
 use Rattle.like_core.specs.WorkerState.{RunsSome, phase_of}
-use Rattle.like_service.specs.declared.log.Took.{Took}
+use Rattle.like_promises.specs.declared.log.Took.{Took}
 use Rattle.like_roles.specs.worker.Follows.{IsInOrder, HasNothingLater, Stands, entry_held, next_joined}
-use Rattle.like_service.specs.Order.{Entry, block, entry_of, order_below}
-use Rattle.like_service.specs.Service.{Service}
+use Rattle.like_promises.specs.Order.{Entry, block, entry_of, order_below}
+use Rattle.like_promises.specs.Workload.{Workload}
 use Rattle.like_roles.specs.worker.WorkerView.{WorkerView, phase_at}
-use Rattle.like_service.proofs.Blocks.{block-phase, order-parts, order_below-phases}
+use Rattle.like_promises.proofs.Blocks.{block-phase, order-parts, order_below-phases}
 
 -- a phase is even or odd
 pub parity : (k : ℕ) → (k % 2 ≡ 0) ⊎ (k % 2 ≡ 1)
@@ -84,13 +84,13 @@ parts-same k (x ∷ xs) ys (u ∷ us) vs low next low_too next_too same =
 
 -- where a worker holds nothing in a joined phase, what it ran are the blocks up to its phase, and what it holds is the
 -- next block
-pub parts : (service : Service) (v : WorkerView)
-    → IsInOrder service v
+pub parts : (workload : Workload) (v : WorkerView)
+    → IsInOrder workload v
     → HasNothingLater v (phase_at v)
     → (IsJoined (phase_at v) → v.held.held ≡ [])
-    → (map entry_of v.ran ≡ order_below service v.taken (phase_at v + 1))
-    × (map (entry_held (next_joined v)) v.held.held ≡ block service v.taken (phase_at v + 1))
-parts service v in_order within empty =
+    → (map entry_of v.ran ≡ order_below workload v.taken (phase_at v + 1))
+    × (map (entry_held (next_joined v)) v.held.held ≡ block workload v.taken (phase_at v + 1))
+parts workload v in_order within empty =
     let k : ℕ = phase_at v in
     let held : List Entry = map (entry_held (k + 1)) v.held.held in
     let next : map (entry_held (next_joined v)) v.held.held ≡ held =
@@ -99,11 +99,11 @@ parts service v in_order within empty =
       | inr odd ↦ let same : next_joined v ≡ k + 1 = omega arith in ap (λ n. map (entry_held n) v.held.held) same
     ] in
     let both = parts-same k (map entry_of v.ran) held
-    (order_below service v.taken (k + 1)) (block service v.taken (k + 1))
+    (order_below workload v.taken (k + 1)) (block workload v.taken (k + 1))
     (All-map (λ (e : Entry). e.phase ≤ k) entry_of v.ran within.1)
     (All-map (λ (e : Entry). e.phase ≡ k + 1) (entry_held (k + 1)) v.held.held (λ i d inside. refl))
-    (λ i d inside. let low = order_below-phases service v.taken (k + 1) i d inside in omega arith)
-    (block-phase service v.taken (k + 1))
+    (λ i d inside. let low = order_below-phases workload v.taken (k + 1) i d inside in omega arith)
+    (block-phase workload v.taken (k + 1))
     (ap (λ (xs : List Entry). map entry_of v.ran ++ xs) (sym next) ∙ in_order
-    ∙ order-parts service v.taken k (before-next v.taken k within.0)) in
+    ∙ order-parts workload v.taken k (before-next v.taken k within.0)) in
     (both.0, next ∙ both.1)

@@ -8,7 +8,7 @@ use Rattle.like_core.specs.Post.{answered}
 use Rattle.like_core.specs.WorkerState.{phase_of, seen}
 use Rattle.like_core.proofs.PhaseMasks.{masks-both}
 use Rattle.like_tables.specs.declared.held.Held.{Held}
-use Rattle.like_service.specs.declared.reply.Reply.{Reply}
+use Rattle.like_promises.specs.declared.reply.Reply.{Reply}
 use Rattle.like_roles.specs.declared.turn.Turn.{Turn}
 use Rattle.like_roles.specs.worker.Serve.{Runs, GivesReply, refuses, likes, looks, counted}
 use Rattle.like_roles.specs.worker.Turns as turns

@@ -8,7 +8,7 @@ use Rattle.like_roles.specs.worker.Merges.{Merges}
 use Rattle.like_seat.specs.StationView.{StationView, phase_at}
 use Rattle.like_core.specs.Post.{pages_of}
 use Rattle.like_roles.proofs.PageOrder.{merge_of}
-use Rattle.like_service.specs.declared.log.Added.{Added}
+use Rattle.like_promises.specs.declared.log.Added.{Added}
 use Rattle.like_roles.specs.declared.worker.desk.Desk.{Desk}
 use Rattle.like_roles.specs.worker.Desk.{view_of}
 use Rattle.like_roles.specs.worker.Serve.{noted_at, noted_if}

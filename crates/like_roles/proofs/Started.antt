@@ -14,12 +14,12 @@ use Rattle.like_core.specs.Post.{PostView, additions_in, additions_of, pages_of}
 use Rattle.like_tables.specs.UserTable.{last_of}
 use Rattle.like_roles.specs.declared.turn.Turn.{Turn}
 use Rattle.like_roles.specs.declared.turn.Turn.TheVariants as turn
-use Rattle.like_roles.specs.worker.Follows.{adds_to, Follows, IsDone, IsNoted, IsServiceOf, IsUnmerged, HasNothingLater, Stands, entry_held, next_joined}
-use Rattle.like_service.specs.Likes.{likes_within}
+use Rattle.like_roles.specs.worker.Follows.{adds_to, Follows, IsDone, IsNoted, IsWorkloadOf, IsUnmerged, HasNothingLater, Stands, entry_held, next_joined}
+use Rattle.like_promises.specs.Likes.{likes_within}
 use Rattle.like_roles.specs.worker.Shown.{shown_by, shown_in}
 use Rattle.like_roles.specs.worker.New.{IsNew, IsPostOf}
-use Rattle.like_service.specs.Order.{entry_of}
-use Rattle.like_service.specs.Service.{Service}
+use Rattle.like_promises.specs.Order.{entry_of}
+use Rattle.like_promises.specs.Workload.{Workload}
 use Rattle.like_roles.specs.worker.Turns as turns
 use Rattle.like_roles.specs.worker.Turns.{Pends, Turns, Works}
 use Rattle.like_roles.specs.worker.WorkerView.{WorkerView, phase_at, submitter_at}
@@ -30,12 +30,12 @@ use Rattle.like_roles.proofs.notes.NotedMerge.{noted-nothing, one-of_likes}
 
 -- a new worker follows the plans
 pub follows-new : (s : Setup) (sizes : List ℕ) (worker : ℕ) (post : PostView) (notes : Bool) (v : WorkerView)
-    (service : Service)
+    (workload : Workload)
     → IsPostOf worker s.pages post
     → IsNew s sizes worker post notes v
-    → IsServiceOf s sizes service → Follows service v
-follows-new s sizes worker post notes v service p new same =
-    let marks_are : v.post.marks ≡ marks_of service.pages =
+    → IsWorkloadOf s sizes workload → Follows workload v
+follows-new s sizes worker post notes v workload p new same =
+    let marks_are : v.post.marks ≡ marks_of workload.pages =
     ap (λ x. x.marks) new.at_post ∙ p.marks ∙ ap (map (λ q. q.split)) (sym same.pages_are) in
     let pages : pages_of v.post ≡ length s.pages =
     ap length (ap (λ x. x.marks) new.at_post ∙ p.marks) ∙ length-map s.pages (λ q. q.split) in
@@ -55,10 +55,10 @@ follows-new s sizes worker post notes v service p new same =
       served = record {
         users = same.users_are ∙ sym (ap (λ x. x.share.users) new.last);
         submitters_alike =
-            sym (length-map service.plans length) ∙ ap length same.sizes_are
+            sym (length-map workload.plans length) ∙ ap length same.sizes_are
             ∙ sym (ap (λ x. x.share.submitters) new.last);
         marks_alike = sym marks_are;
-        hot_alike = subst (AreMasksOf service.hot) (sym masks) (All-nil (λ m. m.mask ≡ service.hot m.phase));
+        hot_alike = subst (AreMasksOf workload.hot) (sym masks) (All-nil (λ m. m.mask ≡ workload.hot m.phase));
         stash_alike = same.stash_is ∙ sym (ap (λ x. x.capacity) new.held);
         run = ap (λ x. x.limits) new.at_post ∙ p.limits;
       };
@@ -74,18 +74,18 @@ follows-new s sizes worker post notes v service p new same =
             let none_kept : cond (phase_at v == phase) (get_or v.slice page 0) 0 ≡ 0 =
             ap (λ (n : ℕ). cond (phase_at v == phase) n 0) (in_slice page) ∙ cond_same (phase_at v == phase) 0 in
             rw new.ran (omega (arith, none, none_kept));
-        looks = ap (shown_in service) new.ran ∙ sym (ap (map (shown_by v.post.additions)) reads);
+        looks = ap (shown_in workload) new.ran ∙ sym (ap (map (shown_by v.post.additions)) reads);
         after = subst (All (λ r. r.after ≤ length v.post.additions)) (sym reads)
             (All-nil (λ r. r.after ≤ length v.post.additions));
         replies = λ i e h. let k : None ≡ Some e = rw new.ran at h in cc k;
         last = λ user. ap (λ x. last_of x user) new.last ∙ same_everywhere s.users user None ∙ rw new.ran refl;
       };
       noted = λ _.
-          subst (λ xs. IsNoted service xs v.post.reads v.adds v.ran) (sym additions)
-          (subst (λ xs. IsNoted service [] xs v.adds v.ran) (sym reads)
-          (subst (λ xs. IsNoted service [] [] xs v.ran) (sym new.adds)
-          (subst (λ xs. IsNoted service [] [] [] xs) (sym new.ran) (noted-nothing service))));
-      unmerged = λ _. subst (IsUnmerged service v.adds) (sym state_is) (
+          subst (λ xs. IsNoted workload xs v.post.reads v.adds v.ran) (sym additions)
+          (subst (λ xs. IsNoted workload [] xs v.adds v.ran) (sym reads)
+          (subst (λ xs. IsNoted workload [] [] xs v.ran) (sym new.adds)
+          (subst (λ xs. IsNoted workload [] [] [] xs) (sym new.ran) (noted-nothing workload))));
+      unmerged = λ _. subst (IsUnmerged workload v.adds) (sym state_is) (
         λ i d inside. absurd (omega (arith, ap length new.adds)),
         λ page is. ap (adds_to 0 page) new.adds,
       );
@@ -113,14 +113,14 @@ empty-gone v gone s page =
       no_split state.Gone e r = r
 
 -- a worker that is gone has done what the plans say
-pub follows-done : (service : Service) (v : WorkerView)
-    → Follows service v
+pub follows-done : (workload : Workload) (v : WorkerView)
+    → Follows workload v
     → v.post.state ≡ state.Gone
     → IsSliceInSplit v.post v.slice
-    → IsDone service v
-follows-done service v f gone s =
+    → IsDone workload v
+follows-done workload v f gone s =
     let stands = subst (Stands v) gone f.stands in
-    let in_phase : (phase page : ℕ) → likes_within service page v.ran phase ≡ additions_in v.post phase page =
+    let in_phase : (phase page : ℕ) → likes_within workload page v.ran phase ≡ additions_in v.post phase page =
     λ phase page.
     (let none : cond (phase_at v == phase) (get_or v.slice page 0) 0 ≡ 0 =
     ap (λ (n : ℕ). cond (phase_at v == phase) n 0) (empty-gone v gone s page) ∙ cond_same (phase_at v == phase) 0 in
@@ -142,7 +142,7 @@ follows-done service v f gone s =
               rising = noted.rising;
               plain = noted.plain;
               split = λ phase page is.
-                  one-of_likes service v.post.additions v.post.reads v.adds v.ran phase page noted is
+                  one-of_likes workload v.post.additions v.post.reads v.adds v.ran phase page noted is
                   (in_phase phase page);
             };
             reads = noted.looks;

@@ -7,8 +7,8 @@ ghost use Rattle.like_tables.specs.Share.{share_of};
 ghost use Rattle.like_tables.specs.UserTable.{table_without_likes};
 ghost use Rattle.like_roles.specs.worker.Desk.{IsNewDesk};
 ghost use Rattle.like_roles.specs.worker.New.{IsNew, IsPostOf};
-ghost use Rattle.like_roles.specs.worker.Follows.{Follows, IsAskedBy, IsDone, IsServiceOf};
-ghost use Rattle.like_service.specs.Service.{Service};
+ghost use Rattle.like_roles.specs.worker.Follows.{Follows, IsAskedBy, IsDone, IsWorkloadOf};
+ghost use Rattle.like_promises.specs.Workload.{Workload};
 ghost use Rattle.like_roles.specs.worker.Turns.{CanGive, Gives, HasTaken, Pends, TakesNothing, Turns};
 ghost use Rattle.like_seat.specs.StationView.{IsSliceInSplit};
 
@@ -18,9 +18,9 @@ mod places;
 use self::desk::Desk;
 use crate::turn::Turn;
 use like_core::Post;
+use like_promises::WorkerLog;
 use like_requests::{Gate, Setup, Taken};
 use like_seat::Station;
-use like_service::WorkerLog;
 use like_tables::{Held, Users};
 use std::alloc::{AllocError, Global};
 use std::marker::Model;
@@ -105,9 +105,9 @@ impl<P: Post> Worker<P> {
         requires post { IsPostOf worker setup.now.pages (P.view post) }
         ensures new { IfOk result (IsNew setup.now sizes.now worker (P.view post) true) }
         ensures follows { IfOk result
-            (λ worker. (service : Service)
-            → IsServiceOf setup.now sizes.now service
-            → Follows service worker) }
+            (λ worker. (workload : Workload)
+            → IsWorkloadOf setup.now sizes.now workload
+            → Follows workload worker) }
         ensures post { IfErr result (λ refused. refused.post ≡ post) }
     {
         Worker::noting(alloc, setup, sizes, worker, post, true)
@@ -127,9 +127,9 @@ impl<P: Post> Worker<P> {
         requires post { IsPostOf worker setup.now.pages (P.view post) }
         ensures new { IfOk result (IsNew setup.now sizes.now worker (P.view post) notes) }
         ensures follows { IfOk result
-            (λ worker. (service : Service)
-            → IsServiceOf setup.now sizes.now service
-            → Follows service worker) }
+            (λ worker. (workload : Workload)
+            → IsWorkloadOf setup.now sizes.now workload
+            → Follows workload worker) }
         ensures post { IfErr result (λ refused. refused.post ≡ post) }
     {
         let Ok(parts) = Parts::new(alloc, setup, sizes, worker, notes) else {
@@ -146,8 +146,8 @@ impl<P: Post> Worker<P> {
     pub fn turn<G: Gate>(&mut self, gate: &G) -> Turn
         requires { self.old.pending ≡ None }
         ensures case { Turns self.old result self.new }
-        ensures follows { (service : Service) → AreMasksOf service.hot self.new.post.masks
-            → Follows service self.old → Follows service self.new }
+        ensures follows { (workload : Workload) → AreMasksOf workload.hot self.new.post.masks
+            → Follows workload self.old → Follows workload self.new }
         ensures takes { TakesNothing self.old self.new }
         ensures pending { Pends result self.new }
         ensures retired { result ≡ Turn.Retired → self.new.post.state ≡ Gone }
@@ -161,8 +161,8 @@ impl<P: Post> Worker<P> {
         requires tries { IsSome self.old.pending }
         requires next { CanGive self.old taken }
         ensures case { Gives self.old taken result self.new }
-        ensures follows { (service : Service) → IsAskedBy service self.old taken
-            → Follows service self.old → Follows service self.new }
+        ensures follows { (workload : Workload) → IsAskedBy workload self.old taken
+            → Follows workload self.old → Follows workload self.new }
         ensures takes { HasTaken self.old taken self.new }
         ensures settled { self.new.pending ≡ None }
         ensures slice { IsSliceInSplit self.new.post self.new.slice }
@@ -185,7 +185,7 @@ impl<P: Post> Worker<P> {
         ensures adds { result.0.adds.items ≡ self.adds }
         ensures last { result.0.last ≡ self.last }
         ensures post { P.view result.1 ≡ self.post }
-        ensures done { (service : Service) → Follows service self → IsDone service self }
+        ensures done { (workload : Workload) → Follows workload self → IsDone workload self }
     {
         let Worker { seat, desk } = self;
         let (post, last) = seat.finish();

@@ -9,7 +9,7 @@ use Rattle.like_requests.specs.declared.script.Turned.TheVariants.{OpenOne, Work
 use Rattle.like_requests.specs.Script.{IsInRun}
 use Rattle.like_crew.specs.declared.crew.Crew.{Crew}
 use Rattle.like_crew.specs.declared.site.Site.{Site}
-use Rattle.like_service.specs.Asked.{service_of}
+use Rattle.like_promises.specs.WorkloadOf.{workload_of}
 use Rattle.like_crew.specs.Crew.{IsCrew}
 use Rattle.like_crew.specs.Server.{ServerGoesOn, ServerView}
 use Rattle.like_crew.proofs.Coordinated.{inbox-later}
@@ -24,13 +24,13 @@ pub can-make : {I : Type 0} (setup : Setup) (plans : List (List Request)) (site 
     → IsInRun setup.workers (length plans) entry
     → CanMake c.servers.items entry
 can-make setup plans site c (OpenOne submitter) is some there =
-    has-inbox (service_of setup plans) setup.workers
+    has-inbox (workload_of setup plans) setup.workers
     (board_numbers (board_id site.board)) site.notes c.servers.items submitter is.servers some there
 can-make setup plans site c (Worker worker) is some there =
     omega (
       arith,
       there,
-      as-many (service_of setup plans) setup.workers
+      as-many (workload_of setup plans) setup.workers
           (board_numbers (board_id site.board)) site.notes c.servers.items is.servers,
     )
 can-make setup plans site c Coordinator is some there = tt

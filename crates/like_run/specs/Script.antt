@@ -13,10 +13,10 @@ use Rattle.like_crew.specs.Steps.{AtServer, IsRound, LeadsOn, OpensMore}
 -- or the coordinator makes one; and all else is the same
 abbrev pub Makes : {I : Type 0} → Turned → Crew I → Crew I → Type 0
 Makes (OpenOne submitter) c d =
-    OpensMore submitter c.servers.items d.servers.items × (d.captain ≡ c.captain)
+    OpensMore submitter c.servers.items d.servers.items × (d.coordinator ≡ c.coordinator)
 Makes (Worker worker) c d =
-    AtServer worker MakesTurn c.servers.items d.servers.items × (d.captain ≡ c.captain)
-Makes Coordinator c d = LeadsOn c.captain d.captain × (d.servers ≡ c.servers)
+    AtServer worker MakesTurn c.servers.items d.servers.items × (d.coordinator ≡ c.coordinator)
+Makes Coordinator c d = LeadsOn c.coordinator d.coordinator × (d.servers ≡ c.servers)
 
 -- entries are made one after the other
 abbrev pub MakesAll : {I : Type 0} → List Turned → Crew I → Crew I → Type 0
@@ -35,7 +35,7 @@ pub record FollowsScript {I : Type 0} (script : List Turned) (c : Crew I) (e : E
   pub entries : MakesAll script c made
   pub opened : Crew I
   pub opens : AllZip OpensAll made.servers.items opened.servers.items
-  pub waits : opened.captain ≡ made.captain
+  pub waits : opened.coordinator ≡ made.coordinator
   pub rounds : ℕ
   pub last : Crew I
   pub goes_round : MakesRounds rounds opened last

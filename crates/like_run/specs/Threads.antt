@@ -4,8 +4,8 @@ use Rattle.like_crew.specs.declared.crew.Crew.{Crew}
 use Rattle.like_crew.specs.declared.ended.Ended.{Ended}
 use Rattle.like_crew.specs.Ended.{HasEnded, HasLeft, IsSeatOf}
 use Rattle.like_crew.specs.Server.{ServerView}
-use Rattle.like_service.specs.declared.run_fault.RunFault.{RunFault}
-use Rattle.like_service.specs.declared.run_fault.RunFault.TheVariants.{Settings, Memory, Start}
+use Rattle.like_promises.specs.declared.run_fault.RunFault.{RunFault}
+use Rattle.like_promises.specs.declared.run_fault.RunFault.TheVariants.{Settings, Memory, Start}
 use Rattle.like_run.specs.declared.threads.worker.Served.{Served}
 use Rattle.like_run.specs.declared.threads.worker.Served.TheVariants.{Left, Stopped}
 

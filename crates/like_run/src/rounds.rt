@@ -3,18 +3,18 @@ ghost use Rattle.like_requests.specs.Setup.{FitsRun};
 ghost use Rattle.like_roles.specs.coordinator.CoordTurns.{HasEndedJoined};
 ghost use Rattle.like_requests.specs.Script.{IsInRun};
 ghost use Rattle.like_limits.specs.Limits.{max_entries};
-ghost use Rattle.like_service.specs.Asked.{lists_of};
+ghost use Rattle.like_promises.specs.WorkloadOf.{lists_of};
 ghost use Rattle.like_crew.specs.Crew.{AreGone, GoesOn};
-ghost use Rattle.like_service.specs.EndToEnd.{IsRightReport};
+ghost use Rattle.like_promises.specs.EndToEnd.{IsRightReport};
 ghost use Rattle.like_crew.specs.Ended.{HasEnded};
-ghost use Rattle.like_service.specs.places.Tiling.{HasNoPlaces, HasRightPlaces};
+ghost use Rattle.like_promises.specs.places.Tiling.{HasNoPlaces, HasRightPlaces};
 ghost use Rattle.like_run.specs.Rounds.{CanMake, CanReplayScript, IsReplayFaultUnderWay, IsReplayFault};
 ghost use Rattle.like_run.specs.Script.{FollowsScript, Makes, MakesAll, MakesRounds};
 
 use like_crew::{Crew, Ended, Site, report_of};
+use like_promises::Report;
 use like_queue::ListInbox;
 use like_requests::{Request, Setup, Turned, check_script, check_setup};
-use like_service::Report;
 use std::alloc::Global;
 use std::snapshot::Snapshot;
 
@@ -133,7 +133,7 @@ fn make(crew: &mut Crew<'_, ListInbox>, entry: &Turned)
 fn make_rounds(crew: &mut Crew<'_, ListInbox>) -> Result<(), ReplayFault>
     ensures rounds { OnOk result ((n : ℕ) × MakesRounds n crew.old crew.new) }
     ensures goes_on { GoesOn crew.old crew.new }
-    ensures ended { OnOk result (HasEndedJoined crew.new.captain) }
+    ensures ended { OnOk result (HasEndedJoined crew.new.coordinator) }
     ensures gone { OnOk result (AreGone crew.new.servers.items) }
     ensures fault { IfErr result (λ fault. fault ≡ ReplayFault.Unfinished) }
 {

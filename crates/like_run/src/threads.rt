@@ -1,23 +1,23 @@
 ghost use Rattle.std.specs.Prelude.{◌≡◌, ◌+◌, ◌≤◌, false, true, IfErr, IfOk, OnOk, length};
 ghost use Rattle.like_requests.specs.Setup.{FitsRun, IsWithinLimits};
-ghost use Rattle.like_service.specs.Asked.{lists_of};
-ghost use Rattle.like_service.specs.EndToEnd.{IsRightReport};
+ghost use Rattle.like_promises.specs.WorkloadOf.{lists_of};
+ghost use Rattle.like_promises.specs.EndToEnd.{IsRightReport};
 ghost use Rattle.like_crew.specs.Ended.{IsEnded};
 ghost use Rattle.like_crew.specs.Site.{AreSeats, IsSite};
-ghost use Rattle.like_service.specs.places.Tiling.{HasNoPlaces, HasRightPlaces};
+ghost use Rattle.like_promises.specs.places.Tiling.{HasNoPlaces, HasRightPlaces};
 ghost use Rattle.like_queue.specs.Lines.{AreNewEnds};
 ghost use Rattle.like_run.specs.Threads.{HasEndedOn, IsRunFaultUnderWay};
-ghost use Rattle.like_service.specs.RunFault.{IsRunFault};
+ghost use Rattle.like_promises.specs.RunFault.{IsRunFault};
 
 use crate::threads::coordinator::{coordinate, join_all};
 use crate::threads::room::Room;
 use crate::threads::submitters::start_submitters;
 use crate::threads::workers::start_workers;
 use like_crew::{Crew, Ended, Seats, Site, report_of};
+use like_promises::{Report, RunFault};
 use like_queue::{Lines, Parkers, SendEnd, TakeEnd, ends_of, tell};
 use like_requests::{Request, Setup, check_setup};
 use like_roles::Gate;
-use like_service::{Report, RunFault};
 use std::alloc::Global;
 use std::snapshot::Snapshot;
 use std::sync::{OnceLock, Wait};
@@ -178,7 +178,7 @@ fn in_scope<'s, E, R: Threads + Wait + Sync, G: Gate>(
     ensures fault { IfErr result IsRunFaultUnderWay }
 {
     let Crew {
-        mut captain,
+        mut coordinator,
         servers,
     } = crew;
     let Room {
@@ -201,7 +201,7 @@ fn in_scope<'s, E, R: Threads + Wait + Sync, G: Gate>(
     let Some(go) = tell(rt, start, all) else {
         return Err(RunFault::Start);
     };
-    coordinate(rt, parkers, &mut captain);
+    coordinate(rt, parkers, &mut coordinator);
     join_all(rt, workers, &go, &mut logs, &mut seats);
-    Ok(Ended::new(captain, logs, seats))
+    Ok(Ended::new(coordinator, logs, seats))
 }

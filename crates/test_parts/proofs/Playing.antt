@@ -13,7 +13,7 @@ use Rattle.like_requests.specs.declared.request.Taken.TheVariants as taken
 use Rattle.like_requests.specs.declared.setup.Setup.{Setup}
 use Rattle.like_core.specs.Post.{PostView, pages_of}
 use Rattle.like_tables.specs.Share.{dealt}
-use Rattle.like_service.specs.declared.log.Took.{Took}
+use Rattle.like_promises.specs.declared.log.Took.{Took}
 use Rattle.like_roles.specs.declared.turn.Turn.{Turn}
 use Rattle.like_roles.specs.declared.turn.Turn.TheVariants as turn
 use Rattle.like_roles.specs.worker.New.{IsNew, IsPostOf}

@@ -13,7 +13,7 @@ use Rattle.like_core.specs.core.State.{opening_with}
 use Rattle.like_core.specs.declared.limits.Limits.{Limits}
 use Rattle.like_core.specs.declared.opening.Opening.{Opening}
 use Rattle.like_core.specs.views.Views.{fresh}
-use Rattle.like_service.proofs.Lists.{slice_get-at_end}
+use Rattle.like_promises.proofs.Lists.{slice_get-at_end}
 use Rattle.test_parts.specs.Walk.{AreOpened}
 
 -- the last of the seats made no step yet

@@ -3,7 +3,7 @@ ghost use Rattle.std.specs.Prelude.{All, length};
 ghost use Rattle.like_requests.specs.Setup.{FitsRun};
 ghost use Rattle.like_requests.specs.Script.{IsInRun};
 ghost use Rattle.like_roles.specs.coordinator.CoordTurns.{HasEndedJoined};
-ghost use Rattle.like_service.specs.Asked.{lists_of};
+ghost use Rattle.like_promises.specs.WorkloadOf.{lists_of};
 ghost use Rattle.like_crew.specs.Crew.{AreGone, GoesOn};
 ghost use Rattle.like_crew.specs.Ended.{HasEnded};
 ghost use Rattle.like_run.specs.Rounds.{CanMake};
@@ -80,7 +80,7 @@ fn answers_of(
 // Opens all lists, and makes rounds until the run ended.
 fn end_run(rt: &impl Abort, crew: &mut Crew<'_, ListInbox>)
     ensures goes_on { GoesOn crew.old crew.new }
-    ensures ended { HasEndedJoined crew.new.captain }
+    ensures ended { HasEndedJoined crew.new.coordinator }
     ensures gone { AreGone crew.new.servers.items }
 {
     crew.open_all();

@@ -3,13 +3,13 @@ use Rattle.std.proofs.Common.{◌≡◌, ◌≢◌, ℕ, ◌+◌, ◌<◌, ◌�
 use Rattle.std.proofs.lemmas.Grind.{flat_map-append}
 use Rattle.std.proofs.lemmas.List.{get_or-map, length-map, take_more}
 use Rattle.std.specs.Option.{option_to_list}
-use Rattle.like_service.specs.declared.log.Ran.{Ran}
-use Rattle.like_service.specs.declared.log.WorkerLog.{WorkerLog}
-use Rattle.like_service.specs.declared.answer.Answer.{Answer}
+use Rattle.like_promises.specs.declared.log.Ran.{Ran}
+use Rattle.like_promises.specs.declared.log.WorkerLog.{WorkerLog}
+use Rattle.like_promises.specs.declared.answer.Answer.{Answer}
 use Rattle.like_collection.specs.declared.collect_fault.CollectFault.{CollectFault}
 use Rattle.like_collection.specs.declared.collect_fault.CollectFault.TheVariants.{Stranger, Double, Missing, Memory}
 use Rattle.like_collection.specs.CollectFaults.{IsCollectFault, IsEntryFault, IsFirstMissing}
-use Rattle.like_service.specs.Collected.{IsCollected, entries_in, entries_of}
+use Rattle.like_promises.specs.Collected.{IsCollected, entries_in, entries_of}
 use Rattle.like_collection.specs.Entries.{IsRequest}
 use Rattle.like_collection.specs.Slots.{HoldsAll, IsSlotsFault, RefusesEntry}
 use Rattle.like_collection.proofs.slots.Holding.{AreGood-held, none-from_slot, slot-from_none}

@@ -4,10 +4,10 @@ use Rattle.std.proofs.lemmas.Bool.{and_from, and_parts, cases_Bool, eq-eqb, eqb-
 use Rattle.std.proofs.lemmas.List.{length-map, map-append}
 use Rattle.std.proofs.lemmas.List.Elements.{All-nil, All-push, filter-append}
 use Rattle.std.specs.Option.{option_to_list}
-use Rattle.like_service.specs.declared.log.Ran.{Ran}
-use Rattle.like_service.specs.declared.answer.Answer.{Answer}
+use Rattle.like_promises.specs.declared.log.Ran.{Ran}
+use Rattle.like_promises.specs.declared.answer.Answer.{Answer}
 use Rattle.like_collection.specs.Entries.{AreGood, IsRequest, is_of}
-use Rattle.like_service.specs.Collected.{answer_of, entries_of}
+use Rattle.like_promises.specs.Collected.{answer_of, entries_of}
 use Rattle.like_collection.specs.Slots.{HoldsAll, Puts, slot_at}
 use Rattle.like_collection.proofs.slots.SlotPlaces.{IsRequest-slot, sized-start, sized-write, slot_at-other, slot_at-same, slot_at-start}
 

@@ -2,7 +2,7 @@
 use Rattle.std.proofs.Common.{◌≡◌, ℕ, zero, suc, ◌+◌, ◌<◌, Bool, true, false, cond, List, [], ◌∷◌, ◌++◌, length, map, replicate, get_or, set, take, Option, Some, None, refl, sym, ap, ◌∙◌, arith}
 use Rattle.std.proofs.lemmas.List.{map-append, take_more}
 use Rattle.std.specs.Prelude.{is_some}
-use Rattle.like_service.specs.declared.answer.Answer.{Answer}
+use Rattle.like_promises.specs.declared.answer.Answer.{Answer}
 use Rattle.like_collection.specs.Slots.{answers_there}
 
 -- there are as many places as answers

@@ -2,7 +2,7 @@ ghost use Rattle.std.specs.Prelude.{◌≡◌, ◌<◌, ◌^◌, [], ◌∷◌, 
 ghost use Rattle.like_collection.specs.Slots.{IsSlotsFault};
 
 use crate::collect_fault::CollectFault;
-use like_service::{Answer, Reply};
+use like_promises::{Answer, Reply};
 use std::alloc::{AllocError, Global};
 use std::marker::Model;
 
@@ -22,7 +22,7 @@ pub(crate) struct SlotRow {
 
 impl Model for SlotRow {
     ghost use Rattle.std.specs.Prelude.{◌≡◌, List, Option, length};
-    ghost use Rattle.like_service.specs.declared.answer.Answer.{Answer};
+    ghost use Rattle.like_promises.specs.declared.answer.Answer.{Answer};
     ghost use Rattle.like_collection.specs.Slots.{answers_there};
 
     ghost Value = { List (Option Answer) };

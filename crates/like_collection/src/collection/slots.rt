@@ -1,13 +1,13 @@
 ghost use Rattle.std.specs.Prelude.{◌≡◌, ◌<◌, ◌≤◌, ◌^◌, ◌↔◌, ℕ, List, ◌∷◌, [], ◌++◌, All, IfOk, IsTrue, MatchResult, Some, None, length, map, replicate};
 ghost use Rattle.like_limits.specs.Limits.{max_submitters};
-ghost use Rattle.like_service.specs.declared.log.Ran.{Ran};
+ghost use Rattle.like_promises.specs.declared.log.Ran.{Ran};
 ghost use Rattle.like_collection.specs.CollectFaults.{IsEntryFault};
-ghost use Rattle.like_service.specs.Collected.{rows_of};
+ghost use Rattle.like_promises.specs.Collected.{rows_of};
 ghost use Rattle.like_collection.specs.Slots.{HoldsAll, IsSlot, IsSlotsFault, Puts, RefusesEntry};
 
 use crate::collect_fault::CollectFault;
 use crate::collection::slot_row::SlotRow;
-use like_service::{Answer, Ran, Replies};
+use like_promises::{Answer, Ran, Replies};
 use std::alloc::{AllocError, Global};
 use std::marker::Model;
 
@@ -19,7 +19,7 @@ pub(crate) struct Slots {
 
 impl Model for Slots {
     ghost use Rattle.std.specs.Prelude.{List, Option};
-    ghost use Rattle.like_service.specs.declared.answer.Answer.{Answer};
+    ghost use Rattle.like_promises.specs.declared.answer.Answer.{Answer};
 
     ghost Value = { List (List (Option Answer)) };
 

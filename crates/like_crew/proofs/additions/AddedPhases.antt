@@ -6,46 +6,46 @@ use Rattle.std.proofs.lemmas.List.Elements.{All-head, All-tail}
 use Rattle.std.proofs.lemmas.Option.{get_or_from_slice_get, slice_get_within}
 use Rattle.like_core.specs.Phase.{IsJoined}
 use Rattle.like_core.proofs.views.KeptPlaces.{counts_one}
-use Rattle.like_service.specs.declared.log.Added.{Added}
-use Rattle.like_service.specs.declared.log.Ran.{Ran}
-use Rattle.like_service.specs.declared.log.Took.{Took}
-use Rattle.like_service.specs.places.Adds.{AreOfLikes, IsOfLikes, is_add_to}
+use Rattle.like_promises.specs.declared.log.Added.{Added}
+use Rattle.like_promises.specs.declared.log.Ran.{Ran}
+use Rattle.like_promises.specs.declared.log.Took.{Took}
+use Rattle.like_promises.specs.places.Adds.{AreOfLikes, IsOfLikes, is_add_to}
 use Rattle.like_roles.specs.worker.Follows.{likes_at}
-use Rattle.like_service.specs.Likes.{likes_among, likes_within}
-use Rattle.like_service.specs.Order.{entry_of, order, order_below}
-use Rattle.like_service.specs.Service.{Service, is_split_in}
-use Rattle.like_service.proofs.Blocks.{block-after_joined, order-parts, order_below-phases}
+use Rattle.like_promises.specs.Likes.{likes_among, likes_within}
+use Rattle.like_promises.specs.Order.{entry_of, order, order_below}
+use Rattle.like_promises.specs.Workload.{Workload, is_split_in}
+use Rattle.like_promises.proofs.Blocks.{block-after_joined, order-parts, order_below-phases}
 use Rattle.like_roles.proofs.InBlocks.{before-next}
 use Rattle.like_roles.proofs.notes.Noted.{count-none}
 use Rattle.like_crew.proofs.Makings.{all-back}
 
 -- what is taken up to a joined phase has run by then
-pub ran-within : (service : Service) (taken : List Took) (last : ℕ)
+pub ran-within : (workload : Workload) (taken : List Took) (last : ℕ)
     → IsJoined last
     → All (λ t. t.phase ≤ last) taken
     → (ran : List Ran)
-    → map entry_of ran ≡ order service taken
+    → map entry_of ran ≡ order workload taken
     → All (λ e. e.phase ≤ last) ran
-ran-within service taken last joined within ran in_order =
+ran-within workload taken last joined within ran in_order =
     let before = before-next taken last within in
-    let whole : map entry_of ran ≡ order_below service taken (last + 1) =
-    in_order ∙ order-parts service taken last before
-    ∙ ap (λ xs. order_below service taken (last + 1) ++ xs) (block-after_joined service taken last before joined)
-    ∙ append-nil (order_below service taken (last + 1)) in
+    let whole : map entry_of ran ≡ order_below workload taken (last + 1) =
+    in_order ∙ order-parts workload taken last before
+    ∙ ap (λ xs. order_below workload taken (last + 1) ++ xs) (block-after_joined workload taken last before joined)
+    ∙ append-nil (order_below workload taken (last + 1)) in
     all-back entry_of (λ e. e.phase ≤ last) ran
     (subst (All (λ e. e.phase ≤ last)) (sym whole)
-    (λ i d inside. let low = order_below-phases service taken (last + 1) i d inside in omega arith))
+    (λ i d inside. let low = order_below-phases workload taken (last + 1) i d inside in omega arith))
 
-module _ (service : Service) (hot other : ℕ → ℕ) (last : ℕ) (same : (k : ℕ) → k ≤ last → hot k ≡ other k) where
-  abbrev before : Service
-  before = record service { hot = hot }
+module _ (workload : Workload) (hot other : ℕ → ℕ) (last : ℕ) (same : (k : ℕ) → k ≤ last → hot k ≡ other k) where
+  abbrev before : Workload
+  before = record workload { hot = hot }
 
-  abbrev now : Service
-  now = record service { hot = other }
+  abbrev now : Workload
+  now = record workload { hot = other }
 
   -- a page is split in these phases by both
   split-same : (k page : ℕ) → k ≤ last → is_split_in now k page ≡ is_split_in before k page
-  split-same k page low = ap (λ (m : ℕ). is_split_in (record service { hot = λ _. m }) k page) (sym (same k low))
+  split-same k page low = ap (λ (m : ℕ). is_split_in (record workload { hot = λ _. m }) k page) (sym (same k low))
 
   -- no like is of a later phase than any entry
   none-later : (ran : List Ran) (phase page : ℕ) → All (λ e. e.phase ≤ last) ran → last < phase

@@ -17,21 +17,21 @@ use Rattle.like_core.specs.views.Places.{ArePlaced, AreTiles, Counting, has_numb
 use Rattle.like_core.specs.Post.{PostView}
 use Rattle.like_board.specs.declared.worker_seat.WorkerSeat.{WorkerSeat}
 use Rattle.like_board.specs.Seats.{AreCounted, HaveAddedBetween, HavePlaces, HaveReadMasks, coord_view, last_count, seat_meaning, seats_before, seats_passing}
-use Rattle.like_service.specs.declared.log.Added.{Added}
-use Rattle.like_service.specs.declared.log.Ran.{Ran}
-use Rattle.like_service.specs.declared.log.WorkerLog.{WorkerLog}
-use Rattle.like_service.specs.places.Adds.{AreOfLikes, addition_of}
+use Rattle.like_promises.specs.declared.log.Added.{Added}
+use Rattle.like_promises.specs.declared.log.Ran.{Ran}
+use Rattle.like_promises.specs.declared.log.WorkerLog.{WorkerLog}
+use Rattle.like_promises.specs.places.Adds.{AreOfLikes, addition_of}
 use Rattle.like_roles.specs.worker.Shown.{adds_before_looks}
 use Rattle.like_roles.specs.worker.Follows.{AreNoted}
-use Rattle.like_service.specs.Likes.{Between, initial_count, likes_below}
-use Rattle.like_service.specs.Service.{Service}
+use Rattle.like_promises.specs.Likes.{Between, initial_count, likes_below}
+use Rattle.like_promises.specs.Workload.{Workload}
 use Rattle.like_crew.specs.declared.ended.Ended.{Ended}
 use Rattle.like_crew.specs.declared.site.Site.{Site}
-use Rattle.like_service.specs.Asked.{service_of}
-use Rattle.like_service.specs.EndToEnd.{runs_of}
+use Rattle.like_promises.specs.WorkloadOf.{workload_of}
+use Rattle.like_promises.specs.EndToEnd.{runs_of}
 use Rattle.like_crew.specs.Ended.{IsEnded, IsSeatOf}
 use Rattle.like_crew.specs.Server.{HasWorkedFor, IsLogOf, ServerView}
-use Rattle.like_service.specs.places.Tiling.{all_noted, reads_of}
+use Rattle.like_promises.specs.places.Tiling.{all_noted, reads_of}
 use Rattle.like_crew.proofs.additions.AddedPages.{adds-there, none-liked}
 use Rattle.like_crew.proofs.additions.AddedPhases.{of-likes-same, ran-within}
 use Rattle.like_crew.proofs.Makings.{all-back}
@@ -64,13 +64,13 @@ pub record HasNoted (setup : Setup) (plans : List (List Request)) (site : Site) 
       ≡ adds_before_looks (known setup plans site e h) log.adds.items log.ran.items
 
 -- additions that stand between what all seats have added stand so between the likes of the run lists
-stand-noted : (service : Service) (runs : List (List Ran)) (counts : List ℕ) (before : ℕ → ℕ → ℕ) (last : ℕ)
+stand-noted : (workload : Workload) (runs : List (List Ran)) (counts : List ℕ) (before : ℕ → ℕ → ℕ) (last : ℕ)
     (adds : List Added)
-    → ((page : ℕ) → get_or counts page 0 ≡ initial_count service.pages page)
-    → ((phase page : ℕ) → before phase page ≡ likes_below service page runs phase)
+    → ((page : ℕ) → get_or counts page 0 ≡ initial_count workload.pages page)
+    → ((phase page : ℕ) → before phase page ≡ likes_below workload page runs phase)
     → StandBetween counts before last (map addition_of adds)
-    → All (λ a. Between service runs a.phase a.page a.old 0 a.n) adds
-stand-noted service runs counts before last adds initial below stand k d within =
+    → All (λ a. Between workload runs a.phase a.page a.old 0 a.n) adds
+stand-noted workload runs counts before last adds initial below stand k d within =
     let a : Added = get_or adds k d in
     let b = (all-back addition_of
     (λ (x : Addition). (x.phase ≤ last) × StandsBetween counts before x) adds stand k d within).1 in
@@ -115,7 +115,7 @@ module _ (setup : Setup) (plans : List (List Request)) (site : Site) (e : Ended)
       let log : WorkerLog = get_or e.logs.items worker d in
       let at : slice_get e.logs.items worker ≡ Some log = slice_get-get_or e.logs.items worker d within in
       let is = logs-are setup plans site e h masks counted phases worker log at in
-      of-likes-same (service_of setup plans) (hot_known setup plans site e h) (served setup plans site e h).hot e.phases
+      of-likes-same (workload_of setup plans) (hot_known setup plans site e h) (served setup plans site e h).hot e.phases
       (masks-known setup plans site e h masks counted) log.ran.items log.adds.items
       (ran-within (served setup plans site e h) log.taken.items e.phases h.joined is.1 log.ran.items is.0.ran)
       (noted-at worker log at).1.1.adds

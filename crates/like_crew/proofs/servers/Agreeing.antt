@@ -14,15 +14,15 @@ use Rattle.like_core.specs.Post.{pages_of}
 use Rattle.like_core.proofs.PhaseMasks.{masks-before}
 use Rattle.like_queue.specs.Inbox.{HandsOver, InboxView, item_count}
 use Rattle.like_tables.specs.Share.{Share, dealt}
-use Rattle.like_service.specs.declared.log.Took.{Took}
+use Rattle.like_promises.specs.declared.log.Took.{Took}
 use Rattle.like_roles.specs.declared.turn.Turn.{Turn}
 use Rattle.like_roles.specs.declared.turn.Turn.TheVariants as turn
 use Rattle.like_roles.specs.worker.Follows.{Follows, IsAskedBy}
-use Rattle.like_service.specs.Service.{Service, numbered_in, request_at}
+use Rattle.like_promises.specs.Workload.{Workload, numbered_in, request_at}
 use Rattle.like_roles.specs.worker.Turns.{CanGive, Gives, HasTaken, IsNext, Pends, TakesNothing, Turns, with_taken}
 use Rattle.like_requests.specs.Setup.{IsThere}
 use Rattle.like_roles.specs.worker.WorkerView.{WorkerView, phase_at, submitter_at}
-use Rattle.like_service.specs.Log.{numbers_taken}
+use Rattle.like_promises.specs.Log.{numbers_taken}
 use Rattle.like_crew.specs.Server.{Agree, AgreesAt, AreOwnPlans, IsRising, WorksFor, numbers_given, plans_of, requests_taken}
 use Rattle.like_crew.proofs.lists.Stepped.{slice_get-set_other, slice_get-set_same}
 use Rattle.like_crew.proofs.servers.Numbers.{count-taken, given-own, numbers-next, numbers-same}
@@ -58,26 +58,26 @@ agree-turn v w inboxes answer turns k a =
     }
 
 -- a worker of the same run, with inboxes of the same plans, that follows the plans too
-serves-on : (service : Service) (v w : WorkerView) (before after : List InboxView)
+serves-on : (workload : Workload) (v w : WorkerView) (before after : List InboxView)
     → w.last.share ≡ v.last.share
     → plans_of after ≡ plans_of before
-    → (AreMasksOf service.hot w.post.masks → Follows service w)
+    → (AreMasksOf workload.hot w.post.masks → Follows workload w)
     → (opened more : List ℕ)
-    → WorksFor service (record { worker = v; inboxes = before; opened = opened })
-    → WorksFor service (record { worker = w; inboxes = after; opened = more })
-serves-on service v w before after share plans follows opened more h = record {
-  plans = plans ∙ h.plans ∙ ap (λ (s : Share). dealt s.workers s.worker service.plans) (sym share);
+    → WorksFor workload (record { worker = v; inboxes = before; opened = opened })
+    → WorksFor workload (record { worker = w; inboxes = after; opened = more })
+serves-on workload v w before after share plans follows opened more h = record {
+  plans = plans ∙ h.plans ∙ ap (λ (s : Share). dealt s.workers s.worker workload.plans) (sym share);
   follows = follows;
 }
 
-pub serves-turn : (service : Service) (v w : WorkerView) (inboxes : List InboxView) (opened : List ℕ)
+pub serves-turn : (workload : Workload) (v w : WorkerView) (inboxes : List InboxView) (opened : List ℕ)
     → TakesNothing v w
-    → (AreMasksOf service.hot w.post.masks → Follows service v → Follows service w)
-    → WorksFor service (record { worker = v; inboxes = inboxes; opened = opened })
-    → WorksFor service (record { worker = w; inboxes = inboxes; opened = opened })
-serves-turn service v w inboxes opened k follows h =
-    serves-on service v w inboxes inboxes k.share refl
-    (λ right. follows right (h.follows (masks-before service.hot v.post.masks w.post.masks k.masks right))) opened
+    → (AreMasksOf workload.hot w.post.masks → Follows workload v → Follows workload w)
+    → WorksFor workload (record { worker = v; inboxes = inboxes; opened = opened })
+    → WorksFor workload (record { worker = w; inboxes = inboxes; opened = opened })
+serves-turn workload v w inboxes opened k follows h =
+    serves-on workload v w inboxes inboxes k.share refl
+    (λ right. follows right (h.follows (masks-before workload.hot v.post.masks w.post.masks k.masks right))) opened
     opened h
 
 -- what was taken from the inbox at a place, in the worker's own words
@@ -176,16 +176,16 @@ plan-taken i j taken.End t = ap (λ (x : InboxView). x.plan) t.1
 plan-taken i j taken.Nothing t = ap (λ (x : InboxView). x.plan) t.1
 
 -- the request that the inbox hands over is asked by the plan
-asked : (service : Service) (v : WorkerView) (inboxes : List InboxView) (place : ℕ) (i : InboxView) (ask : Numbered)
+asked : (workload : Workload) (v : WorkerView) (inboxes : List InboxView) (place : ℕ) (i : InboxView) (ask : Numbered)
     → slice_get inboxes place ≡ Some i
     → slice_get i.plan i.taken ≡ Some ask.request
     → ask.number ≡ i.taken + 1
     → 1 ≤ v.last.share.workers
-    → AreOwnPlans service v.last.share.workers v.last.share.worker inboxes
-    → request_at service (submitter_at v place) ask.number ≡ Some ask.request
-asked service v inboxes place i ask here get number some h =
-    let plan : slice_get service.plans (submitter_at v place) ≡ Some i.plan =
-    sym (plan-at service v.last.share.workers v.last.share.worker inboxes place some h)
+    → AreOwnPlans workload v.last.share.workers v.last.share.worker inboxes
+    → request_at workload (submitter_at v place) ask.number ≡ Some ask.request
+asked workload v inboxes place i ask here get number some h =
+    let plan : slice_get workload.plans (submitter_at v place) ≡ Some i.plan =
+    sym (plan-at workload v.last.share.workers v.last.share.worker inboxes place some h)
     ∙ slice_get-map (λ (x : InboxView). x.plan) inboxes place ∙ ap (option_map (λ (x : InboxView). x.plan)) here in
     ap (λ o. option_and_then (λ p. numbered_in p ask.number) o) plan
     ∙ ap (numbered_in i.plan) (number ∙ add-one i.taken) ∙ get
@@ -299,25 +299,25 @@ module _ (v : WorkerView) (inboxes : List InboxView) (place : ℕ) (i j : InboxV
         (subst IsRising (sym k.taken) a.rising) seen (none-noted taken.Nothing gives has))
 
   -- and the worker follows the plans on
-  pub serves-give : (service : Service) (w : WorkerView) (took : Taken) → HandsOver i took j → HasTaken v took w
-      → (IsAskedBy service v took → Follows service v → Follows service w)
+  pub serves-give : (workload : Workload) (w : WorkerView) (took : Taken) → HandsOver i took j → HasTaken v took w
+      → (IsAskedBy workload v took → Follows workload v → Follows workload w)
       → (opened more : List ℕ)
-      → WorksFor service (record { worker = v; inboxes = inboxes; opened = opened })
-      → WorksFor service (record { worker = w; inboxes = set inboxes place j; opened = more })
-  serves-give service w took t has follows opened more h =
+      → WorksFor workload (record { worker = v; inboxes = inboxes; opened = opened })
+      → WorksFor workload (record { worker = w; inboxes = set inboxes place j; opened = more })
+  serves-give workload w took t has follows opened more h =
       let plans : plans_of (set inboxes place j) ≡ plans_of inboxes =
       map-set_same (λ (x : InboxView). x.plan) inboxes place j i
       (plan-taken i j took t
       ∙ ap (λ (x : InboxView). x.plan) (sym (get_or_from_slice_get inboxes place i i here))) in
-      serves-on service v w inboxes (set inboxes place j) (share-given v w place took trying has) plans
+      serves-on workload v w inboxes (set inboxes place j) (share-given v w place took trying has) plans
       (λ right. follows (asks took t)
-      (h.follows (masks-before service.hot v.post.masks w.post.masks
+      (h.follows (masks-before workload.hot v.post.masks w.post.masks
       (masks-given v w place took trying has) right))) opened more h where
-        asks : (x : Taken) → HandsOver i x j → IsAskedBy service v x
+        asks : (x : Taken) → HandsOver i x j → IsAskedBy workload v x
         asks (taken.Ask ask) u = λ p e.
-            subst (λ q. request_at service (submitter_at v q) ask.number ≡ Some ask.request)
+            subst (λ q. request_at workload (submitter_at v q) ask.number ≡ Some ask.request)
             (same_Some _ _ (sym trying ∙ e))
-            (asked service v inboxes place i ask here u.0 u.1 (omega (arith, a.is_worker)) h.plans)
+            (asked workload v inboxes place i ask here u.0 u.1 (omega (arith, a.is_worker)) h.plans)
         asks taken.End u = tt
         asks taken.Nothing u = tt
 

@@ -12,42 +12,42 @@ use Rattle.like_requests.specs.declared.setup.Setup.{Setup}
 use Rattle.like_core.specs.Post.{PostView}
 use Rattle.like_tables.specs.UserTable.{UserTable}
 use Rattle.like_tables.specs.Share.{share_of, Share, place_of, serves}
-use Rattle.like_service.specs.declared.log.Took.{Took}
+use Rattle.like_promises.specs.declared.log.Took.{Took}
 use Rattle.like_roles.specs.worker.New.{IsNew, IsPostOf}
 use Rattle.like_queue.specs.Inbox.{InboxView}
-use Rattle.like_service.specs.declared.log.WorkerLog.{WorkerLog}
+use Rattle.like_promises.specs.declared.log.WorkerLog.{WorkerLog}
 use Rattle.like_roles.specs.worker.Follows.{IsDone}
-use Rattle.like_service.specs.Service.{Service}
+use Rattle.like_promises.specs.Workload.{Workload}
 use Rattle.like_roles.specs.worker.WorkerView.{WorkerView, phase_at}
-use Rattle.like_service.specs.Log.{IsLog, TakesPlans, numbers_taken}
+use Rattle.like_promises.specs.Log.{IsLog, TakesPlans, numbers_taken}
 use Rattle.like_crew.specs.Server.{NoneAbove, Agree, AreInboxesFor, WorksFor, ServerView, plans_of, requests_taken}
 use Rattle.like_crew.proofs.servers.Shares.{plan-at}
 use Rattle.like_crew.proofs.servers.Numbers.{own-place}
 use Rattle.like_crew.proofs.Counted.{plan_of}
 
 -- the whole plan of a submitter was taken
-whole-plan : (service : Service) (s : ServerView) (submitter : ℕ)
+whole-plan : (workload : Workload) (s : ServerView) (submitter : ℕ)
     → Agree s.worker s.inboxes
-    → WorksFor service s
-    → IsDone service s.worker
+    → WorksFor workload s
+    → IsDone workload s.worker
     → serves s.worker.last.share submitter ≡ true
     → option_map_or requests_taken (slice_get s.inboxes (place_of s.worker.last.share.workers submitter)) 0
-    ≡ length (plan_of service submitter)
-whole-plan service s submitter a h done mine =
+    ≡ length (plan_of workload submitter)
+whole-plan workload s submitter a h done mine =
     let share : Share = s.worker.last.share in
     let place : ℕ = place_of share.workers submitter in
     let it : submitter ≡ share.worker + share.workers * place = own-place share a.is_worker submitter mine in
-    let plan : slice_get service.plans submitter ≡ option_map (λ (i : InboxView). i.plan) (slice_get s.inboxes place) =
-    ap (slice_get service.plans) it
-    ∙ sym (plan-at service share.workers share.worker s.inboxes place (omega (arith, a.is_worker)) h.plans)
+    let plan : slice_get workload.plans submitter ≡ option_map (λ (i : InboxView). i.plan) (slice_get s.inboxes place) =
+    ap (slice_get workload.plans) it
+    ∙ sym (plan-at workload share.workers share.worker s.inboxes place (omega (arith, a.is_worker)) h.plans)
     ∙ slice_get-map (λ (i : InboxView). i.plan) s.inboxes place in
     by_inbox (slice_get s.inboxes place) refl plan where
       by_inbox : (o : Option InboxView) → slice_get s.inboxes (place_of s.worker.last.share.workers submitter) ≡ o
-          → slice_get service.plans submitter ≡ option_map (λ (i : InboxView). i.plan) o
-          → option_map_or requests_taken o 0 ≡ length (plan_of service submitter)
+          → slice_get workload.plans submitter ≡ option_map (λ (i : InboxView). i.plan) o
+          → option_map_or requests_taken o 0 ≡ length (plan_of workload submitter)
       by_inbox None e p =
           ap (λ (xs : List Request). length xs)
-          (ap (λ o. unwrap_or o []) (sym p) ∙ unwrap_or-slice_get service.plans submitter [])
+          (ap (λ o. unwrap_or o []) (sym p) ∙ unwrap_or-slice_get workload.plans submitter [])
       by_inbox (Some i) e p =
           let place : ℕ = place_of s.worker.last.share.workers submitter in
           let within : place < length s.inboxes = slice_get_within s.inboxes place i e in
@@ -55,34 +55,34 @@ whole-plan service s submitter a h done mine =
           ltb-true (length i.plan) i.taken
           (sym (a.each place i e).ended ∙ done.ended place (omega (arith, within, a.places))) in
           let all : requests_taken i ≡ length i.plan = omega (arith, over) in
-          all ∙ ap (λ (xs : List Request). length xs) (sym (get_or_from_slice_get service.plans submitter i.plan [] p))
+          all ∙ ap (λ (xs : List Request). length xs) (sym (get_or_from_slice_get workload.plans submitter i.plan [] p))
 
-takes-plans : (service : Service) (s : ServerView)
+takes-plans : (workload : Workload) (s : ServerView)
     → Agree s.worker s.inboxes
-    → WorksFor service s
-    → IsDone service s.worker
-    → TakesPlans service s.worker.last.share.workers s.worker.last.share.worker s.worker.taken
-takes-plans service s a h done submitter =
+    → WorksFor workload s
+    → IsDone workload s.worker
+    → TakesPlans workload s.worker.last.share.workers s.worker.last.share.worker s.worker.taken
+takes-plans workload s a h done submitter =
     let share : Share = s.worker.last.share in
     let given : ℕ = option_map_or requests_taken (slice_get s.inboxes (place_of share.workers submitter)) 0 in
     a.taken submitter ∙ elim (cases_Bool (serves share submitter)) [
       | inl mine ↦ ap (λ n. cond (serves share submitter) (range_with_len 1 n) [])
-          (whole-plan service s submitter a h done mine)
+          (whole-plan workload s submitter a h done mine)
       | inr other ↦ ap (λ b. cond b (range_with_len 1 given) []) other
-          ∙ sym (ap (λ b. cond b (range_with_len 1 (length (plan_of service submitter))) []) other)
+          ∙ sym (ap (λ b. cond b (range_with_len 1 (length (plan_of workload submitter))) []) other)
     ]
 
 -- the log
-pub log-is : (service : Service) (s : ServerView) (log : WorkerLog)
+pub log-is : (workload : Workload) (s : ServerView) (log : WorkerLog)
     → Agree s.worker s.inboxes
-    → WorksFor service s
-    → IsDone service s.worker
+    → WorksFor workload s
+    → IsDone workload s.worker
     → log.taken.items ≡ s.worker.taken
     → log.ran.items ≡ s.worker.ran
     → log.last ≡ s.worker.last
-    → IsLog service s.worker.last.share.workers s.worker.last.share.worker log
-log-is service s log a h done taken ran last = record {
-  taken = rw taken (takes-plans service s a h done);
+    → IsLog workload s.worker.last.share.workers s.worker.last.share.worker log
+log-is workload s log a h done taken ran last = record {
+  taken = rw taken (takes-plans workload s a h done);
   rising = rw taken a.rising;
   ran = rw (taken, ran) done.in_order;
   stashed = rw taken done.fits;

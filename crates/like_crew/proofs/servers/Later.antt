@@ -16,7 +16,7 @@ goes-further s t u a b = record {
   whose = b.whose ∙ a.whose;
   board = b.board ∙ a.board;
   inboxes = b.inboxes ∙ a.inboxes;
-  works = λ service h. b.works service (a.works service h);
+  works = λ workload h. b.works workload (a.works workload h);
 }
 
 -- all servers

@@ -4,7 +4,7 @@ use Rattle.std.specs.List.{All, AllZip}
 use Rattle.std.proofs.lemmas.List.Elements.{All-append}
 use Rattle.like_board.specs.declared.worker_seat.WorkerSeat.{WorkerSeat}
 use Rattle.like_core.specs.declared.worker_state.WorkerState.TheVariants.{Gone}
-use Rattle.like_service.specs.declared.log.WorkerLog.{WorkerLog}
+use Rattle.like_promises.specs.declared.log.WorkerLog.{WorkerLog}
 use Rattle.like_crew.specs.Ended.{HasLeft, HaveLeft, IsSeatOf}
 use Rattle.like_crew.specs.Server.{IsLogOf, ServerGoesOn, ServerView}
 use Rattle.like_crew.proofs.lists.Pairs.{pairs-length, pairs-more}

@@ -25,7 +25,7 @@ goes-opened s opened = record {
   whose = refl;
   board = refl;
   inboxes = refl;
-  works = λ service h. record { plans = h.plans; follows = h.follows };
+  works = λ workload h. record { plans = h.plans; follows = h.follows };
 }
 
 module _ (w : WorkerView) (lists : List Inbox) (place : ℕ) (i j : Inbox) (within : place < length lists)

@@ -3,16 +3,16 @@ use Rattle.std.proofs.Common.{◌≡◌, ℕ, ◌+◌, ◌*◌, ◌≤◌, List,
 use Rattle.like_requests.specs.declared.request.Request.{Request}
 use Rattle.like_queue.specs.Inbox.{InboxView}
 use Rattle.like_tables.proofs.Dealt.{get-dealt}
-use Rattle.like_service.specs.Service.{Service}
+use Rattle.like_promises.specs.Workload.{Workload}
 use Rattle.like_crew.specs.Server.{AreOwnPlans, plans_of, untouched}
 
 -- the plan at a place
-pub plan-at : (service : Service) (workers worker : ℕ) (inboxes : List InboxView) (place : ℕ)
+pub plan-at : (workload : Workload) (workers worker : ℕ) (inboxes : List InboxView) (place : ℕ)
     → 1 ≤ workers
-    → AreOwnPlans service workers worker inboxes
-    → slice_get (plans_of inboxes) place ≡ slice_get service.plans (worker + workers * place)
-plan-at service workers worker inboxes place some own =
-    ap (λ xs. slice_get xs place) own ∙ get-dealt workers worker service.plans place some
+    → AreOwnPlans workload workers worker inboxes
+    → slice_get (plans_of inboxes) place ≡ slice_get workload.plans (worker + workers * place)
+plan-at workload workers worker inboxes place some own =
+    ap (λ xs. slice_get xs place) own ∙ get-dealt workers worker workload.plans place some
 
 -- the plans of untouched inboxes
 pub plans-untouched : (plans : List (List Request)) → plans_of (map untouched plans) ≡ plans

@@ -14,8 +14,8 @@ use Rattle.like_core.specs.Phase.{IsJoined, IsSplit}
 use Rattle.like_core.specs.WorkerState.{IsSightOf, RunsSome, phase_of, seen}
 use Rattle.like_core.specs.Post.{answered, slices}
 use Rattle.like_tables.specs.declared.held.Held.{Held}
-use Rattle.like_service.specs.declared.log.Took.{Took}
-use Rattle.like_service.specs.declared.reply.Reply.{Reply}
+use Rattle.like_promises.specs.declared.log.Took.{Took}
+use Rattle.like_promises.specs.declared.reply.Reply.{Reply}
 use Rattle.like_roles.specs.declared.turn.Turn.{Turn}
 use Rattle.like_roles.specs.declared.turn.Turn.TheVariants as turn
 use Rattle.like_roles.specs.worker.Serve.{Runs, GivesReply, refuses, likes, looks, sliced, with_addition, liked}

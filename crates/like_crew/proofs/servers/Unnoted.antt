@@ -6,8 +6,8 @@ use Rattle.like_requests.specs.declared.request.Taken.{Taken}
 use Rattle.like_core.specs.declared.view.Addition.{Addition}
 use Rattle.like_core.specs.Post.{slices}
 use Rattle.like_tables.specs.declared.held.Held.{Held}
-use Rattle.like_service.specs.declared.log.Added.{Added}
-use Rattle.like_service.specs.declared.reply.Reply.{Reply}
+use Rattle.like_promises.specs.declared.log.Added.{Added}
+use Rattle.like_promises.specs.declared.reply.Reply.{Reply}
 use Rattle.like_roles.specs.declared.turn.Turn.{Turn}
 use Rattle.like_roles.specs.worker.Serve.{Runs, GivesReply, refuses, likes, looks, noted, noted_if, sliced, with_addition, liked}
 use Rattle.like_roles.specs.worker.Turns as turns

@@ -2,7 +2,7 @@ ghost use Rattle.std.specs.Prelude.{◌≡◌, IfOk, length, map};
 ghost use Rattle.like_requests.specs.Setup.{FitsRun};
 ghost use Rattle.like_board.specs.Seats.{board_id, board_numbers};
 ghost use Rattle.like_roles.specs.worker.New.{AreNewSeats};
-ghost use Rattle.like_service.specs.Asked.{service_of};
+ghost use Rattle.like_promises.specs.WorkloadOf.{workload_of};
 ghost use Rattle.like_crew.specs.Server.{AreUntouched, plans_of};
 ghost use Rattle.like_crew.specs.Servers.{AreServers};
 
@@ -29,8 +29,8 @@ pub fn servers_of<'a, I: Inbox>(
     requires len { length seats.items ≡ setup.now.workers }
     requires seats { AreNewSeats (board_id board.now) setup.now.pages seats.items }
     ensures { IfOk result (λ servers. let board_is = board_numbers (board_id board.now) in
-        let service = service_of setup.now (plans_of (map I.view inboxes.items)) in
-        AreServers service setup.now.workers board_is notes servers.items) }
+        let workload = workload_of setup.now (plans_of (map I.view inboxes.items)) in
+        AreServers workload setup.now.workers board_is notes servers.items) }
 {
     let mut hands = deal(alloc, inboxes, setup.workers)?;
     let mut servers = Vec::new(alloc);

@@ -3,16 +3,16 @@ ghost use Rattle.like_core.specs.declared.worker_state.WorkerState.TheVariants.{
 ghost use Rattle.like_tables.specs.Share.{share_of};
 ghost use Rattle.like_requests.specs.Setup.{IsWithin};
 ghost use Rattle.like_roles.specs.worker.New.{IsPostOf};
-ghost use Rattle.like_service.specs.Service.{Service};
-ghost use Rattle.like_roles.specs.worker.Follows.{IsServiceOf};
+ghost use Rattle.like_promises.specs.Workload.{Workload};
+ghost use Rattle.like_roles.specs.worker.Follows.{IsWorkloadOf};
 ghost use Rattle.like_crew.specs.Server.{AreInboxesFor, AreOwnPlans, IsLogOf, ServerGoesOn, WorksFor};
 ghost use Rattle.like_crew.specs.ServerTurns.{OpensAll, OpensOne, OpensWhole, ServerTurns, place_at};
 
 use like_core::Post;
+use like_promises::WorkerLog;
 use like_queue::{Inbox, ListInbox, TakeWith};
 use like_requests::Setup;
 use like_roles::{Gate, NoWorker, Turn, Worker};
-use like_service::WorkerLog;
 use std::alloc::Global;
 use std::marker::Model;
 
@@ -59,9 +59,9 @@ impl<P: Post, I: Inbox> Server<P, I> {
             server.worker.last.share ≡ share_of setup.now.users (length sizes.now) setup.now.workers number) }
         ensures at_post { IfOk result (λ server. server.worker.post ≡ P.view post) }
         ensures notes { IfOk result (λ server. server.worker.notes ≡ notes) }
-        ensures works { IfOk result (λ server. (service : Service)
-            → IsServiceOf setup.now sizes.now service
-            → AreOwnPlans service setup.now.workers number (map I.view inboxes.items) → WorksFor service server) }
+        ensures works { IfOk result (λ server. (workload : Workload)
+            → IsWorkloadOf setup.now sizes.now workload
+            → AreOwnPlans workload setup.now.workers number (map I.view inboxes.items) → WorksFor workload server) }
         ensures post { IfErr result (λ refused. refused.post ≡ post) }
     {
         let worker = Worker::noting(alloc, setup, sizes, number, post, notes)?;

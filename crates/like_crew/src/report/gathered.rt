@@ -1,15 +1,15 @@
 ghost use Rattle.std.specs.Prelude.{◌≡◌, ◌<◌, ◌≤◌, ℕ, [], false, true, All, IfOk, Some, length, slice_get};
 ghost use Rattle.like_requests.specs.Verdict.{home};
 ghost use Rattle.like_limits.specs.Limits.{max_submitters, max_workers};
-ghost use Rattle.like_service.specs.Collected.{IsCollected, rows_of, entries_in};
-ghost use Rattle.like_service.specs.places.Places.{ArePlaces, lists_in};
-ghost use Rattle.like_service.specs.declared.log.WorkerLog.{WorkerLog as Log};
+ghost use Rattle.like_promises.specs.Collected.{IsCollected, rows_of, entries_in};
+ghost use Rattle.like_promises.specs.places.Places.{ArePlaces, lists_in};
+ghost use Rattle.like_promises.specs.declared.log.WorkerLog.{WorkerLog as Log};
 ghost use Rattle.like_tables.specs.Share.{worker_of};
 ghost use Rattle.like_tables.specs.UserTable.{last_of};
 ghost use Rattle.like_crew.specs.Gathered.{AreTables, RunsOnce};
 
 use like_collection::{CollectFault, collect, places};
-use like_service::{Place, Replies, WorkerLog};
+use like_promises::{Place, Replies, WorkerLog};
 use std::alloc::{AllocError, Global};
 
 /// The replies, where the logs have one entry for each request and no other.

@@ -5,9 +5,9 @@ use Rattle.std.specs.Option.{option_map_or}
 use Rattle.csv.specs.Writing.{default_writer, field_text, fields_text, is_blank, row_text}
 use Rattle.like_requests.specs.Pages.{Page}
 use Rattle.like_requests.specs.declared.verdict.Verdict.TheVariants.{OtherHome, UnknownPage, UnknownUser}
-use Rattle.like_service.specs.declared.reply.Reply.TheVariants.{Liked, Refused, Seen}
-use Rattle.like_service.specs.declared.answer.Answer.{Answer}
-use Rattle.like_service.specs.declared.place.Place.{Place}
+use Rattle.like_promises.specs.declared.reply.Reply.TheVariants.{Liked, Refused, Seen}
+use Rattle.like_promises.specs.declared.answer.Answer.{Answer}
+use Rattle.like_promises.specs.declared.place.Place.{Place}
 use Rattle.like_replies.specs.PlaceRows.{place_row}
 use Rattle.like_replies.specs.RowParts.{phase_text, place_start, reply_start, shown_text}
 use Rattle.like_replies.specs.Rows.{answer_word, hot_row, name_of, page_row, reply_row, shown_count, shown_page, user_row}

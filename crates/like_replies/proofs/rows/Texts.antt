@@ -11,9 +11,9 @@ use Rattle.std.specs.List.{enumerate_from, filter, filter_map, flat_map, range_w
 use Rattle.csv.specs.Writing.{default_writer, row_text}
 use Rattle.like_requests.specs.Pages.{Page}
 use Rattle.like_core.specs.Phase.{is_hot}
-use Rattle.like_service.specs.declared.chosen.Chosen.{Chosen}
-use Rattle.like_service.specs.declared.answer.Answer.{Answer}
-use Rattle.like_service.specs.declared.place.Place.{Place}
+use Rattle.like_promises.specs.declared.chosen.Chosen.{Chosen}
+use Rattle.like_promises.specs.declared.answer.Answer.{Answer}
+use Rattle.like_promises.specs.declared.place.Place.{Place}
 use Rattle.like_collection.proofs.Lists.{enumerate_from-append}
 use Rattle.like_replies.specs.PlaceRows.{page_place_rows, place_rows}
 use Rattle.like_replies.specs.Rows.{answer_rows, hot_row, hot_rows, hot_rows_below, liker_rows, page_row, page_rows, reply_row, reply_rows, rows_text, submitter_rows, user_row}

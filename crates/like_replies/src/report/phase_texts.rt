@@ -1,6 +1,6 @@
 ghost use Rattle.std.specs.Prelude.{◌≡◌, ◌++◌, List, IfOk, OnOk, codes};
 ghost use Rattle.like_requests.specs.Pages.{Page};
-ghost use Rattle.like_service.specs.declared.reply.Reply.TheVariants.{Liked};
+ghost use Rattle.like_promises.specs.declared.reply.Reply.TheVariants.{Liked};
 ghost use Rattle.like_replies.specs.RowParts.{phase_text, shown_text};
 
 use crate::report::sheet::Sheet;

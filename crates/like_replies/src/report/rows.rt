@@ -1,7 +1,7 @@
 ghost use Rattle.std.specs.Prelude.{◌≡◌, ◌<◌, ◌++◌, ℕ, List, IfOk, OnOk, codes, length};
 ghost use Rattle.csv.specs.Writing.{default_writer, row_text};
 ghost use Rattle.like_requests.specs.Pages.{Page};
-ghost use Rattle.like_service.specs.declared.reply.Reply.TheVariants.{Refused};
+ghost use Rattle.like_promises.specs.declared.reply.Reply.TheVariants.{Refused};
 ghost use Rattle.like_replies.specs.Rows.{IsAnswer, IsShowable, header_row, hot_row, page_row, reply_row, user_row};
 ghost use Rattle.like_replies.specs.PlaceRows.{place_row};
 ghost use Rattle.like_replies.specs.RowParts.{phase_text, place_start, reply_start, shown_text};
@@ -10,8 +10,8 @@ use crate::report::head::Head;
 use crate::report::names::Names;
 use crate::report::phase_texts::PhaseTexts;
 use crate::report::sheet::Sheet;
+use like_promises::{Answer, Place, Reply};
 use like_requests::Verdict;
-use like_service::{Answer, Place, Reply};
 use std::alloc::{AllocError, Global};
 
 /// Adds the header row.

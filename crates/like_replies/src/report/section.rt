@@ -13,7 +13,7 @@ use crate::report::rows::{
 };
 use crate::report::sheet::Sheet;
 use like_core::is_hot;
-use like_service::{Answer, Chosen, Place};
+use like_promises::{Answer, Chosen, Place};
 use std::alloc::{AllocError, Global};
 
 /// A section of rows whose text is made at once.

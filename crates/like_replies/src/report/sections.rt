@@ -1,14 +1,14 @@
 ghost use Rattle.std.specs.Prelude.{◌≡◌, ◌<◌, ◌++◌, ℕ, All, IfOk, List, OnOk, length, map};
 ghost use Rattle.std.specs.Option.{ForSome};
 ghost use Rattle.like_requests.specs.Pages.{Page};
-ghost use Rattle.like_service.specs.places.Places.{lists_in};
+ghost use Rattle.like_promises.specs.places.Places.{lists_in};
 ghost use Rattle.like_replies.specs.PlaceRows.{page_place_rows, place_rows};
 ghost use Rattle.like_replies.specs.Reported.{shown_with};
 ghost use Rattle.like_replies.specs.Rows.{IsShowable, IsWritable, report_rows, submitter_rows, user_rows};
 ghost use Rattle.like_replies.specs.Sections.{AreSections};
 
 use crate::report::section::Section;
-use like_service::{Answer, Place, Report};
+use like_promises::{Answer, Place, Report};
 use std::alloc::{AllocError, Global};
 
 // How many requests, users or places a section has rows of at most.

@@ -7,9 +7,9 @@ use Rattle.like_core.specs.declared.view.PageCount.{PageCount}
 use Rattle.like_core.specs.views.Views.{counted_coord, published_coord, released_coord, saw_all_gone, MayRelease, SawAllIn}
 use Rattle.like_seat.proofs.Leading.{saw-still, counted-is}
 use Rattle.like_seat.specs.Lead.{ChoosesRisen, LeadView, counted_from, none_asked, published, those_risen}
-use Rattle.like_service.specs.declared.chosen.Chosen.{Chosen}
+use Rattle.like_promises.specs.declared.chosen.Chosen.{Chosen}
 use Rattle.like_roles.specs.coordinator.Choice.{AreTotals, ChoiceView, Chooses, ReleasesNext, chooses_none, chooses_risen, choice_of, releases_joined, releases_split, with_chosen, within_limit}
-use Rattle.like_service.specs.HotPages.{chosen_below, hot_by, liked_pages, max_chosen}
+use Rattle.like_promises.specs.HotPages.{chosen_below, hot_by, liked_pages, max_chosen}
 
 -- a mask within the limit is no greater
 limited-le : (chosen : List Chosen) (m : ℕ) → within_limit chosen m ≤ m

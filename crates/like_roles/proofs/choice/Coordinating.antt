@@ -5,7 +5,7 @@ use Rattle.like_core.specs.views.Views.{announced_coord}
 use Rattle.like_core.specs.Phase.{IsJoined, IsSplit}
 use Rattle.like_core.specs.views.Actions.{Surveys}
 use Rattle.like_seat.specs.Lead.{LeadView, saw_word}
-use Rattle.like_service.specs.declared.chosen.Chosen.{Chosen}
+use Rattle.like_promises.specs.declared.chosen.Chosen.{Chosen}
 use Rattle.like_roles.specs.declared.coord_turn.CoordTurn.{CoordTurn}
 use Rattle.like_roles.specs.declared.coord_turn.CoordTurn.TheVariants.{Ended}
 use Rattle.like_roles.proofs.choice.Choosing.{release-gone}

@@ -14,9 +14,9 @@ use Rattle.like_core.specs.views.Views.{published_coord, released_coord}
 use Rattle.like_core.proofs.word.Masks.{mask_same}
 use Rattle.like_seat.specs.Lead.{counted_from, has_risen, risen}
 use Rattle.like_seat.proofs.Leading.{counted-is}
-use Rattle.like_service.specs.declared.chosen.Chosen.{Chosen}
+use Rattle.like_promises.specs.declared.chosen.Chosen.{Chosen}
 use Rattle.like_roles.specs.coordinator.Choice.{AreTotals, ChoiceView, HasChosen, ReleasesNext, chooses_none, chooses_risen, first_choice, likes_counted, releases_joined, releases_split, total_before, with_chosen, within_limit}
-use Rattle.like_service.specs.HotPages.{chosen_below, hot_by, liked_pages}
+use Rattle.like_promises.specs.HotPages.{chosen_below, hot_by, liked_pages}
 use Rattle.like_roles.proofs.choice.Choosing.{chosen-more, limit-is, totals-from}
 use Rattle.like_roles.proofs.choice.Totals.{total_before-next}
 

@@ -5,8 +5,8 @@ use Rattle.std.specs.Option.{option_map_or}
 use Rattle.std.proofs.lemmas.Bool.{cases_eq, eq-eqb, ne_eqb}
 use Rattle.std.proofs.lemmas.List.{map-id}
 use Rattle.std.proofs.lemmas.List.FromFn.{filter_of_map_range_with_len_more}
-use Rattle.like_service.specs.Likes.{last_in}
-use Rattle.like_service.proofs.Lists.{last_in-push}
+use Rattle.like_promises.specs.Likes.{last_in}
+use Rattle.like_promises.proofs.Lists.{last_in-push}
 use Rattle.like_roles.specs.coordinator.Choice.{joined_before, total_before}
 
 -- the joined phases before the next phase

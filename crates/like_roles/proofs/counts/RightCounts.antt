@@ -17,12 +17,12 @@ use Rattle.like_core.specs.declared.view.PageRead.{PageRead}
 use Rattle.like_core.specs.Additions.{added_in, added_before}
 use Rattle.like_core.specs.views.Reads.{AreBetween, IsBetween}
 use Rattle.like_core.proofs.core.Labels.{added_before-next, one_before-next}
-use Rattle.like_service.specs.declared.log.Ran.{Ran}
-use Rattle.like_service.specs.Likes.{Between, accepted_like, initial_count, like_of, like_ran, likes_among, likes_below, likes_within}
+use Rattle.like_promises.specs.declared.log.Ran.{Ran}
+use Rattle.like_promises.specs.Likes.{Between, accepted_like, initial_count, like_of, like_ran, likes_among, likes_below, likes_within}
 use Rattle.like_roles.specs.worker.Shown.{ShownCount, shown_at, shown_in, shown_to, shown_by, look_ran}
-use Rattle.like_service.specs.Looks.{accepted_look, count_in, page_looked_at}
-use Rattle.like_service.specs.Replies.{HasRightCounts}
-use Rattle.like_service.specs.Service.{Service, request_of, submitters}
+use Rattle.like_promises.specs.Looks.{accepted_look, count_in, page_looked_at}
+use Rattle.like_promises.specs.Replies.{HasRightCounts}
+use Rattle.like_promises.specs.Workload.{Workload, request_of, submitters}
 use Rattle.like_roles.proofs.counts.Tallied.{likes_among-append, within-none}
 
 -- what a test finds among numbers stands in the list of what it finds
@@ -64,17 +64,17 @@ split_at (y ∷ ys) zero x at = let same : y ≡ x = cc at in (λ m. same m ∷ 
 split_at (y ∷ ys) (suc i) x at = ap (λ zs. y ∷ zs) (split_at ys i x at)
 
 -- the likes of two lists in a phase
-within-append : (service : Service) (xs ys : List Ran) (page phase : ℕ)
-    → likes_within service page (xs ++ ys) phase
-    ≡ likes_within service page xs phase + likes_within service page ys phase
-within-append service xs ys page phase =
-    ap (likes_among service page) (filter-append (λ e. e.phase == phase) xs ys)
-    ∙ likes_among-append service page (filter (λ e. e.phase == phase) xs) (filter (λ e. e.phase == phase) ys)
+within-append : (workload : Workload) (xs ys : List Ran) (page phase : ℕ)
+    → likes_within workload page (xs ++ ys) phase
+    ≡ likes_within workload page xs phase + likes_within workload page ys phase
+within-append workload xs ys page phase =
+    ap (likes_among workload page) (filter-append (λ e. e.phase == phase) xs ys)
+    ∙ likes_among-append workload page (filter (λ e. e.phase == phase) xs) (filter (λ e. e.phase == phase) ys)
 
 -- likes before no phase
-likes_before-none : (service : Service) (page : ℕ) (ran : List Ran)
-    → likes_among service page (filter (λ e. nat_lt e.phase 0) ran) ≡ 0
-likes_before-none service page ran = ap (likes_among service page) (none ran)
+likes_before-none : (workload : Workload) (page : ℕ) (ran : List Ran)
+    → likes_among workload page (filter (λ e. nat_lt e.phase 0) ran) ≡ 0
+likes_before-none workload page ran = ap (likes_among workload page) (none ran)
   where
     none : (xs : List Ran) → filter (λ e. nat_lt e.phase 0) xs ≡ []
     none [] = refl
@@ -91,13 +91,13 @@ added_before-none (a ∷ additions) page =
     omega (arith, sum_by-cons (λ (b : Addition). cond (nat_lt b.phase 0 && (b.page == page)) b.likes 0) a additions)
 
 -- likes before the next phase are those before this one and in it
-likes_before-next : (service : Service) (page : ℕ) (ran : List Ran) (phase : ℕ)
-    → likes_among service page (filter (λ e. nat_lt e.phase (phase + 1)) ran)
-    ≡ likes_among service page (filter (λ e. nat_lt e.phase phase) ran) + likes_within service page ran phase
-likes_before-next service page [] phase = refl
-likes_before-next service page (e ∷ ran) phase =
-    let rest = likes_before-next service page ran phase in
-    let n : ℕ = likes_among service page (e ∷ []) in
+likes_before-next : (workload : Workload) (page : ℕ) (ran : List Ran) (phase : ℕ)
+    → likes_among workload page (filter (λ e. nat_lt e.phase (phase + 1)) ran)
+    ≡ likes_among workload page (filter (λ e. nat_lt e.phase phase) ran) + likes_within workload page ran phase
+likes_before-next workload page [] phase = refl
+likes_before-next workload page (e ∷ ran) phase =
+    let rest = likes_before-next workload page ran phase in
+    let n : ℕ = likes_among workload page (e ∷ []) in
     let here = one_before-next e.phase phase n true in
     let first = one (nat_lt e.phase (phase + 1)) (filter (λ x. nat_lt x.phase (phase + 1)) ran) in
     let second = one (nat_lt e.phase phase) (filter (λ x. nat_lt x.phase phase) ran) in
@@ -105,32 +105,32 @@ likes_before-next service page (e ∷ ran) phase =
     omega arith
   where
     one : (b : Bool) (xs : List Ran)
-        → likes_among service page (cond b (e ∷ xs) xs)
-        ≡ cond (b && true) (likes_among service page (e ∷ [])) 0 + likes_among service page xs
-    one true xs = likes_among-append service page (e ∷ []) xs
+        → likes_among workload page (cond b (e ∷ xs) xs)
+        ≡ cond (b && true) (likes_among workload page (e ∷ [])) 0 + likes_among workload page xs
+    one true xs = likes_among-append workload page (e ∷ []) xs
     one false xs = omega arith
 
 -- what a worker has added before a phase are the likes that it ran before it
-pub below-is : (service : Service) (ran : List Ran) (additions : List Addition)
-    → ((phase page : ℕ) → likes_within service page ran phase ≡ added_in phase page additions)
+pub below-is : (workload : Workload) (ran : List Ran) (additions : List Addition)
+    → ((phase page : ℕ) → likes_within workload page ran phase ≡ added_in phase page additions)
     → (phase page : ℕ)
-    → likes_among service page (filter (λ e. nat_lt e.phase phase) ran) ≡ added_before phase page additions
-below-is service ran additions each zero page =
-    likes_before-none service page ran ∙ sym (added_before-none additions page)
-below-is service ran additions each (suc phase) page =
+    → likes_among workload page (filter (λ e. nat_lt e.phase phase) ran) ≡ added_before phase page additions
+below-is workload ran additions each zero page =
+    likes_before-none workload page ran ∙ sym (added_before-none additions page)
+below-is workload ran additions each (suc phase) page =
     let e : suc phase ≡ phase + 1 = omega arith in
-    let before = below-is service ran additions each phase page in
+    let before = below-is workload ran additions each phase page in
     let here = each phase page in
-    let likes = likes_before-next service page ran phase in
+    let likes = likes_before-next workload page ran phase in
     let added = added_before-next additions phase page in
-    let goes : likes_among service page (filter (λ x. nat_lt x.phase (phase + 1)) ran)
+    let goes : likes_among workload page (filter (λ x. nat_lt x.phase (phase + 1)) ran)
     ≡ added_before (phase + 1) page additions = omega arith in
-    subst (λ (k : ℕ). likes_among service page (filter (λ x. nat_lt x.phase k) ran) ≡ added_before k page additions)
+    subst (λ (k : ℕ). likes_among workload page (filter (λ x. nat_lt x.phase k) ran) ≡ added_before k page additions)
     (sym e) goes
 
 -- an entry that ran an accepted look ran no like
-no-like : (service : Service) (e : Ran) (page : ℕ) → look_ran service e ≡ Some page → like_ran service e ≡ None
-no-like service e page look = by_request (request_of service e) look where
+no-like : (workload : Workload) (e : Ran) (page : ℕ) → look_ran workload e ≡ Some page → like_ran workload e ≡ None
+no-like workload e page look = by_request (request_of workload e) look where
   by_op : (b : Bool) (o : Op) (user : ℕ) (p : PageRef) → cond b (page_looked_at o p) None ≡ Some page
       → cond b (like_of o user p) None ≡ None
   by_op false o user p is = refl
@@ -138,33 +138,33 @@ no-like service e page look = by_request (request_of service e) look where
   by_op true op.Like user p is = absurd (cc is)
 
   by_request : (o : Option Request)
-      → option_and_then (accepted_look service.users (submitters service) e.submitter) o ≡ Some page
-      → option_and_then (accepted_like service.users (submitters service) e.submitter) o ≡ None
+      → option_and_then (accepted_look workload.users (submitters workload) e.submitter) o ≡ Some page
+      → option_and_then (accepted_like workload.users (submitters workload) e.submitter) o ≡ None
   by_request None is = refl
-  by_request (Some r) is = by_op (is_accepted service.users (submitters service) e.submitter r) r.op r.user r.page is
+  by_request (Some r) is = by_op (is_accepted workload.users (submitters workload) e.submitter r) r.op r.user r.page is
 
 -- what an entry that ran a look at a page was shown after these
-abbrev shown_as : Service → List Ran → Ran → ℕ → ShownCount
-shown_as service front e page =
-    record { phase = e.phase; page = page; count = count_in e.reply; before = likes_within service page front e.phase }
+abbrev shown_as : Workload → List Ran → Ran → ℕ → ShownCount
+shown_as workload front e page =
+    record { phase = e.phase; page = page; count = count_in e.reply; before = likes_within workload page front e.phase }
 
-shown_at-look : (service : Service) (ran : List Ran) (i : ℕ) (e : Ran) (page : ℕ)
+shown_at-look : (workload : Workload) (ran : List Ran) (i : ℕ) (e : Ran) (page : ℕ)
     → slice_get ran i ≡ Some e
-    → look_ran service e ≡ Some page
-    → shown_at service ran i ≡ Some (shown_as service (take i ran) e page)
-shown_at-look service ran i e page at look =
-    ap (option_and_then (shown_to service (take i ran))) at
-    ∙ ap (option_map (λ (p : ℕ). shown_as service (take i ran) e p)) look
+    → look_ran workload e ≡ Some page
+    → shown_at workload ran i ≡ Some (shown_as workload (take i ran) e page)
+shown_at-look workload ran i e page at look =
+    ap (option_and_then (shown_to workload (take i ran))) at
+    ∙ ap (option_map (λ (p : ℕ). shown_as workload (take i ran) e p)) look
 
 -- the read that shows what the look at a place was shown
-read-of : (service : Service) (ran : List Ran) (additions : List Addition) (reads : List PageRead) (i : ℕ)
+read-of : (workload : Workload) (ran : List Ran) (additions : List Addition) (reads : List PageRead) (i : ℕ)
     (c : ShownCount)
-    → shown_in service ran ≡ map (shown_by additions) reads
+    → shown_in workload ran ≡ map (shown_by additions) reads
     → i < length ran
-    → shown_at service ran i ≡ Some c
+    → shown_at workload ran i ≡ Some c
     → (r : PageRead) × ((k : ℕ) × (slice_get reads k ≡ Some r)) × (shown_by additions r ≡ c)
-read-of service ran additions reads i c looks within at =
-    let found = found_among (shown_at service ran) 0 (length ran) i c (omega arith) (omega arith) at in
+read-of workload ran additions reads i c looks within at =
+    let found = found_among (shown_at workload ran) 0 (length ran) i c (omega arith) (omega arith) at in
     let of = of_images (shown_by additions) reads found.0 c
     (ap (λ (l : List ShownCount). slice_get l found.0) (sym looks) ∙ found.1) in
     (of.0, (found.0, of.1), of.2)
@@ -191,15 +191,15 @@ bounded-by counts before additions r b =
     record { least = b.least; most = omega (arith, b.most) }
 
 -- so does what each look was shown
-bounded : (service : Service) (ran : List Ran) (additions : List Addition) (reads : List PageRead) (counts : List ℕ)
+bounded : (workload : Workload) (ran : List Ran) (additions : List Addition) (reads : List PageRead) (counts : List ℕ)
     (before : ℕ → ℕ → ℕ) (last i : ℕ) (c : ShownCount)
-    → shown_in service ran ≡ map (shown_by additions) reads
+    → shown_in workload ran ≡ map (shown_by additions) reads
     → AreBetween counts before last additions reads
     → i < length ran
-    → shown_at service ran i ≡ Some c
+    → shown_at workload ran i ≡ Some c
     → IsBounded counts before additions c
-bounded service ran additions reads counts before last i c looks between within at =
-    of (read-of service ran additions reads i c looks within at)
+bounded workload ran additions reads counts before last i c looks between within at =
+    of (read-of workload ran additions reads i c looks within at)
   where
     of : (r : PageRead) × ((k : ℕ) × (slice_get reads k ≡ Some r)) × (shown_by additions r ≡ c)
         → IsBounded counts before additions c
@@ -210,45 +210,45 @@ bounded service ran additions reads counts before last i c looks between within 
         subst (IsBounded counts before additions) shows (bounded-by counts before additions r b.1)
 
 -- the likes of a phase before a look and after it are all
-likes-around : (service : Service) (ran : List Ran) (i : ℕ) (e : Ran) (page phase : ℕ)
+likes-around : (workload : Workload) (ran : List Ran) (i : ℕ) (e : Ran) (page phase : ℕ)
     → slice_get ran i ≡ Some e
-    → like_ran service e ≡ None
-    → likes_within service page ran phase
-    ≡ likes_within service page (take i ran) phase + likes_within service page (drop (suc i) ran) phase
-likes-around service ran i e page phase at no_like =
-    ap (λ (l : List Ran). likes_within service page l phase) (split_at ran i e at)
-    ∙ (within-append service (take i ran ++ e ∷ []) (drop (suc i) ran) page phase
-    ∙ ap (λ (n : ℕ). n + likes_within service page (drop (suc i) ran) phase)
-    (within-none service (take i ran) e page phase no_like))
+    → like_ran workload e ≡ None
+    → likes_within workload page ran phase
+    ≡ likes_within workload page (take i ran) phase + likes_within workload page (drop (suc i) ran) phase
+likes-around workload ran i e page phase at no_like =
+    ap (λ (l : List Ran). likes_within workload page l phase) (split_at ran i e at)
+    ∙ (within-append workload (take i ran ++ e ∷ []) (drop (suc i) ran) page phase
+    ∙ ap (λ (n : ℕ). n + likes_within workload page (drop (suc i) ran) phase)
+    (within-none workload (take i ran) e page phase no_like))
 
 -- bounds on what a look was shown are those of its phase
-between-of : (service : Service) (runs : List (List Ran)) (additions : List Addition) (counts : List ℕ)
+between-of : (workload : Workload) (runs : List (List Ran)) (additions : List Addition) (counts : List ℕ)
     (before : ℕ → ℕ → ℕ) (c : ShownCount) (after : ℕ)
-    → slice_index counts c.page ≡ initial_count service.pages c.page
-    → ((phase page : ℕ) → before phase page ≡ likes_below service page runs phase)
+    → slice_index counts c.page ≡ initial_count workload.pages c.page
+    → ((phase page : ℕ) → before phase page ≡ likes_below workload page runs phase)
     → added_in c.phase c.page additions ≡ c.before + after
     → IsBounded counts before additions c
-    → Between service runs c.phase c.page c.count c.before after
-between-of service runs additions counts before c after initial below all b =
+    → Between workload runs c.phase c.page c.count c.before after
+between-of workload runs additions counts before c after initial below all b =
     let earlier = below c.phase c.page in
     let upto = below (c.phase + 1) c.page in
     record { lower = omega (arith, b.least); upper = omega (arith, b.most) }
 
 -- each look has the right count
-pub right-counts : (service : Service) (runs : List (List Ran)) (ran : List Ran) (additions : List Addition)
+pub right-counts : (workload : Workload) (runs : List (List Ran)) (ran : List Ran) (additions : List Addition)
     (reads : List PageRead) (counts : List ℕ) (before : ℕ → ℕ → ℕ) (last : ℕ)
-    → ((page : ℕ) → slice_index counts page ≡ initial_count service.pages page)
-    → ((phase page : ℕ) → before phase page ≡ likes_below service page runs phase)
-    → ((phase page : ℕ) → likes_within service page ran phase ≡ added_in phase page additions)
-    → shown_in service ran ≡ map (shown_by additions) reads
-    → AreBetween counts before last additions reads → HasRightCounts service runs ran
-right-counts service runs ran additions reads counts before last initial below each looks between i page e at look =
+    → ((page : ℕ) → slice_index counts page ≡ initial_count workload.pages page)
+    → ((phase page : ℕ) → before phase page ≡ likes_below workload page runs phase)
+    → ((phase page : ℕ) → likes_within workload page ran phase ≡ added_in phase page additions)
+    → shown_in workload ran ≡ map (shown_by additions) reads
+    → AreBetween counts before last additions reads → HasRightCounts workload runs ran
+right-counts workload runs ran additions reads counts before last initial below each looks between i page e at look =
     let front : List Ran = take i ran in
     let back : List Ran = drop (suc i) ran in
-    let c : ShownCount = shown_as service front e page in
-    let at_i = shown_at-look service ran i e page at look in
-    let bounds = bounded service ran additions reads counts before last i c looks between
+    let c : ShownCount = shown_as workload front e page in
+    let at_i = shown_at-look workload ran i e page at look in
+    let bounds = bounded workload ran additions reads counts before last i c looks between
     (slice_get_within ran i e at) at_i in
-    let around = likes-around service ran i e page e.phase at (no-like service e page look) in
-    between-of service runs additions counts before c (likes_within service page back e.phase) (initial page) below
+    let around = likes-around workload ran i e page e.phase at (no-like workload e page look) in
+    between-of workload runs additions counts before c (likes_within workload page back e.phase) (initial page) below
     (sym (each e.phase page) ∙ around) bounds

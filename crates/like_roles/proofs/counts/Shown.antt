@@ -8,12 +8,12 @@ use Rattle.std.specs.Prelude.{option_and_then, option_map}
 use Rattle.like_core.specs.declared.view.Addition.{Addition}
 use Rattle.like_core.specs.declared.view.PageRead.{PageRead}
 use Rattle.like_core.specs.Additions.{added_in}
-use Rattle.like_service.specs.declared.log.Ran.{Ran}
-use Rattle.like_service.specs.Likes.{likes_within}
+use Rattle.like_promises.specs.declared.log.Ran.{Ran}
+use Rattle.like_promises.specs.Likes.{likes_within}
 use Rattle.like_roles.specs.worker.Shown.{look_ran, shown_to, shown_at, shown_in, shown_by}
-use Rattle.like_service.specs.Looks.{count_in}
-use Rattle.like_service.specs.Service.{Service}
-use Rattle.like_service.proofs.Lists.{slice_get-at_end, slice_get-before}
+use Rattle.like_promises.specs.Looks.{count_in}
+use Rattle.like_promises.specs.Workload.{Workload}
+use Rattle.like_promises.proofs.Lists.{slice_get-at_end, slice_get-before}
 
 module _ {Y : Type 0} where
   -- what is put before what is there
@@ -52,42 +52,42 @@ module _ {Y : Type 0} where
       ≡ filter_map f (range_with_len a (suc n)) ++ option_to_list (f (a + suc n))) (sym sized) goes
 
 -- one entry more is shown what its look is, after all before it
-pub shown_in-push : (service : Service) (ran : List Ran) (e : Ran)
-    → shown_in service (ran ++ e ∷ []) ≡ shown_in service ran ++ option_to_list (shown_to service ran e)
-shown_in-push service ran e =
+pub shown_in-push : (workload : Workload) (ran : List Ran) (e : Ran)
+    → shown_in workload (ran ++ e ∷ []) ≡ shown_in workload ran ++ option_to_list (shown_to workload ran e)
+shown_in-push workload ran e =
     let all : List Ran = ran ++ e ∷ [] in
     let long : length all ≡ length ran + 1 = length-append ran (e ∷ []) in
-    let before : (i : ℕ) → 0 ≤ i → i < 0 + length ran → shown_at service all i ≡ shown_at service ran i =
+    let before : (i : ℕ) → 0 ≤ i → i < 0 + length ran → shown_at workload all i ≡ shown_at workload ran i =
     λ i low high.
     (let within : i < length ran = omega arith in
-    (λ m. option_and_then (shown_to service (take-append-le i ran (e ∷ []) (omega arith) m))
+    (λ m. option_and_then (shown_to workload (take-append-le i ran (e ∷ []) (omega arith) m))
     (slice_get-before ran (e ∷ []) i within m)))
     in
-    let last : shown_at service all (0 + length ran) ≡ shown_to service ran e =
-    ap (λ (k : ℕ). shown_at service all k) (zero-add (length ran)) ∙
-    (λ m. option_and_then (shown_to service (take-append_seam ran (e ∷ []) m)) (slice_get-at_end ran e m))
+    let last : shown_at workload all (0 + length ran) ≡ shown_to workload ran e =
+    ap (λ (k : ℕ). shown_at workload all k) (zero-add (length ran)) ∙
+    (λ m. option_and_then (shown_to workload (take-append_seam ran (e ∷ []) m)) (slice_get-at_end ran e m))
     in
-    ap (λ (n : ℕ). filter_map (shown_at service all) (range_with_len 0 n)) long
-    ∙ (range-more (shown_at service all) 0 (length ran)
-    ∙ (λ m. range-same (shown_at service all) (shown_at service ran) 0 (length ran) before m
+    ap (λ (n : ℕ). filter_map (shown_at workload all) (range_with_len 0 n)) long
+    ∙ (range-more (shown_at workload all) 0 (length ran)
+    ∙ (λ m. range-same (shown_at workload all) (shown_at workload ran) 0 (length ran) before m
     ++ option_to_list (last m)))
 
 -- one that ran no look is shown nothing
-pub shown_in-none : (service : Service) (ran : List Ran) (e : Ran)
-    → look_ran service e ≡ None
-    → shown_in service (ran ++ e ∷ []) ≡ shown_in service ran
-shown_in-none service ran e none =
-    let nothing : shown_to service ran e ≡ None =
+pub shown_in-none : (workload : Workload) (ran : List Ran) (e : Ran)
+    → look_ran workload e ≡ None
+    → shown_in workload (ran ++ e ∷ []) ≡ shown_in workload ran
+shown_in-none workload ran e none =
+    let nothing : shown_to workload ran e ≡ None =
     ap (option_map
     (λ (page : ℕ). record {
       phase =
           e.phase;
       page = page;
       count = count_in e.reply;
-      before = likes_within service page ran e.phase;
+      before = likes_within workload page ran e.phase;
     })) none in
-    shown_in-push service ran e
-    ∙ (ap (λ o. shown_in service ran ++ option_to_list o) nothing ∙ append-nil (shown_in service ran))
+    shown_in-push workload ran e
+    ∙ (ap (λ o. shown_in workload ran ++ option_to_list o) nothing ∙ append-nil (shown_in workload ran))
 
 -- reads come before later additions
 pub after-more : (xs ys : List Addition) (reads : List PageRead)

@@ -21,20 +21,20 @@ use Rattle.like_core.specs.Post.{additions_of, additions_in, pages_of}
 use Rattle.like_core.proofs.core.Labels.{added_to-push, added_in-push}
 use Rattle.like_tables.specs.UserTable.{last_of}
 use Rattle.like_tables.specs.declared.held.Held.{Held}
-use Rattle.like_service.specs.declared.log.Ran.{Ran}
-use Rattle.like_service.specs.declared.reply.Reply.{Reply}
-use Rattle.like_service.specs.declared.reply.Reply.TheVariants as reply
+use Rattle.like_promises.specs.declared.log.Ran.{Ran}
+use Rattle.like_promises.specs.declared.reply.Reply.{Reply}
+use Rattle.like_promises.specs.declared.reply.Reply.TheVariants as reply
 use Rattle.like_core.specs.PhaseMasks.{AreMasksOf}
 use Rattle.like_roles.specs.worker.Follows.{IsAsked, IsServed, IsSized, IsTallied}
 use Rattle.like_roles.specs.worker.Shown.{shown_by, ShownCount, shown_in, shown_to, look_ran}
-use Rattle.like_service.specs.Likes.{AcceptedLike, accepted_like, last_in, like_ran, likes_among, likes_ran, likes_within}
-use Rattle.like_service.specs.Looks.{accepted_look, page_looked_at}
-use Rattle.like_service.specs.Replies.{HasRightAnswers, IsRightAnswer, answer_to}
+use Rattle.like_promises.specs.Likes.{AcceptedLike, accepted_like, last_in, like_ran, likes_among, likes_ran, likes_within}
+use Rattle.like_promises.specs.Looks.{accepted_look, page_looked_at}
+use Rattle.like_promises.specs.Replies.{HasRightAnswers, IsRightAnswer, answer_to}
 use Rattle.like_roles.specs.worker.Serve.{GivesReply, refuses, likes, looks, with_addition, counted, liked, shown, ran_now, verdict_at}
-use Rattle.like_service.specs.Service.{Service, request_of, submitters}
+use Rattle.like_promises.specs.Workload.{Workload, request_of, submitters}
 use Rattle.like_requests.specs.Setup.{IsThere}
 use Rattle.like_roles.specs.worker.WorkerView.{WorkerView, phase_at}
-use Rattle.like_service.proofs.Lists.{last_in-push, slice_get-at_end, slice_get-before}
+use Rattle.like_promises.proofs.Lists.{last_in-push, slice_get-at_end, slice_get-before}
 use Rattle.like_roles.proofs.Served.{counted_by}
 use Rattle.like_seat.proofs.MergedLikes.{cond_same}
 use Rattle.like_roles.proofs.counts.Shown.{after-more, shown_by-more, shown_in-none, shown_in-push}
@@ -66,30 +66,30 @@ pub last_page-push_other : (user : ℕ) (given : List AcceptedLike) (l : Accepte
 last_page-push_other user given l h = simp (filter-append, h, append-nil)
 
 -- the likes among entries, and then that of one more entry
-pub likes_ran-push : (service : Service) (ran : List Ran) (e : Ran) (o : Option AcceptedLike)
-    → like_ran service e ≡ o
-    → likes_ran service (ran ++ e ∷ []) ≡ likes_ran service ran ++ option_to_list o
-likes_ran-push service ran e o h =
-    filter_map-append (like_ran service) ran (e ∷ [])
-    ∙ ap (λ x. likes_ran service ran ++ x) (ap (λ x. cons_option x []) h ∙ one o) where
+pub likes_ran-push : (workload : Workload) (ran : List Ran) (e : Ran) (o : Option AcceptedLike)
+    → like_ran workload e ≡ o
+    → likes_ran workload (ran ++ e ∷ []) ≡ likes_ran workload ran ++ option_to_list o
+likes_ran-push workload ran e o h =
+    filter_map-append (like_ran workload) ran (e ∷ [])
+    ∙ ap (λ x. likes_ran workload ran ++ x) (ap (λ x. cons_option x []) h ∙ one o) where
       one : (x : Option AcceptedLike) → cons_option x [] ≡ option_to_list x
       one None = refl
       one (Some x) = refl
 
 -- the likes among two lists of entries
-pub likes_among-append : (service : Service) (page : ℕ) (xs ys : List Ran)
-    → likes_among service page (xs ++ ys) ≡ likes_among service page xs + likes_among service page ys
-likes_among-append service page xs ys =
-    ap (page_likes page) (filter_map-append (like_ran service) xs ys)
-    ∙ sum_by-append (λ x. cond (eqb x.page page) 1 0) (likes_ran service xs) (likes_ran service ys)
+pub likes_among-append : (workload : Workload) (page : ℕ) (xs ys : List Ran)
+    → likes_among workload page (xs ++ ys) ≡ likes_among workload page xs + likes_among workload page ys
+likes_among-append workload page xs ys =
+    ap (page_likes page) (filter_map-append (like_ran workload) xs ys)
+    ∙ sum_by-append (λ x. cond (eqb x.page page) 1 0) (likes_ran workload xs) (likes_ran workload ys)
 
--- the verdict of the worker is that of the service
-pub verdict_at-served : (service : Service) (v : WorkerView) (submitter : ℕ) (r : Request)
-    → IsServed service v
-    → verdict_at v submitter r ≡ verdict_of service.users (submitters service) submitter r
-verdict_at-served service v submitter r s =
+-- the verdict of the worker is that of the workload
+pub verdict_at-served : (workload : Workload) (v : WorkerView) (submitter : ℕ) (r : Request)
+    → IsServed workload v
+    → verdict_at v submitter r ≡ verdict_of workload.users (submitters workload) submitter r
+verdict_at-served workload v submitter r s =
     ap (λ u. verdict_of u v.last.share.submitters submitter r) (sym s.users)
-    ∙ ap (λ m. verdict_of service.users m submitter r) (sym s.submitters_alike)
+    ∙ ap (λ m. verdict_of workload.users m submitter r) (sym s.submitters_alike)
 
 -- a request is accepted where its verdict says so
 pub accepted-true : (users submitters submitter : ℕ) (r : Request)
@@ -130,23 +130,23 @@ accepted_user users submitters submitter r a =
     ltb-true r.user users first.0
 
 -- the like that an entry of a known request ran
-pub like_ran-is : (service : Service) (e : Ran) (r : Request)
-    → request_of service e ≡ Some r
-    → like_ran service e ≡ accepted_like service.users (submitters service) e.submitter r
-like_ran-is service e r h = ap (option_and_then (accepted_like service.users (submitters service) e.submitter)) h
+pub like_ran-is : (workload : Workload) (e : Ran) (r : Request)
+    → request_of workload e ≡ Some r
+    → like_ran workload e ≡ accepted_like workload.users (submitters workload) e.submitter r
+like_ran-is workload e r h = ap (option_and_then (accepted_like workload.users (submitters workload) e.submitter)) h
 
 -- the look that an entry of a known request ran
-pub look_ran-is : (service : Service) (e : Ran) (r : Request)
-    → request_of service e ≡ Some r
-    → look_ran service e ≡ accepted_look service.users (submitters service) e.submitter r
-look_ran-is service e r h = ap (option_and_then (accepted_look service.users (submitters service) e.submitter)) h
+pub look_ran-is : (workload : Workload) (e : Ran) (r : Request)
+    → request_of workload e ≡ Some r
+    → look_ran workload e ≡ accepted_look workload.users (submitters workload) e.submitter r
+look_ran-is workload e r h = ap (option_and_then (accepted_look workload.users (submitters workload) e.submitter)) h
 
 -- one more right answer
-pub HasRightAnswers-push : (service : Service) (ran : List Ran) (e : Ran)
-    → HasRightAnswers service ran
-    → IsRightAnswer service ran e
-    → HasRightAnswers service (ran ++ e ∷ [])
-HasRightAnswers-push service ran e all right i f h =
+pub HasRightAnswers-push : (workload : Workload) (ran : List Ran) (e : Ran)
+    → HasRightAnswers workload ran
+    → IsRightAnswer workload ran e
+    → HasRightAnswers workload (ran ++ e ∷ [])
+HasRightAnswers-push workload ran e all right i f h =
     let n : i < length (ran ++ e ∷ []) = slice_get_within (ran ++ e ∷ []) i f h in
     let m : i < length ran + 1 = simp length-append at n in
     elim (cases_lt i (length ran)) [
@@ -165,9 +165,9 @@ HasRightAnswers-push service ran e all right i f h =
     ]
 
 -- an answer to the request of an entry
-right-by_request : (service : Service) (ran : List Ran) (e : Ran) (r : Request) → request_of service e ≡ Some r
-    → e.reply ≡ answer_to service ran e r → IsRightAnswer service ran e
-right-by_request service ran e r h a = subst (λ o. IsSomeAnd o (λ q. e.reply ≡ answer_to service ran e q)) (sym h) a
+right-by_request : (workload : Workload) (ran : List Ran) (e : Ran) (r : Request) → request_of workload e ≡ Some r
+    → e.reply ≡ answer_to workload ran e r → IsRightAnswer workload ran e
+right-by_request workload ran e r h a = subst (λ o. IsSomeAnd o (λ q. e.reply ≡ answer_to workload ran e q)) (sym h) a
 
 -- one more of a number that stands at a place
 one_more-at : (xs : List ℕ) (page other : ℕ)
@@ -248,76 +248,76 @@ counted-sized v page old s =
     (record { slice = length-set v.slice page _ ∙ s.slice; users = s.users })
     (record { slice = s.slice; users = s.users })
 
-counted-served : (service : Service) (v : WorkerView) (page old : ℕ)
-    → IsServed service v
-    → IsServed service (counted v page old)
-counted-served service v page old s =
+counted-served : (workload : Workload) (v : WorkerView) (page old : ℕ)
+    → IsServed workload v
+    → IsServed workload (counted v page old)
+counted-served workload v page old s =
     let same : (w : WorkerView) → w.last ≡ v.last → w.post.marks ≡ v.post.marks → w.post.masks ≡ v.post.masks
-    → w.held ≡ v.held → w.post.limits ≡ v.post.limits → IsServed service w = λ w last marks masks held limits. record {
+    → w.held ≡ v.held → w.post.limits ≡ v.post.limits → IsServed workload w = λ w last marks masks held limits. record {
       users = s.users ∙ ap (λ x. x.share.users) (sym last);
       submitters_alike = s.submitters_alike ∙ ap (λ x. x.share.submitters) (sym last);
       marks_alike = s.marks_alike ∙ sym marks;
-      hot_alike = subst (AreMasksOf service.hot) (sym masks) s.hot_alike;
+      hot_alike = subst (AreMasksOf workload.hot) (sym masks) s.hot_alike;
       stash_alike = s.stash_alike ∙ ap (λ x. x.capacity) (sym held);
       run = limits ∙ s.run;
     } in
-    counted_by (IsServed service) v page old (same _ refl refl refl refl refl) (same _ refl refl refl refl refl)
+    counted_by (IsServed workload) v page old (same _ refl refl refl refl refl) (same _ refl refl refl refl refl)
 
 -- one more entry that ran no like changes no number of a phase
-pub within-none : (service : Service) (ran : List Ran) (e : Ran) (page phase : ℕ)
-    → like_ran service e ≡ None
-    → likes_within service page (ran ++ e ∷ []) phase ≡ likes_within service page ran phase
-within-none service ran e page phase none =
+pub within-none : (workload : Workload) (ran : List Ran) (e : Ran) (page phase : ℕ)
+    → like_ran workload e ≡ None
+    → likes_within workload page (ran ++ e ∷ []) phase ≡ likes_within workload page ran phase
+within-none workload ran e page phase none =
     let p : Ran → Bool = λ x. x.phase == phase in
-    let last : (b : Bool) → page_likes page (likes_ran service (cond b (e ∷ []) [])) ≡ 0 = last_is in
+    let last : (b : Bool) → page_likes page (likes_ran workload (cond b (e ∷ []) [])) ≡ 0 = last_is in
     let e_is = last (p e) in
-    ap (likes_among service page) (filter-append p ran (e ∷ []))
-    ∙ (likes_among-append service page (filter p ran) (cond (p e) (e ∷ []) []) ∙ omega arith)
+    ap (likes_among workload page) (filter-append p ran (e ∷ []))
+    ∙ (likes_among-append workload page (filter p ran) (cond (p e) (e ∷ []) []) ∙ omega arith)
   where
-    last_is : (b : Bool) → page_likes page (likes_ran service (cond b (e ∷ []) [])) ≡ 0
+    last_is : (b : Bool) → page_likes page (likes_ran workload (cond b (e ∷ []) [])) ≡ 0
     last_is true = ap (page_likes page) (ap (λ (x : Option AcceptedLike). cons_option x []) none)
     last_is false = refl
 
 -- one that ran a like adds it to those of its phase
-pub within-one : (service : Service) (ran : List Ran) (e : Ran) (l : AcceptedLike) (page phase : ℕ)
-    → like_ran service e ≡ Some l
-    → likes_within service page (ran ++ e ∷ []) phase
-    ≡ likes_within service page ran phase + cond (e.phase == phase) (cond (l.page == page) 1 0) 0
-within-one service ran e l page phase is =
+pub within-one : (workload : Workload) (ran : List Ran) (e : Ran) (l : AcceptedLike) (page phase : ℕ)
+    → like_ran workload e ≡ Some l
+    → likes_within workload page (ran ++ e ∷ []) phase
+    ≡ likes_within workload page ran phase + cond (e.phase == phase) (cond (l.page == page) 1 0) 0
+within-one workload ran e l page phase is =
     let p : Ran → Bool = λ x. x.phase == phase in
     let e_is = last_is (p e) in
-    ap (likes_among service page) (filter-append p ran (e ∷ []))
-    ∙ (likes_among-append service page (filter p ran) (cond (p e) (e ∷ []) []) ∙ omega arith)
+    ap (likes_among workload page) (filter-append p ran (e ∷ []))
+    ∙ (likes_among-append workload page (filter p ran) (cond (p e) (e ∷ []) []) ∙ omega arith)
   where
     last_is : (b : Bool)
-        → page_likes page (likes_ran service (cond b (e ∷ []) [])) ≡ cond b (cond (l.page == page) 1 0) 0
+        → page_likes page (likes_ran workload (cond b (e ∷ []) [])) ≡ cond b (cond (l.page == page) 1 0) 0
     last_is true =
         let one : page_likes page (l ∷ []) ≡ cond (l.page == page) 1 0 = omega arith in
         ap (page_likes page) (ap (λ (x : Option AcceptedLike). cons_option x []) is) ∙ one
     last_is false = refl
 
 -- what holds after an answer that is noted
-abbrev IsAfter : Service → WorkerView → Held → Bool → Reply → WorkerView → Type 0
-IsAfter service v h stashed answer w =
-    IsServed service w × IsSized w × IsTallied service (record w { ran = v.ran ++ ran_now v h stashed answer ∷ [] })
+abbrev IsAfter : Workload → WorkerView → Held → Bool → Reply → WorkerView → Type 0
+IsAfter workload v h stashed answer w =
+    IsServed workload w × IsSized w × IsTallied workload (record w { ran = v.ran ++ ran_now v h stashed answer ∷ [] })
 
 -- the worker, whose post has made these reads
 abbrev with_reads : WorkerView → List PageRead → WorkerView
 with_reads v reads = record v { post = record v.post { reads = reads } }
 
 -- an entry that is no accepted like changes neither likes nor last likes; these are the post's reads then
-unchanged : (service : Service) (v : WorkerView) (h : Held) (stashed : Bool) (answer : Reply) (reads : List PageRead)
-    → IsServed service v
+unchanged : (workload : Workload) (v : WorkerView) (h : Held) (stashed : Bool) (answer : Reply) (reads : List PageRead)
+    → IsServed workload v
     → IsSized v
-    → IsTallied service v
-    → like_ran service (ran_now v h stashed answer) ≡ None → IsRightAnswer service v.ran (ran_now v h stashed answer)
-    → shown_in service (v.ran ++ ran_now v h stashed answer ∷ []) ≡ map (shown_by v.post.additions) reads
+    → IsTallied workload v
+    → like_ran workload (ran_now v h stashed answer) ≡ None → IsRightAnswer workload v.ran (ran_now v h stashed answer)
+    → shown_in workload (v.ran ++ ran_now v h stashed answer ∷ []) ≡ map (shown_by v.post.additions) reads
     → All (λ r. r.after ≤ length v.post.additions) reads
-    → IsAfter service v h stashed answer (with_reads v reads)
-unchanged service v h stashed answer reads served sized t none right shows later =
+    → IsAfter workload v h stashed answer (with_reads v reads)
+unchanged workload v h stashed answer reads served sized t none right shows later =
     let e = ran_now v h stashed answer in
-    let same : likes_ran service (v.ran ++ e ∷ []) ≡ likes_ran service v.ran =
-    likes_ran-push service v.ran e None none ∙ append-nil _ in (
+    let same : likes_ran workload (v.ran ++ e ∷ []) ≡ likes_ran workload v.ran =
+    likes_ran-push workload v.ran e None none ∙ append-nil _ in (
       record {
         users =
             served.users;
@@ -332,33 +332,33 @@ unchanged service v h stashed answer reads served sized t none right shows later
       record { slice = sized.slice; users = sized.users },
       record {
         likes = λ page. ap (page_likes page) same ∙ t.likes page;
-        by_phase = λ phase page. within-none service v.ran e page phase none ∙ t.by_phase phase page;
+        by_phase = λ phase page. within-none workload v.ran e page phase none ∙ t.by_phase phase page;
         looks = shows;
         after = later;
-        replies = HasRightAnswers-push service v.ran e t.replies right;
+        replies = HasRightAnswers-push workload v.ran e t.replies right;
         last = λ user. t.last user ∙ ap (last_page user) (sym same);
       },
     )
 
 -- an accepted like
-one_like : (service : Service) (v : WorkerView) (h : Held) (stashed : Bool) (page old : ℕ)
-    → IsServed service v
+one_like : (workload : Workload) (v : WorkerView) (h : Held) (stashed : Bool) (page old : ℕ)
+    → IsServed workload v
     → IsSized v
-    → IsTallied service v
-    → like_ran service (ran_now v h stashed reply.Liked) ≡ Some (record { user = h.ask.request.user; page = page })
-    → look_ran service (ran_now v h stashed reply.Liked) ≡ None
-    → IsRightAnswer service v.ran (ran_now v h stashed reply.Liked)
+    → IsTallied workload v
+    → like_ran workload (ran_now v h stashed reply.Liked) ≡ Some (record { user = h.ask.request.user; page = page })
+    → look_ran workload (ran_now v h stashed reply.Liked) ≡ None
+    → IsRightAnswer workload v.ran (ran_now v h stashed reply.Liked)
     → page < pages_of v.post
     → h.ask.request.user < v.last.share.users
-    → IsAfter service v h stashed reply.Liked (liked v h.ask.request.user page old)
-one_like service v h stashed page old served sized t like no_look right in_pages in_users =
+    → IsAfter workload v h stashed reply.Liked (liked v h.ask.request.user page old)
+one_like workload v h stashed page old served sized t like no_look right in_pages in_users =
     let e = ran_now v h stashed reply.Liked in
     let user = h.ask.request.user in
     let l : AcceptedLike = record { user = user; page = page } in
-    let more = likes_ran-push service v.ran e (Some l) like in
+    let more = likes_ran-push workload v.ran e (Some l) like in
     let in_slice : page < length v.slice = omega (arith, sized.slice) in
     let in_table : user < length v.last.last = omega (arith, sized.users) in
-    let s = counted-served service v page old served in
+    let s = counted-served workload v page old served in
     let z = counted-sized v page old sized in (
       record {
         users =
@@ -372,24 +372,24 @@ one_like service v h stashed page old served sized t like no_look right in_pages
       },
       record { slice = z.slice; users = length-set v.last.last user (Some page) ∙ sized.users },
       record {
-        likes = λ other. ap (page_likes other) more ∙ page_likes-push other (likes_ran service v.ran) l
+        likes = λ other. ap (page_likes other) more ∙ page_likes-push other (likes_ran workload v.ran) l
             ∙ ap (λ n. n + cond (eqb page other) 1 0) (t.likes other)
             ∙ sym (counted-one v page old other in_slice);
         by_phase = λ phase other.
-            within-one service v.ran e l other phase like
+            within-one workload v.ran e l other phase like
             ∙ ap (λ n. n + cond (phase_at v == phase) (cond (page == other) 1 0) 0) (t.by_phase phase other)
             ∙ sym (counted-in v page old other phase in_slice);
-        looks = shown_in-none service v.ran e no_look ∙ (t.looks ∙ counted-shown v page old t.after);
+        looks = shown_in-none workload v.ran e no_look ∙ (t.looks ∙ counted-shown v page old t.after);
         after = counted-after v page old t.after;
-        replies = HasRightAnswers-push service v.ran e t.replies right;
+        replies = HasRightAnswers-push workload v.ran e t.replies right;
         last = λ other. elim (cases_eq user other) [
           | inl same ↦
-              let now = last_page-push_same other (likes_ran service v.ran) l (eq-eqb user other same) in
+              let now = last_page-push_same other (likes_ran workload v.ran) l (eq-eqb user other same) in
               subst (λ k. get_or (set v.last.last user (Some page)) k None ≡ Some page) same
               (get_or-set_same v.last.last user (Some page) None in_table)
               ∙ sym now ∙ ap (last_page other) (sym more)
           | inr differs ↦
-              let now = last_page-push_other other (likes_ran service v.ran) l (ne_eqb user other differs) in
+              let now = last_page-push_other other (likes_ran workload v.ran) l (ne_eqb user other differs) in
               get_or-set_other v.last.last user other (Some page) None (λ k. differs (sym k)) ∙ t.last other ∙ sym now
               ∙ ap (last_page other) (sym more)
         ];
@@ -397,82 +397,82 @@ one_like service v h stashed page old served sized t like no_look right in_pages
     )
 
 -- whatever the answer is
-pub GivesReply-tallied : (service : Service) (v : WorkerView) (h : Held) (stashed : Bool) (answer : Reply)
+pub GivesReply-tallied : (workload : Workload) (v : WorkerView) (h : Held) (stashed : Bool) (answer : Reply)
     (w : WorkerView)
-    → IsServed service v
+    → IsServed workload v
     → IsSized v
-    → IsTallied service v
-    → IsAsked service h
+    → IsTallied workload v
+    → IsAsked workload h
     → ((page : ℕ) → verdict_at v h.submitter h.ask.request ≡ verdict.Accepted
     → page_looked_at h.ask.request.op h.ask.request.page ≡ Some page → get_or v.slice page 0 ≡ 0)
-    → GivesReply v h.submitter h.ask.request answer w → IsAfter service v h stashed answer w
-GivesReply-tallied service v h stashed answer w served sized t asked clear (refuses n a e) =
+    → GivesReply v h.submitter h.ask.request answer w → IsAfter workload v h stashed answer w
+GivesReply-tallied workload v h stashed answer w served sized t asked clear (refuses n a e) =
     let r = h.ask.request in
     let V = verdict_at v h.submitter r in
-    let V-is = verdict_at-served service v h.submitter r served in
+    let V-is = verdict_at-served workload v h.submitter r served in
     let x = ran_now v h stashed (reply.Refused V) in
-    let no : is_accepted service.users (submitters service) h.submitter r ≡ false =
-    accepted-false service.users (submitters service) h.submitter r (λ k. n (V-is ∙ k)) in
-    let none : like_ran service x ≡ None = like_ran-is service x r asked.asked ∙ rw no refl in
-    let no_look : look_ran service x ≡ None = look_ran-is service x r asked.asked ∙ rw no refl in
-    let right = right-by_request service v.ran x r asked.asked (ap reply.Refused V-is ∙ rw no refl) in
-    subst (λ y. IsAfter service v h stashed answer y) (sym e)
-    (subst (λ y. IsAfter service v h stashed y v) (sym a)
-    (unchanged service v h stashed (reply.Refused V) v.post.reads served sized t none right
-    (shown_in-none service v.ran x no_look ∙ t.looks) t.after))
-GivesReply-tallied service v h stashed answer w served sized t asked clear (likes page a o p l e) =
+    let no : is_accepted workload.users (submitters workload) h.submitter r ≡ false =
+    accepted-false workload.users (submitters workload) h.submitter r (λ k. n (V-is ∙ k)) in
+    let none : like_ran workload x ≡ None = like_ran-is workload x r asked.asked ∙ rw no refl in
+    let no_look : look_ran workload x ≡ None = look_ran-is workload x r asked.asked ∙ rw no refl in
+    let right = right-by_request workload v.ran x r asked.asked (ap reply.Refused V-is ∙ rw no refl) in
+    subst (λ y. IsAfter workload v h stashed answer y) (sym e)
+    (subst (λ y. IsAfter workload v h stashed y v) (sym a)
+    (unchanged workload v h stashed (reply.Refused V) v.post.reads served sized t none right
+    (shown_in-none workload v.ran x no_look ∙ t.looks) t.after))
+GivesReply-tallied workload v h stashed answer w served sized t asked clear (likes page a o p l e) =
     let r = h.ask.request in
-    let V-is = sym (verdict_at-served service v h.submitter r served) ∙ a in
-    let yes = accepted-true service.users (submitters service) h.submitter r V-is in
+    let V-is = sym (verdict_at-served workload v h.submitter r served) ∙ a in
+    let yes = accepted-true workload.users (submitters workload) h.submitter r V-is in
     let x = ran_now v h stashed reply.Liked in
-    let like : like_ran service x ≡ Some (record { user = r.user; page = page }) =
-    like_ran-is service x r asked.asked ∙ rw (yes, o, p) refl in
-    let no_look : look_ran service x ≡ None = look_ran-is service x r asked.asked ∙ rw (yes, o) refl in
-    let right = right-by_request service v.ran x r asked.asked (rw (yes, o) refl) in
-    let in_marks : IsThere (length (marks_of service.pages)) (ref.Known page) =
-    subst (λ q. IsThere (length (marks_of service.pages)) q) p asked.there in
+    let like : like_ran workload x ≡ Some (record { user = r.user; page = page }) =
+    like_ran-is workload x r asked.asked ∙ rw (yes, o, p) refl in
+    let no_look : look_ran workload x ≡ None = look_ran-is workload x r asked.asked ∙ rw (yes, o) refl in
+    let right = right-by_request workload v.ran x r asked.asked (rw (yes, o) refl) in
+    let in_marks : IsThere (length (marks_of workload.pages)) (ref.Known page) =
+    subst (λ q. IsThere (length (marks_of workload.pages)) q) p asked.there in
     let in_pages : page < pages_of v.post = omega (arith, ap length served.marks_alike) in
     let in_users : r.user < v.last.share.users =
-    omega (arith, accepted_user service.users (submitters service) h.submitter r yes, served.users) in
-    subst (λ y. IsAfter service v h stashed answer y) (sym e.1)
-    (subst (λ y. IsAfter service v h stashed y (liked v r.user page e.0)) (sym l)
-    (one_like service v h stashed page e.0 served sized t like no_look right in_pages in_users))
-GivesReply-tallied service v h stashed answer w served sized t asked clear (looks page count a o p s n e) =
+    omega (arith, accepted_user workload.users (submitters workload) h.submitter r yes, served.users) in
+    subst (λ y. IsAfter workload v h stashed answer y) (sym e.1)
+    (subst (λ y. IsAfter workload v h stashed y (liked v r.user page e.0)) (sym l)
+    (one_like workload v h stashed page e.0 served sized t like no_look right in_pages in_users))
+GivesReply-tallied workload v h stashed answer w served sized t asked clear (looks page count a o p s n e) =
     let r = h.ask.request in
-    let V-is = sym (verdict_at-served service v h.submitter r served) ∙ a in
-    let yes = accepted-true service.users (submitters service) h.submitter r V-is in
+    let V-is = sym (verdict_at-served workload v h.submitter r served) ∙ a in
+    let yes = accepted-true workload.users (submitters workload) h.submitter r V-is in
     let seen = reply.Seen (last_of v.last r.user) count in
     let x = ran_now v h stashed seen in
-    let none : like_ran service x ≡ None = like_ran-is service x r asked.asked ∙ rw (yes, o) refl in
-    let right = right-by_request service v.ran x r asked.asked
+    let none : like_ran workload x ≡ None = like_ran-is workload x r asked.asked ∙ rw (yes, o) refl in
+    let right = right-by_request workload v.ran x r asked.asked
     (ap (λ l. reply.Seen l count) (t.last r.user) ∙ rw (yes, o) refl) in
-    let look : look_ran service x ≡ Some page = look_ran-is service x r asked.asked ∙ rw (yes, o, p) refl in
+    let look : look_ran workload x ≡ Some page = look_ran-is workload x r asked.asked ∙ rw (yes, o, p) refl in
     let now : ℕ = phase_at v in
     let looked : page_looked_at r.op r.page ≡ Some page = rw (o, p) refl in
-    let as_many : likes_within service page v.ran now ≡ additions_in v.post now page =
+    let as_many : likes_within workload page v.ran now ≡ additions_in v.post now page =
     t.by_phase now page
     ∙ (let none_kept = ap (λ (k : ℕ). cond (now == now) k 0) (clear page a looked) in
     let zero_is = cond_same (now == now) 0 in omega arith)
     in
     let read : PageRead = record { phase = now; page = page; count = count; after = length v.post.additions } in
     let c : ShownCount =
-    record { phase = now; page = page; count = count; before = likes_within service page v.ran now } in
-    let to_it : shown_to service v.ran x ≡ Some c =
+    record { phase = now; page = page; count = count; before = likes_within workload page v.ran now } in
+    let to_it : shown_to workload v.ran x ≡ Some c =
     ap (option_map
-    (λ (q : ℕ). record { phase = now; page = q; count = count; before = likes_within service q v.ran now })) look in
+    (λ (q : ℕ). record { phase = now; page = q; count = count; before = likes_within workload q v.ran now })) look in
     let by_it : c ≡ shown_by v.post.additions read =
     ap (λ (k : ℕ). record { phase = now; page = page; count = count; before = k })
     (as_many ∙ sym (ap (added_in now page) (take-length v.post.additions)))
     in
-    let shows : shown_in service (v.ran ++ x ∷ []) ≡ map (shown_by v.post.additions) (v.post.reads ++ read ∷ []) =
-    shown_in-push service v.ran x
-    ∙ (ap (λ o. shown_in service v.ran ++ option_to_list o) to_it
+    let shows : shown_in workload (v.ran ++ x ∷ []) ≡ map (shown_by v.post.additions) (v.post.reads ++ read ∷ []) =
+    shown_in-push workload v.ran x
+    ∙ (ap (λ o. shown_in workload v.ran ++ option_to_list o) to_it
     ∙ (ap (λ l. l ++ c ∷ []) t.looks
     ∙ (ap (λ d. map (shown_by v.post.additions) v.post.reads ++ d ∷ []) by_it
     ∙ sym (map-append (shown_by v.post.additions) v.post.reads (read ∷ [])))))
     in
     let after = All-push (λ q. q.after ≤ length v.post.additions) v.post.reads read t.after (omega arith) in
-    let P : Reply → Type 0 = λ y. IsAfter service v h stashed y (shown v page count) in
-    subst (λ y. IsAfter service v h stashed answer y) (sym e)
+    let P : Reply → Type 0 = λ y. IsAfter workload v h stashed y (shown v page count) in
+    subst (λ y. IsAfter workload v h stashed answer y) (sym e)
     (subst P (sym s)
-    (unchanged service v h stashed seen (v.post.reads ++ read ∷ []) served sized t none right shows after))
+    (unchanged workload v h stashed seen (v.post.reads ++ read ∷ []) served sized t none right shows after))

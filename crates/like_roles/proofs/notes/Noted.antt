@@ -11,16 +11,16 @@ use Rattle.std.specs.Prelude.{option_and_then, option_map}
 use Rattle.like_core.specs.declared.view.Addition.{Addition}
 use Rattle.like_core.specs.declared.view.PageRead.{PageRead}
 use Rattle.like_core.proofs.views.KeptPlaces.{counts_one}
-use Rattle.like_service.specs.declared.log.Added.{Added}
-use Rattle.like_service.specs.declared.log.Ran.{Ran}
-use Rattle.like_service.specs.places.Adds.{IsOfLikes, addition_of, is_add_to, adds_before}
+use Rattle.like_promises.specs.declared.log.Added.{Added}
+use Rattle.like_promises.specs.declared.log.Ran.{Ran}
+use Rattle.like_promises.specs.places.Adds.{IsOfLikes, addition_of, is_add_to, adds_before}
 use Rattle.like_roles.specs.worker.Follows.{adds_to, adds_at, likes_at, IsNoted}
 use Rattle.like_roles.specs.worker.Shown.{adds_before_look, adds_before_looks, look_ran}
-use Rattle.like_service.specs.Likes.{likes_within}
+use Rattle.like_promises.specs.Likes.{likes_within}
 use Rattle.like_roles.specs.worker.Serve.{noted, noted_at}
-use Rattle.like_service.specs.Service.{Service, is_split_in}
+use Rattle.like_promises.specs.Workload.{Workload, is_split_in}
 use Rattle.like_roles.specs.worker.WorkerView.{WorkerView}
-use Rattle.like_service.proofs.Lists.{pairs-append, slice_get-at_end, slice_get-before}
+use Rattle.like_promises.proofs.Lists.{pairs-append, slice_get-at_end, slice_get-before}
 use Rattle.like_roles.proofs.counts.Shown.{range-more, range-same}
 
 module _ {A : Type 0} where
@@ -63,34 +63,34 @@ pub noted-each : (v : WorkerView) (adds : List Addition)
 noted-each v adds notes = cond-true v.notes (map (noted_at (length v.ran)) adds) [] notes
 
 -- of two pages in phases one of which is split and the other is not, one is not the other
-pub apart : (service : Service) (k p phase page : ℕ) (s t : Bool)
-    → is_split_in service k p ≡ s
-    → is_split_in service phase page ≡ t
+pub apart : (workload : Workload) (k p phase page : ℕ) (s t : Bool)
+    → is_split_in workload k p ≡ s
+    → is_split_in workload phase page ≡ t
     → s ≢ t
     → ((k == phase) && (p == page)) ≡ false
-apart service k p phase page s t is other differ = by_test ((k == phase) && (p == page)) refl
+apart workload k p phase page s t is other differ = by_test ((k == phase) && (p == page)) refl
   where
     by_test : (b : Bool) → ((k == phase) && (p == page)) ≡ b → ((k == phase) && (p == page)) ≡ false
     by_test false e = e
     by_test true e =
         let both = and_parts (k == phase) (p == page) e in
-        let same : is_split_in service k p ≡ is_split_in service phase page =
-        λ m. is_split_in service (eqb-true k phase both.0 m) (eqb-true p page both.1 m) in
+        let same : is_split_in workload k p ≡ is_split_in workload phase page =
+        λ m. is_split_in workload (eqb-true k phase both.0 m) (eqb-true p page both.1 m) in
         absurd (differ (sym is ∙ (same ∙ other)))
 
 -- how many likes an entry that runs now is, by phase and page
-abbrev pub AddsLikes : Service → Ran → (ℕ → ℕ → ℕ) → Type 0
-AddsLikes service e likes =
+abbrev pub AddsLikes : Workload → Ran → (ℕ → ℕ → ℕ) → Type 0
+AddsLikes workload e likes =
     (xs : List Ran) (phase page : ℕ)
-    → likes_within service page (xs ++ e ∷ []) phase ≡ likes_within service page xs phase + likes phase page
+    → likes_within workload page (xs ++ e ∷ []) phase ≡ likes_within workload page xs phase + likes phase page
 
 -- the likes at a place after one entry more
-likes_at-push : (service : Service) (ran : List Ran) (e : Ran) (likes : ℕ → ℕ → ℕ) (phase page at : ℕ)
-    → AddsLikes service e likes
-    → likes_at service phase page at (ran ++ e ∷ [])
-    ≡ likes_at service phase page at ran + cond (at == length ran) (likes phase page) 0
-likes_at-push service ran e likes phase page at adds =
-    let of : Option Ran → ℕ = λ o. likes_within service page (option_to_list o) phase in
+likes_at-push : (workload : Workload) (ran : List Ran) (e : Ran) (likes : ℕ → ℕ → ℕ) (phase page at : ℕ)
+    → AddsLikes workload e likes
+    → likes_at workload phase page at (ran ++ e ∷ [])
+    ≡ likes_at workload phase page at ran + cond (at == length ran) (likes phase page) 0
+likes_at-push workload ran e likes phase page at adds =
+    let of : Option Ran → ℕ = λ o. likes_within workload page (option_to_list o) phase in
     elim (cases_lt at (length ran)) [
       | inl before ↦
           let no : cond {A = ℕ} (at == length ran) (likes phase page) 0 ≡ 0 =
@@ -103,7 +103,7 @@ likes_at-push service ran e likes phase page at adds =
             let yes : cond {A = ℕ} (at == length ran) (likes phase page) 0 ≡ likes phase page =
             cond-true (at == length ran) (likes phase page) 0 (eq-eqb at (length ran) end) in
             let none = ap of (slice_get_past ran at (omega arith)) in
-            let one : likes_at service phase page at (ran ++ e ∷ []) ≡ likes_within service page (e ∷ []) phase =
+            let one : likes_at workload phase page at (ran ++ e ∷ []) ≡ likes_within workload page (e ∷ []) phase =
             ap (λ (i : ℕ). of (slice_get (ran ++ e ∷ []) i)) end ∙ ap of (slice_get-at_end ran e)
             in
             let all = adds [] phase page in
@@ -161,53 +161,53 @@ before-more adds more n at earlier all =
     omega arith
 
 -- nor before any look of the run list, where they were made at its end
-pub looks-adds : (service : Service) (adds more : List Added) (ran : List Ran)
+pub looks-adds : (workload : Workload) (adds more : List Added) (ran : List Ran)
     → All (λ a. a.at ≡ length ran) more
-    → adds_before_looks service (adds ++ more) ran ≡ adds_before_looks service adds ran
-looks-adds service adds more ran all =
-    range-same (adds_before_look service (adds ++ more) ran) (adds_before_look service adds ran) 0 (length ran)
-    (λ i low high. ap (λ (n : ℕ). option_map (λ _. n) (option_and_then (look_ran service) (slice_get ran i)))
+    → adds_before_looks workload (adds ++ more) ran ≡ adds_before_looks workload adds ran
+looks-adds workload adds more ran all =
+    range-same (adds_before_look workload (adds ++ more) ran) (adds_before_look workload adds ran) 0 (length ran)
+    (λ i low high. ap (λ (n : ℕ). option_map (λ _. n) (option_and_then (look_ran workload) (slice_get ran i)))
     (before-more adds more (length ran) i (omega arith) all))
 
 -- one entry more
-pub looks-push : (service : Service) (adds : List Added) (ran : List Ran) (e : Ran)
-    → adds_before_looks service adds (ran ++ e ∷ [])
-    ≡ adds_before_looks service adds ran
-    ++ option_to_list (option_map (λ _. adds_before (length ran) adds) (look_ran service e))
-looks-push service adds ran e =
+pub looks-push : (workload : Workload) (adds : List Added) (ran : List Ran) (e : Ran)
+    → adds_before_looks workload adds (ran ++ e ∷ [])
+    ≡ adds_before_looks workload adds ran
+    ++ option_to_list (option_map (λ _. adds_before (length ran) adds) (look_ran workload e))
+looks-push workload adds ran e =
     let all : List Ran = ran ++ e ∷ [] in
     let long : length all ≡ length ran + 1 = length-append ran (e ∷ []) in
     let before : (i : ℕ) → 0 ≤ i → i < 0 + length ran
-    → adds_before_look service adds all i ≡ adds_before_look service adds ran i =
-    λ i low high. ap (λ o. option_map (λ _. adds_before i adds) (option_and_then (look_ran service) o))
+    → adds_before_look workload adds all i ≡ adds_before_look workload adds ran i =
+    λ i low high. ap (λ o. option_map (λ _. adds_before i adds) (option_and_then (look_ran workload) o))
     (slice_get-before ran (e ∷ []) i (omega arith))
     in
-    let last : adds_before_look service adds all (0 + length ran)
-    ≡ option_map (λ _. adds_before (length ran) adds) (look_ran service e) =
-    ap (λ (k : ℕ). adds_before_look service adds all k) (zero-add (length ran)) ∙
-    ap (λ o. option_map (λ _. adds_before (length ran) adds) (option_and_then (look_ran service) o))
+    let last : adds_before_look workload adds all (0 + length ran)
+    ≡ option_map (λ _. adds_before (length ran) adds) (look_ran workload e) =
+    ap (λ (k : ℕ). adds_before_look workload adds all k) (zero-add (length ran)) ∙
+    ap (λ o. option_map (λ _. adds_before (length ran) adds) (option_and_then (look_ran workload) o))
     (slice_get-at_end ran e)
     in
-    ap (λ (n : ℕ). filter_map (adds_before_look service adds all) (range_with_len 0 n)) long
-    ∙ (range-more (adds_before_look service adds all) 0 (length ran)
-    ∙ (λ m. range-same (adds_before_look service adds all) (adds_before_look service adds ran) 0 (length ran) before m
+    ap (λ (n : ℕ). filter_map (adds_before_look workload adds all) (range_with_len 0 n)) long
+    ∙ (range-more (adds_before_look workload adds all) 0 (length ran)
+    ∙ (λ m. range-same (adds_before_look workload adds all) (adds_before_look workload adds ran) 0 (length ran) before m
     ++ option_to_list (last m)))
 
 -- what is known of additions that are noted after these
-pub record AreMore (service : Service) (ran : List Ran) (adds more : List Added) (at : ℕ)
+pub record AreMore (workload : Workload) (ran : List Ran) (adds more : List Added) (at : ℕ)
     (likes : ℕ → ℕ → ℕ) : Type 0 where
   pub at_end : All (λ a. a.at ≡ at) more
-  pub each : All (IsOfLikes service ran) more
-  pub plain : (phase page : ℕ) → is_split_in service phase page ≡ false → adds_to phase page more ≡ likes phase page
-  pub split : (phase page : ℕ) → is_split_in service phase page ≡ true
+  pub each : All (IsOfLikes workload ran) more
+  pub plain : (phase page : ℕ) → is_split_in workload phase page ≡ false → adds_to phase page more ≡ likes phase page
+  pub split : (phase page : ℕ) → is_split_in workload phase page ≡ true
       → adds_to phase page adds + adds_to phase page more ≤ 1
 
 -- none
-pub no-more : (service : Service) (ran : List Ran) (adds : List Added) (at : ℕ) (likes : ℕ → ℕ → ℕ)
-    → ((phase page : ℕ) → is_split_in service phase page ≡ false → likes phase page ≡ 0)
-    → ((phase page : ℕ) → is_split_in service phase page ≡ true → adds_to phase page adds ≤ 1)
-    → AreMore service ran adds [] at likes
-no-more service ran adds at likes none once = record {
+pub no-more : (workload : Workload) (ran : List Ran) (adds : List Added) (at : ℕ) (likes : ℕ → ℕ → ℕ)
+    → ((phase page : ℕ) → is_split_in workload phase page ≡ false → likes phase page ≡ 0)
+    → ((phase page : ℕ) → is_split_in workload phase page ≡ true → adds_to phase page adds ≤ 1)
+    → AreMore workload ran adds [] at likes
+no-more workload ran adds at likes none once = record {
   at_end = λ i d inside. absurd (omega arith);
   each = λ i d inside. absurd (omega arith);
   plain = λ phase page is. sym (none phase page is);
@@ -216,21 +216,21 @@ no-more service ran adds at likes none once = record {
 }
 
 -- an entry runs, and these additions are noted before
-pub noted-push : (service : Service) (additions later_additions : List Addition) (reads later_reads : List PageRead)
+pub noted-push : (workload : Workload) (additions later_additions : List Addition) (reads later_reads : List PageRead)
     (adds more all : List Added) (ran : List Ran) (e : Ran) (likes : ℕ → ℕ → ℕ)
-    → IsNoted service additions reads adds ran
-    → AddsLikes service e likes
+    → IsNoted workload additions reads adds ran
+    → AddsLikes workload e likes
     → all ≡ adds ++ more
-    → AreMore service (ran ++ e ∷ []) adds more (length ran) likes
-    → All (λ a. is_split_in service a.phase a.page ≡ true → (likes a.phase a.page ≡ 0) × (a.phase < e.phase)) adds
+    → AreMore workload (ran ++ e ∷ []) adds more (length ran) likes
+    → All (λ a. is_split_in workload a.phase a.page ≡ true → (likes a.phase a.page ≡ 0) × (a.phase < e.phase)) adds
     → later_additions ≡ map addition_of all
-    → map (λ r. r.after) later_reads ≡ adds_before_looks service all (ran ++ e ∷ [])
-    → IsNoted service later_additions later_reads all (ran ++ e ∷ [])
-noted-push service additions later_additions reads later_reads adds more all ran e likes old by all_is new kept are
+    → map (λ r. r.after) later_reads ≡ adds_before_looks workload all (ran ++ e ∷ [])
+    → IsNoted workload later_additions later_reads all (ran ++ e ∷ [])
+noted-push workload additions later_additions reads later_reads adds more all ran e likes old by all_is new kept are
     looks =
     let now : List Ran = ran ++ e ∷ [] in
     let long = length-append ran (e ∷ []) in
-    let noted : IsNoted service later_additions later_reads (adds ++ more) now =
+    let noted : IsNoted workload later_additions later_reads (adds ++ more) now =
     record {
       additions_are = are ∙ ap (map addition_of) all_is;
       at = All-append (λ a. a.at ≤ length now) adds more
@@ -239,10 +239,10 @@ noted-push service additions later_additions reads later_reads adds more all ran
       rising = pairs-append (λ a b. a.at ≤ b.at) adds more old.rising
           (λ i j d lt inside. let one = new.at_end i d (omega arith) in let other = new.at_end j d inside in omega arith)
           (λ i d inside j b there. let low = old.at i d inside in let last = new.at_end j b there in omega arith);
-      each = All-append (IsOfLikes service now) adds more
+      each = All-append (IsOfLikes workload now) adds more
           (λ i d inside.
           let a : Added = get_or adds i d in
-          let o : IsOfLikes service ran a = old.each i d inside in
+          let o : IsOfLikes workload ran a = old.each i d inside in
           record {
             some = o.some;
             plain = o.plain;
@@ -255,9 +255,9 @@ noted-push service additions later_additions reads later_reads adds more all ran
                 let at_is = (o.split is).2 in
                 let all_likes = by ran a.phase a.page in
                 let later = by (drop a.at ran) a.phase a.page in
-                let behind : likes_within service a.page (drop a.at now) a.phase
-                ≡ likes_within service a.page (drop a.at ran ++ e ∷ []) a.phase =
-                ap (λ (xs : List Ran). likes_within service a.page xs a.phase)
+                let behind : likes_within workload a.page (drop a.at now) a.phase
+                ≡ likes_within workload a.page (drop a.at ran ++ e ∷ []) a.phase =
+                ap (λ (xs : List Ran). likes_within workload a.page xs a.phase)
                 (drop-append-le a.at ran (e ∷ []) (old.at i d inside))
                 in
                 let n_is = (o.split is).0 in
@@ -271,32 +271,32 @@ noted-push service additions later_additions reads later_reads adds more all ran
           let here = old.plain phase page at is in
           let last = adds_at-all more (length ran) phase page at new.at_end in
           let count = ap (λ (k : ℕ). cond {A = ℕ} (at == length ran) k 0) (new.plain phase page is) in
-          let push = likes_at-push service ran e likes phase page at by in
+          let push = likes_at-push workload ran e likes phase page at by in
           omega arith;
       split = λ phase page is.
           let both = sum_by-append (λ (a : Added). cond {A = ℕ} (is_add_to phase page a) 1 0) adds more in
           let few = new.split phase page is in
           omega arith;
-      looks = looks ∙ ap (λ (xs : List Added). adds_before_looks service xs now) all_is;
+      looks = looks ∙ ap (λ (xs : List Added). adds_before_looks workload xs now) all_is;
     }
     in
-    subst (λ (xs : List Added). IsNoted service later_additions later_reads xs now) (sym all_is) noted
+    subst (λ (xs : List Added). IsNoted workload later_additions later_reads xs now) (sym all_is) noted
 
 -- additions are noted while no entry runs
-pub noted-merged : (service : Service) (additions new_additions : List Addition) (reads : List PageRead)
+pub noted-merged : (workload : Workload) (additions new_additions : List Addition) (reads : List PageRead)
     (adds more : List Added) (ran : List Ran)
-    → IsNoted service additions reads adds ran
-    → AreMore service ran adds more (length ran) (λ _ _. 0)
+    → IsNoted workload additions reads adds ran
+    → AreMore workload ran adds more (length ran) (λ _ _. 0)
     → additions ++ new_additions ≡ map addition_of (adds ++ more)
-    → IsNoted service (additions ++ new_additions) reads (adds ++ more) ran
-noted-merged service additions new_additions reads adds more ran old new are = record {
+    → IsNoted workload (additions ++ new_additions) reads (adds ++ more) ran
+noted-merged workload additions new_additions reads adds more ran old new are = record {
   additions_are = are;
   at = All-append (λ a. a.at ≤ length ran) adds more old.at
       (λ i d inside. let here = new.at_end i d inside in omega arith);
   rising = pairs-append (λ a b. a.at ≤ b.at) adds more old.rising
       (λ i j d lt inside. let one = new.at_end i d (omega arith) in let other = new.at_end j d inside in omega arith)
       (λ i d inside j b there. let low = old.at i d inside in let last = new.at_end j b there in omega arith);
-  each = All-append (IsOfLikes service ran) adds more old.each new.each;
+  each = All-append (IsOfLikes workload ran) adds more old.each new.each;
   plain = λ phase page at is.
       let both = sum_by-append (λ (a : Added). cond {A = ℕ} (is_add_to phase page a && (a.at == at)) 1 0) adds more in
       let here = old.plain phase page at is in
@@ -308,7 +308,7 @@ noted-merged service additions new_additions reads adds more ran old new are = r
       let both = sum_by-append (λ (a : Added). cond {A = ℕ} (is_add_to phase page a) 1 0) adds more in
       let few = new.split phase page is in
       omega arith;
-  looks = old.looks ∙ sym (looks-adds service adds more ran new.at_end);
+  looks = old.looks ∙ sym (looks-adds workload adds more ran new.at_end);
 }
   where
     zero_same : (b : Bool) → cond {A = ℕ} b 0 0 ≡ 0

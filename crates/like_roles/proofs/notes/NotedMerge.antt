@@ -13,13 +13,13 @@ use Rattle.like_core.specs.declared.worker_state.WorkerState.TheVariants as stat
 use Rattle.like_core.specs.Additions.{added_in}
 use Rattle.like_core.specs.Post.{additions_in, pages_of, slices}
 use Rattle.like_core.proofs.core.Labels.{one_before-next}
-use Rattle.like_service.specs.declared.log.Added.{Added}
-use Rattle.like_service.specs.declared.log.Ran.{Ran}
-use Rattle.like_service.specs.places.Adds.{IsOfLikes, addition_of, is_add_to}
+use Rattle.like_promises.specs.declared.log.Added.{Added}
+use Rattle.like_promises.specs.declared.log.Ran.{Ran}
+use Rattle.like_promises.specs.places.Adds.{IsOfLikes, addition_of, is_add_to}
 use Rattle.like_roles.specs.worker.Follows.{adds_to, IsNoted, IsTallied, IsUnmerged}
-use Rattle.like_service.specs.Likes.{likes_within}
+use Rattle.like_promises.specs.Likes.{likes_within}
 use Rattle.like_roles.specs.worker.Serve.{noted, noted_at}
-use Rattle.like_service.specs.Service.{Service, is_split_in}
+use Rattle.like_promises.specs.Workload.{Workload, is_split_in}
 use Rattle.like_roles.specs.worker.Merges.{Merges, liked_below}
 use Rattle.like_roles.specs.worker.WorkerView.{WorkerView, phase_at}
 use Rattle.like_seat.specs.StationView.{IsSliceInSplit}
@@ -130,18 +130,18 @@ noted-are n [] = refl
 noted-are n (b ∷ adds) = ap (λ (xs : List Addition). b ∷ xs) (noted-are n adds)
 
 -- the additions of a merge are noted, by a worker that notes them
-pub merge-noted : (service : Service) (v : WorkerView) (adds : List Addition)
+pub merge-noted : (workload : Workload) (v : WorkerView) (adds : List Addition)
     → Merges (phase_at v) v.slice (pages_of v.post) adds
-    → IsTallied service v
+    → IsTallied workload v
     → v.notes ≡ true
-    → IsNoted service v.post.additions v.post.reads v.adds v.ran
-    → IsUnmerged service v.adds (state.Runs (phase_at v))
+    → IsNoted workload v.post.additions v.post.reads v.adds v.ran
+    → IsUnmerged workload v.adds (state.Runs (phase_at v))
     → All (λ e. e.phase ≤ phase_at v) v.ran
     → IsSliceInSplit v.post v.slice
-    → ((page : ℕ) → is_split_in service (phase_at v) page ≡ slices v.post page)
-    → IsNoted service (v.post.additions ++ adds) v.post.reads (v.adds ++ noted v adds) v.ran
-    × IsUnmerged service (v.adds ++ noted v adds) (state.Answered (phase_at v))
-merge-noted service v adds merges t notes was un within kept alike =
+    → ((page : ℕ) → is_split_in workload (phase_at v) page ≡ slices v.post page)
+    → IsNoted workload (v.post.additions ++ adds) v.post.reads (v.adds ++ noted v adds) v.ran
+    × IsUnmerged workload (v.adds ++ noted v adds) (state.Answered (phase_at v))
+merge-noted workload v adds merges t notes was un within kept alike =
     let k = phase_at v in
     let note : Addition → Added = noted_at (length v.ran) in
     let more : List Added = map note adds in
@@ -155,11 +155,11 @@ merge-noted service v adds merges t notes was un within kept alike =
     (let likes = merges.likes_are i d inside in
     (merges.phase_is i d inside, likes, λ none. liked i d inside (sym likes ∙ none))) in
     let is_split : (i : ℕ) (d : Addition) → i < length adds
-    → is_split_in service (get_or adds i d).phase (get_or adds i d).page ≡ true =
+    → is_split_in workload (get_or adds i d).phase (get_or adds i d).page ≡ true =
     λ i d inside.
     (let b : Addition = get_or adds i d in
     let q = each i d inside in
-    ap (λ (phase : ℕ). is_split_in service phase b.page) q.0
+    ap (λ (phase : ℕ). is_split_in workload phase b.page) q.0
     ∙ (alike b.page ∙ (kept b.page (λ none. q.2 (q.1 ∙ none))).1))
     in
     let count : (phase page : ℕ)
@@ -187,10 +187,10 @@ merge-noted service v adds merges t notes was un within kept alike =
     ap (λ (x : Bool). x && (b.page == page))
     (ne_eqb b.phase phase (λ same. other (sym same ∙ (each i d inside).0))))
     in
-    let new : AreMore service v.ran v.adds more (length v.ran) (λ _ _. 0) =
+    let new : AreMore workload v.ran v.adds more (length v.ran) (λ _ _. 0) =
     record {
       at_end = All-map note (λ a. a.at ≡ length v.ran) adds (λ i d inside. refl);
-      each = All-map note (IsOfLikes service v.ran) adds (λ i d inside.
+      each = All-map note (IsOfLikes workload v.ran) adds (λ i d inside.
           let b : Addition = get_or adds i d in
           let q = each i d inside in
           let split_here = is_split i d inside in
@@ -198,19 +198,19 @@ merge-noted service v adds merges t notes was un within kept alike =
             some = (let more_than = q.2 in positive b.likes more_than);
             plain = λ plain. (let m : false ≡ true = sym plain ∙ split_here in cc m);
             split = λ _.
-                let all : likes_within service b.page v.ran b.phase ≡ likes_within service b.page v.ran k =
-                ap (likes_within service b.page v.ran) q.0 in
+                let all : likes_within workload b.page v.ran b.phase ≡ likes_within workload b.page v.ran k =
+                ap (likes_within workload b.page v.ran) q.0 in
                 let by = t.by_phase k b.page in
                 let none : additions_in v.post k b.page ≡ 0 =
                 ap (added_in k b.page) was.additions_are
                 ∙ nothing-added k b.page v.adds
-                (un.1 b.page (ap (λ (phase : ℕ). is_split_in service phase b.page) (sym q.0) ∙ split_here))
+                (un.1 b.page (ap (λ (phase : ℕ). is_split_in workload phase b.page) (sym q.0) ∙ split_here))
                 in
                 let here : cond {A = ℕ} (k == k) (get_or v.slice b.page 0) 0 ≡ get_or v.slice b.page 0 =
                 cond-true (k == k) (get_or v.slice b.page 0) 0 (eq-eqb k k refl) in
                 let likes = q.1 in
-                let behind : likes_within service b.page (drop (length v.ran) v.ran) b.phase ≡ 0 =
-                ap (λ (xs : List Ran). likes_within service b.page xs b.phase)
+                let behind : likes_within workload b.page (drop (length v.ran) v.ran) b.phase ≡ 0 =
+                ap (λ (xs : List Ran). likes_within workload b.page xs b.phase)
                 (drop_all (length v.ran) v.ran (omega arith))
                 in
                 let all_before : length v.ran ≡ count_by (λ (e : Ran). nat_le e.phase b.phase) v.ran =
@@ -223,11 +223,11 @@ merge-noted service v adds merges t notes was un within kept alike =
       plain = λ phase page is.
           count phase page ∙ count-none (λ (b : Addition). (b.phase == phase) && (b.page == page)) adds
           (λ i d inside. let b : Addition = get_or adds i d in
-          apart service b.phase b.page phase page true false (is_split i d inside) is (λ m. cc m));
+          apart workload b.phase b.page phase page true false (is_split i d inside) is (λ m. cc m));
       split = λ phase page is. elim (cases_eq phase k) [
         | inl same ↦
             let none = ap (λ (j : ℕ). adds_to j page v.adds) same
-            ∙ un.1 page (ap (λ (j : ℕ). is_split_in service j page) (sym same) ∙ is) in
+            ∙ un.1 page (ap (λ (j : ℕ). is_split_in workload j page) (sym same) ∙ is) in
             let few = once phase page in
             omega arith
         | inr other ↦
@@ -237,9 +237,9 @@ merge-noted service v adds merges t notes was un within kept alike =
       ];
     }
     in
-    subst (λ (xs : List Added). IsNoted service (v.post.additions ++ adds) v.post.reads (v.adds ++ xs) v.ran
-    × IsUnmerged service (v.adds ++ xs) (state.Answered (phase_at v))) (sym (noted-each v adds notes)) (
-      noted-merged service v.post.additions adds v.post.reads v.adds more v.ran was new
+    subst (λ (xs : List Added). IsNoted workload (v.post.additions ++ adds) v.post.reads (v.adds ++ xs) v.ran
+    × IsUnmerged workload (v.adds ++ xs) (state.Answered (phase_at v))) (sym (noted-each v adds notes)) (
+      noted-merged workload v.post.additions adds v.post.reads v.adds more v.ran was new
           ((λ m. was.additions_are m ++ sym (noted-are (length v.ran) adds) m)
           ∙ sym (map-append addition_of v.adds more)),
       All-append (λ a. a.phase ≤ k) v.adds more un.0
@@ -255,27 +255,27 @@ merge-noted service v adds merges t notes was un within kept alike =
     at_most_one false = omega arith
 
 -- at the start nothing is noted
-pub noted-nothing : (service : Service) → IsNoted service [] [] [] []
-noted-nothing service = record {
+pub noted-nothing : (workload : Workload) → IsNoted workload [] [] [] []
+noted-nothing workload = record {
   additions_are = refl;
   at = λ i d inside. absurd (omega arith);
   rising = λ i j d lt inside. absurd (omega arith);
   each = λ i d inside. absurd (omega arith);
   plain = λ phase page at
-      is. sym (ap (λ o. likes_within service page (option_to_list o) phase) (slice_get_past [] at (omega arith)));
+      is. sym (ap (λ o. likes_within workload page (option_to_list o) phase) (slice_get_past [] at (omega arith)));
   split = λ phase page is. omega arith;
   looks = refl;
 }
 
 -- where all likes were added, there is one addition to a page that is split in the phase, if it has any
-pub one-of_likes : (service : Service) (additions : List Addition) (reads : List PageRead) (adds : List Added)
+pub one-of_likes : (workload : Workload) (additions : List Addition) (reads : List PageRead) (adds : List Added)
     (ran : List Ran) (phase page : ℕ)
-    → IsNoted service additions reads adds ran
-    → is_split_in service phase page ≡ true
-    → likes_within service page ran phase ≡ added_in phase page additions
-    → adds_to phase page adds ≡ cond (likes_within service page ran phase == 0) 0 1
-one-of_likes service additions reads adds ran phase page noted is sums =
-    let likes : ℕ = likes_within service page ran phase in
+    → IsNoted workload additions reads adds ran
+    → is_split_in workload phase page ≡ true
+    → likes_within workload page ran phase ≡ added_in phase page additions
+    → adds_to phase page adds ≡ cond (likes_within workload page ran phase == 0) 0 1
+one-of_likes workload additions reads adds ran phase page noted is sums =
+    let likes : ℕ = likes_within workload page ran phase in
     elim (cases_eq likes 0) [
       | inl none ↦
           let zero_is : cond {A = ℕ} (likes == 0) 0 1 ≡ 0 =
@@ -295,7 +295,7 @@ one-of_likes service additions reads adds ran phase page noted is sums =
           ]
     ]
   where
-    no_add : (a : Added) → IsOfLikes service ran a → likes_within service page ran phase ≡ 0
+    no_add : (a : Added) → IsOfLikes workload ran a → likes_within workload page ran phase ≡ 0
         → is_add_to phase page a ≡ false
     no_add a o none = by_test (is_add_to phase page a) refl
       where
@@ -305,10 +305,10 @@ one-of_likes service additions reads adds ran phase page noted is sums =
             let both = and_parts (a.phase == phase) (a.page == page) e in
             let in_phase = eqb-true a.phase phase both.0 in
             let of_page = eqb-true a.page page both.1 in
-            let here : is_split_in service a.phase a.page ≡ true =
-            (λ m. is_split_in service (in_phase m) (of_page m)) ∙ is in
-            let all : likes_within service a.page ran a.phase ≡ likes_within service page ran phase =
-            λ m. likes_within service (of_page m) ran (in_phase m) in
+            let here : is_split_in workload a.phase a.page ≡ true =
+            (λ m. is_split_in workload (in_phase m) (of_page m)) ∙ is in
+            let all : likes_within workload a.page ran a.phase ≡ likes_within workload page ran phase =
+            λ m. likes_within workload (of_page m) ran (in_phase m) in
             let n_is = (o.split here).0 in
             let likes = o.some in
             absurd (omega arith)

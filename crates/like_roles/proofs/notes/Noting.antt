@@ -14,15 +14,15 @@ use Rattle.like_core.specs.declared.worker_state.WorkerState.TheVariants as stat
 use Rattle.like_core.specs.WorkerState.{RunsSome, phase_of, seen}
 use Rattle.like_core.specs.Post.{slices}
 use Rattle.like_tables.specs.declared.held.Held.{Held}
-use Rattle.like_service.specs.declared.log.Added.{Added}
-use Rattle.like_service.specs.declared.log.Ran.{Ran}
-use Rattle.like_service.specs.declared.reply.Reply.{Reply}
-use Rattle.like_service.specs.places.Adds.{IsOfLikes, addition_of, is_add_to, adds_before}
+use Rattle.like_promises.specs.declared.log.Added.{Added}
+use Rattle.like_promises.specs.declared.log.Ran.{Ran}
+use Rattle.like_promises.specs.declared.reply.Reply.{Reply}
+use Rattle.like_promises.specs.places.Adds.{IsOfLikes, addition_of, is_add_to, adds_before}
 use Rattle.like_roles.specs.worker.Follows.{adds_to, IsAsked, IsNoted, IsServed, IsUnmerged}
 use Rattle.like_roles.specs.worker.Shown.{adds_before_looks, look_ran}
-use Rattle.like_service.specs.Likes.{AcceptedLike, like_ran, likes_within}
+use Rattle.like_promises.specs.Likes.{AcceptedLike, like_ran, likes_within}
 use Rattle.like_roles.specs.worker.Serve.{GivesReply, refuses, likes, looks, sliced, with_addition, counted, noted_at, ran_now}
-use Rattle.like_service.specs.Service.{Service, is_split_in, submitters}
+use Rattle.like_promises.specs.Workload.{Workload, is_split_in, submitters}
 use Rattle.like_roles.specs.worker.WorkerView.{WorkerView, phase_at}
 use Rattle.like_roles.proofs.notes.Noted.{AddsLikes, apart, count-all, count-none, looks-adds, looks-push, no-more, none-passes, noted-each, noted-push}
 use Rattle.like_roles.proofs.counts.Tallied.{accepted-false, accepted-true, like_ran-is, look_ran-is, verdict_at-served, within-none, within-one}
@@ -35,31 +35,31 @@ flip a b = elim (cases_eq a b) [
 ]
 
 -- an entry that ran an accepted like is one of its page in its phase
-adds-like : (service : Service) (e : Ran) (l : AcceptedLike)
-    → like_ran service e ≡ Some l
-    → AddsLikes service e (λ phase page. cond ((e.phase == phase) && (l.page == page)) 1 0)
-adds-like service e l is xs phase page =
-    within-one service xs e l page phase is
-    ∙ ap (λ (n : ℕ). likes_within service page xs phase + n) (both (e.phase == phase) (l.page == page))
+adds-like : (workload : Workload) (e : Ran) (l : AcceptedLike)
+    → like_ran workload e ≡ Some l
+    → AddsLikes workload e (λ phase page. cond ((e.phase == phase) && (l.page == page)) 1 0)
+adds-like workload e l is xs phase page =
+    within-one workload xs e l page phase is
+    ∙ ap (λ (n : ℕ). likes_within workload page xs phase + n) (both (e.phase == phase) (l.page == page))
   where
     both : (b c : Bool) → cond {A = ℕ} b (cond c 1 0) 0 ≡ cond (b && c) 1 0
     both true c = refl
     both false c = refl
 
 -- another is none
-adds-none : (service : Service) (e : Ran) → like_ran service e ≡ None → AddsLikes service e (λ _ _. 0)
-adds-none service e none xs phase page = within-none service xs e page phase none ∙ omega arith
+adds-none : (workload : Workload) (e : Ran) → like_ran workload e ≡ None → AddsLikes workload e (λ _ _. 0)
+adds-none workload e none xs phase page = within-none workload xs e page phase none ∙ omega arith
 
 -- what stands of the additions, where an entry is noted
-abbrev IsNotedNow : Service → ℕ → WorkerView → List Ran → Type 0
-IsNotedNow service phase w ran =
-    IsNoted service w.post.additions w.post.reads w.adds ran × IsUnmerged service w.adds (state.Runs phase)
+abbrev IsNotedNow : Workload → ℕ → WorkerView → List Ran → Type 0
+IsNotedNow workload phase w ran =
+    IsNoted workload w.post.additions w.post.reads w.adds ran × IsUnmerged workload w.adds (state.Runs phase)
 
 -- additions to pages that are split in their phase are of earlier phases than the one that runs
-earlier : (service : Service) (adds : List Added) (k : ℕ)
-    → IsUnmerged service adds (state.Runs k)
-    → All (λ a. is_split_in service a.phase a.page ≡ true → a.phase < k) adds
-earlier service adds k un i d inside is =
+earlier : (workload : Workload) (adds : List Added) (k : ℕ)
+    → IsUnmerged workload adds (state.Runs k)
+    → All (λ a. is_split_in workload a.phase a.page ≡ true → a.phase < k) adds
+earlier workload adds k un i d inside is =
     let a : Added = get_or adds i d in
     let low = un.0 i d inside in
     elim (cases_lt a.phase k) [
@@ -67,78 +67,78 @@ earlier service adds k un i d inside is =
       | inr past ↦
           let same : a.phase ≡ k = omega arith in
           let none = none-passes (is_add_to k a.page) adds
-          (un.1 a.page (ap (λ (j : ℕ). is_split_in service j a.page) (sym same) ∙ is)) i d inside in
+          (un.1 a.page (ap (λ (j : ℕ). is_split_in workload j a.page) (sym same) ∙ is)) i d inside in
           let yes : is_add_to k a.page a ≡ true = λ m. eq-eqb a.phase k same m && eq-eqb a.page a.page refl m in
           let both : true ≡ false = sym yes ∙ none in
           absurd (cc both)
     ]
 
 -- an entry that is no accepted like
-no_like : (service : Service) (v : WorkerView) (e : Ran) (reads : List PageRead)
-    → IsNoted service v.post.additions v.post.reads v.adds v.ran
-    → All (λ a. is_split_in service a.phase a.page ≡ true → a.phase < e.phase) v.adds
-    → like_ran service e ≡ None
-    → map (λ r. r.after) reads ≡ adds_before_looks service v.adds (v.ran ++ e ∷ [])
-    → IsNoted service v.post.additions reads v.adds (v.ran ++ e ∷ [])
-no_like service v e reads old before none shows =
-    noted-push service v.post.additions v.post.additions v.post.reads reads v.adds [] v.adds v.ran e (λ _ _. 0) old
-    (adds-none service e none) (sym (append-nil v.adds))
-    (no-more service (v.ran ++ e ∷ []) v.adds (length v.ran) (λ _ _. 0) (λ _ _ _. refl) old.split)
+no_like : (workload : Workload) (v : WorkerView) (e : Ran) (reads : List PageRead)
+    → IsNoted workload v.post.additions v.post.reads v.adds v.ran
+    → All (λ a. is_split_in workload a.phase a.page ≡ true → a.phase < e.phase) v.adds
+    → like_ran workload e ≡ None
+    → map (λ r. r.after) reads ≡ adds_before_looks workload v.adds (v.ran ++ e ∷ [])
+    → IsNoted workload v.post.additions reads v.adds (v.ran ++ e ∷ [])
+no_like workload v e reads old before none shows =
+    noted-push workload v.post.additions v.post.additions v.post.reads reads v.adds [] v.adds v.ran e (λ _ _. 0) old
+    (adds-none workload e none) (sym (append-nil v.adds))
+    (no-more workload (v.ran ++ e ∷ []) v.adds (length v.ran) (λ _ _. 0) (λ _ _ _. refl) old.split)
     (λ i d inside is. (refl, before i d inside is))
     old.additions_are
     shows
 
 -- one that ran no look has none before it
-no_look : (service : Service) (adds : List Added) (ran : List Ran) (e : Ran)
-    → look_ran service e ≡ None
-    → adds_before_looks service adds (ran ++ e ∷ []) ≡ adds_before_looks service adds ran
-no_look service adds ran e none =
-    looks-push service adds ran e
-    ∙ (ap (λ o. adds_before_looks service adds ran
+no_look : (workload : Workload) (adds : List Added) (ran : List Ran) (e : Ran)
+    → look_ran workload e ≡ None
+    → adds_before_looks workload adds (ran ++ e ∷ []) ≡ adds_before_looks workload adds ran
+no_look workload adds ran e none =
+    looks-push workload adds ran e
+    ∙ (ap (λ o. adds_before_looks workload adds ran
     ++ option_to_list (option_map (λ _. adds_before (length ran) adds) o)) none
-    ∙ append-nil (adds_before_looks service adds ran))
+    ∙ append-nil (adds_before_looks workload adds ran))
 
 -- an accepted like
-one_like : (service : Service) (v : WorkerView) (e : Ran) (page old user : ℕ)
+one_like : (workload : Workload) (v : WorkerView) (e : Ran) (page old user : ℕ)
     → v.notes ≡ true
-    → IsNoted service v.post.additions v.post.reads v.adds v.ran
-    → IsUnmerged service v.adds (state.Runs (phase_at v))
+    → IsNoted workload v.post.additions v.post.reads v.adds v.ran
+    → IsUnmerged workload v.adds (state.Runs (phase_at v))
     → e.phase ≡ phase_at v
-    → like_ran service e ≡ Some (record { user = user; page = page })
-    → look_ran service e ≡ None
-    → is_split_in service (phase_at v) page ≡ slices v.post page
-    → IsNotedNow service (phase_at v) (counted v page old) (v.ran ++ e ∷ [])
-one_like service v e page old user notes was un now like no_look_ran alike = by_test (slices v.post page) refl
+    → like_ran workload e ≡ Some (record { user = user; page = page })
+    → look_ran workload e ≡ None
+    → is_split_in workload (phase_at v) page ≡ slices v.post page
+    → IsNotedNow workload (phase_at v) (counted v page old) (v.ran ++ e ∷ [])
+one_like workload v e page old user notes was un now like no_look_ran alike = by_test (slices v.post page) refl
   where
     k : ℕ
     k = phase_at v
 
     P : WorkerView → Type 0
-    P w = IsNotedNow service k w (v.ran ++ e ∷ [])
+    P w = IsNotedNow workload k w (v.ran ++ e ∷ [])
 
     one : ℕ → ℕ → ℕ
     one phase q = cond ((k == phase) && (page == q)) 1 0
 
-    by : AddsLikes service e one
+    by : AddsLikes workload e one
     by xs phase q =
-        adds-like service e (record { user = user; page = page }) like xs phase q
-        ∙ ap (λ (j : ℕ). likes_within service q xs phase + cond ((j == phase) && (page == q)) 1 0) now
+        adds-like workload e (record { user = user; page = page }) like xs phase q
+        ∙ ap (λ (j : ℕ). likes_within workload q xs phase + cond ((j == phase) && (page == q)) 1 0) now
 
-    before : All (λ a. is_split_in service a.phase a.page ≡ true → a.phase < e.phase) v.adds
-    before i d inside is = let low = earlier service v.adds k un i d inside is in omega arith
+    before : All (λ a. is_split_in workload a.phase a.page ≡ true → a.phase < e.phase) v.adds
+    before i d inside is = let low = earlier workload v.adds k un i d inside is in omega arith
 
-    none_else : (phase q : ℕ) (s t : Bool) → is_split_in service k page ≡ s → is_split_in service phase q ≡ t → s ≢ t
+    none_else : (phase q : ℕ) (s t : Bool) → is_split_in workload k page ≡ s → is_split_in workload phase q ≡ t → s ≢ t
         → one phase q ≡ 0
     none_else phase q s t is other differ =
-        ap (λ (b : Bool). cond {A = ℕ} b 1 0) (apart service k page phase q s t is other differ)
+        ap (λ (b : Bool). cond {A = ℕ} b 1 0) (apart workload k page phase q s t is other differ)
 
-    in_slice : is_split_in service k page ≡ true
-        → IsNoted service v.post.additions v.post.reads v.adds (v.ran ++ e ∷ [])
-        × IsUnmerged service v.adds (state.Runs k)
+    in_slice : is_split_in workload k page ≡ true
+        → IsNoted workload v.post.additions v.post.reads v.adds (v.ran ++ e ∷ [])
+        × IsUnmerged workload v.adds (state.Runs k)
     in_slice is = (
-      noted-push service v.post.additions v.post.additions v.post.reads v.post.reads v.adds [] v.adds v.ran e one was by
+      noted-push workload v.post.additions v.post.additions v.post.reads v.post.reads v.adds [] v.adds v.ran e one was by
           (sym (append-nil v.adds))
-          (no-more service (v.ran ++ e ∷ []) v.adds (length v.ran) one
+          (no-more workload (v.ran ++ e ∷ []) v.adds (length v.ran) one
           (λ phase q other. none_else phase q true false is other (λ m. cc m)) was.split)
           (λ i d inside split.
           let a : Added = get_or v.adds i d in
@@ -147,14 +147,14 @@ one_like service v e page old user notes was un now like no_look_ran alike = by_
             before i d inside split,
           ))
           was.additions_are
-          (was.looks ∙ sym (no_look service v.adds v.ran e no_look_ran)),
+          (was.looks ∙ sym (no_look workload v.adds v.ran e no_look_ran)),
       un,
     )
 
     new : Addition
     new = record { phase = k; page = page; old = old; likes = 1 }
 
-    on_board : is_split_in service k page ≡ false → P (with_addition v page old 1)
+    on_board : is_split_in workload k page ≡ false → P (with_addition v page old 1)
     on_board is =
         let a : Added = noted_at (length v.ran) new in
         let all : List Added = v.adds ++ a ∷ [] in
@@ -162,11 +162,11 @@ one_like service v e page old user notes was un now like no_look_ran alike = by_
         λ phase q. (sum_by-cons (λ (b : Added). cond {A = ℕ} (is_add_to phase q b) 1 0) a [] ∙ omega arith) in
         subst (λ (xs : List Added). P (record (with_addition v page old 1) { adds = v.adds ++ xs }))
         (sym (noted-each v (new ∷ []) notes)) (
-          noted-push service v.post.additions (v.post.additions ++ new ∷ []) v.post.reads v.post.reads v.adds
+          noted-push workload v.post.additions (v.post.additions ++ new ∷ []) v.post.reads v.post.reads v.adds
               (a ∷ []) all v.ran e one was by refl
               (record {
                 at_end = one_of (λ b. b.at ≡ length v.ran) a refl;
-                each = one_of (IsOfLikes service (v.ran ++ e ∷ [])) a
+                each = one_of (IsOfLikes workload (v.ran ++ e ∷ [])) a
                     (record {
                       some =
                           omega arith;
@@ -184,8 +184,8 @@ one_like service v e page old user notes was un now like no_look_ran alike = by_
               (none_else b.phase b.page false true is other (λ m. cc m), before i d inside other))
               (ap (λ (xs : List Addition). xs ++ new ∷ []) was.additions_are
               ∙ sym (map-append addition_of v.adds (a ∷ [])))
-              (was.looks ∙ sym (no_look service all v.ran e no_look_ran
-              ∙ looks-adds service v.adds (a ∷ []) v.ran (one_of (λ b. b.at ≡ length v.ran) a refl))),
+              (was.looks ∙ sym (no_look workload all v.ran e no_look_ran
+              ∙ looks-adds workload v.adds (a ∷ []) v.ran (one_of (λ b. b.at ≡ length v.ran) a refl))),
           (
             All-push (λ b. b.phase ≤ k) v.adds a un.0 (omega arith),
             λ q other.
@@ -208,45 +208,45 @@ one_like service v e page old user notes was un now like no_look_ran alike = by_
         subst (λ (b : Bool). P (cond b (sliced v page) (with_addition v page old 1))) (sym e') (on_board (alike ∙ e'))
 
 -- whatever the answer is, of a worker that notes its additions
-pub GivesReply-noted : (service : Service) (v : WorkerView) (h : Held) (stashed : Bool) (answer : Reply)
+pub GivesReply-noted : (workload : Workload) (v : WorkerView) (h : Held) (stashed : Bool) (answer : Reply)
     (w : WorkerView)
-    → IsServed service v
+    → IsServed workload v
     → v.notes ≡ true
-    → IsNoted service v.post.additions v.post.reads v.adds v.ran
-    → IsUnmerged service v.adds (state.Runs (phase_at v))
-    → IsAsked service h
-    → ((page : ℕ) → is_split_in service (phase_at v) page ≡ slices v.post page)
+    → IsNoted workload v.post.additions v.post.reads v.adds v.ran
+    → IsUnmerged workload v.adds (state.Runs (phase_at v))
+    → IsAsked workload h
+    → ((page : ℕ) → is_split_in workload (phase_at v) page ≡ slices v.post page)
     → GivesReply v h.submitter h.ask.request answer w
-    → IsNotedNow service (phase_at v) w (v.ran ++ ran_now v h stashed answer ∷ [])
-GivesReply-noted service v h stashed answer w served notes was un asked alike (refuses n a e) =
+    → IsNotedNow workload (phase_at v) w (v.ran ++ ran_now v h stashed answer ∷ [])
+GivesReply-noted workload v h stashed answer w served notes was un asked alike (refuses n a e) =
     let r = h.ask.request in
-    let V-is = verdict_at-served service v h.submitter r served in
+    let V-is = verdict_at-served workload v h.submitter r served in
     let x = ran_now v h stashed answer in
-    let no = accepted-false service.users (submitters service) h.submitter r (λ k. n (V-is ∙ k)) in
-    let none : like_ran service x ≡ None = like_ran-is service x r asked.asked ∙ rw no refl in
-    let no_look_ran : look_ran service x ≡ None = look_ran-is service x r asked.asked ∙ rw no refl in
-    subst (λ u. IsNotedNow service (phase_at v) u (v.ran ++ x ∷ [])) (sym e) (
-      no_like service v x v.post.reads was (earlier service v.adds (phase_at v) un) none
-          (was.looks ∙ sym (no_look service v.adds v.ran x no_look_ran)),
+    let no = accepted-false workload.users (submitters workload) h.submitter r (λ k. n (V-is ∙ k)) in
+    let none : like_ran workload x ≡ None = like_ran-is workload x r asked.asked ∙ rw no refl in
+    let no_look_ran : look_ran workload x ≡ None = look_ran-is workload x r asked.asked ∙ rw no refl in
+    subst (λ u. IsNotedNow workload (phase_at v) u (v.ran ++ x ∷ [])) (sym e) (
+      no_like workload v x v.post.reads was (earlier workload v.adds (phase_at v) un) none
+          (was.looks ∙ sym (no_look workload v.adds v.ran x no_look_ran)),
       un,
     )
-GivesReply-noted service v h stashed answer w served notes was un asked alike (likes page a o p l e) =
+GivesReply-noted workload v h stashed answer w served notes was un asked alike (likes page a o p l e) =
     let r = h.ask.request in
-    let V-is = sym (verdict_at-served service v h.submitter r served) ∙ a in
-    let yes = accepted-true service.users (submitters service) h.submitter r V-is in
+    let V-is = sym (verdict_at-served workload v h.submitter r served) ∙ a in
+    let yes = accepted-true workload.users (submitters workload) h.submitter r V-is in
     let x = ran_now v h stashed answer in
-    let like : like_ran service x ≡ Some (record { user = r.user; page = page }) =
-    like_ran-is service x r asked.asked ∙ rw (yes, o, p) refl in
-    let no_look_ran : look_ran service x ≡ None = look_ran-is service x r asked.asked ∙ rw (yes, o) refl in
-    let counts = one_like service v x page e.0 r.user notes was un refl like no_look_ran (alike page) in
-    subst (λ u. IsNotedNow service (phase_at v) u (v.ran ++ x ∷ [])) (sym e.1) (counts.0, counts.1)
-GivesReply-noted service v h stashed answer w served notes was un asked alike (looks page count a o p s n e) =
+    let like : like_ran workload x ≡ Some (record { user = r.user; page = page }) =
+    like_ran-is workload x r asked.asked ∙ rw (yes, o, p) refl in
+    let no_look_ran : look_ran workload x ≡ None = look_ran-is workload x r asked.asked ∙ rw (yes, o) refl in
+    let counts = one_like workload v x page e.0 r.user notes was un refl like no_look_ran (alike page) in
+    subst (λ u. IsNotedNow workload (phase_at v) u (v.ran ++ x ∷ [])) (sym e.1) (counts.0, counts.1)
+GivesReply-noted workload v h stashed answer w served notes was un asked alike (looks page count a o p s n e) =
     let r = h.ask.request in
-    let V-is = sym (verdict_at-served service v h.submitter r served) ∙ a in
-    let yes = accepted-true service.users (submitters service) h.submitter r V-is in
+    let V-is = sym (verdict_at-served workload v h.submitter r served) ∙ a in
+    let yes = accepted-true workload.users (submitters workload) h.submitter r V-is in
     let x = ran_now v h stashed answer in
-    let none : like_ran service x ≡ None = like_ran-is service x r asked.asked ∙ rw (yes, o) refl in
-    let look : look_ran service x ≡ Some page = look_ran-is service x r asked.asked ∙ rw (yes, o, p) refl in
+    let none : like_ran workload x ≡ None = like_ran-is workload x r asked.asked ∙ rw (yes, o) refl in
+    let look : look_ran workload x ≡ Some page = look_ran-is workload x r asked.asked ∙ rw (yes, o, p) refl in
     let read : PageRead = record { phase = phase_at v; page = page; count = count; after = length v.post.additions } in
     let all_before : adds_before (length v.ran) v.adds ≡ length v.adds =
     count-all (λ (b : Added). nat_le b.at (length v.ran)) v.adds
@@ -256,44 +256,44 @@ GivesReply-noted service v h stashed answer w served notes was un asked alike (l
     ap (λ (xs : List Addition). length xs) was.additions_are ∙ (length-map v.adds addition_of ∙ sym all_before)
     in
     let shows : map (λ (q : PageRead). q.after) (v.post.reads ++ read ∷ [])
-    ≡ adds_before_looks service v.adds (v.ran ++ x ∷ []) =
+    ≡ adds_before_looks workload v.adds (v.ran ++ x ∷ []) =
     map-append (λ (q : PageRead). q.after) v.post.reads (read ∷ [])
     ∙ ((λ m. was.looks m ++ as_many m ∷ [])
-    ∙ sym (looks-push service v.adds v.ran x
-    ∙ ap (λ o. adds_before_looks service v.adds v.ran
+    ∙ sym (looks-push workload v.adds v.ran x
+    ∙ ap (λ o. adds_before_looks workload v.adds v.ran
     ++ option_to_list (option_map (λ _. adds_before (length v.ran) v.adds) o)) look))
     in
-    subst (λ u. IsNotedNow service (phase_at v) u (v.ran ++ x ∷ [])) (sym e) (
-      no_like service v x (v.post.reads ++ read ∷ []) was (earlier service v.adds (phase_at v) un) none shows,
+    subst (λ u. IsNotedNow workload (phase_at v) u (v.ran ++ x ∷ [])) (sym e) (
+      no_like workload v x (v.post.reads ++ read ∷ []) was (earlier workload v.adds (phase_at v) un) none shows,
       un,
     )
 
 -- what stands where a phase runs is what stands of the worker's state
-pub unmerged-running : (service : Service) (adds : List Added) (P : ℕ → Type 0) (s : WorkerState)
+pub unmerged-running : (workload : Workload) (adds : List Added) (P : ℕ → Type 0) (s : WorkerState)
     → RunsSome P s
-    → IsUnmerged service adds s
-    → IsUnmerged service adds (state.Runs (phase_of s))
-unmerged-running service adds P (state.Runs k) r u = u
-unmerged-running service adds P (state.Answered k) r u = absurd r
-unmerged-running service adds P state.Gone r u = absurd r
+    → IsUnmerged workload adds s
+    → IsUnmerged workload adds (state.Runs (phase_of s))
+unmerged-running workload adds P (state.Runs k) r u = u
+unmerged-running workload adds P (state.Answered k) r u = absurd r
+unmerged-running workload adds P state.Gone r u = absurd r
 
-pub running-unmerged : (service : Service) (adds : List Added) (P : ℕ → Type 0) (s : WorkerState)
+pub running-unmerged : (workload : Workload) (adds : List Added) (P : ℕ → Type 0) (s : WorkerState)
     → RunsSome P s
-    → IsUnmerged service adds (state.Runs (phase_of s))
-    → IsUnmerged service adds s
-running-unmerged service adds P (state.Runs k) r u = u
-running-unmerged service adds P (state.Answered k) r u = absurd r
-running-unmerged service adds P state.Gone r u = absurd r
+    → IsUnmerged workload adds (state.Runs (phase_of s))
+    → IsUnmerged workload adds s
+running-unmerged workload adds P (state.Runs k) r u = u
+running-unmerged workload adds P (state.Answered k) r u = absurd r
+running-unmerged workload adds P state.Gone r u = absurd r
 
 -- after a look
-pub unmerged-seen : (service : Service) (adds : List Added) (sight : Sight) (s : WorkerState)
-    → IsUnmerged service adds s
-    → IsUnmerged service adds (seen s sight)
-unmerged-seen service adds sight (state.Runs k) u = u
-unmerged-seen service adds sight state.Gone u = u
-unmerged-seen service adds sight (state.Answered k) u = by_test sight.waits
+pub unmerged-seen : (workload : Workload) (adds : List Added) (sight : Sight) (s : WorkerState)
+    → IsUnmerged workload adds s
+    → IsUnmerged workload adds (seen s sight)
+unmerged-seen workload adds sight (state.Runs k) u = u
+unmerged-seen workload adds sight state.Gone u = u
+unmerged-seen workload adds sight (state.Answered k) u = by_test sight.waits
   where
-    by_test : (w : Bool) → IsUnmerged service adds (cond w (state.Answered k) (state.Runs (k + 1)))
+    by_test : (w : Bool) → IsUnmerged workload adds (cond w (state.Answered k) (state.Runs (k + 1)))
     by_test true = u
     by_test false = (
       λ i d inside. (let low = u i d inside in omega arith),

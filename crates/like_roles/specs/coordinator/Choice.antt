@@ -8,10 +8,10 @@ use Rattle.like_limits.specs.Limits.{hot_pages}
 use Rattle.like_core.specs.Phase.{IsJoined, IsSplit}
 use Rattle.like_core.specs.PhaseMasks.{mask_of}
 use Rattle.like_core.specs.views.Views.{published_coord, released_coord}
-use Rattle.like_service.specs.declared.chosen.Chosen.{Chosen}
+use Rattle.like_promises.specs.declared.chosen.Chosen.{Chosen}
 use Rattle.like_seat.specs.Lead.{LeadView, counted_from, of_hot_pages, risen}
-use Rattle.like_service.specs.HotPages.{chosen_below, hot_by, max_chosen}
-use Rattle.like_service.specs.Likes.{last_in}
+use Rattle.like_promises.specs.HotPages.{chosen_below, hot_by, max_chosen}
+use Rattle.like_promises.specs.Likes.{last_in}
 
 -- what the coordinator chooses by: how many likes make a page hot, if any do; the counts at its last choice of the pages
 -- that may be hot; and the choices of some page, in order

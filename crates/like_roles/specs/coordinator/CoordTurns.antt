@@ -7,7 +7,7 @@ use Rattle.like_core.specs.views.Actions.{Surveys}
 use Rattle.like_core.specs.views.Views.{announced_coord, looked_coord}
 use Rattle.like_board.specs.Seats.{BoardId}
 use Rattle.like_seat.specs.Lead.{LeadView}
-use Rattle.like_service.specs.declared.chosen.Chosen.{Chosen}
+use Rattle.like_promises.specs.declared.chosen.Chosen.{Chosen}
 use Rattle.like_roles.specs.declared.coord_turn.CoordTurn.{CoordTurn}
 use Rattle.like_roles.specs.declared.coord_turn.CoordTurn.TheVariants.{Counted, Announced, Waiting, Released, Ended, Stays}
 use Rattle.like_roles.specs.coordinator.Choice.{AreTotals, ChoiceView, HasChosen, ReleasesNext, choice_of}

@@ -17,26 +17,26 @@ use Rattle.like_core.specs.WorkerState.{IsRunning, RunsJoined}
 use Rattle.like_core.specs.Post.{additions_of, additions_in, pages_of}
 use Rattle.like_tables.specs.UserTable.{last_of}
 use Rattle.like_tables.specs.declared.held.Held.{Held}
-use Rattle.like_service.specs.declared.log.Added.{Added}
-use Rattle.like_service.specs.declared.log.Ran.{Ran}
-use Rattle.like_service.specs.declared.log.Took.{Took}
-use Rattle.like_service.specs.places.Adds.{IsOfLikes, AreOfLikes, addition_of, is_add_to}
-use Rattle.like_service.specs.Likes.{last_like, likes_among, likes_within}
+use Rattle.like_promises.specs.declared.log.Added.{Added}
+use Rattle.like_promises.specs.declared.log.Ran.{Ran}
+use Rattle.like_promises.specs.declared.log.Took.{Took}
+use Rattle.like_promises.specs.places.Adds.{IsOfLikes, AreOfLikes, addition_of, is_add_to}
+use Rattle.like_promises.specs.Likes.{last_like, likes_among, likes_within}
 use Rattle.like_roles.specs.worker.Shown.{adds_before_looks, shown_by, shown_in}
-use Rattle.like_service.specs.Order.{Entry, entry_of, order, stashed_in}
-use Rattle.like_service.specs.Replies.{HasRightAnswers}
-use Rattle.like_service.specs.Service.{Service, is_split_in, request_at, submitters}
+use Rattle.like_promises.specs.Order.{Entry, entry_of, order, stashed_in}
+use Rattle.like_promises.specs.Replies.{HasRightAnswers}
+use Rattle.like_promises.specs.Workload.{Workload, is_split_in, request_at, submitters}
 use Rattle.like_requests.specs.Setup.{IsThere}
 use Rattle.like_roles.specs.worker.WorkerView.{WorkerView, TookAllEnds, phase_at, submitter_at}
 
--- the service is the one that the worker serves, with as much room for looks that wait; the masks that its post read are
--- the service's, and its board has the limits of a run
-pub record IsServed (service : Service) (v : WorkerView) : Type 0 where
-  pub users : service.users ≡ v.last.share.users
-  pub submitters_alike : submitters service ≡ v.last.share.submitters
-  pub marks_alike : marks_of service.pages ≡ v.post.marks
-  pub hot_alike : AreMasksOf service.hot v.post.masks
-  pub stash_alike : service.stash ≡ v.held.capacity
+-- the workload is the one that the worker serves, with as much room for looks that wait; the masks that its post read are
+-- the workload's, and its board has the limits of a run
+pub record IsServed (workload : Workload) (v : WorkerView) : Type 0 where
+  pub users : workload.users ≡ v.last.share.users
+  pub submitters_alike : submitters workload ≡ v.last.share.submitters
+  pub marks_alike : marks_of workload.pages ≡ v.post.marks
+  pub hot_alike : AreMasksOf workload.hot v.post.masks
+  pub stash_alike : workload.stash ≡ v.held.capacity
   pub run : v.post.limits ≡ run_limits
 
 -- the worker has a place for each page, and for each user
@@ -46,16 +46,16 @@ pub record IsSized (v : WorkerView) : Type 0 where
 
 -- what a worker ran is what its post did: its accepted likes are its additions and its slice, by page and by phase; its
 -- accepted looks are its reads, in order; each reply is right, its count aside; its table has each user's last like
-pub record IsTallied (service : Service) (v : WorkerView) : Type 0 where
+pub record IsTallied (workload : Workload) (v : WorkerView) : Type 0 where
   pub likes : (page : ℕ)
-      → likes_among service page v.ran ≡ additions_of v.post page + slice_index v.slice page
-  pub by_phase : (phase page : ℕ) → likes_within service page v.ran phase
+      → likes_among workload page v.ran ≡ additions_of v.post page + slice_index v.slice page
+  pub by_phase : (phase page : ℕ) → likes_within workload page v.ran phase
       ≡ additions_in v.post phase page
       + (if phase_at v == phase then slice_index v.slice page else 0)
-  pub looks : shown_in service v.ran ≡ map (shown_by v.post.additions) v.post.reads
+  pub looks : shown_in workload v.ran ≡ map (shown_by v.post.additions) v.post.reads
   pub after : All (λ r. r.after ≤ length v.post.additions) v.post.reads
-  pub replies : HasRightAnswers service v.ran
-  pub last : (user : ℕ) → last_of v.last user ≡ last_like service user v.ran
+  pub replies : HasRightAnswers workload v.ran
+  pub last : (user : ℕ) → last_of v.last user ≡ last_like workload user v.ran
 
 -- how many additions are to a page in a phase
 abbrev pub adds_to : ℕ → ℕ → List Added → ℕ
@@ -66,38 +66,38 @@ abbrev pub adds_at : ℕ → ℕ → ℕ → List Added → ℕ
 adds_at phase page at adds = count_by (λ a. is_add_to phase page a && (a.at == at)) adds
 
 -- how many accepted likes of a page in a phase, one or none, the entry at a place of a run list ran
-abbrev pub likes_at : Service → ℕ → ℕ → ℕ → List Ran → ℕ
-likes_at service phase page at ran =
-    likes_within service page (option_to_list (slice_get ran at)) phase
+abbrev pub likes_at : Workload → ℕ → ℕ → ℕ → List Ran → ℕ
+likes_at workload phase page at ran =
+    likes_within workload page (option_to_list (slice_get ran at)) phase
 
 -- the additions of a worker are noted: they are its post's, in order; each is of accepted likes of its run list, of a page
 -- that is not split in the phase one at each like, and of a page that is at most one; and before each look ran as many
 -- as its post had made before the read
-pub record IsNoted (service : Service) (additions : List Addition) (reads : List PageRead)
+pub record IsNoted (workload : Workload) (additions : List Addition) (reads : List PageRead)
     (adds : List Added) (ran : List Ran) : Type 0 where
   pub additions_are : additions ≡ map addition_of adds
   pub at : All (λ a. a.at ≤ length ran) adds
   pub rising : AllPairs (λ a b. a.at ≤ b.at) adds
-  pub each : All (IsOfLikes service ran) adds
-  pub plain : (phase page at : ℕ) → is_split_in service phase page ≡ false
-      → adds_at phase page at adds ≡ likes_at service phase page at ran
-  pub split : (phase page : ℕ) → is_split_in service phase page ≡ true
+  pub each : All (IsOfLikes workload ran) adds
+  pub plain : (phase page at : ℕ) → is_split_in workload phase page ≡ false
+      → adds_at phase page at adds ≡ likes_at workload phase page at ran
+  pub split : (phase page : ℕ) → is_split_in workload phase page ≡ true
       → adds_to phase page adds ≤ 1
-  pub looks : map (λ r. r.after) reads ≡ adds_before_looks service adds ran
+  pub looks : map (λ r. r.after) reads ≡ adds_before_looks workload adds ran
 
 -- no addition was made in a later phase than the present one; and while a split phase runs, none was made in it to a
 -- page that is split in it
-abbrev pub IsUnmerged : Service → List Added → WorkerState → Type 0
-IsUnmerged service adds (Runs phase) =
+abbrev pub IsUnmerged : Workload → List Added → WorkerState → Type 0
+IsUnmerged workload adds (Runs phase) =
     All (λ a. a.phase ≤ phase) adds
-    × ((page : ℕ) → is_split_in service phase page ≡ true → adds_to phase page adds ≡ 0)
-IsUnmerged service adds (Answered phase) = All (λ a. a.phase ≤ phase) adds
-IsUnmerged service adds Gone = ⊤
+    × ((page : ℕ) → is_split_in workload phase page ≡ true → adds_to phase page adds ≡ 0)
+IsUnmerged workload adds (Answered phase) = All (λ a. a.phase ≤ phase) adds
+IsUnmerged workload adds Gone = ⊤
 
 -- a request that is held is that of its submitter's plan, of a page that is there
-pub record IsAsked (service : Service) (h : Held) : Type 0 where
-  pub asked : request_at service h.submitter h.ask.number ≡ Some h.ask.request
-  pub there : IsThere (length (marks_of service.pages)) h.ask.request.page
+pub record IsAsked (workload : Workload) (h : Held) : Type 0 where
+  pub asked : request_at workload h.submitter h.ask.number ≡ Some h.ask.request
+  pub there : IsThere (length (marks_of workload.pages)) h.ask.request.page
 
 -- a request that is held, as it runs in a phase
 abbrev pub entry_held : ℕ → Held → Entry
@@ -109,9 +109,9 @@ abbrev pub next_joined : WorkerView → ℕ
 next_joined v = phase_at v + phase_at v % 2
 
 -- order: what it ran, and then what it holds, is the run order of what it took
-abbrev pub IsInOrder : Service → WorkerView → Type 0
-IsInOrder service v =
-    map entry_of v.ran ++ map (entry_held (next_joined v)) v.held.held ≡ order service v.taken
+abbrev pub IsInOrder : Workload → WorkerView → Type 0
+IsInOrder workload v =
+    map entry_of v.ran ++ map (entry_held (next_joined v)) v.held.held ≡ order workload v.taken
 
 -- it took nothing and ran nothing in a later phase than this
 abbrev pub HasNothingLater : WorkerView → ℕ → Type 0
@@ -125,57 +125,57 @@ Stands v (Answered phase) = HasNothingLater v phase × (IsJoined phase → v.hel
 Stands v Gone = (v.held.held ≡ []) × TookAllEnds v
 
 -- in no phase do more come out of the stash than it has room for
-abbrev pub FitsStash : Service → List Took → Type 0
-FitsStash service taken = (phase : ℕ) → stashed_in service phase taken ≤ service.stash
+abbrev pub FitsStash : Workload → List Took → Type 0
+FitsStash workload taken = (phase : ℕ) → stashed_in workload phase taken ≤ workload.stash
 
--- what is true between two calls of a worker whose requests are those of the service's plans
-pub record Follows (service : Service) (v : WorkerView) : Type 0 where
-  pub served : IsServed service v
+-- what is true between two calls of a worker whose requests are those of the workload's plans
+pub record Follows (workload : Workload) (v : WorkerView) : Type 0 where
+  pub served : IsServed workload v
   pub sized : IsSized v
-  pub tallied : IsTallied service v
-  pub noted : v.notes ≡ true → IsNoted service v.post.additions v.post.reads v.adds v.ran
-  pub unmerged : v.notes ≡ true → IsUnmerged service v.adds v.post.state
-  pub in_order : IsInOrder service v
-  pub fits : FitsStash service v.taken
-  pub held : All (IsAsked service) v.held.held
+  pub tallied : IsTallied workload v
+  pub noted : v.notes ≡ true → IsNoted workload v.post.additions v.post.reads v.adds v.ran
+  pub unmerged : v.notes ≡ true → IsUnmerged workload v.adds v.post.state
+  pub in_order : IsInOrder workload v
+  pub fits : FitsStash workload v.taken
+  pub held : All (IsAsked workload) v.held.held
   pub stands : Stands v v.post.state
   pub trying : (place : ℕ) → v.pending ≡ Some place
       → IsRunning v.post.state × (RunsJoined v.post.state → v.held.held ≡ [])
 
 -- what is given is asked by the plan of the submitter that is tried
-abbrev pub IsAskedBy : Service → WorkerView → Taken → Type 0
-IsAskedBy service v (taken.Ask ask) =
+abbrev pub IsAskedBy : Workload → WorkerView → Taken → Type 0
+IsAskedBy workload v (taken.Ask ask) =
     (place : ℕ) → v.pending ≡ Some place
-    → request_at service (submitter_at v place) ask.number ≡ Some ask.request
-IsAskedBy service v taken.End = ⊤
-IsAskedBy service v taken.Nothing = ⊤
+    → request_at workload (submitter_at v place) ask.number ≡ Some ask.request
+IsAskedBy workload v taken.End = ⊤
+IsAskedBy workload v taken.Nothing = ⊤
 
--- the service has the users, the pages and the stash of these settings, and plans of these sizes
-pub record IsServiceOf (s : Setup) (sizes : List ℕ) (service : Service) : Type 0 where
-  pub users_are : service.users ≡ s.users
-  pub pages_are : service.pages ≡ s.pages
-  pub stash_is : service.stash ≡ s.stash
-  pub sizes_are : map length service.plans ≡ sizes
+-- the workload has the users, the pages and the stash of these settings, and plans of these sizes
+pub record IsWorkloadOf (s : Setup) (sizes : List ℕ) (workload : Workload) : Type 0 where
+  pub users_are : workload.users ≡ s.users
+  pub pages_are : workload.pages ≡ s.pages
+  pub stash_is : workload.stash ≡ s.stash
+  pub sizes_are : map length workload.plans ≡ sizes
 
 -- the additions of a worker that is gone are noted: they are its post's, in order; each is of its likes; and as many came
 -- before each look as its post had made before the read
-pub record AreNoted (service : Service) (v : WorkerView) : Type 0 where
+pub record AreNoted (workload : Workload) (v : WorkerView) : Type 0 where
   pub additions : v.post.additions ≡ map addition_of v.adds
-  pub adds : AreOfLikes service v.ran v.adds
-  pub reads : map (λ r. r.after) v.post.reads ≡ adds_before_looks service v.adds v.ran
+  pub adds : AreOfLikes workload v.ran v.adds
+  pub reads : map (λ r. r.after) v.post.reads ≡ adds_before_looks workload v.adds v.ran
 
 -- what a worker that is gone has done: it ran what it took in run order, and in no phase more out of its stash than
 -- fits there; its post's additions are the accepted likes that it ran, in each phase, and its post's reads the accepted
 -- looks; its additions are noted, if it notes them; each reply is right, its count aside; its table has each user's
 -- last like; and it took the end mark of each of its submitters
-pub record IsDone (service : Service) (v : WorkerView) : Type 0 where
-  pub in_order : map entry_of v.ran ≡ order service v.taken
-  pub fits : FitsStash service v.taken
-  pub likes : (page : ℕ) → likes_among service page v.ran ≡ additions_of v.post page
+pub record IsDone (workload : Workload) (v : WorkerView) : Type 0 where
+  pub in_order : map entry_of v.ran ≡ order workload v.taken
+  pub fits : FitsStash workload v.taken
+  pub likes : (page : ℕ) → likes_among workload page v.ran ≡ additions_of v.post page
   pub by_phase : (phase page : ℕ)
-      → likes_within service page v.ran phase ≡ additions_in v.post phase page
-  pub looks : shown_in service v.ran ≡ map (shown_by v.post.additions) v.post.reads
-  pub noted : v.notes ≡ true → AreNoted service v
-  pub replies : HasRightAnswers service v.ran
-  pub last : (user : ℕ) → last_of v.last user ≡ last_like service user v.ran
+      → likes_within workload page v.ran phase ≡ additions_in v.post phase page
+  pub looks : shown_in workload v.ran ≡ map (shown_by v.post.additions) v.post.reads
+  pub noted : v.notes ≡ true → AreNoted workload v
+  pub replies : HasRightAnswers workload v.ran
+  pub last : (user : ℕ) → last_of v.last user ≡ last_like workload user v.ran
   pub ended : TookAllEnds v

@@ -11,10 +11,10 @@ use Rattle.like_core.specs.Post.{has_read, additions_of, slices}
 use Rattle.like_tables.specs.UserTable.{last_of, with_last}
 use Rattle.like_tables.specs.declared.held.Held.{Held}
 use Rattle.like_seat.specs.Steps as steps
-use Rattle.like_service.specs.declared.log.Added.{Added}
-use Rattle.like_service.specs.declared.log.Ran.{Ran}
-use Rattle.like_service.specs.declared.reply.Reply.{Reply}
-use Rattle.like_service.specs.declared.reply.Reply.TheVariants.{Liked, Seen, Refused}
+use Rattle.like_promises.specs.declared.log.Added.{Added}
+use Rattle.like_promises.specs.declared.log.Ran.{Ran}
+use Rattle.like_promises.specs.declared.reply.Reply.{Reply}
+use Rattle.like_promises.specs.declared.reply.Reply.TheVariants.{Liked, Seen, Refused}
 use Rattle.like_roles.specs.worker.WorkerView.{WorkerView, phase_at, seat_of, with_seat}
 
 -- the verdict on a request of a submitter

@@ -3,7 +3,7 @@ use Rattle.std.specs.Prelude.{◌≡◌, ℕ, ◌+◌, ◌-◌, ◌<◌, ◌&&�
 use Rattle.std.specs.Option.{option_map_or}
 use Rattle.like_requests.specs.Verdict.{is_accepted}
 use Rattle.like_requests.specs.declared.request.Request.{Request}
-use Rattle.like_service.specs.Looks.{page_looked_at}
+use Rattle.like_promises.specs.Looks.{page_looked_at}
 use Rattle.like_core.specs.WorkerState.{phase_of}
 use Rattle.like_core.specs.Post.{PostView, slices}
 use Rattle.like_seat.specs.StationView.{StationView}
@@ -12,9 +12,9 @@ use Rattle.like_tables.specs.Share.{submitter_of}
 use Rattle.like_tables.specs.declared.held.Held.{Held}
 use Rattle.like_tables.specs.UserTable.{UserTable}
 use Rattle.like_tables.specs.Waiting.{Waiting}
-use Rattle.like_service.specs.declared.log.Added.{Added}
-use Rattle.like_service.specs.declared.log.Ran.{Ran}
-use Rattle.like_service.specs.declared.log.Took.{Took}
+use Rattle.like_promises.specs.declared.log.Added.{Added}
+use Rattle.like_promises.specs.declared.log.Ran.{Ran}
+use Rattle.like_promises.specs.declared.log.Took.{Took}
 
 -- its post; the looks that it holds, which are its stash in a split phase and its backlog in a joined one; its slice, a
 -- number for each page; all likes that ever went into its slice, in order; for each of its submitters by place, how

@@ -1,8 +1,8 @@
 ghost use Rattle.std.specs.Prelude.{◌≡◌, ◌<◌, [], IfOk, length};
 ghost use Rattle.like_roles.specs.coordinator.Choice.{with_chosen, within_limit};
-ghost use Rattle.like_service.specs.HotPages.{max_chosen};
+ghost use Rattle.like_promises.specs.HotPages.{max_chosen};
 
-use like_service::Chosen;
+use like_promises::Chosen;
 use std::alloc::{AllocError, Global};
 use std::marker::Model;
 
@@ -17,8 +17,8 @@ pub(crate) struct Choices {
 
 impl Model for Choices {
     ghost use Rattle.std.specs.Prelude.{◌≡◌, ◌≤◌, List, vec_capacity, vec_len};
-    ghost use Rattle.like_service.specs.declared.chosen.Chosen.{Chosen};
-    ghost use Rattle.like_service.specs.HotPages.{max_chosen};
+    ghost use Rattle.like_promises.specs.declared.chosen.Chosen.{Chosen};
+    ghost use Rattle.like_promises.specs.HotPages.{max_chosen};
 
     ghost Value = { List Chosen };
 

@@ -1,14 +1,14 @@
 ghost use Rattle.std.specs.Prelude.{◌≡◌, ◌≤◌, true, [], All, length, map, vec_capacity};
 ghost use Rattle.like_roles.specs.coordinator.CoordTurns.{HasEndedJoined};
-ghost use Rattle.like_crew.specs.Crew.{CaptainGoesOn};
+ghost use Rattle.like_crew.specs.Crew.{CoordinatorGoesOn};
 ghost use Rattle.like_crew.specs.Ended.{HaveLeft};
 
 use crate::threads::worker::{Owes, Served};
 use like_board::WorkerSeat;
-use like_crew::Captain;
+use like_crew::CoordinatorAt;
+use like_promises::WorkerLog;
 use like_queue::Parkers;
 use like_roles::CoordTurn;
-use like_service::WorkerLog;
 use std::sync::{OnceToken, Wait};
 use std::thread::{PromisedHandle, Threads};
 
@@ -17,14 +17,14 @@ const STRETCH: u32 = 32;
 
 /// Makes the coordinator's turns until it finds the run ended. A change of phase keeps workers from their requests, so
 /// after a release it pauses as often as it waited for that release.
-pub fn coordinate<R: Wait>(rt: &R, parkers: &Parkers, captain: &mut Captain<'_>)
-    ensures goes_on { CaptainGoesOn captain.old captain.new }
-    ensures ended { HasEndedJoined captain.new }
+pub fn coordinate<R: Wait>(rt: &R, parkers: &Parkers, coordinator: &mut CoordinatorAt<'_>)
+    ensures goes_on { CoordinatorGoesOn coordinator.old coordinator.new }
+    ensures ended { HasEndedJoined coordinator.new }
 {
     let mut counted = 0u32;
     let mut waits = 0u32;
     for _ in rt.forever() {
-        match captain.turn() {
+        match coordinator.turn() {
             CoordTurn::Ended => return,
             CoordTurn::Counted | CoordTurn::Stays => {
                 counted = counted.wrapping_add(1);

@@ -3,7 +3,7 @@ ghost use Rattle.like_run.specs.Room.{IsRoom};
 
 use crate::threads::worker::{Owes, Served};
 use like_board::WorkerSeat;
-use like_service::WorkerLog;
+use like_promises::WorkerLog;
 use std::alloc::{AllocError, Global};
 use std::thread::{JoinHandle, PromisedHandle};
 

@@ -1,7 +1,7 @@
 //! The text of a report, on a writer in memory and on one that fails.
 ghost use Rattle.std.specs.Prelude.{◌≡◌, ◌∷◌, List, [], false, length, map};
 ghost use Rattle.like_requests.specs.Pages.{Page};
-ghost use Rattle.like_service.specs.declared.reply.Reply.TheVariants.{Refused};
+ghost use Rattle.like_promises.specs.declared.reply.Reply.TheVariants.{Refused};
 ghost use Rattle.like_replies.specs.Reported.{Reported, reported};
 ghost use Rattle.like_replies.specs.Rows.{IsWritable};
 

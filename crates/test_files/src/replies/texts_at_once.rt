@@ -2,7 +2,7 @@
 ghost use Rattle.std.specs.Prelude.{◌≡◌, ◌<◌, All, List, length};
 ghost use Rattle.std.specs.Option.{ForSome};
 ghost use Rattle.like_requests.specs.Pages.{Page};
-ghost use Rattle.like_service.specs.Collected.{rows_of};
+ghost use Rattle.like_promises.specs.Collected.{rows_of};
 ghost use Rattle.like_replies.specs.Reported.{reported};
 ghost use Rattle.like_replies.specs.Rows.{IsShowable, IsWritable};
 

@@ -2,9 +2,9 @@ use Rattle.std.proofs.Common.{rules, List, take, subst}
 use Rattle.std.proofs.lemmas.List.{take_all}
 use Rattle.std.proofs.Math.Facts.{Fits-lt-pow}
 use Rattle.std.proofs.lemmas.Result.{MatchResult-weaker}
-use Rattle.like_service.specs.declared.log.WorkerLog.{WorkerLog}
+use Rattle.like_promises.specs.declared.log.WorkerLog.{WorkerLog}
 use Rattle.like_collection.specs.CollectFaults.{IsCollectFault}
-use Rattle.like_service.specs.Collected.{rows_of, entries_in}
+use Rattle.like_promises.specs.Collected.{rows_of, entries_in}
 use Rattle.like_collection.specs.Slots.{HoldsAll}
 use Rattle.like_collection.proofs.slots.Collecting.{IsCollectFault-empty, IsCollectFault-log, IsCollected-held, entries_in-more, short_rows}
 use Rattle.like_collection.proofs.slots.Holding.{HoldsAll-start}

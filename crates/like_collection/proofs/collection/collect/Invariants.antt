@@ -1,5 +1,5 @@
 use Rattle.std.proofs.Common.{take}
-use Rattle.like_service.specs.Collected.{entries_in}
+use Rattle.like_promises.specs.Collected.{entries_in}
 use Rattle.like_collection.specs.Slots.{HoldsAll}
 use Rattle.like_collection.proofs.collection.collect.Given as goal
 

@@ -1,8 +1,8 @@
 use Rattle.std.proofs.Common.{◌≡◌, ◌+◌, ◌++◌, ◌∷◌, [], List, length, get_or, take, ap, sym, ◌∙◌, subst, arith}
 use Rattle.std.proofs.lemmas.List.{length-take-le, take_all, take_more}
-use Rattle.like_service.specs.declared.log.WorkerLog.{WorkerLog}
-use Rattle.like_service.specs.declared.place.Place.{Place}
-use Rattle.like_service.specs.places.Places.{AreByOld, lists_in, places_in, places_of}
+use Rattle.like_promises.specs.declared.log.WorkerLog.{WorkerLog}
+use Rattle.like_promises.specs.declared.place.Place.{Place}
+use Rattle.like_promises.specs.places.Places.{AreByOld, lists_in, places_in, places_of}
 use Rattle.like_collection.proofs.PlaceLists.{places_in-push}
 use Rattle.like_collection.proofs.page_places.places.Goals as goal
 

@@ -1,5 +1,5 @@
 use Rattle.std.proofs.Common.{◌≡◌, ℕ, ◌<◌, [], get_or, length, take}
-use Rattle.like_service.specs.places.Places.{lists_in, places_in}
+use Rattle.like_promises.specs.places.Places.{lists_in, places_in}
 use Rattle.like_collection.proofs.page_places.places.Given as goal
 
 abbrev pub invariant-loop-log : goal.invariant-loop-log

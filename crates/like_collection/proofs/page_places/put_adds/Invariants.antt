@@ -1,5 +1,5 @@
 use Rattle.std.proofs.Common.{◌≡◌, ℕ, ◌<◌, ◌++◌, [], get_or, length, take}
-use Rattle.like_service.specs.places.Places.{lists_in, places_of}
+use Rattle.like_promises.specs.places.Places.{lists_in, places_of}
 use Rattle.like_collection.proofs.page_places.put_adds.Given as goal
 
 abbrev pub invariant-loop-added : goal.invariant-loop-added

@@ -1,8 +1,8 @@
 use Rattle.std.proofs.Common.{◌≡◌, ℕ, ◌<◌, inl, inr, List, [], length, get_or, ap, sym, ◌∙◌, subst, arith}
 use Rattle.std.proofs.lemmas.Bool.{cases_lt}
 use Rattle.std.proofs.lemmas.List.{length-map, length-set, get_or-set_same, get_or-set_other}
-use Rattle.like_service.specs.declared.place.Place.{Place}
-use Rattle.like_service.specs.places.Places.{AreByOld, lists_in}
+use Rattle.like_promises.specs.declared.place.Place.{Place}
+use Rattle.like_promises.specs.places.Places.{AreByOld, lists_in}
 use Rattle.like_collection.proofs.page_places.sort_all.Goals as goal
 
 pub loop-page-preserved : goal.loop-page-preserved

@@ -1,5 +1,5 @@
 use Rattle.std.proofs.Common.{◌≡◌, ℕ, ◌<◌, ◌≤◌, [], get_or, length}
-use Rattle.like_service.specs.places.Places.{AreByOld, lists_in}
+use Rattle.like_promises.specs.places.Places.{AreByOld, lists_in}
 use Rattle.like_collection.proofs.page_places.sort_all.Given as goal
 
 abbrev pub invariant-loop-page : goal.invariant-loop-page

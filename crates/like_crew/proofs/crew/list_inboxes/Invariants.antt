@@ -1,6 +1,6 @@
 use Rattle.std.proofs.Common.{◌≡◌, map}
 use Rattle.like_queue.specs.Inbox.{view_of}
-use Rattle.like_service.specs.Asked.{lists_of}
+use Rattle.like_promises.specs.WorkloadOf.{lists_of}
 use Rattle.like_crew.specs.Server.{untouched}
 use Rattle.like_crew.proofs.crew.list_inboxes.Given as goal
 

@@ -5,14 +5,14 @@ use Rattle.like_requests.specs.Verdict.{home}
 use Rattle.like_requests.specs.declared.request.Request.{Request}
 use Rattle.like_requests.specs.declared.setup.Setup.{Setup}
 use Rattle.like_core.specs.declared.opening.Opening.{Opening}
-use Rattle.like_service.specs.Collected.{IsCollected, rows_of, entries_in}
-use Rattle.like_service.specs.places.Places.{ArePlaces, lists_in}
-use Rattle.like_service.specs.declared.log.Added.{Added}
-use Rattle.like_service.specs.declared.log.WorkerLog.{WorkerLog}
+use Rattle.like_promises.specs.Collected.{IsCollected, rows_of, entries_in}
+use Rattle.like_promises.specs.places.Places.{ArePlaces, lists_in}
+use Rattle.like_promises.specs.declared.log.Added.{Added}
+use Rattle.like_promises.specs.declared.log.WorkerLog.{WorkerLog}
 use Rattle.like_tables.specs.Share.{worker_of}
-use Rattle.like_service.specs.Asked.{asked, lists_of}
+use Rattle.like_promises.specs.WorkloadOf.{workload_of_run, lists_of}
 use Rattle.like_crew.specs.Gathered.{AreTables, RunsOnce}
-use Rattle.like_service.specs.EndToEnd.{runs_of}
+use Rattle.like_promises.specs.EndToEnd.{runs_of}
 use Rattle.like_crew.proofs.additions.Tiled.{all-there, of-likes, placed-are, stand-are, tiles-are}
 use Rattle.like_crew.proofs.Whole.{all-gone, none-noted, all-here, are-all, chosen-are, counts-are, known, last-likes-are, log-at, logs-are, logs-size, runs-once, seen-counts, tables}
 use Rattle.like_crew.proofs.report.report_of.Goals as goal
@@ -113,7 +113,7 @@ returns-clause-report c =
           c.final_counts-counts.result.items refl pages
           (λ page there. told.totals page (omega (arith, there, pages)));
       last = last-likes-are
-          (asked c.args.setup.now plans (runs_of e.logs.items)) workers e.logs.items c.in_ok-last.last.items size
+          (workload_of_run c.args.setup.now plans (runs_of e.logs.items)) workers e.logs.items c.in_ok-last.last.items size
           c.requires.within.numbers.workers.0 (λ worker log at. (logs worker log at).0) c.in_ok-last.ensures.len
           (λ user log there at.
           c.in_ok-last.ensures.last user log there

@@ -1,7 +1,7 @@
 use Rattle.std.proofs.lemmas.Result.{err_from_is_err_and}
 use Rattle.like_requests.proofs.Planned.{fits-run, plans-within}
-use Rattle.like_service.specs.Asked.{asked, lists_of}
-use Rattle.like_service.specs.EndToEnd.{runs_of}
+use Rattle.like_promises.specs.WorkloadOf.{workload_of_run, lists_of}
+use Rattle.like_promises.specs.EndToEnd.{runs_of}
 use Rattle.like_files.proofs.Ended.{few_requests, one_list_a_page, run-refused, run-unwritten}
 use Rattle.like_files.proofs.Writable.{IsWritable-end_to_end}
 use Rattle.like_files.proofs.run.run_lists.Goals as goal
@@ -9,7 +9,7 @@ use Rattle.like_files.proofs.run.run_lists.Goals as goal
 pub write_text_at_once-requires-clause-writable : goal.write_text_at_once-requires-clause-writable
 write_text_at_once-requires-clause-writable g c κs lives =
     IsWritable-end_to_end
-    (asked c.args.setup.now (lists_of c.args.plans.items) (runs_of c.in_ok-report.report.logs.items))
+    (workload_of_run c.args.setup.now (lists_of c.args.plans.items) (runs_of c.in_ok-report.report.logs.items))
     (plans-within _ _ (fits-run _ _ c.in_ok-report.ensures.within))
     c.args.setup.now.workers c.in_ok-report.report c.in_ok-report.ensures.report
 

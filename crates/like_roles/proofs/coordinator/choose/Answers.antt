@@ -1,6 +1,6 @@
 use Rattle.std.proofs.Common.{◌≡◌, ◌+◌, ap, sym, ◌∙◌, subst, List}
 use Rattle.like_seat.specs.Lead.{published}
-use Rattle.like_service.specs.declared.chosen.Chosen.{Chosen}
+use Rattle.like_promises.specs.declared.chosen.Chosen.{Chosen}
 use Rattle.like_roles.specs.coordinator.Choice.{Chooses, choice_of, with_chosen, within_limit}
 use Rattle.like_roles.proofs.choice.Choosing.{chooses-limited}
 use Rattle.like_roles.proofs.coordinator.choose.Goals as goal

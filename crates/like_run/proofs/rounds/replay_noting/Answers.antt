@@ -6,7 +6,7 @@ use Rattle.like_requests.proofs.Planned.{fits-run}
 use Rattle.like_requests.specs.Setup.{IsFirstBroken, IsWithinLimits}
 use Rattle.like_requests.specs.declared.request.Request.{Request}
 use Rattle.like_requests.specs.declared.setup.Setup.{Setup}
-use Rattle.like_service.specs.declared.report.Report.{Report}
+use Rattle.like_promises.specs.declared.report.Report.{Report}
 use Rattle.like_run.specs.declared.rounds.fault.ReplayFault.{ReplayFault}
 use Rattle.like_run.specs.declared.rounds.fault.ReplayFault.TheVariants.{Settings, Memory, Unfinished}
 use Rattle.like_requests.specs.declared.script.Turned.{Turned}

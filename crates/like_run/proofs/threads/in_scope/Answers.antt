@@ -4,7 +4,7 @@ use Rattle.std.specs.declared.thread.PromisedHandle.{PromisedHandle}
 use Rattle.like_run.specs.declared.threads.worker.Owes.{Owes}
 use Rattle.like_run.specs.declared.threads.worker.Served.{Served}
 use Rattle.like_board.specs.declared.worker_seat.WorkerSeat.{WorkerSeat}
-use Rattle.like_service.specs.declared.log.WorkerLog.{WorkerLog}
+use Rattle.like_promises.specs.declared.log.WorkerLog.{WorkerLog}
 use Rattle.like_crew.specs.Ended.{HaveLeft}
 use Rattle.like_crew.specs.Server.{ServerView}
 use Rattle.like_run.proofs.threads.in_scope.Goals as goal
@@ -59,9 +59,9 @@ returns-clause-ended g c =
             (sym c.new-2.ensures.logs)
             (subst (λ (seats : Vec WorkerSeat Global). HaveLeft servers c.join_all.new.logs.items seats.items)
             (sym c.new-2.ensures.seats) left);
-        captain = c.coordinate.new.captain;
+        coordinator = c.coordinate.new.coordinator;
         later = c.coordinate.ensures.goes_on;
-        captain_is = c.new-2.ensures.captain;
+        coordinator_is = c.new-2.ensures.coordinator;
       };
       enough = elim c.if-start_workers.branch [
         | then-start_workers w ↦

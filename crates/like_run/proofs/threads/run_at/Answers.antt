@@ -10,7 +10,7 @@ use Rattle.like_queue.specs.Line.{Sender, Taker, inbox_of}
 use Rattle.like_crew.specs.declared.crew.Crew.{Crew}
 use Rattle.like_crew.specs.declared.ended.Ended.{Ended}
 use Rattle.like_crew.specs.declared.site.Site.{Site}
-use Rattle.like_service.specs.Asked.{lists_of, service_of}
+use Rattle.like_promises.specs.WorkloadOf.{lists_of, workload_of}
 use Rattle.like_crew.specs.Crew.{IsCrew}
 use Rattle.like_crew.specs.Ended.{IsEnded}
 use Rattle.like_crew.specs.Server.{plans_of}
@@ -18,7 +18,7 @@ use Rattle.like_crew.specs.Site.{IsSite}
 use Rattle.like_crew.proofs.Asked.{requests_of}
 use Rattle.like_crew.proofs.Ending.{as-many, has-ended}
 use Rattle.like_crew.proofs.Makings.{all-small, are-untouched, plans-are}
-use Rattle.like_service.specs.declared.run_fault.RunFault.{RunFault}
+use Rattle.like_promises.specs.declared.run_fault.RunFault.{RunFault}
 use Rattle.like_queue.specs.declared.lines.Lines.{Lines}
 use Rattle.like_queue.specs.Lines.{AreLines, new_sender, new_taker}
 use Rattle.like_run.specs.Threads.{HasEndedOn}
@@ -53,7 +53,7 @@ enough-started setup plans site starts crew ends (Ok e) is many on =
       arith,
       on.enough,
       many,
-      as-many (service_of setup plans) setup.workers
+      as-many (workload_of setup plans) setup.workers
           (board_numbers (board_id site.board)) site.notes crew.servers.items is.servers,
     )
 enough-started setup plans site starts crew ends (Err fault) is many h = tt

@@ -4,11 +4,11 @@ use Rattle.like_requests.proofs.Planned.{fits-run}
 use Rattle.like_requests.specs.Setup.{IsFirstBroken, IsWithinLimits}
 use Rattle.like_requests.specs.declared.request.Request.{Request}
 use Rattle.like_requests.specs.declared.setup.Setup.{Setup}
-use Rattle.like_service.specs.declared.report.Report.{Report}
-use Rattle.like_service.specs.declared.run_fault.RunFault.{RunFault}
-use Rattle.like_service.specs.declared.run_fault.RunFault.TheVariants.{Settings, Memory, Start}
+use Rattle.like_promises.specs.declared.report.Report.{Report}
+use Rattle.like_promises.specs.declared.run_fault.RunFault.{RunFault}
+use Rattle.like_promises.specs.declared.run_fault.RunFault.TheVariants.{Settings, Memory, Start}
 use Rattle.like_run.specs.Threads.{IsRunFaultUnderWay}
-use Rattle.like_service.specs.RunFault.{IsRunFault}
+use Rattle.like_promises.specs.RunFault.{IsRunFault}
 use Rattle.like_run.proofs.threads.run_noting.Goals as goal
 
 abbrev requests_of : Vec Request Global → List Request

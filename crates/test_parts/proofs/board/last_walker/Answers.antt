@@ -4,7 +4,7 @@ use Rattle.std.specs.Option.{option_to_list}
 use Rattle.std.proofs.lemmas.Option.{slice_get_within}
 use Rattle.like_core.specs.Phase.{is_marked}
 use Rattle.like_core.specs.Post.{pages_of}
-use Rattle.like_service.proofs.Lists.{slice_get-before}
+use Rattle.like_promises.proofs.Lists.{slice_get-before}
 use Rattle.test_parts.proofs.Walk.{last_fresh}
 use Rattle.test_parts.proofs.board.last_walker.Goals as goal
 

@@ -1,7 +1,7 @@
 use Rattle.std.proofs.Common.{IfOk, map, sym, subst}
 use Rattle.like_requests.specs.Setup.{FitsRun}
 use Rattle.like_queue.specs.Inbox.{view_of}
-use Rattle.like_service.specs.Asked.{lists_of}
+use Rattle.like_promises.specs.WorkloadOf.{lists_of}
 use Rattle.like_crew.specs.Crew.{IsCrew}
 use Rattle.like_crew.specs.Site.{IsSite}
 use Rattle.like_crew.proofs.Makings.{all-small, are-untouched, plans-are}

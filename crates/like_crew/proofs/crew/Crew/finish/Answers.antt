@@ -1,10 +1,10 @@
 use Rattle.std.proofs.Common.{Vec, Global, sym, subst}
 use Rattle.std.specs.List.{AllZip}
 use Rattle.like_board.specs.declared.worker_seat.WorkerSeat.{WorkerSeat}
-use Rattle.like_service.specs.declared.log.WorkerLog.{WorkerLog}
+use Rattle.like_promises.specs.declared.log.WorkerLog.{WorkerLog}
 use Rattle.like_crew.specs.Server.{IsLogOf}
 use Rattle.like_crew.specs.Ended.{IsSeatOf}
-use Rattle.like_crew.proofs.Coordinated.{captain-same}
+use Rattle.like_crew.proofs.Coordinated.{coordinator-same}
 use Rattle.like_crew.proofs.servers.Later.{all-same}
 use Rattle.like_crew.proofs.crew.Crew.finish.Goals as goal
 
@@ -21,7 +21,7 @@ returns g c =
         seats_are = subst (λ (seats : Vec WorkerSeat Global). AllZip IsSeatOf servers seats.items)
             (sym c.new.ensures.seats) c.in_ok-logs.ensures.seats;
       };
-      captain = c.args.self.captain;
-      later = captain-same c.args.self.captain;
-      captain_is = c.new.ensures.captain;
+      coordinator = c.args.self.coordinator;
+      later = coordinator-same c.args.self.coordinator;
+      coordinator_is = c.new.ensures.coordinator;
     }

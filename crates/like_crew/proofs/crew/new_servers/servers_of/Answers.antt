@@ -11,11 +11,11 @@ use Rattle.like_core.specs.Post.{PostView}
 use Rattle.like_queue.specs.Inbox.{InboxView}
 use Rattle.like_tables.specs.Share.{dealt, share_of}
 use Rattle.like_tables.proofs.Dealt.{map-dealt}
-use Rattle.like_service.specs.Service.{Service}
-use Rattle.like_roles.specs.worker.Follows.{IsServiceOf}
+use Rattle.like_promises.specs.Workload.{Workload}
+use Rattle.like_roles.specs.worker.Follows.{IsWorkloadOf}
 use Rattle.like_roles.specs.worker.New.{IsPostOf}
 use Rattle.like_crew.specs.Servers.{IsServer}
-use Rattle.like_service.specs.Asked.{service_of}
+use Rattle.like_promises.specs.WorkloadOf.{workload_of}
 use Rattle.like_crew.specs.Server.{AreInboxesFor, AreOwnPlans, AreUntouched, ServerView, WorksFor, plans_of}
 use Rattle.like_crew.proofs.Makings.{hand-at, inboxes-for, is-server, one-pushed, remove-drop}
 use Rattle.like_crew.proofs.crew.new_servers.servers_of.Goals as goal
@@ -65,13 +65,13 @@ server-at : (setup : Setup) (sizes : List ℕ) (number k : ℕ) (inboxes own : L
     → post.board ≡ board
     → s.worker.last.share ≡ share_of setup.users (length sizes) setup.workers number
     → s.worker.post ≡ post → s.worker.notes ≡ notes
-    → ((service : Service) → IsServiceOf setup sizes service → AreOwnPlans service setup.workers number own
-    → WorksFor service s)
-    → IsServer (service_of setup (plans_of inboxes)) setup.workers board notes k s
+    → ((workload : Workload) → IsWorkloadOf setup sizes workload → AreOwnPlans workload setup.workers number own
+    → WorksFor workload s)
+    → IsServer (workload_of setup (plans_of inboxes)) setup.workers board notes k s
 server-at setup sizes number k inboxes own post board notes s same sized is fresh here share at noting works =
     is-server setup sizes k inboxes own post board notes s sized is fresh here
     (share ∙ ap (λ n. share_of setup.users (length sizes) setup.workers n) same) at noting
-    (λ service of mine. works service of (subst (λ n. AreOwnPlans service setup.workers n own) (sym same) mine))
+    (λ workload of mine. works workload of (subst (λ n. AreOwnPlans workload setup.workers n own) (sym same) mine))
 
 pub new-requires-clause-within : goal.new-requires-clause-within
 new-requires-clause-within g c = subst (IsWithin c.args.setup.now) (sym c.requires.sizes) c.requires.within.numbers
@@ -123,7 +123,7 @@ loop-seat-preserved g c =
     let own : List InboxView = map g.I.Inbox.view c.remove-inboxes.result.items in
     let board : List ℕ = board_numbers (board_id c.args.board.now) in
     let R : ℕ → ServerView → Type 0 =
-    IsServer (service_of c.args.setup.now (plans_of inboxes)) workers board c.args.notes in
+    IsServer (workload_of c.args.setup.now (plans_of inboxes)) workers board c.args.notes in
     let below : k < workers = subst (λ n. k < n) c.requires.len turn.0 in
     let is : own ≡ dealt workers k inboxes =
     hand-is g.I.Inbox.view c.in_ok-hands.hands.items l.hands.items k workers c.remove-inboxes.result

@@ -1,4 +1,4 @@
-use Rattle.like_service.specs.Collected.{entries_in}
+use Rattle.like_promises.specs.Collected.{entries_in}
 use Rattle.like_crew.proofs.Once.{no-fault}
 use Rattle.like_crew.proofs.report.gathered.replies_of.Goals as goal
 

@@ -1,7 +1,7 @@
 use Rattle.std.proofs.Common.{◌≡◌, ◌+◌, ◌∷◌, [], length, get_or, take, ap, ◌∙◌, false, arith}
 use Rattle.std.proofs.lemmas.List.{length-take-le, take_all, take_more}
-use Rattle.like_service.specs.declared.reply.Reply.TheVariants.{Liked}
-use Rattle.like_service.specs.declared.answer.Answer.{Answer}
+use Rattle.like_promises.specs.declared.reply.Reply.TheVariants.{Liked}
+use Rattle.like_promises.specs.declared.answer.Answer.{Answer}
 use Rattle.like_replies.specs.RowParts.{RowHead}
 use Rattle.like_replies.specs.Rows.{answer_rows, reply_row}
 use Rattle.like_replies.proofs.rows.Texts.{AddsRow, answer_rows-append}

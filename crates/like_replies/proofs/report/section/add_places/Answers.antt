@@ -1,6 +1,6 @@
 use Rattle.std.proofs.Common.{[], ◌∷◌, get_or, take, ap, ◌∙◌}
 use Rattle.std.proofs.lemmas.List.{map-append, take_all, take_more}
-use Rattle.like_service.specs.declared.place.Place.{Place}
+use Rattle.like_promises.specs.declared.place.Place.{Place}
 use Rattle.like_replies.specs.PlaceRows.{page_place_rows, place_row}
 use Rattle.like_replies.proofs.rows.Texts.{AddsRow}
 use Rattle.like_replies.proofs.report.section.add_places.Goals as goal

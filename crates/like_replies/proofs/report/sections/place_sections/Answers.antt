@@ -1,7 +1,7 @@
 use Rattle.std.proofs.Common.{◌≡◌, ◌<◌, ◌≤◌, ◌+◌, ◌++◌, ◌∷◌, [], ◌∙◌, ap, sym, length, get_or, take, List, Vec, Global, arith}
 use Rattle.std.proofs.lemmas.List.{length-map, length-take-le, map-append, take_all, take_more}
-use Rattle.like_service.specs.declared.place.Place.{Place}
-use Rattle.like_service.specs.places.Places.{lists_in}
+use Rattle.like_promises.specs.declared.place.Place.{Place}
+use Rattle.like_promises.specs.places.Places.{lists_in}
 use Rattle.like_replies.specs.PlaceRows.{place_rows}
 use Rattle.like_replies.proofs.rows.Texts.{place_rows-push}
 use Rattle.like_replies.proofs.report.sections.place_sections.Goals as goal

@@ -1,6 +1,6 @@
 use Rattle.std.proofs.Common.{◌≡◌, List, length, take}
 use Rattle.like_requests.specs.Pages.{Page}
-use Rattle.like_service.specs.places.Places.{lists_in}
+use Rattle.like_promises.specs.places.Places.{lists_in}
 use Rattle.like_replies.specs.PlaceRows.{place_rows}
 use Rattle.like_replies.specs.Sections.{AreSections}
 use Rattle.like_replies.proofs.report.sections.place_sections.Given as goal

@@ -1,6 +1,6 @@
 use Rattle.std.proofs.Common.{◌≡◌, ◌+◌, ◌<◌, ◌++◌, ◌^◌, ◌∙◌, List, length, sym, ap, append_assoc, length-append, arith}
 use Rattle.std.specs.Slice.Iter.{chunks_rest}
-use Rattle.like_service.specs.declared.answer.Answer.{Answer}
+use Rattle.like_promises.specs.declared.answer.Answer.{Answer}
 use Rattle.like_replies.specs.declared.report.section.Section.{Section}
 use Rattle.like_replies.specs.declared.report.section.Section.TheVariants.{Answers}
 use Rattle.like_replies.specs.Rows.{IsShowable, answer_rows, submitter_rows}

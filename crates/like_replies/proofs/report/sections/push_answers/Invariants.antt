@@ -1,7 +1,7 @@
 use Rattle.std.proofs.Common.{◌≡◌, ◌++◌, ℕ, All, List, length}
 use Rattle.std.specs.Slice.Iter.{chunks_rest}
 use Rattle.like_requests.specs.Pages.{Page}
-use Rattle.like_service.specs.declared.answer.Answer.{Answer}
+use Rattle.like_promises.specs.declared.answer.Answer.{Answer}
 use Rattle.like_replies.specs.Rows.{IsShowable, submitter_rows}
 use Rattle.like_replies.specs.Sections.{AreSections}
 use Rattle.like_replies.proofs.report.sections.push_answers.Given as goal

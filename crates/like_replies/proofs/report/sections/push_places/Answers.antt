@@ -1,7 +1,7 @@
 use Rattle.std.proofs.Common.{◌≡◌, ◌++◌, ◌∙◌, List, sym, ap, append_assoc}
 use Rattle.std.proofs.lemmas.List.{map-append}
 use Rattle.std.specs.Slice.Iter.{chunks_rest}
-use Rattle.like_service.specs.declared.place.Place.{Place}
+use Rattle.like_promises.specs.declared.place.Place.{Place}
 use Rattle.like_replies.specs.declared.report.section.Section.TheVariants.{Places}
 use Rattle.like_replies.specs.PlaceRows.{page_place_rows, place_row}
 use Rattle.like_replies.proofs.Sections.{AreSections-push}

@@ -1,7 +1,7 @@
 use Rattle.std.proofs.Common.{◌≡◌, ◌<◌, ◌++◌, ℕ, List, length}
 use Rattle.std.specs.Slice.Iter.{chunks_rest}
 use Rattle.like_requests.specs.Pages.{Page}
-use Rattle.like_service.specs.declared.place.Place.{Place}
+use Rattle.like_promises.specs.declared.place.Place.{Place}
 use Rattle.like_replies.specs.PlaceRows.{page_place_rows}
 use Rattle.like_replies.specs.Sections.{AreSections}
 use Rattle.like_replies.proofs.report.sections.push_places.Given as goal

@@ -1,7 +1,7 @@
 use Rattle.std.proofs.Common.{◌≡◌, ◌<◌, ◌≤◌, ◌+◌, ◌++◌, ◌∷◌, [], ◌∙◌, ap, sym, length, map, get_or, take, All, List, Vec, Global, arith}
 use Rattle.std.proofs.lemmas.List.{length-map, length-take-le, map-append, take_all, take_more}
 use Rattle.std.specs.Option.{ForSome}
-use Rattle.like_service.specs.declared.answer.Answer.{Answer}
+use Rattle.like_promises.specs.declared.answer.Answer.{Answer}
 use Rattle.like_replies.specs.declared.report.section.Section.TheVariants.{Counts, Hot}
 use Rattle.like_replies.specs.Rows.{IsShowable, header_row, hot_rows, page_rows, reply_rows, user_rows}
 use Rattle.like_replies.specs.Sections.{AreSections}

@@ -1,6 +1,6 @@
 use Rattle.std.proofs.Common.{map}
 use Rattle.std.specs.Prelude.{if◌then◌else◌, []}
-use Rattle.like_service.specs.Collected.{rows_of}
+use Rattle.like_promises.specs.Collected.{rows_of}
 use Rattle.like_replies.proofs.Shown.{shown_sections}
 use Rattle.like_replies.proofs.report.text.write_report_rows_at_once.Goals as goal
 

@@ -4,7 +4,7 @@ use Rattle.std.proofs.KnownBytes.{Appends-trans}
 use Rattle.std.proofs.lemmas.Result.{on_ok_weaker}
 use Rattle.std.specs.Io.KnownBytes.{Appends}
 use Rattle.like_requests.specs.Pages.{Page}
-use Rattle.like_service.specs.places.Places.{lists_in}
+use Rattle.like_promises.specs.places.Places.{lists_in}
 use Rattle.like_replies.specs.PlaceRows.{place_rows}
 use Rattle.like_replies.specs.Reported.{shown_of}
 use Rattle.like_replies.specs.Rows.{report_text, rows_text}

@@ -5,6 +5,6 @@ use Rattle.like_roles.proofs.Started.{follows-done}
 use Rattle.like_roles.proofs.worker.Worker.finish.Goals as goal
 
 pub returns-clause-done : goal.returns-clause-done
-returns-clause-done g c = λ service f.
+returns-clause-done g c = λ workload f.
     let kept = subst (λ (v : WorkerView). IsSliceInSplit v.post v.slice) c.self.view_is c.self.invariant.seat.split in
-    follows-done service c.args.self f c.requires kept
+    follows-done workload c.args.self f c.requires kept

@@ -13,10 +13,10 @@ returns-clause-case g c =
     c.give.ensures.case
 
 pub returns-clause-follows : goal.returns-clause-follows
-returns-clause-follows g c = λ service asked f.
+returns-clause-follows g c = λ workload asked f.
     let kept = subst (λ (v : WorkerView). IsSliceInSplit v.post v.slice) c.self.view_is c.self.invariant.seat.split in
     let has = subst (λ (v : WorkerView). HasPhaseMask v.post) c.self.view_is c.self.invariant.seat.masked in
-    follows-give service c.args.self.now c.args.taken c.give.result
+    follows-give workload c.args.self.now c.args.taken c.give.result
     (view_of c.give.new.seat c.give.new.self) c.requires.next asked kept has
     c.give.ensures.sound.seat.waiting.within (returns-clause-case g c) f
 

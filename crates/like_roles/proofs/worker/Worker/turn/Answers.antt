@@ -13,10 +13,10 @@ returns-clause-case g c =
     subst (λ v. Turns v c.turn.result (view_of c.turn.new.seat c.turn.new.self)) c.self.view_is c.turn.ensures.case
 
 pub returns-clause-follows : goal.returns-clause-follows
-returns-clause-follows g c = λ service right f.
+returns-clause-follows g c = λ workload right f.
     let kept = subst (λ (v : WorkerView). IsSliceInSplit v.post v.slice) c.self.view_is c.self.invariant.seat.split in
     let has = subst (λ (v : WorkerView). HasPhaseMask v.post) c.self.view_is c.self.invariant.seat.masked in
-    follows-turn service c.args.self.now c.turn.result
+    follows-turn workload c.args.self.now c.turn.result
     (view_of c.turn.new.seat c.turn.new.self) c.requires kept has right (returns-clause-case g c) f
 
 pub returns-clause-pending : goal.returns-clause-pending

@@ -1,8 +1,8 @@
-use Rattle.like_crew.proofs.Coordinated.{captain-further, captain-same}
+use Rattle.like_crew.proofs.Coordinated.{coordinator-further, coordinator-same}
 use Rattle.like_run.proofs.threads.coordinator.coordinate.Goals as goal
 
 pub loop-init : goal.loop-init
-loop-init g c = captain-same c.args.captain.now
+loop-init g c = coordinator-same c.args.coordinator.now
 
 pub loop-preserved : goal.loop-preserved
-loop-preserved g c = captain-further _ c.loop.captain c.turn.new.self c.loop.invariant c.turn.ensures.goes_on
+loop-preserved g c = coordinator-further _ c.loop.coordinator c.turn.new.self c.loop.invariant c.turn.ensures.goes_on

@@ -2,7 +2,7 @@ use Rattle.std.proofs.Common.{◌≤◌, [], ◌∷◌, ◌++◌, length, ap, �
 use Rattle.std.specs.List.{slice_get}
 use Rattle.std.proofs.lemmas.List.{length-append}
 use Rattle.std.proofs.lemmas.Option.{slice_get_within}
-use Rattle.like_service.proofs.Lists.{slice_get-before}
+use Rattle.like_promises.proofs.Lists.{slice_get-before}
 use Rattle.test_parts.proofs.roles.play.seat_players.Goals as goal
 
 pub loop-seat-preserved : goal.loop-seat-preserved

@@ -1,7 +1,7 @@
 use Rattle.std.proofs.Common.{◌≡◌, ◌+◌, ◌<◌, List, ◌∷◌, [], ◌∙◌, None, Some, Option, false, cond, Bool, add-one, ap, get_or, length, map, sym, subst, take, arith}
 use Rattle.std.proofs.lemmas.List.{take_all}
-use Rattle.like_service.specs.declared.reply.Reply.TheVariants.{Liked}
-use Rattle.like_service.specs.declared.answer.Answer.{Answer}
+use Rattle.like_promises.specs.declared.reply.Reply.TheVariants.{Liked}
+use Rattle.like_promises.specs.declared.answer.Answer.{Answer}
 use Rattle.like_collection.specs.declared.collect_fault.CollectFault.TheVariants.{Missing}
 use Rattle.like_collection.specs.Slots.{IsFirstEmpty, IsSlotsFault, answers_there}
 use Rattle.like_collection.proofs.slots.Empty.{first_of_row}

@@ -1,7 +1,7 @@
 use Rattle.std.proofs.Common.{rules, ◌≡◌, ◌+◌, List, [], ◌∷◌, ◌++◌, false, get_or, take, drop, sym, ap, ◌∙◌, subst, append_assoc}
 use Rattle.std.proofs.lemmas.List.{take_all, take_more}
-use Rattle.like_service.specs.declared.log.Ran.{Ran}
-use Rattle.like_service.specs.declared.reply.Reply.TheVariants.{Liked}
+use Rattle.like_promises.specs.declared.log.Ran.{Ran}
+use Rattle.like_promises.specs.declared.reply.Reply.TheVariants.{Liked}
 use Rattle.like_collection.specs.CollectFaults.{IsEntryFault}
 use Rattle.like_collection.specs.Slots.{HoldsAll}
 use Rattle.like_collection.proofs.slots.Collecting.{IsEntryFault-refused}

@@ -1,5 +1,5 @@
 use Rattle.std.proofs.Common.{ℕ, List, ◌++◌, take}
-use Rattle.like_service.specs.declared.log.Ran.{Ran}
+use Rattle.like_promises.specs.declared.log.Ran.{Ran}
 use Rattle.like_collection.specs.Slots.{HoldsAll}
 use Rattle.like_collection.proofs.collection.slots.Slots.put_all.Given as goal
 

@@ -1,8 +1,8 @@
 use Rattle.std.proofs.Common.{◌∙◌, List, map, sym, ap, subst}
 use Rattle.like_tables.specs.UserTable.{UserTable}
-use Rattle.like_service.specs.declared.log.Ran.{Ran}
-use Rattle.like_service.specs.declared.log.Took.{Took}
-use Rattle.like_service.specs.Likes.{likes_among, likes_within}
+use Rattle.like_promises.specs.declared.log.Ran.{Ran}
+use Rattle.like_promises.specs.declared.log.Took.{Took}
+use Rattle.like_promises.specs.Likes.{likes_among, likes_within}
 use Rattle.like_roles.specs.worker.Shown.{shown_in}
 use Rattle.like_crew.specs.Server.{NoneAbove, IsLogOf, ServerView}
 use Rattle.like_crew.proofs.servers.Finishing.{log-is}
@@ -25,16 +25,16 @@ returns-clause-log g c =
       unnoted = λ notes. c.finish.ensures.adds ∙ c.self.invariant.2.unnoted notes;
       above = subst (λ (taken : List Took). NoneAbove s.worker.post.last taken)
           (sym c.finish.ensures.taken) c.self.invariant.2.above;
-      each = λ service here.
-          let done = c.finish.ensures.done service (here.0.follows here.1) in
+      each = λ workload here.
+          let done = c.finish.ensures.done workload (here.0.follows here.1) in
           record {
-            is_log = log-is service s c.finish.result.0 c.self.invariant.2 here.0 done c.finish.ensures.taken
+            is_log = log-is workload s c.finish.result.0 c.self.invariant.2 here.0 done c.finish.ensures.taken
                 c.finish.ensures.ran c.finish.ensures.last;
-            likes = λ page. ap (likes_among service page) c.finish.ensures.ran ∙ done.likes page;
+            likes = λ page. ap (likes_among workload page) c.finish.ensures.ran ∙ done.likes page;
             by_phase = λ phase page.
-                ap (λ (ran : List Ran). likes_within service page ran phase) c.finish.ensures.ran
+                ap (λ (ran : List Ran). likes_within workload page ran phase) c.finish.ensures.ran
                 ∙ done.by_phase phase page;
-            looks = ap (shown_in service) c.finish.ensures.ran ∙ done.looks;
+            looks = ap (shown_in workload) c.finish.ensures.ran ∙ done.looks;
             noted = done.noted;
           };
     })

@@ -20,10 +20,10 @@ invariant_of-result g c =
     )
 
 pub returns-clause-works : goal.returns-clause-works
-returns-clause-works g c = λ service of own.
+returns-clause-works g c = λ workload of own.
     let share = ap (λ (u : UserTable). u.share) c.in_ok-worker.ensures.new.last in
     record {
-      plans = subst (λ (s : Share). AreOwnPlans service s.workers s.worker (map g.I.Inbox.view c.args.inboxes.items))
+      plans = subst (λ (s : Share). AreOwnPlans workload s.workers s.worker (map g.I.Inbox.view c.args.inboxes.items))
           (sym share) own;
-      follows = λ _. c.in_ok-worker.ensures.follows service of;
+      follows = λ _. c.in_ok-worker.ensures.follows workload of;
     }

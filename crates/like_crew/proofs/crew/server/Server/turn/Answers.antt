@@ -189,14 +189,14 @@ returns-in-Try-clause-goes_on g c =
       whose = ap (λ (x : ℕ × List ℕ). x.0) whose_is;
       board = ap (λ (x : ℕ × List ℕ). x.1) whose_is;
       inboxes = length-set inboxes place (view c.take_with-taken.new.self);
-      works = λ service h.
-          subst (λ q. WorksFor service
+      works = λ workload h.
+          subst (λ q. WorksFor workload
           (record { worker = w; inboxes = set inboxes q (view c.take_with-taken.new.self); opened = more }))
           (sym here.0)
           (serves-give v inboxes p.0 (view c.index_mut.result.now)
-          (view c.take_with-taken.new.self) a p.1.0 here.1 p.1.3 service w c.take_with-taken.result
-          c.take_with-taken.ensures.handed c.give.ensures.takes (c.give.ensures.follows service) opened more
-          (serves-turn service u v inboxes opened c.turn.ensures.takes (c.turn.ensures.follows service) h));
+          (view c.take_with-taken.new.self) a p.1.0 here.1 p.1.3 workload w c.take_with-taken.result
+          c.take_with-taken.ensures.handed c.give.ensures.takes (c.give.ensures.follows workload) opened more
+          (serves-turn workload u v inboxes opened c.turn.ensures.takes (c.turn.ensures.follows workload) h));
     }))
 
 pub returns-in_default-clause-goes_on : goal.returns-in_default-clause-goes_on
@@ -214,6 +214,6 @@ returns-in_default-clause-goes_on g c =
       whose = ap (λ (x : ℕ × List ℕ). x.0) whose_is;
       board = ap (λ (x : ℕ × List ℕ). x.1) whose_is;
       inboxes = refl;
-      works = λ service h. serves-turn service u v inboxes opened c.turn.ensures.takes
-          (c.turn.ensures.follows service) h;
+      works = λ workload h. serves-turn workload u v inboxes opened c.turn.ensures.takes
+          (c.turn.ensures.follows workload) h;
     })

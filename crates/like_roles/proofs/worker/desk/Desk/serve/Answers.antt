@@ -3,7 +3,7 @@ use Rattle.like_seat.specs.StationView.{StationView}
 use Rattle.like_tables.specs.declared.held.Held.{Held}
 use Rattle.like_roles.specs.worker.Desk.{view_of}
 use Rattle.like_roles.specs.worker.Serve.{likes, looks}
-use Rattle.like_service.specs.declared.reply.Reply.TheVariants.{Seen}
+use Rattle.like_promises.specs.declared.reply.Reply.TheVariants.{Seen}
 use Rattle.like_roles.proofs.Counting.{read-settled}
 use Rattle.like_roles.proofs.worker.desk.Desk.serve.Goals as goal
 

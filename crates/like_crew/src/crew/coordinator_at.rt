@@ -1,0 +1,80 @@
+ghost use Rattle.std.specs.Prelude.{◌≡◌, [], IfOk, true};
+ghost use Rattle.like_core.specs.OpeningLimits.{run_limits};
+ghost use Rattle.like_board.specs.Seats.{board_id, coord_board, coord_view};
+ghost use Rattle.like_roles.specs.coordinator.CoordTurns.{CoordTurns, HasEndedJoined};
+ghost use Rattle.like_crew.specs.Crew.{CoordinatorGoesOn};
+
+use like_board::{Board, CoordSeat};
+use like_roles::{CoordTurn, Coordinator};
+use std::alloc::{AllocError, Global};
+use std::marker::Model;
+
+/// The coordinator at its board.
+#[derive(Drop)]
+pub struct CoordinatorAt<'a> {
+    board: &'a Board,
+    pub(crate) coordinator: Coordinator,
+}
+
+impl<'a> Model for CoordinatorAt<'a> {
+    ghost use Rattle.std.specs.Prelude.{◌≡◌};
+    ghost use Rattle.like_board.specs.Seats.{board_id};
+    ghost use Rattle.like_roles.specs.coordinator.CoordTurns.{ChoseByCounts, CoordinatorView, IsBeforeEnd};
+
+    ghost Value = { CoordinatorView };
+
+    ghost view = { λ l. l.coordinator };
+
+    ghost invariant = { λ l. (l.coordinator.board ≡ board_id l.board.now) × IsBeforeEnd l.coordinator
+        × ChoseByCounts l.coordinator };
+}
+
+impl<'a> CoordinatorAt<'a> {
+    /// The coordinator at this board, which was made with these counts and the limits of a run; it counts so many turns
+    /// in each phase, and `hot` likes make a page hot.
+    pub(crate) fn new(
+        alloc: Global,
+        board: &'a Board,
+        seat: CoordSeat,
+        turns: u32,
+        hot: Option<u32>,
+        counts: &[u64],
+    ) -> Result<CoordinatorAt<'a>, AllocError>
+        requires here { coord_board seat ≡ board_id board.now }
+        requires counts { counts.now ≡ (coord_view seat).opening.counts }
+        requires limits { (coord_view seat).opening.limits ≡ run_limits }
+        requires new { (coord_view seat).phase ≡ 0 }
+        requires no_masks { (coord_view seat).masks ≡ [] }
+        ensures board { IfOk result (λ coordinator. coordinator.board ≡ board_id board.now) }
+        ensures seat { IfOk result (λ coordinator. coordinator.seat ≡ coord_view seat) }
+        ensures turns { IfOk result (λ coordinator. coordinator.turns ≡ turns) }
+        ensures hot { IfOk result (λ coordinator. coordinator.choice.hot ≡ hot) }
+    {
+        match Coordinator::new(alloc, seat, turns, hot, counts) {
+            Ok(coordinator) => Ok(CoordinatorAt { board, coordinator }),
+            Err(_) => Err(AllocError),
+        }
+    }
+
+    /// Makes its next turn.
+    pub fn turn(&mut self) -> CoordTurn
+        ensures case { CoordTurns self.old result self.new }
+        ensures goes_on { CoordinatorGoesOn self.old self.new }
+        ensures ended { result ≡ CoordTurn.Ended → HasEndedJoined self.new }
+    {
+        let board = self.board;
+        self.coordinator.turn(board)
+    }
+
+    /// Makes its next turn, and says whether it found the run ended.
+    pub fn ends(&mut self) -> bool
+        ensures case { (answer : CoordTurn) × CoordTurns self.old answer self.new }
+        ensures goes_on { CoordinatorGoesOn self.old self.new }
+        ensures ended { result ≡ true → HasEndedJoined self.new }
+    {
+        match self.turn() {
+            CoordTurn::Ended => true,
+            _ => false,
+        }
+    }
+}

@@ -1,0 +1,57 @@
+-- What a report says of a whole run.
+use Rattle.std.specs.Prelude.{◌≡◌, ℕ, ◌+◌, ◌<◌, ◌≤◌, List, [], length, map, slice_get, slice_index, slice_index_or, All, Option, Some}
+use Rattle.like_requests.specs.Verdict.{home}
+use Rattle.like_core.specs.Phase.{IsJoined}
+use Rattle.like_tables.specs.Share.{worker_of}
+use Rattle.like_promises.specs.declared.log.Ran.{Ran}
+use Rattle.like_promises.specs.declared.log.WorkerLog.{WorkerLog}
+use Rattle.like_promises.specs.Likes.{initial_count, last_like, likes}
+use Rattle.like_promises.specs.Replies.{HasRightCounts}
+use Rattle.like_promises.specs.HotPages.{chosen_below}
+use Rattle.like_promises.specs.Workload.{Workload, submitters}
+use Rattle.like_promises.specs.declared.report.Report.{Report}
+use Rattle.like_promises.specs.Collected.{IsCollected, rows_of, entries_in}
+use Rattle.like_requests.specs.declared.request.Request.{Request}
+use Rattle.like_requests.specs.declared.setup.Setup.{Setup}
+use Rattle.like_promises.specs.WorkloadOf.{workload_of_run}
+use Rattle.like_promises.specs.Log.{IsLog}
+
+-- the run lists of all workers
+abbrev pub runs_of : List WorkerLog → List (List Ran)
+runs_of logs = map (λ log. log.ran.items) logs
+
+-- the log of each worker is that of its submitters' plans, and nothing was taken after the phase in which the run ended
+abbrev pub AreLogs : Workload → ℕ → ℕ → List WorkerLog → Type 0
+AreLogs workload workers phases logs =
+    (worker : ℕ) (log : WorkerLog) → slice_get logs worker ≡ Some log
+    → IsLog workload workers worker log × All (λ t. t.phase ≤ phases) log.taken.items
+
+-- the final count of each page is its initial count and the accepted likes of it
+pub record AreCounts (workload : Workload) (runs : List (List Ran)) (counts : List ℕ) : Type 0 where
+  pub pages : length counts ≡ length workload.pages
+  pub each : (page : ℕ) → page < length workload.pages
+      → slice_index counts page ≡ initial_count workload.pages page + likes workload page runs
+
+-- the last like of each user is that of its worker's run list
+pub record AreLastLikes (workload : Workload) (workers : ℕ) (logs : List WorkerLog) (last : List (Option ℕ))
+    : Type 0 where
+  pub users : length last ≡ workload.users
+  pub each : (user : ℕ) → user < workload.users
+      → slice_get last user ≡ Some (last_like workload user
+      (slice_index_or (runs_of logs) (worker_of workers (home (submitters workload) user)) []))
+
+-- end to end: logs, answers, final counts, last likes, shown counts, hot pages are right, and the last phase is joined
+pub record IsEndToEnd (workload : Workload) (workers : ℕ) (r : Report) : Type 0 where
+  pub workers_all : length r.logs.items ≡ workers
+  pub logs : AreLogs workload workers r.phases r.logs.items
+  pub replies : IsCollected (map length workload.plans) (entries_in r.logs.items) (rows_of r.replies)
+  pub counts : AreCounts workload (runs_of r.logs.items) r.counts.items
+  pub last : AreLastLikes workload workers r.logs.items r.last.items
+  pub joined : IsJoined r.phases
+  pub seen : All (λ log. HasRightCounts workload (runs_of r.logs.items) log.ran.items) r.logs.items
+  pub hot : r.hot.items ≡ chosen_below workload.hot r.phases
+
+-- a right report of settings and plans: end to end, with the hot pages that follow from its own run lists
+abbrev pub IsRightReport : Setup → List (List Request) → Report → Type 0
+IsRightReport setup plans r =
+    IsEndToEnd (workload_of_run setup plans (runs_of r.logs.items)) setup.workers r

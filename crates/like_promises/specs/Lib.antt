@@ -1,0 +1,12 @@
+pub mod Workload
+pub mod Likes
+pub mod Looks
+pub mod Order
+pub mod Replies
+pub mod HotPages
+pub mod Log
+pub mod Collected
+pub mod EndToEnd
+pub mod WorkloadOf
+pub mod RunFault
+pub mod places

@@ -1,0 +1,77 @@
+-- Accepted likes: the last one of a user, and how many there are of a page.
+use Rattle.std.specs.Prelude.{ℕ, ◌+◌, ◌-◌, ◌≤◌, ◌==◌, nat_lt, if◌then◌else◌, List, length, map, filter, count_by, slice_get, Option, Some, None, option_and_then}
+use Rattle.std.specs.List.{filter_map, sum_by}
+use Rattle.std.specs.Option.{option_map_or}
+use Rattle.like_requests.specs.Pages.{Page}
+use Rattle.like_requests.specs.Verdict.{is_accepted}
+use Rattle.like_requests.specs.declared.request.Op.{Op}
+use Rattle.like_requests.specs.declared.request.Op.TheVariants as op
+use Rattle.like_requests.specs.declared.request.PageRef.{PageRef}
+use Rattle.like_requests.specs.declared.request.PageRef.TheVariants.{Known, Unknown}
+use Rattle.like_requests.specs.declared.request.Request.{Request}
+use Rattle.like_promises.specs.declared.log.Ran.{Ran}
+use Rattle.like_promises.specs.Workload.{Workload, submitters, request_of}
+
+-- an accepted like
+pub record AcceptedLike : Type 0 where
+  pub user : ℕ
+  pub page : ℕ
+
+-- the like of a page that is there
+abbrev pub like_of : Op → ℕ → PageRef → Option AcceptedLike
+like_of op.Like user (Known page) = Some (record { user = user; page = page })
+like_of op.Like user Unknown = None
+like_of op.Look user page = None
+
+-- the accepted like that a request of a submitter is, if it is one
+abbrev pub accepted_like : ℕ → ℕ → ℕ → Request → Option AcceptedLike
+accepted_like users submitters submitter r =
+    if is_accepted users submitters submitter r then like_of r.op r.user r.page else None
+
+-- the accepted like that an entry ran, if it ran one
+abbrev pub like_ran : Workload → Ran → Option AcceptedLike
+like_ran workload e =
+    option_and_then (accepted_like workload.users (submitters workload) e.submitter)
+    (request_of workload e)
+
+-- the accepted likes among entries, in their order
+abbrev pub likes_ran : Workload → List Ran → List AcceptedLike
+likes_ran workload entries = filter_map (like_ran workload) entries
+
+-- the last element of a list, if there is one
+abbrev pub last_in : {X : Type 0} → List X → Option X
+last_in xs = slice_get xs (length xs - 1)
+
+-- the page of a user's last accepted like among entries, if there is one
+abbrev pub last_like : Workload → ℕ → List Ran → Option ℕ
+last_like workload user entries =
+    last_in (map (λ l. l.page) (filter (λ l. l.user == user) (likes_ran workload entries)))
+
+-- how many accepted likes of the page are among entries
+abbrev pub likes_among : Workload → ℕ → List Ran → ℕ
+likes_among workload page entries = count_by (λ l. l.page == page) (likes_ran workload entries)
+
+-- how many accepted likes of the page are in all workers' run lists
+abbrev pub likes : Workload → ℕ → List (List Ran) → ℕ
+likes workload page runs = sum_by (likes_among workload page) runs
+
+-- how many accepted likes of the page ran in earlier phases, in all run lists
+abbrev pub likes_below : Workload → ℕ → List (List Ran) → ℕ → ℕ
+likes_below workload page runs phase =
+    sum_by (λ ran. likes_among workload page (filter (λ e. nat_lt e.phase phase) ran)) runs
+
+-- how many accepted likes of the page are among entries of this phase
+abbrev pub likes_within : Workload → ℕ → List Ran → ℕ → ℕ
+likes_within workload page entries phase =
+    likes_among workload page (filter (λ e. e.phase == phase) entries)
+
+-- the initial count of a page
+abbrev pub initial_count : List Page → ℕ → ℕ
+initial_count pages page = option_map_or (λ p. p.count) (slice_get pages page) 0
+
+-- between: at least the initial count, all earlier likes and `before`; at most that and all of this phase, less `after`
+pub record Between (workload : Workload) (runs : List (List Ran)) (phase page count before after : ℕ)
+    : Type 0 where
+  pub lower : initial_count workload.pages page + likes_below workload page runs phase + before
+      ≤ count
+  pub upper : count + after ≤ initial_count workload.pages page + likes_below workload page runs (phase + 1)

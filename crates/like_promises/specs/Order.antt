@@ -1,0 +1,61 @@
+-- In which order a worker runs what it has taken.
+use Rattle.std.specs.Prelude.{ℕ, ◌+◌, ◌==◌, Bool, true, false, ◌&&◌, not, max, List, [], ◌∷◌, ◌++◌, length, map, filter}
+use Rattle.std.specs.List.{flat_map, range_with_len}
+use Rattle.std.specs.Option.{option_map_or}
+use Rattle.like_promises.specs.declared.log.Ran.{Ran}
+use Rattle.like_promises.specs.declared.log.Took.{Took}
+use Rattle.like_promises.specs.Looks.{look_at}
+use Rattle.like_promises.specs.Workload.{Workload, is_split_in}
+
+-- whether what was taken had to wait: an accepted look at a page that is split in the phase cannot run in it
+abbrev pub took_to_wait : Workload → Took → Bool
+took_to_wait workload t =
+    option_map_or (is_split_in workload t.phase) (look_at workload t.submitter t.number) false
+
+-- a place in the run order: which request runs in which phase, and whether it comes out of the stash
+pub record Entry : Type 0 where
+  pub phase : ℕ
+  pub submitter : ℕ
+  pub number : ℕ
+  pub stashed : Bool
+
+-- the entry that a run list shows
+abbrev pub entry_of : Ran → Entry
+entry_of e =
+    record { phase = e.phase; submitter = e.submitter; number = e.number; stashed = e.stashed }
+
+-- what was taken, as it runs in a phase
+abbrev pub entry_in : ℕ → Bool → Took → Entry
+entry_in phase stashed t =
+    record { phase = phase; submitter = t.submitter; number = t.number; stashed = stashed }
+
+-- taken in the phase before this one, to wait
+abbrev pub is_due : Workload → ℕ → Took → Bool
+is_due workload phase t = (t.phase + 1 == phase) && took_to_wait workload t
+
+-- how many of what was taken come out of the stash in a phase
+abbrev pub stashed_in : Workload → ℕ → List Took → ℕ
+stashed_in workload phase taken = length (filter (is_due workload phase) taken)
+
+-- taken in this phase, to run at once
+abbrev pub is_prompt : Workload → ℕ → Took → Bool
+is_prompt workload phase t = (t.phase == phase) && not (took_to_wait workload t)
+
+-- the block of a phase: first what was taken in the phase before and had to wait, then what need not wait in this one
+abbrev pub block : Workload → List Took → ℕ → List Entry
+block workload taken phase =
+    map (entry_in phase true) (filter (is_due workload phase) taken)
+    ++ map (entry_in phase false) (filter (is_prompt workload phase) taken)
+
+-- the blocks of the first phases, 0, 1, 2, .., so many of them, joined end to end
+abbrev pub order_below : Workload → List Took → ℕ → List Entry
+order_below workload taken phases = flat_map (block workload taken) (range_with_len 0 phases)
+
+-- the number after the greatest phase of taking, and 0 where nothing was taken
+abbrev pub phases_of : List Took → ℕ
+phases_of [] = 0
+phases_of (t ∷ taken) = max (t.phase + 1) (phases_of taken)
+
+-- run order: the blocks of all phases in which anything can run
+abbrev pub order : Workload → List Took → List Entry
+order workload taken = order_below workload taken (phases_of taken + 1)

@@ -1,0 +1,13 @@
+-- Why a run gives no report.
+use Rattle.std.specs.Prelude.{List}
+use Rattle.like_requests.specs.Setup.{IsFirstBroken, IsWithinLimits}
+use Rattle.like_requests.specs.declared.request.Request.{Request}
+use Rattle.like_requests.specs.declared.setup.Setup.{Setup}
+use Rattle.like_promises.specs.declared.run_fault.RunFault.{RunFault}
+use Rattle.like_promises.specs.declared.run_fault.RunFault.TheVariants.{Settings, Memory, Start}
+
+-- the first limit that the settings and the lists break; or else memory ran out, or a thread could not be started
+abbrev pub IsRunFault : Setup → List (List Request) → RunFault → Type 0
+IsRunFault setup plans (Settings why) = IsFirstBroken setup plans why
+IsRunFault setup plans Memory = IsWithinLimits setup plans
+IsRunFault setup plans Start = IsWithinLimits setup plans

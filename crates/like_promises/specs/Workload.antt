@@ -1,0 +1,37 @@
+-- What a run serves.
+use Rattle.std.specs.Prelude.{ℕ, zero, suc, Bool, List, length, slice_get, Option, None, option_and_then}
+use Rattle.like_requests.specs.Pages.{Page, marks_of}
+use Rattle.like_requests.specs.declared.request.Request.{Request}
+use Rattle.like_core.specs.Phase.{is_marked, split}
+use Rattle.like_promises.specs.declared.log.Ran.{Ran}
+
+-- what a run serves: how many users, which pages, how many looks may wait at a worker, hot pages of phases, plans
+pub record Workload : Type 0 where
+  pub users : ℕ
+  pub pages : List Page
+  pub stash : ℕ
+  pub hot : ℕ → ℕ
+  pub plans : List (List Request)
+
+-- how many submitters there are
+abbrev pub submitters : Workload → ℕ
+submitters workload = length workload.plans
+
+-- the request of a plan with this number, counted from 1
+abbrev pub numbered_in : List Request → ℕ → Option Request
+numbered_in plan zero = None
+numbered_in plan (suc n) = slice_get plan n
+
+-- the request of a submitter with this number
+abbrev pub request_at : Workload → ℕ → ℕ → Option Request
+request_at workload submitter number =
+    option_and_then (λ plan. numbered_in plan number) (slice_get workload.plans submitter)
+
+-- the request that an entry ran
+abbrev pub request_of : Workload → Ran → Option Request
+request_of workload e = request_at workload e.submitter e.number
+
+-- split pages: whether a page is split in a phase (in an even one no page is)
+abbrev pub is_split_in : Workload → ℕ → ℕ → Bool
+is_split_in workload phase page =
+    split (is_marked (marks_of workload.pages)) workload.hot phase page
