@@ -4,7 +4,7 @@ use Rattle.std.specs.List.{All, AllZip, filter, range_with_len, sum_by}
 use Rattle.std.specs.Option.{option_map_or, unwrap_or}
 use Rattle.std.proofs.Math.Nat.{mod-lt}
 use Rattle.std.proofs.lemmas.List.{get_or_past, length-map}
-use Rattle.std.proofs.lemmas.List.FromFn.{length-range_with_len}
+use Rattle.std.proofs.lemmas.List.FromFn.{fill_by_all, length-range_with_len}
 use Rattle.std.proofs.lemmas.List.Sums.{length-filter}
 use Rattle.std.proofs.lemmas.Bool.Decides.{leb_tells}
 use Rattle.std.proofs.lemmas.Bool.{cases_lt, le-ltb, lt-ltb}
@@ -247,15 +247,15 @@ module _ (setup : Setup) (plans : List (List Request)) (site : Site) (e : Ended)
       → ((page : ℕ) → page < length known.pages
       → get_or counts page 0 ≡ last_count (coord_view e.coord).opening e.seats.items page)
       → AreCounts served (runs_of e.logs.items) counts
-  counts-are masks counts initial sized told = record {
-    pages = sized;
-    each = λ page there.
-        told page there
-        ∙ ap (λ x. last_count x e.seats.items page) h.opening
-        ∙ ap (λ cs. get_or cs page 0 + sum_by (λ seat. additions_of (seat_meaning seat) page) e.seats.items) initial
-        ∙ ap (λ n. n + sum_by (λ seat. additions_of (seat_meaning seat) page) e.seats.items) (initial-at known page)
-        ∙ ap (λ n. initial_count known.pages page + n) (all-likes masks page);
-  }
+  counts-are masks counts initial sized told =
+      fill_by_all (λ page. initial_count known.pages page + likes served page (runs_of e.logs.items)) counts
+      (length known.pages) 0 sized
+      (λ page there.
+      told page there
+      ∙ ap (λ x. last_count x e.seats.items page) h.opening
+      ∙ ap (λ cs. get_or cs page 0 + sum_by (λ seat. additions_of (seat_meaning seat) page) e.seats.items) initial
+      ∙ ap (λ n. n + sum_by (λ seat. additions_of (seat_meaning seat) page) e.seats.items) (initial-at known page)
+      ∙ ap (λ n. initial_count known.pages page + n) (all-likes masks page))
 
   -- what all seats have added before a phase are the accepted likes that all workers ran before it
   pub all-before : HaveReadMasks (coord_view e.coord).masks e.seats.items → (phase page : ℕ)
@@ -389,13 +389,14 @@ pub last-likes-are : (workload : Workload) (workers : ℕ) (logs : List WorkerLo
     → slice_get logs (worker_of (length logs) (home (submitters workload) user)) ≡ Some log
     → slice_get last user ≡ Some (last_of log.last user))
     → AreLastLikes workload workers logs last
-last-likes-are workload workers logs last sized some each users told = record {
-  users = users;
-  each = λ user there.
-      let worker : ℕ = worker_of workers (home (submitters workload) user) in
-      let within : worker < length logs = omega (arith, mod-lt (home (submitters workload) user) some, sized) in
-      by_log user there (slice_get logs worker) refl (cases_of logs worker within);
-} where
+last-likes-are workload workers logs last sized some each users told =
+    fill_by_all (λ user. last_like workload user
+    (get_or (runs_of logs) (worker_of workers (home (submitters workload) user)) [])) last workload.users None users
+    (λ user there.
+    let worker : ℕ = worker_of workers (home (submitters workload) user) in
+    let within : worker < length logs = omega (arith, mod-lt (home (submitters workload) user) some, sized) in
+    get_or_from_slice_get last user _ None
+    (by_log user there (slice_get logs worker) refl (cases_of logs worker within))) where
   run-at : (xs : List WorkerLog) (k : ℕ) (x : WorkerLog) → slice_get xs k ≡ Some x
       → get_or (runs_of xs) k [] ≡ x.ran.items
   run-at [] k x at = absurd (cc at)

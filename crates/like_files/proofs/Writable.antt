@@ -1,6 +1,7 @@
 -- A report that is right end to end shows pages that are there and replies that can be shown.
-use Rattle.std.proofs.Common.{◌≡◌, ℕ, zero, suc, ◌<◌, ◌==◌, ◌&&◌, nat_lt, not, Bool, true, false, List, [], ◌∷◌, ◌++◌, length, map, take, get_or, cond, eqb, Option, None, Some, All, refl, sym, ap, ◌∙◌, subst, arith}
+use Rattle.std.proofs.Common.{◌≡◌, ℕ, zero, suc, ◌+◌, ◌<◌, ◌==◌, ◌&&◌, nat_lt, not, Bool, true, false, List, [], ◌∷◌, ◌++◌, length, map, take, get_or, cond, eqb, Option, None, Some, All, refl, sym, ap, ◌∙◌, subst, arith, zero-add}
 use Rattle.std.proofs.lemmas.List.Elements.{All-from_recursion}
+use Rattle.std.proofs.lemmas.List.FromFn.{get_or-map-range_with_len, length-map-range_with_len}
 use Rattle.std.proofs.lemmas.Option.{get_or_from_slice_get, slice_get_within}
 use Rattle.std.specs.Prelude.{IsSomeAnd}
 use Rattle.std.specs.List.{AllByRecursion, cons_option, filter, flat_map, slice_get}
@@ -18,7 +19,7 @@ use Rattle.like_promises.specs.declared.log.Ran.{Ran}
 use Rattle.like_promises.specs.declared.log.WorkerLog.{WorkerLog}
 use Rattle.like_promises.specs.declared.reply.Reply.{Reply}
 use Rattle.like_promises.specs.declared.reply.Reply.TheVariants.{Refused}
-use Rattle.like_promises.specs.Likes.{AcceptedLike, accepted_like, last_like, like_of, likes_ran}
+use Rattle.like_promises.specs.Likes.{AcceptedLike, accepted_like, initial_count, last_like, like_of, likes, likes_ran}
 use Rattle.like_promises.specs.Looks.{count_in}
 use Rattle.like_promises.specs.Replies.{HasRightAnswers, IsRightAnswer, answer_to, reply_to}
 use Rattle.like_promises.specs.Workload.{Workload, numbered_in, request_at, request_of, submitters}
@@ -211,15 +212,24 @@ module _ (workload : Workload) (planned : All (IsPlan workload.pages) workload.p
         answer_shows submitter place a
         (ap (λ xs. slice_get xs place) (get_or_from_slice_get (rows_of r.replies) submitter row [] at) ∙ there)))
 
+    -- each user's last like is that of its worker's run list
+    abbrev last_of_user : ℕ → Option ℕ
+    last_of_user user =
+        last_like workload user
+        (get_or (runs_of r.logs.items) (worker_of workers (home (submitters workload) user)) [])
+
     user_shows : (user : ℕ) (last : Option ℕ) → slice_get r.last.items user ≡ Some last
         → ForSome last (λ page. page < length workload.pages)
     user_shows user last at =
-        let known : user < workload.users = omega (arith, slice_get_within r.last.items user last at, h.last.users) in
-        let entries : List Ran =
-        get_or (runs_of r.logs.items) (worker_of workers (home (submitters workload) user)) [] in
-        let same : Some (last_like workload user entries) ≡ Some last = sym (h.last.each user known) ∙ at in
-        let is : last_like workload user entries ≡ last = cc same in
-        subst (λ x. ForSome x (λ page. page < length workload.pages)) is (last_there user entries)
+        let sized = ap (λ (xs : List (Option ℕ)). length xs) h.last
+        ∙ length-map-range_with_len last_of_user 0 workload.users in
+        let known : user < workload.users = omega (arith, slice_get_within r.last.items user last at, sized) in
+        let is : last_of_user user ≡ last =
+        sym (ap (λ (xs : List (Option ℕ)). get_or xs user None) h.last
+        ∙ get_or-map-range_with_len last_of_user 0 workload.users user user None known (zero-add user))
+        ∙ get_or_from_slice_get r.last.items user last None at in
+        subst (λ x. ForSome x (λ page. page < length workload.pages)) is
+        (last_there user (get_or (runs_of r.logs.items) (worker_of workers (home (submitters workload) user)) []))
 
     -- so the report may be written
     pub IsWritable-end_to_end : IsWritable workload.pages (reported r)
@@ -227,7 +237,11 @@ module _ (workload : Workload) (planned : All (IsPlan workload.pages) workload.p
         let P : List Answer → Type 0 = λ row. All (λ (a : Answer). IsShowable workload.pages a.reply) row in
         let Q : Option ℕ → Type 0 = λ last. ForSome last (λ page. page < length workload.pages) in
         record {
-          counted = h.counts.pages;
+          counted =
+              ap (λ (xs : List ℕ). length xs) h.counts
+              ∙ length-map-range_with_len
+              (λ page. initial_count workload.pages page + likes workload page (runs_of r.logs.items)) 0
+              (length workload.pages);
           shown = All-from_recursion P (rows_of r.replies) (all_from_get P (rows_of r.replies) row_shows);
           liked = All-from_recursion Q r.last.items (all_from_get Q r.last.items user_shows);
         }

@@ -1,5 +1,6 @@
 -- What a report says of a whole run.
-use Rattle.std.specs.Prelude.{◌≡◌, ℕ, ◌+◌, ◌<◌, ◌≤◌, List, [], length, map, slice_get, slice_index, slice_index_or, All, Option, Some}
+use Rattle.std.specs.Prelude.{◌≡◌, ℕ, ◌+◌, ◌≤◌, List, [], length, map, slice_get, slice_index_or, All, Option, Some}
+use Rattle.std.specs.List.{range_with_len}
 use Rattle.like_requests.specs.Verdict.{home}
 use Rattle.like_core.specs.Phase.{IsJoined}
 use Rattle.like_tables.specs.Share.{worker_of}
@@ -27,18 +28,17 @@ AreLogs workload workers phases logs =
     → IsLog workload workers worker log × All (λ t. t.phase ≤ phases) log.taken.items
 
 -- the final count of each page is its initial count and the accepted likes of it
-pub record AreCounts (workload : Workload) (runs : List (List Ran)) (counts : List ℕ) : Type 0 where
-  pub pages : length counts ≡ length workload.pages
-  pub each : (page : ℕ) → page < length workload.pages
-      → slice_index counts page ≡ initial_count workload.pages page + likes workload page runs
+abbrev pub AreCounts : Workload → List (List Ran) → List ℕ → Type 0
+AreCounts workload runs counts =
+    counts ≡ map (λ page. initial_count workload.pages page + likes workload page runs)
+    (range_with_len 0 (length workload.pages))
 
 -- the last like of each user is that of its worker's run list
-pub record AreLastLikes (workload : Workload) (workers : ℕ) (logs : List WorkerLog) (last : List (Option ℕ))
-    : Type 0 where
-  pub users : length last ≡ workload.users
-  pub each : (user : ℕ) → user < workload.users
-      → slice_get last user ≡ Some (last_like workload user
-      (slice_index_or (runs_of logs) (worker_of workers (home (submitters workload) user)) []))
+abbrev pub AreLastLikes : Workload → ℕ → List WorkerLog → List (Option ℕ) → Type 0
+AreLastLikes workload workers logs last =
+    last ≡ map (λ user. last_like workload user
+    (slice_index_or (runs_of logs) (worker_of workers (home (submitters workload) user)) []))
+    (range_with_len 0 workload.users)
 
 -- end to end: logs, answers, final counts, last likes, shown counts, hot pages are right, and the last phase is joined
 pub record IsEndToEnd (workload : Workload) (workers : ℕ) (r : Report) : Type 0 where
