@@ -10,7 +10,8 @@ use Rattle.like_promises.specs.declared.log.Ran.{Ran}
 use Rattle.like_promises.specs.declared.log.Took.{Took}
 use Rattle.like_roles.specs.coordinator.Choice.{likes_counted, total_before}
 use Rattle.like_promises.specs.HotPages.{chosen_below, hot_by, liked_pages, likes_lately, max_chosen}
-use Rattle.like_promises.specs.Likes.{likes_among, likes_below}
+use Rattle.like_promises.specs.Likes.{likes_among}
+use Rattle.like_promises.proofs.LikesBelow.{likes_below}
 use Rattle.like_promises.specs.Order.{Entry, block, entry_in, is_due, is_prompt, order, phases_of, stashed_in, took_to_wait}
 use Rattle.like_promises.specs.Workload.{Workload}
 use Rattle.like_roles.proofs.choice.Totals.{total_before-next}

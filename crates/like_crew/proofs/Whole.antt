@@ -30,7 +30,8 @@ use Rattle.like_tables.specs.UserTable.{last_of}
 use Rattle.like_promises.specs.declared.log.Ran.{Ran}
 use Rattle.like_promises.specs.declared.log.Took.{Took}
 use Rattle.like_promises.specs.declared.log.WorkerLog.{WorkerLog}
-use Rattle.like_promises.specs.Likes.{initial_count, last_like, likes, likes_among, likes_below}
+use Rattle.like_promises.specs.Likes.{initial_count, last_like, likes, likes_among}
+use Rattle.like_promises.proofs.LikesBelow.{likes_below}
 use Rattle.like_roles.proofs.choice.Choosing.{chosen-more}
 use Rattle.like_roles.proofs.choice.Releasing.{none-even}
 use Rattle.like_roles.proofs.counts.RightCounts.{below-is, right-counts}

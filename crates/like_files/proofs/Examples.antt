@@ -9,7 +9,8 @@ use Rattle.like_requests.specs.declared.verdict.Verdict.TheVariants.{OtherHome, 
 use Rattle.like_promises.specs.declared.reply.Reply.{Reply}
 use Rattle.like_promises.specs.declared.reply.Reply.TheVariants.{Liked, Seen, Refused}
 use Rattle.like_promises.specs.HotPages.{chosen_below, hot_in}
-use Rattle.like_promises.specs.Likes.{Between, initial_count, last_like, likes, likes_below, likes_within}
+use Rattle.like_promises.specs.Likes.{Between, initial_count, last_like, likes, likes_within}
+use Rattle.like_promises.proofs.LikesBelow.{likes_below}
 use Rattle.like_promises.specs.declared.log.Ran.{Ran}
 use Rattle.like_promises.specs.Replies.{IsRightAnswer}
 use Rattle.like_promises.specs.Workload.{Workload}

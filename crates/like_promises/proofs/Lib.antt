@@ -1,3 +1,4 @@
 pub mod Blocks
 pub mod Examples
+pub mod LikesBelow
 pub mod Lists

@@ -55,11 +55,6 @@ likes_among workload page entries = count_by (λ l. l.page == page) (likes_ran w
 abbrev pub likes : Workload → ℕ → List (List Ran) → ℕ
 likes workload page runs = sum_by (likes_among workload page) runs
 
--- how many accepted likes of the page ran in earlier phases, in all run lists
-abbrev pub likes_below : Workload → ℕ → List (List Ran) → ℕ → ℕ
-likes_below workload page runs phase =
-    sum_by (λ ran. likes_among workload page (filter (λ e. nat_lt e.phase phase) ran)) runs
-
 -- how many accepted likes of the page are among entries of this phase
 abbrev pub likes_within : Workload → ℕ → List Ran → ℕ → ℕ
 likes_within workload page entries phase =
@@ -69,9 +64,14 @@ likes_within workload page entries phase =
 abbrev pub initial_count : List Page → ℕ → ℕ
 initial_count pages page = option_map_or (λ p. p.count) (slice_get pages page) 0
 
--- between: at least the initial count, all earlier likes and `before`; at most that and all of this phase, less `after`
+-- the count of a page before a phase: its initial count, and its accepted likes of earlier phases in all run lists
+abbrev pub count_before : Workload → List (List Ran) → ℕ → ℕ → ℕ
+count_before workload runs phase page =
+    initial_count workload.pages page
+    + sum_by (λ ran. likes_among workload page (filter (λ e. nat_lt e.phase phase) ran)) runs
+
+-- between: at least the count before the phase and `before`; at most that before the next phase, less `after`
 pub record Between (workload : Workload) (runs : List (List Ran)) (phase page count before after : ℕ)
     : Type 0 where
-  pub lower : initial_count workload.pages page + likes_below workload page runs phase + before
-      ≤ count
-  pub upper : count + after ≤ initial_count workload.pages page + likes_below workload page runs (phase + 1)
+  pub lower : count_before workload runs phase page + before ≤ count
+  pub upper : count + after ≤ count_before workload runs (phase + 1) page

@@ -23,7 +23,8 @@ use Rattle.like_promises.specs.declared.log.WorkerLog.{WorkerLog}
 use Rattle.like_promises.specs.places.Adds.{AreOfLikes, addition_of}
 use Rattle.like_roles.specs.worker.Shown.{adds_before_looks}
 use Rattle.like_roles.specs.worker.Follows.{AreNoted}
-use Rattle.like_promises.specs.Likes.{Between, initial_count, likes_below}
+use Rattle.like_promises.specs.Likes.{Between, initial_count}
+use Rattle.like_promises.proofs.LikesBelow.{likes_below}
 use Rattle.like_promises.specs.Workload.{Workload}
 use Rattle.like_crew.specs.declared.ended.Ended.{Ended}
 use Rattle.like_crew.specs.declared.site.Site.{Site}

@@ -18,7 +18,8 @@ use Rattle.like_core.specs.Additions.{added_in, added_before}
 use Rattle.like_core.specs.views.Reads.{AreBetween, IsBetween}
 use Rattle.like_core.proofs.core.Labels.{added_before-next, one_before-next}
 use Rattle.like_promises.specs.declared.log.Ran.{Ran}
-use Rattle.like_promises.specs.Likes.{Between, accepted_like, initial_count, like_of, like_ran, likes_among, likes_below, likes_within}
+use Rattle.like_promises.specs.Likes.{Between, accepted_like, initial_count, like_of, like_ran, likes_among, likes_within}
+use Rattle.like_promises.proofs.LikesBelow.{likes_below}
 use Rattle.like_roles.specs.worker.Shown.{ShownCount, shown_at, shown_in, shown_to, shown_by, look_ran}
 use Rattle.like_promises.specs.Looks.{accepted_look, count_in, page_looked_at}
 use Rattle.like_promises.specs.Replies.{HasRightCounts}
