@@ -75,3 +75,9 @@ def words_of(code):
     """The words of a definition that may be names, but no field of a record where it is given or read."""
     text = re.sub(r"[\w-]+ =(?!=)(?= .*;| [^\n]*\}|$)", " ", "\n".join(code))
     return re.findall(r"(?<![.\w])[^\s(){},;]+", text)
+
+
+def bound_in(name, code):
+    """The names that the left sides of a definition's equations bind."""
+    sides = re.findall(rf"^{re.escape(name)} (.*?) =(?: |$)", "\n".join(code), re.M)
+    return {word for side in sides for word in re.findall(r"\b[a-z]\w*", side)}

@@ -12,6 +12,7 @@ use Rattle.like_roles.specs.coordinator.Choice.{likes_counted, total_before}
 use Rattle.like_promises.specs.HotPages.{chosen_below, hot_by, liked_pages, likes_lately, max_chosen}
 use Rattle.like_promises.specs.Likes.{likes_among}
 use Rattle.like_promises.proofs.LikesBelow.{likes_below}
+use Rattle.like_promises.proofs.LikedPages.{liked_pages-is}
 use Rattle.like_promises.specs.Order.{Entry, block, entry_in, is_due, is_prompt, order, phases_of, stashed_in, took_to_wait}
 use Rattle.like_promises.specs.Workload.{Workload}
 use Rattle.like_roles.proofs.choice.Totals.{total_before-next}
@@ -157,9 +158,11 @@ module _ (workload : Workload) (runs : List (List Ran)) (counts : List ℕ) wher
       liked : (n : ℕ)
           → liked_pages least pages (likes_counted counts total) n
           ≡ liked_pages least pages (likes_lately workload runs) n
-      liked n = by_test (eqb (n % 2) 1) n
+      liked n = liked_pages-is least pages (likes_counted counts total) n
+          ∙ by_test (eqb (n % 2) 1) n
           (λ yes_. mask_same _ _ (min hot_pages pages)
           (λ page below. ap (leb least) (counted-lately n page (eqb-true (n % 2) 1 yes_))))
+          ∙ sym (liked_pages-is least pages (likes_lately workload runs) n)
 
 -- tests that agree on a list take the same of it
 filter-same : {X : Type 0} (p q : X → Bool) (xs : List X) → All (λ x. p x ≡ q x) xs → filter p xs ≡ filter q xs

@@ -92,7 +92,7 @@ block-later workload xs m k all h =
     rw (nothing_due workload xs m k all h, nothing_prompt workload xs m k all (omega arith)) refl
 
 -- one more number of a range
-range_more : (a n : ℕ) → range_with_len a (suc n) ≡ range_with_len a n ++ (a + n) ∷ []
+pub range_more : (a n : ℕ) → range_with_len a (suc n) ≡ range_with_len a n ++ (a + n) ∷ []
 range_more a zero = ap (λ x. x ∷ []) (omega arith)
 range_more a (suc n) =
     let e : (a + 1) + n ≡ a + suc n = omega arith in

@@ -1,4 +1,5 @@
 pub mod Blocks
 pub mod Examples
+pub mod LikedPages
 pub mod LikesBelow
 pub mod Lists

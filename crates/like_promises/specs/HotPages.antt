@@ -1,8 +1,7 @@
 -- Which pages are hot in a split phase.
-use Rattle.std.specs.Prelude.{ℕ, ◌+◌, ◌%◌, ◌==◌, ◌||◌, nat_lt, nat_le, min, if◌then◌else◌, List, length, map, filter, Option, Some, None}
+use Rattle.std.specs.Prelude.{ℕ, ◌+◌, ◌%◌, ◌^◌, ◌==◌, ◌||◌, nat_lt, nat_le, min, if◌then◌else◌, List, length, map, filter, Option, Some, None}
 use Rattle.std.specs.List.{range_with_len, sum_by}
 use Rattle.like_limits.specs.Limits.{hot_pages}
-use Rattle.like_core.specs.Functions.{mask}
 use Rattle.like_promises.specs.declared.chosen.Chosen.{Chosen}
 use Rattle.like_promises.specs.declared.log.Ran.{Ran}
 use Rattle.like_promises.specs.Likes.{likes_among}
@@ -21,7 +20,8 @@ chosen_below masks phase =
 -- the mask of those of the first 64 pages that got at least so many likes before a split phase; 0 in a joined one
 abbrev pub liked_pages : ℕ → ℕ → (ℕ → ℕ → ℕ) → ℕ → ℕ
 liked_pages least pages got phase =
-    if phase % 2 == 1 then mask (λ page. nat_le least (got phase page)) (min hot_pages pages) else 0
+    if phase % 2 == 1 then sum_by (λ page. if nat_le least (got phase page) then 2 ^ page else 0)
+    (range_with_len 0 (min hot_pages pages)) else 0
 
 -- the mask of a phase's hot pages: those that got enough likes before it, unless 1,024 earlier phases had some
 abbrev pub hot_by : Option ℕ → ℕ → (ℕ → ℕ → ℕ) → ℕ → ℕ

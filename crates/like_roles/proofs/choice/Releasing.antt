@@ -17,6 +17,7 @@ use Rattle.like_seat.proofs.Leading.{counted-is}
 use Rattle.like_promises.specs.declared.chosen.Chosen.{Chosen}
 use Rattle.like_roles.specs.coordinator.Choice.{AreTotals, ChoiceView, HasChosen, ReleasesNext, chooses_none, chooses_risen, first_choice, likes_counted, releases_joined, releases_split, total_before, with_chosen, within_limit}
 use Rattle.like_promises.specs.HotPages.{chosen_below, hot_by, liked_pages}
+use Rattle.like_promises.proofs.LikedPages.{liked_pages-is}
 use Rattle.like_roles.proofs.choice.Choosing.{chosen-more, limit-is, totals-from}
 use Rattle.like_roles.proofs.choice.Totals.{total_before-next}
 
@@ -48,7 +49,8 @@ none-even (Some least) pages got phase even =
     ap (λ x. cond (ltb (length (chosen_below (liked_pages least pages got) phase)) 1024) x 0) none
     ∙ both (ltb (length (chosen_below (liked_pages least pages got) phase)) 1024) where
       none : liked_pages least pages got phase ≡ 0
-      none = ap (λ b. cond b (mask (λ page. leb least (got phase page)) (min hot_pages pages)) 0)
+      none = liked_pages-is least pages got phase
+          ∙ ap (λ b. cond b (mask (λ page. leb least (got phase page)) (min hot_pages pages)) 0)
           (ne_eqb (phase % 2) 1 (λ odd. absurd (omega (arith, even, odd))))
 
       both : (b : Bool) → ◌≡◌ {A = ℕ} (cond b 0 0) 0
@@ -71,7 +73,8 @@ module _ (c : CoordSeatView) (v : ChoiceView) (total : ℕ → ℕ → ℕ) (old
       ∙ ap (mask (λ page. leb least (got (c.phase + 1) page))) old.sized
       ∙ sym (ap (λ b. cond b
       (mask (λ page. leb least (got (c.phase + 1) page)) (min hot_pages (length c.opening.counts))) 0)
-      (eq-eqb ((c.phase + 1) % 2) 1 odd)) where
+      (eq-eqb ((c.phase + 1) % 2) 1 odd))
+      ∙ sym (liked_pages-is least (length c.opening.counts) got (c.phase + 1)) where
         odd : (c.phase + 1) % 2 ≡ 1
         odd = omega (arith, joined)
 
