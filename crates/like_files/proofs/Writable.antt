@@ -15,11 +15,13 @@ use Rattle.like_requests.specs.declared.request.PageRef.{PageRef}
 use Rattle.like_requests.specs.declared.request.PageRef.TheVariants.{Known, Unknown}
 use Rattle.like_requests.specs.declared.request.Request.{Request}
 use Rattle.like_requests.specs.declared.verdict.Verdict.TheVariants.{Accepted, UnknownUser, OtherHome, UnknownPage}
+use Rattle.like_promises.specs.Accepted.{AcceptedRequest}
+use Rattle.like_promises.proofs.Accepted.{accepted_like, like_of, like_ran-tests}
 use Rattle.like_promises.specs.declared.log.Ran.{Ran}
 use Rattle.like_promises.specs.declared.log.WorkerLog.{WorkerLog}
 use Rattle.like_promises.specs.declared.reply.Reply.{Reply}
 use Rattle.like_promises.specs.declared.reply.Reply.TheVariants.{Refused}
-use Rattle.like_promises.specs.Likes.{AcceptedLike, accepted_like, initial_count, last_like, like_of, likes, likes_ran}
+use Rattle.like_promises.specs.Likes.{initial_count, last_like, likes, likes_ran}
 use Rattle.like_promises.specs.Looks.{count_in}
 use Rattle.like_promises.specs.Replies.{HasRightAnswers, IsRightAnswer, answer_to, reply_to}
 use Rattle.like_promises.specs.Workload.{Workload, numbered_in, request_at, request_of, submitters}
@@ -82,11 +84,11 @@ all_flat f P [] all = tt
 all_flat f P (x ∷ xs) all = all_both P (f x) (flat_map f xs) all.0 (all_flat f P xs all.1)
 
 -- a like of a page that is there
-abbrev LikesThere : List Page → AcceptedLike → Type 0
+abbrev LikesThere : List Page → AcceptedRequest → Type 0
 LikesThere pages l = l.page < length pages
 
 -- the like that a request makes is of a page that is there
-likes_there : (pages : List Page) (b : Bool) (o : Op) (user : ℕ) (p : PageRef) (rest : List AcceptedLike)
+likes_there : (pages : List Page) (b : Bool) (o : Op) (user : ℕ) (p : PageRef) (rest : List AcceptedRequest)
     → IsThere (length pages) p
     → AllByRecursion (LikesThere pages) rest
     → AllByRecursion (LikesThere pages) (cons_option (cond b (like_of o user p) None) rest)
@@ -142,7 +144,9 @@ module _ (workload : Workload) (planned : All (IsPlan workload.pages) workload.p
   ran_there : (entries : List Ran) → AllByRecursion (LikesThere workload.pages) (likes_ran workload entries)
   ran_there [] = tt
   ran_there (e ∷ rest) =
-      by_request (request_of workload e) (λ r at. asked_there e.submitter e.number r at) (ran_there rest) where
+      subst (λ o. AllByRecursion (LikesThere workload.pages) (cons_option o (likes_ran workload rest)))
+      (sym (like_ran-tests workload e))
+      (by_request (request_of workload e) (λ r at. asked_there e.submitter e.number r at) (ran_there rest)) where
         by_request : (o : Option Request) → ((r : Request) → o ≡ Some r → IsThere (length workload.pages) r.page)
             → AllByRecursion (LikesThere workload.pages) (likes_ran workload rest)
             → AllByRecursion (LikesThere workload.pages)
@@ -158,9 +162,9 @@ module _ (workload : Workload) (planned : All (IsPlan workload.pages) workload.p
       → ForSome (last_like workload user entries) (λ p. p < length workload.pages)
   last_there user entries = λ p h.
       all_get (λ q. q < length workload.pages) _ _ p
-      (all_map (λ (l : AcceptedLike). l.page) (λ q. q < length workload.pages)
-      (filter (λ (l : AcceptedLike). eqb l.user user) (likes_ran workload entries))
-      (all_filter (LikesThere workload.pages) (λ (l : AcceptedLike). eqb l.user user) (likes_ran workload entries)
+      (all_map (λ (l : AcceptedRequest). l.page) (λ q. q < length workload.pages)
+      (filter (λ (l : AcceptedRequest). eqb l.user user) (likes_ran workload entries))
+      (all_filter (LikesThere workload.pages) (λ (l : AcceptedRequest). eqb l.user user) (likes_ran workload entries)
       (ran_there entries))) h
 
   -- an entry with a right answer can be shown

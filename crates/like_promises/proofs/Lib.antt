@@ -1,3 +1,4 @@
+pub mod Accepted
 pub mod Blocks
 pub mod Examples
 pub mod LikedPages

@@ -1,4 +1,5 @@
 pub mod Workload
+pub mod Accepted
 pub mod Likes
 pub mod Looks
 pub mod Order

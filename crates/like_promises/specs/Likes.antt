@@ -1,41 +1,19 @@
 -- Accepted likes: the last one of a user, and how many there are of a page.
-use Rattle.std.specs.Prelude.{ℕ, ◌+◌, ◌-◌, ◌≤◌, ◌==◌, nat_lt, if◌then◌else◌, List, length, map, filter, count_by, slice_get, Option, Some, None, option_and_then}
+use Rattle.std.specs.Prelude.{ℕ, ◌+◌, ◌-◌, ◌≤◌, ◌==◌, nat_lt, List, length, map, filter, count_by, slice_get, Option}
 use Rattle.std.specs.List.{filter_map, sum_by}
 use Rattle.std.specs.Option.{option_map_or}
 use Rattle.like_requests.specs.Pages.{Page}
-use Rattle.like_requests.specs.Verdict.{is_accepted}
-use Rattle.like_requests.specs.declared.request.Op.{Op}
-use Rattle.like_requests.specs.declared.request.Op.TheVariants as op
-use Rattle.like_requests.specs.declared.request.PageRef.{PageRef}
-use Rattle.like_requests.specs.declared.request.PageRef.TheVariants.{Known, Unknown}
-use Rattle.like_requests.specs.declared.request.Request.{Request}
+use Rattle.like_requests.specs.declared.request.Op.TheVariants.{Like}
 use Rattle.like_promises.specs.declared.log.Ran.{Ran}
-use Rattle.like_promises.specs.Workload.{Workload, submitters, request_of}
-
--- an accepted like
-pub record AcceptedLike : Type 0 where
-  pub user : ℕ
-  pub page : ℕ
-
--- the like of a page that is there
-abbrev pub like_of : Op → ℕ → PageRef → Option AcceptedLike
-like_of op.Like user (Known page) = Some (record { user = user; page = page })
-like_of op.Like user Unknown = None
-like_of op.Look user page = None
-
--- the accepted like that a request of a submitter is, if it is one
-abbrev pub accepted_like : ℕ → ℕ → ℕ → Request → Option AcceptedLike
-accepted_like users submitters submitter r =
-    if is_accepted users submitters submitter r then like_of r.op r.user r.page else None
+use Rattle.like_promises.specs.Accepted.{AcceptedRequest, accepted_at}
+use Rattle.like_promises.specs.Workload.{Workload}
 
 -- the accepted like that an entry ran, if it ran one
-abbrev pub like_ran : Workload → Ran → Option AcceptedLike
-like_ran workload e =
-    option_and_then (accepted_like workload.users (submitters workload) e.submitter)
-    (request_of workload e)
+abbrev pub like_ran : Workload → Ran → Option AcceptedRequest
+like_ran workload e = accepted_at Like workload e.submitter e.number
 
 -- the accepted likes among entries, in their order
-abbrev pub likes_ran : Workload → List Ran → List AcceptedLike
+abbrev pub likes_ran : Workload → List Ran → List AcceptedRequest
 likes_ran workload entries = filter_map (like_ran workload) entries
 
 -- the last element of a list, if there is one

@@ -24,13 +24,14 @@ use Rattle.like_core.specs.Phase.{IsJoined, IsSplit, split, split_by}
 use Rattle.like_core.specs.WorkerState.{IsRunning, RunsJoined, RunsSplit, RunsSome, phase_of, seen}
 use Rattle.like_core.specs.Post.{additions_in, answered, looked_at, pages_of, slices}
 use Rattle.like_tables.specs.declared.held.Held.{Held}
+use Rattle.like_promises.proofs.Accepted.{accepted_look, look_at-tests}
 use Rattle.like_promises.specs.declared.log.Ran.{Ran}
 use Rattle.like_promises.specs.declared.log.Took.{Took}
 use Rattle.like_roles.specs.declared.turn.Turn.{Turn}
 use Rattle.like_roles.specs.worker.Follows.{FitsStash, Follows, IsAsked, IsAskedBy, IsInOrder, IsNoted, IsServed, IsSized, IsTallied, IsUnmerged, HasNothingLater, Stands, entry_held, next_joined}
 use Rattle.like_promises.specs.Order.{block, entry_of, order, order_below, stashed_in, took_to_wait}
 use Rattle.like_roles.specs.worker.WorkerView.{is_look_at_sliced, WorkerView, has_to_wait, phase_at, seat_of, submitter_at}
-use Rattle.like_promises.specs.Looks.{accepted_look, page_looked_at}
+use Rattle.like_promises.specs.Looks.{page_looked_at}
 use Rattle.like_roles.specs.worker.Serve.{Runs, ran_now, verdict_at}
 use Rattle.like_promises.specs.Workload.{Workload, is_split_in, request_at, submitters}
 use Rattle.like_roles.specs.worker.Turns as turns
@@ -580,7 +581,8 @@ took_to_wait-is : (workload : Workload) (t : Took) (r : Request) → request_at 
     → took_to_wait workload t
     ≡ is_look_at_sliced workload.users (submitters workload) (is_split_in workload t.phase) t.submitter r
 took_to_wait-is workload t r asked =
-    ap (λ o. option_map_or (is_split_in workload t.phase)
+    ap (λ o. option_map_or (is_split_in workload t.phase) o false) (look_at-tests workload t.submitter t.number)
+    ∙ ap (λ o. option_map_or (is_split_in workload t.phase)
     (option_and_then (accepted_look workload.users (submitters workload) t.submitter) o) false) asked
     ∙ by_test (is_accepted workload.users (submitters workload) t.submitter r)
   where

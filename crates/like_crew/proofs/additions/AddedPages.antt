@@ -1,5 +1,5 @@
 -- Accepted likes are of pages that are there, and so are the additions that are noted.
-use Rattle.std.proofs.Common.{◌≡◌, ℕ, zero, suc, ◌<◌, ◌≤◌, ◌==◌, Bool, true, false, cond, List, [], ◌∷◌, All, length, get_or, map, slice_get, Option, Some, None, option_and_then, refl, ap, ◌∙◌, subst, inl, inr, arith}
+use Rattle.std.proofs.Common.{◌≡◌, ℕ, zero, suc, ◌<◌, ◌≤◌, ◌==◌, Bool, true, false, cond, List, [], ◌∷◌, All, length, get_or, map, slice_get, Option, Some, None, option_and_then, refl, sym, ap, ◌∙◌, subst, inl, inr, arith}
 use Rattle.std.specs.List.{cons_option, sum_by}
 use Rattle.std.proofs.lemmas.Bool.{cases_eq, cases_lt, cond-true, eq-eqb, ne_eqb}
 use Rattle.std.proofs.lemmas.List.Sums.{get_or-le-sum_by, sum_by-cons}
@@ -14,10 +14,12 @@ use Rattle.like_requests.specs.declared.request.PageRef.TheVariants.{Known, Unkn
 use Rattle.like_requests.specs.declared.request.Request.{Request}
 use Rattle.like_core.specs.declared.view.Addition.{Addition}
 use Rattle.like_core.specs.Additions.{added_to}
+use Rattle.like_promises.specs.Accepted.{AcceptedRequest}
+use Rattle.like_promises.proofs.Accepted.{accepted_like, like_of, like_ran-tests}
 use Rattle.like_promises.specs.declared.log.Added.{Added}
 use Rattle.like_promises.specs.declared.log.Ran.{Ran}
 use Rattle.like_promises.specs.places.Adds.{IsOfLikes, addition_of}
-use Rattle.like_promises.specs.Likes.{AcceptedLike, accepted_like, like_of, like_ran, likes, likes_among}
+use Rattle.like_promises.specs.Likes.{like_ran, likes, likes_among}
 use Rattle.like_promises.specs.Workload.{Workload, numbered_in, request_at, request_of, submitters}
 use Rattle.like_roles.proofs.counts.Tallied.{likes_among-append, page_likes}
 use Rattle.like_crew.proofs.lists.Sums.{sum-of-map}
@@ -27,7 +29,7 @@ got : {A : Type 0} (P : A → Type 0) (xs : List A) (k : ℕ) (x : A) → All P 
 got P xs k x all at = subst P (get_or_from_slice_get xs k x x at) (all k x (slice_get_within xs k x at))
 
 -- the page of a like is the one that its request knows
-page-of : (pages : List Page) (o : Op) (user : ℕ) (page : PageRef) (l : AcceptedLike)
+page-of : (pages : List Page) (o : Op) (user : ℕ) (page : PageRef) (l : AcceptedRequest)
     → IsThere (length pages) page
     → like_of o user page ≡ Some l
     → l.page < length pages
@@ -52,8 +54,8 @@ module _ (workload : Workload) (plans : All (AreThere workload.pages) workload.p
         numbered-there plan number r (got (AreThere workload.pages) workload.plans submitter plan plans at) same
 
   -- and so is that of an accepted like
-  like-there : (e : Ran) (l : AcceptedLike) → like_ran workload e ≡ Some l → l.page < length workload.pages
-  like-there e l is = by_request (request_of workload e) refl is where
+  like-there : (e : Ran) (l : AcceptedRequest) → like_ran workload e ≡ Some l → l.page < length workload.pages
+  like-there e l is = by_request (request_of workload e) refl (sym (like_ran-tests workload e) ∙ is) where
     by_test : (b : Bool) (r : Request) → IsThere (length workload.pages) r.page
         → cond b (like_of r.op r.user r.page) None ≡ Some l → l.page < length workload.pages
     by_test true r there same = page-of workload.pages r.op r.user r.page l there same
@@ -70,7 +72,7 @@ module _ (workload : Workload) (plans : All (AreThere workload.pages) workload.p
   -- a page with a like is there
   one-there : (e : Ran) (page : ℕ) → 1 ≤ likes_among workload page (e ∷ []) → page < length workload.pages
   one-there e page some = by_like (like_ran workload e) refl some where
-    by_like : (o : Option AcceptedLike) → like_ran workload e ≡ o → 1 ≤ page_likes page (cons_option o [])
+    by_like : (o : Option AcceptedRequest) → like_ran workload e ≡ o → 1 ≤ page_likes page (cons_option o [])
         → page < length workload.pages
     by_like None at one = absurd (omega arith)
     by_like (Some l) at one = elim (cases_eq l.page page) [

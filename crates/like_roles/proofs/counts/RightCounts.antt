@@ -17,11 +17,12 @@ use Rattle.like_core.specs.declared.view.PageRead.{PageRead}
 use Rattle.like_core.specs.Additions.{added_in, added_before}
 use Rattle.like_core.specs.views.Reads.{AreBetween, IsBetween}
 use Rattle.like_core.proofs.core.Labels.{added_before-next, one_before-next}
+use Rattle.like_promises.proofs.Accepted.{accepted_like, accepted_look, like_of, like_ran-tests, look_at-tests}
 use Rattle.like_promises.specs.declared.log.Ran.{Ran}
-use Rattle.like_promises.specs.Likes.{Between, accepted_like, initial_count, like_of, like_ran, likes_among, likes_within}
+use Rattle.like_promises.specs.Likes.{Between, initial_count, like_ran, likes_among, likes_within}
 use Rattle.like_promises.proofs.LikesBelow.{likes_below}
 use Rattle.like_roles.specs.worker.Shown.{ShownCount, shown_at, shown_in, shown_to, shown_by, look_ran}
-use Rattle.like_promises.specs.Looks.{accepted_look, count_in, page_looked_at}
+use Rattle.like_promises.specs.Looks.{count_in, page_looked_at}
 use Rattle.like_promises.specs.Replies.{HasRightCounts}
 use Rattle.like_promises.specs.Workload.{Workload, request_of, submitters}
 use Rattle.like_roles.proofs.counts.Tallied.{likes_among-append, within-none}
@@ -131,7 +132,9 @@ below-is workload ran additions each (suc phase) page =
 
 -- an entry that ran an accepted look ran no like
 no-like : (workload : Workload) (e : Ran) (page : ℕ) → look_ran workload e ≡ Some page → like_ran workload e ≡ None
-no-like workload e page look = by_request (request_of workload e) look where
+no-like workload e page look =
+    like_ran-tests workload e
+    ∙ by_request (request_of workload e) (sym (look_at-tests workload e.submitter e.number) ∙ look) where
   by_op : (b : Bool) (o : Op) (user : ℕ) (p : PageRef) → cond b (page_looked_at o p) None ≡ Some page
       → cond b (like_of o user p) None ≡ None
   by_op false o user p is = refl

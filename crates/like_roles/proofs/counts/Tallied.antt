@@ -21,14 +21,16 @@ use Rattle.like_core.specs.Post.{additions_of, additions_in, pages_of}
 use Rattle.like_core.proofs.core.Labels.{added_to-push, added_in-push}
 use Rattle.like_tables.specs.UserTable.{last_of}
 use Rattle.like_tables.specs.declared.held.Held.{Held}
+use Rattle.like_promises.specs.Accepted.{AcceptedRequest}
+use Rattle.like_promises.proofs.Accepted.{accepted_like, accepted_look, like_ran-tests, look_at-tests}
 use Rattle.like_promises.specs.declared.log.Ran.{Ran}
 use Rattle.like_promises.specs.declared.reply.Reply.{Reply}
 use Rattle.like_promises.specs.declared.reply.Reply.TheVariants as reply
 use Rattle.like_core.specs.PhaseMasks.{AreMasksOf}
 use Rattle.like_roles.specs.worker.Follows.{IsAsked, IsServed, IsSized, IsTallied}
 use Rattle.like_roles.specs.worker.Shown.{shown_by, ShownCount, shown_in, shown_to, look_ran}
-use Rattle.like_promises.specs.Likes.{AcceptedLike, accepted_like, last_in, like_ran, likes_among, likes_ran, likes_within}
-use Rattle.like_promises.specs.Looks.{accepted_look, page_looked_at}
+use Rattle.like_promises.specs.Likes.{last_in, like_ran, likes_among, likes_ran, likes_within}
+use Rattle.like_promises.specs.Looks.{page_looked_at}
 use Rattle.like_promises.specs.Replies.{HasRightAnswers, IsRightAnswer, answer_to}
 use Rattle.like_roles.specs.worker.Serve.{GivesReply, refuses, likes, looks, with_addition, counted, liked, shown, ran_now, verdict_at}
 use Rattle.like_promises.specs.Workload.{Workload, request_of, submitters}
@@ -40,39 +42,39 @@ use Rattle.like_seat.proofs.MergedLikes.{cond_same}
 use Rattle.like_roles.proofs.counts.Shown.{after-more, shown_by-more, shown_in-none, shown_in-push}
 
 -- how many of the likes are of the page
-abbrev pub page_likes : ℕ → List AcceptedLike → ℕ
+abbrev pub page_likes : ℕ → List AcceptedRequest → ℕ
 page_likes page given = count_by (λ l. l.page == page) given
 
 -- the page of a user's last like among likes, if there is one
-abbrev last_page : ℕ → List AcceptedLike → Option ℕ
+abbrev last_page : ℕ → List AcceptedRequest → Option ℕ
 last_page user given = last_in (map (λ l. l.page) (filter (λ l. l.user == user) given))
 
 -- one more like counts for its page alone
-pub page_likes-push : (page : ℕ) (given : List AcceptedLike) (l : AcceptedLike)
+pub page_likes-push : (page : ℕ) (given : List AcceptedRequest) (l : AcceptedRequest)
     → page_likes page (given ++ l ∷ []) ≡ page_likes page given + cond (eqb l.page page) 1 0
 page_likes-push page given l = sum_by-append (λ x. cond (eqb x.page page) 1 0) given (l ∷ []) ∙ omega arith
 
 -- one more like is its user's last
-pub last_page-push_same : (user : ℕ) (given : List AcceptedLike) (l : AcceptedLike)
+pub last_page-push_same : (user : ℕ) (given : List AcceptedRequest) (l : AcceptedRequest)
     → eqb l.user user ≡ true
     → last_page user (given ++ l ∷ []) ≡ Some l.page
 last_page-push_same user given l h =
     simp (filter-append, h, map-append) (last_in-push (map (λ x. x.page) (filter (λ x. eqb x.user user) given)) l.page)
 
 -- and no other user's
-pub last_page-push_other : (user : ℕ) (given : List AcceptedLike) (l : AcceptedLike)
+pub last_page-push_other : (user : ℕ) (given : List AcceptedRequest) (l : AcceptedRequest)
     → eqb l.user user ≡ false
     → last_page user (given ++ l ∷ []) ≡ last_page user given
 last_page-push_other user given l h = simp (filter-append, h, append-nil)
 
 -- the likes among entries, and then that of one more entry
-pub likes_ran-push : (workload : Workload) (ran : List Ran) (e : Ran) (o : Option AcceptedLike)
+pub likes_ran-push : (workload : Workload) (ran : List Ran) (e : Ran) (o : Option AcceptedRequest)
     → like_ran workload e ≡ o
     → likes_ran workload (ran ++ e ∷ []) ≡ likes_ran workload ran ++ option_to_list o
 likes_ran-push workload ran e o h =
     filter_map-append (like_ran workload) ran (e ∷ [])
     ∙ ap (λ x. likes_ran workload ran ++ x) (ap (λ x. cons_option x []) h ∙ one o) where
-      one : (x : Option AcceptedLike) → cons_option x [] ≡ option_to_list x
+      one : (x : Option AcceptedRequest) → cons_option x [] ≡ option_to_list x
       one None = refl
       one (Some x) = refl
 
@@ -133,13 +135,16 @@ accepted_user users submitters submitter r a =
 pub like_ran-is : (workload : Workload) (e : Ran) (r : Request)
     → request_of workload e ≡ Some r
     → like_ran workload e ≡ accepted_like workload.users (submitters workload) e.submitter r
-like_ran-is workload e r h = ap (option_and_then (accepted_like workload.users (submitters workload) e.submitter)) h
+like_ran-is workload e r h =
+    like_ran-tests workload e ∙ ap (option_and_then (accepted_like workload.users (submitters workload) e.submitter)) h
 
 -- the look that an entry of a known request ran
 pub look_ran-is : (workload : Workload) (e : Ran) (r : Request)
     → request_of workload e ≡ Some r
     → look_ran workload e ≡ accepted_look workload.users (submitters workload) e.submitter r
-look_ran-is workload e r h = ap (option_and_then (accepted_look workload.users (submitters workload) e.submitter)) h
+look_ran-is workload e r h =
+    look_at-tests workload e.submitter e.number
+    ∙ ap (option_and_then (accepted_look workload.users (submitters workload) e.submitter)) h
 
 -- one more right answer
 pub HasRightAnswers-push : (workload : Workload) (ran : List Ran) (e : Ran)
@@ -275,11 +280,11 @@ within-none workload ran e page phase none =
     ∙ (likes_among-append workload page (filter p ran) (cond (p e) (e ∷ []) []) ∙ omega arith)
   where
     last_is : (b : Bool) → page_likes page (likes_ran workload (cond b (e ∷ []) [])) ≡ 0
-    last_is true = ap (page_likes page) (ap (λ (x : Option AcceptedLike). cons_option x []) none)
+    last_is true = ap (page_likes page) (ap (λ (x : Option AcceptedRequest). cons_option x []) none)
     last_is false = refl
 
 -- one that ran a like adds it to those of its phase
-pub within-one : (workload : Workload) (ran : List Ran) (e : Ran) (l : AcceptedLike) (page phase : ℕ)
+pub within-one : (workload : Workload) (ran : List Ran) (e : Ran) (l : AcceptedRequest) (page phase : ℕ)
     → like_ran workload e ≡ Some l
     → likes_within workload page (ran ++ e ∷ []) phase
     ≡ likes_within workload page ran phase + cond (e.phase == phase) (cond (l.page == page) 1 0) 0
@@ -293,7 +298,7 @@ within-one workload ran e l page phase is =
         → page_likes page (likes_ran workload (cond b (e ∷ []) [])) ≡ cond b (cond (l.page == page) 1 0) 0
     last_is true =
         let one : page_likes page (l ∷ []) ≡ cond (l.page == page) 1 0 = omega arith in
-        ap (page_likes page) (ap (λ (x : Option AcceptedLike). cons_option x []) is) ∙ one
+        ap (page_likes page) (ap (λ (x : Option AcceptedRequest). cons_option x []) is) ∙ one
     last_is false = refl
 
 -- what holds after an answer that is noted
@@ -354,7 +359,7 @@ one_like : (workload : Workload) (v : WorkerView) (h : Held) (stashed : Bool) (p
 one_like workload v h stashed page old served sized t like no_look right in_pages in_users =
     let e = ran_now v h stashed reply.Liked in
     let user = h.ask.request.user in
-    let l : AcceptedLike = record { user = user; page = page } in
+    let l : AcceptedRequest = record { user = user; page = page } in
     let more = likes_ran-push workload v.ran e (Some l) like in
     let in_slice : page < length v.slice = omega (arith, sized.slice) in
     let in_table : user < length v.last.last = omega (arith, sized.users) in

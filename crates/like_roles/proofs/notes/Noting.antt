@@ -14,13 +14,14 @@ use Rattle.like_core.specs.declared.worker_state.WorkerState.TheVariants as stat
 use Rattle.like_core.specs.WorkerState.{RunsSome, phase_of, seen}
 use Rattle.like_core.specs.Post.{slices}
 use Rattle.like_tables.specs.declared.held.Held.{Held}
+use Rattle.like_promises.specs.Accepted.{AcceptedRequest}
 use Rattle.like_promises.specs.declared.log.Added.{Added}
 use Rattle.like_promises.specs.declared.log.Ran.{Ran}
 use Rattle.like_promises.specs.declared.reply.Reply.{Reply}
 use Rattle.like_promises.specs.places.Adds.{IsOfLikes, addition_of, is_add_to, adds_before}
 use Rattle.like_roles.specs.worker.Follows.{adds_to, IsAsked, IsNoted, IsServed, IsUnmerged}
 use Rattle.like_roles.specs.worker.Shown.{adds_before_looks, look_ran}
-use Rattle.like_promises.specs.Likes.{AcceptedLike, like_ran, likes_within}
+use Rattle.like_promises.specs.Likes.{like_ran, likes_within}
 use Rattle.like_roles.specs.worker.Serve.{GivesReply, refuses, likes, looks, sliced, with_addition, counted, noted_at, ran_now}
 use Rattle.like_promises.specs.Workload.{Workload, is_split_in, submitters}
 use Rattle.like_roles.specs.worker.WorkerView.{WorkerView, phase_at}
@@ -35,7 +36,7 @@ flip a b = elim (cases_eq a b) [
 ]
 
 -- an entry that ran an accepted like is one of its page in its phase
-adds-like : (workload : Workload) (e : Ran) (l : AcceptedLike)
+adds-like : (workload : Workload) (e : Ran) (l : AcceptedRequest)
     → like_ran workload e ≡ Some l
     → AddsLikes workload e (λ phase page. cond ((e.phase == phase) && (l.page == page)) 1 0)
 adds-like workload e l is xs phase page =
