@@ -65,13 +65,13 @@ judged = record {
 }
 
 unknown_user : IsRightAnswer judged [] (runs_at 0 0 1 (Refused UnknownUser))
-unknown_user = refl
+unknown_user = (refl, λ e. cc e)
 
 other_home : IsRightAnswer judged [] (runs_at 0 0 2 (Refused OtherHome))
-other_home = refl
+other_home = (refl, λ e. cc e)
 
 unknown_page : IsRightAnswer judged [] (runs_at 0 0 3 (Refused UnknownPage))
-unknown_page = refl
+unknown_page = (refl, λ e. cc e)
 
 -- two workers: two likes in phase 1, then a look in phase 2
 abbrev sliced : Workload
@@ -92,7 +92,7 @@ abbrev sliced_runs : List (List Ran)
 sliced_runs = (runs_at 1 0 1 Liked ∷ look ∷ []) ∷ (runs_at 1 1 1 Liked ∷ []) ∷ []
 
 look_answer : IsRightAnswer sliced (runs_at 1 0 1 Liked ∷ []) look
-look_answer = refl
+look_answer = (refl, refl, refl)
 
 -- the bounds of the look meet in 102, and a look of the first worker in phase 1, before its like, may see 100 or 101
 look_count : Between sliced sliced_runs 2 0 102 (likes_within sliced 0 (runs_at 1 0 1 Liked ∷ []) 2) 0

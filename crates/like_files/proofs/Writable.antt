@@ -1,5 +1,5 @@
 -- A report that is right end to end shows pages that are there and replies that can be shown.
-use Rattle.std.proofs.Common.{◌≡◌, ℕ, zero, suc, ◌+◌, ◌<◌, ◌==◌, ◌&&◌, nat_lt, not, Bool, true, false, List, [], ◌∷◌, ◌++◌, length, map, take, get_or, cond, eqb, Option, None, Some, All, refl, sym, ap, ◌∙◌, subst, arith, zero-add}
+use Rattle.std.proofs.Common.{◌≡◌, ℕ, zero, suc, ◌+◌, ◌<◌, Bool, true, false, List, [], ◌∷◌, ◌++◌, length, map, take, get_or, cond, eqb, Option, None, Some, All, refl, sym, ap, ◌∙◌, subst, arith, zero-add}
 use Rattle.std.proofs.lemmas.List.Elements.{All-from_recursion}
 use Rattle.std.proofs.lemmas.List.FromFn.{get_or-map-range_with_len, length-map-range_with_len}
 use Rattle.std.proofs.lemmas.Option.{get_or_from_slice_get, slice_get_within}
@@ -8,22 +8,20 @@ use Rattle.std.specs.List.{AllByRecursion, cons_option, filter, flat_map, slice_
 use Rattle.std.specs.Option.{ForSome, option_and_then, option_to_list}
 use Rattle.like_requests.specs.Pages.{Page}
 use Rattle.like_requests.specs.Setup.{IsPlan, IsThere}
-use Rattle.like_requests.specs.Verdict.{home, is_accepted, is_known, verdict_of}
+use Rattle.like_requests.specs.Verdict.{home, is_accepted}
 use Rattle.like_requests.specs.declared.request.Op.{Op}
 use Rattle.like_requests.specs.declared.request.Op.TheVariants.{Like, Look}
 use Rattle.like_requests.specs.declared.request.PageRef.{PageRef}
 use Rattle.like_requests.specs.declared.request.PageRef.TheVariants.{Known, Unknown}
 use Rattle.like_requests.specs.declared.request.Request.{Request}
-use Rattle.like_requests.specs.declared.verdict.Verdict.TheVariants.{Accepted, UnknownUser, OtherHome, UnknownPage}
 use Rattle.like_promises.specs.Accepted.{AcceptedRequest}
 use Rattle.like_promises.proofs.Accepted.{accepted_like, like_of, like_ran-tests}
 use Rattle.like_promises.specs.declared.log.Ran.{Ran}
 use Rattle.like_promises.specs.declared.log.WorkerLog.{WorkerLog}
 use Rattle.like_promises.specs.declared.reply.Reply.{Reply}
-use Rattle.like_promises.specs.declared.reply.Reply.TheVariants.{Refused}
+use Rattle.like_promises.specs.declared.reply.Reply.TheVariants.{Liked, Seen, Refused}
 use Rattle.like_promises.specs.Likes.{initial_count, last_like, likes, likes_ran}
-use Rattle.like_promises.specs.Looks.{count_in}
-use Rattle.like_promises.specs.Replies.{HasRightAnswers, IsRightAnswer, answer_to, reply_to}
+use Rattle.like_promises.specs.Replies.{HasRightAnswers, IsReplyTo, IsRightAnswer}
 use Rattle.like_promises.specs.Workload.{Workload, numbered_in, request_at, request_of, submitters}
 use Rattle.like_promises.specs.declared.answer.Answer.{Answer}
 use Rattle.like_promises.specs.declared.report.Report.{Report}
@@ -97,29 +95,6 @@ likes_there pages true Like user (Known q) rest there all = (there, all)
 likes_there pages true Like user Unknown rest there all = all
 likes_there pages true Look user p rest there all = all
 
--- a reply shows no page but the user's last one
-reply_there : (pages : List Page) (o : Op) (last : Option ℕ) (count : ℕ)
-    → ForSome last (λ p. p < length pages)
-    → IsShowable pages (reply_to o last count)
-reply_there pages Like last count there = record { there = tt; answer = tt }
-reply_there pages Look last count there = record { there = there; answer = tt }
-
--- nor does a refusal, which is no acceptance
-answer_there : (pages : List Page) (users submitters submitter : ℕ) (r : Request) (given : Reply)
-    → IsShowable pages given
-    → IsShowable pages
-    (cond (is_accepted users submitters submitter r) given (Refused (verdict_of users submitters submitter r)))
-answer_there pages users submitters submitter r given shows =
-    by_tests (nat_lt r.user users) (home submitters r.user == submitter) (is_known r.page) where
-      by_tests : (a b k : Bool)
-          → IsShowable pages
-          (cond (a && b && k) given
-          (Refused (cond (not a) UnknownUser (cond (not b) OtherHome (cond (not k) UnknownPage Accepted)))))
-      by_tests true true true = shows
-      by_tests true true false = record { there = tt; answer = λ e. cc }
-      by_tests true false k = record { there = tt; answer = λ e. cc }
-      by_tests false b k = record { there = tt; answer = λ e. cc }
-
 module _ (workload : Workload) (planned : All (IsPlan workload.pages) workload.plans) where
   -- the page that a request of a plan knows is there
   in_plan : (plan : List Request) (number : ℕ) (r : Request) → IsPlan workload.pages plan
@@ -168,17 +143,23 @@ module _ (workload : Workload) (planned : All (IsPlan workload.pages) workload.p
       (ran_there entries))) h
 
   -- an entry with a right answer can be shown
+  reply_shows : (before : List Ran) (submitter : ℕ) (r : Request) (given : Reply)
+      → IsReplyTo workload before submitter r given → IsShowable workload.pages given
+  reply_shows before submitter r Liked is = record { there = tt; answer = tt }
+  reply_shows before submitter r (Seen last count) is = record {
+    there =
+        subst (λ (o : Option ℕ). ForSome o (λ page. page < length workload.pages)) (sym is.2)
+        (last_there r.user before);
+    answer = tt;
+  }
+  reply_shows before submitter r (Refused why) is = record { there = tt; answer = is.1 }
+
   entry_shows : (before : List Ran) (e : Ran) → IsRightAnswer workload before e → IsShowable workload.pages e.reply
   entry_shows before e right = by_request (request_of workload e) right where
-    by_request : (o : Option Request) → IsSomeAnd o (λ r. e.reply ≡ answer_to workload before e r)
+    by_request : (o : Option Request) → IsSomeAnd o (λ r. IsReplyTo workload before e.submitter r e.reply)
         → IsShowable workload.pages e.reply
     by_request None h = absurd h
-    by_request (Some r) h =
-        subst (IsShowable workload.pages) (sym h)
-        (answer_there workload.pages workload.users (submitters workload) e.submitter r
-        (reply_to r.op (last_like workload r.user before) (count_in e.reply))
-        (reply_there workload.pages r.op (last_like workload r.user before) (count_in e.reply)
-        (last_there r.user before)))
+    by_request (Some r) h = reply_shows before e.submitter r e.reply h
 
   list_shows : (ran : List Ran) → HasRightAnswers workload ran
       → AllByRecursion (λ (e : Ran). IsShowable workload.pages e.reply) ran

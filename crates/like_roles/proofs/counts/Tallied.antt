@@ -31,7 +31,7 @@ use Rattle.like_roles.specs.worker.Follows.{IsAsked, IsServed, IsSized, IsTallie
 use Rattle.like_roles.specs.worker.Shown.{shown_by, ShownCount, shown_in, shown_to, look_ran}
 use Rattle.like_promises.specs.Likes.{last_in, like_ran, likes_among, likes_ran, likes_within}
 use Rattle.like_promises.specs.Looks.{page_looked_at}
-use Rattle.like_promises.specs.Replies.{HasRightAnswers, IsRightAnswer, answer_to}
+use Rattle.like_promises.specs.Replies.{HasRightAnswers, IsReplyTo, IsRightAnswer}
 use Rattle.like_roles.specs.worker.Serve.{GivesReply, refuses, likes, looks, with_addition, counted, liked, shown, ran_now, verdict_at}
 use Rattle.like_promises.specs.Workload.{Workload, request_of, submitters}
 use Rattle.like_requests.specs.Setup.{IsThere}
@@ -171,8 +171,9 @@ HasRightAnswers-push workload ran e all right i f h =
 
 -- an answer to the request of an entry
 right-by_request : (workload : Workload) (ran : List Ran) (e : Ran) (r : Request) → request_of workload e ≡ Some r
-    → e.reply ≡ answer_to workload ran e r → IsRightAnswer workload ran e
-right-by_request workload ran e r h a = subst (λ o. IsSomeAnd o (λ q. e.reply ≡ answer_to workload ran e q)) (sym h) a
+    → IsReplyTo workload ran e.submitter r e.reply → IsRightAnswer workload ran e
+right-by_request workload ran e r h a =
+    subst (λ o. IsSomeAnd o (λ q. IsReplyTo workload ran e.submitter q e.reply)) (sym h) a
 
 -- one more of a number that stands at a place
 one_more-at : (xs : List ℕ) (page other : ℕ)
@@ -420,7 +421,7 @@ GivesReply-tallied workload v h stashed answer w served sized t asked clear (ref
     accepted-false workload.users (submitters workload) h.submitter r (λ k. n (V-is ∙ k)) in
     let none : like_ran workload x ≡ None = like_ran-is workload x r asked.asked ∙ rw no refl in
     let no_look : look_ran workload x ≡ None = look_ran-is workload x r asked.asked ∙ rw no refl in
-    let right = right-by_request workload v.ran x r asked.asked (ap reply.Refused V-is ∙ rw no refl) in
+    let right = right-by_request workload v.ran x r asked.asked (sym V-is, n) in
     subst (λ y. IsAfter workload v h stashed answer y) (sym e)
     (subst (λ y. IsAfter workload v h stashed y v) (sym a)
     (unchanged workload v h stashed (reply.Refused V) v.post.reads served sized t none right
@@ -433,7 +434,7 @@ GivesReply-tallied workload v h stashed answer w served sized t asked clear (lik
     let like : like_ran workload x ≡ Some (record { user = r.user; page = page }) =
     like_ran-is workload x r asked.asked ∙ rw (yes, o, p) refl in
     let no_look : look_ran workload x ≡ None = look_ran-is workload x r asked.asked ∙ rw (yes, o) refl in
-    let right = right-by_request workload v.ran x r asked.asked (rw (yes, o) refl) in
+    let right = right-by_request workload v.ran x r asked.asked (V-is, o) in
     let in_marks : IsThere (length (marks_of workload.pages)) (ref.Known page) =
     subst (λ q. IsThere (length (marks_of workload.pages)) q) p asked.there in
     let in_pages : page < pages_of v.post = omega (arith, ap length served.marks_alike) in
@@ -449,8 +450,7 @@ GivesReply-tallied workload v h stashed answer w served sized t asked clear (loo
     let seen = reply.Seen (last_of v.last r.user) count in
     let x = ran_now v h stashed seen in
     let none : like_ran workload x ≡ None = like_ran-is workload x r asked.asked ∙ rw (yes, o) refl in
-    let right = right-by_request workload v.ran x r asked.asked
-    (ap (λ l. reply.Seen l count) (t.last r.user) ∙ rw (yes, o) refl) in
+    let right = right-by_request workload v.ran x r asked.asked (V-is, o, t.last r.user) in
     let look : look_ran workload x ≡ Some page = look_ran-is workload x r asked.asked ∙ rw (yes, o, p) refl in
     let now : ℕ = phase_at v in
     let looked : page_looked_at r.op r.page ≡ Some page = rw (o, p) refl in
