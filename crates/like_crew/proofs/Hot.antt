@@ -6,6 +6,7 @@ use Rattle.std.proofs.lemmas.List.Sums.{sum_by-cons}
 use Rattle.like_limits.specs.Limits.{hot_pages}
 use Rattle.like_core.specs.Functions.{mask}
 use Rattle.like_core.proofs.word.Masks.{mask_same}
+use Rattle.like_promises.proofs.Blocks.{is_prompt, stashed_in}
 use Rattle.like_promises.specs.declared.log.Ran.{Ran}
 use Rattle.like_promises.specs.declared.log.Took.{Took}
 use Rattle.like_roles.specs.coordinator.Choice.{likes_counted, total_before}
@@ -13,7 +14,7 @@ use Rattle.like_promises.specs.HotPages.{chosen_below, hot_by, liked_pages, like
 use Rattle.like_promises.specs.Likes.{likes_among}
 use Rattle.like_promises.proofs.LikesBelow.{likes_below}
 use Rattle.like_promises.proofs.LikedPages.{liked_pages-is}
-use Rattle.like_promises.specs.Order.{Entry, block, entry_in, is_due, is_prompt, order, phases_of, stashed_in, took_to_wait}
+use Rattle.like_promises.specs.Order.{Entry, block, entry_in, is_due, order, phases_of, took_to_wait}
 use Rattle.like_promises.specs.Workload.{Workload}
 use Rattle.like_roles.proofs.choice.Totals.{total_before-next}
 use Rattle.like_roles.proofs.counts.Tallied.{likes_among-append}

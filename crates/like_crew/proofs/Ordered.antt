@@ -5,9 +5,9 @@ use Rattle.std.proofs.Math.Nat.{le-max_left, le-max_right}
 use Rattle.std.proofs.lemmas.Bool.{cases_eq, cases_lt, eq-eqb, ne_eqb, le-ltb, lt-ltb}
 use Rattle.std.proofs.lemmas.List.Sums.{sum_by-append, sum_by-cons}
 use Rattle.like_promises.specs.declared.log.Took.{Took}
-use Rattle.like_promises.specs.Order.{Entry, block, entry_in, is_due, is_prompt, order, order_below, phases_of, took_to_wait}
+use Rattle.like_promises.specs.Order.{Entry, block, entry_in, is_due, order, phases_of, took_to_wait}
 use Rattle.like_promises.specs.Workload.{Workload}
-use Rattle.like_promises.proofs.Blocks.{order_below-more}
+use Rattle.like_promises.proofs.Blocks.{is_prompt, order_below, order_below-more}
 
 -- h is what a request weighs, by its submitter and its number
 module _ (h : ℕ → ℕ → ℕ) where

@@ -1,5 +1,5 @@
 -- How the blocks of run order grow.
-use Rattle.std.proofs.Common.{◌≡◌, ◌≢◌, ℕ, zero, suc, ◌+◌, ◌-◌, ◌<◌, ◌≤◌, ◌%◌, Bool, true, false, eqb, ◌&&◌, List, [], ◌∷◌, ◌++◌, length, map, Option, Some, None, refl, ap, sym, ◌∙◌, subst, arith, add-one, append-nil, append_assoc}
+use Rattle.std.proofs.Common.{◌≡◌, ◌≢◌, ℕ, zero, suc, ◌+◌, ◌-◌, ◌<◌, ◌≤◌, ◌%◌, Bool, true, false, eqb, ◌==◌, ◌&&◌, not, List, [], ◌∷◌, ◌++◌, length, map, Option, Some, None, refl, ap, sym, ◌∙◌, subst, arith, add-one, append-nil, append_assoc}
 use Rattle.std.proofs.lemmas.Bool.{eqb-true, ne_eqb, eq-eqb}
 use Rattle.std.proofs.lemmas.Grind.{flat_map-append}
 use Rattle.std.proofs.lemmas.List.{length-append, length-map, map-append}
@@ -7,9 +7,21 @@ use Rattle.std.proofs.lemmas.List.Elements.{All-append, All-map, All-nil, filter
 use Rattle.std.specs.List.{All, AllByRecursion, filter, flat_map, range_with_len}
 use Rattle.std.specs.Option.{option_map_or}
 use Rattle.like_promises.specs.declared.log.Took.{Took}
-use Rattle.like_promises.specs.Order.{Entry, block, entry_in, is_due, is_prompt, order, order_below, phases_of, stashed_in, took_to_wait}
+use Rattle.like_promises.specs.Order.{Entry, block, entry_in, is_due, order, phases_of, took_to_wait}
 use Rattle.like_promises.specs.Looks.{look_at}
 use Rattle.like_promises.specs.Workload.{Workload, is_split_in}
+
+-- taken in this phase, to run at once
+abbrev pub is_prompt : Workload → ℕ → Took → Bool
+is_prompt workload phase t = (t.phase == phase) && not (took_to_wait workload t)
+
+-- how many of what was taken come out of the stash in a phase
+abbrev pub stashed_in : Workload → ℕ → List Took → ℕ
+stashed_in workload phase taken = length (filter (is_due workload phase) taken)
+
+-- the blocks of the first phases, so many of them, joined end to end
+abbrev pub order_below : Workload → List Took → ℕ → List Entry
+order_below workload taken phases = flat_map (block workload taken) (range_with_len 0 phases)
 
 -- what neither is due nor prompt in a phase changes no block of it
 pub block-other : (workload : Workload) (xs : List Took) (t : Took) (k : ℕ)

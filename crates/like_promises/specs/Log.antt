@@ -6,7 +6,7 @@ use Rattle.like_tables.specs.UserTable.{last_of}
 use Rattle.like_promises.specs.declared.log.Took.{Took}
 use Rattle.like_promises.specs.declared.log.WorkerLog.{WorkerLog}
 use Rattle.like_promises.specs.Likes.{last_like}
-use Rattle.like_promises.specs.Order.{entry_of, order, stashed_in}
+use Rattle.like_promises.specs.Order.{entry_of, is_due, order}
 use Rattle.like_promises.specs.Replies.{HasRightAnswers}
 use Rattle.like_promises.specs.Workload.{Workload}
 
@@ -25,6 +25,6 @@ pub record IsLog (workload : Workload) (workers worker : ℕ) (log : WorkerLog) 
   pub taken : TakesPlans workload workers worker log.taken.items
   pub rising : AllPairs (λ s t. s.phase ≤ t.phase) log.taken.items
   pub ran : map entry_of log.ran.items ≡ order workload log.taken.items
-  pub stashed : (phase : ℕ) → stashed_in workload phase log.taken.items ≤ workload.stash
+  pub stashed : (phase : ℕ) → length (filter (is_due workload phase) log.taken.items) ≤ workload.stash
   pub answers : HasRightAnswers workload log.ran.items
   pub last : (user : ℕ) → last_of log.last user ≡ last_like workload user log.ran.items

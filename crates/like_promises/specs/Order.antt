@@ -1,5 +1,5 @@
 -- In which order a worker runs what it has taken.
-use Rattle.std.specs.Prelude.{ℕ, ◌+◌, ◌==◌, Bool, true, false, ◌&&◌, not, max, List, [], ◌∷◌, ◌++◌, length, map, filter}
+use Rattle.std.specs.Prelude.{ℕ, ◌+◌, ◌==◌, Bool, true, false, ◌&&◌, not, max, List, [], ◌∷◌, ◌++◌, map, filter}
 use Rattle.std.specs.List.{flat_map, range_with_len}
 use Rattle.std.specs.Option.{option_map_or}
 use Rattle.like_promises.specs.declared.log.Ran.{Ran}
@@ -33,29 +33,17 @@ entry_in phase stashed t =
 abbrev pub is_due : Workload → ℕ → Took → Bool
 is_due workload phase t = (t.phase + 1 == phase) && took_to_wait workload t
 
--- how many of what was taken come out of the stash in a phase
-abbrev pub stashed_in : Workload → ℕ → List Took → ℕ
-stashed_in workload phase taken = length (filter (is_due workload phase) taken)
-
--- taken in this phase, to run at once
-abbrev pub is_prompt : Workload → ℕ → Took → Bool
-is_prompt workload phase t = (t.phase == phase) && not (took_to_wait workload t)
-
 -- the block of a phase: first what was taken in the phase before and had to wait, then what need not wait in this one
 abbrev pub block : Workload → List Took → ℕ → List Entry
 block workload taken phase =
     map (entry_in phase true) (filter (is_due workload phase) taken)
-    ++ map (entry_in phase false) (filter (is_prompt workload phase) taken)
-
--- the blocks of the first phases, 0, 1, 2, .., so many of them, joined end to end
-abbrev pub order_below : Workload → List Took → ℕ → List Entry
-order_below workload taken phases = flat_map (block workload taken) (range_with_len 0 phases)
+    ++ map (entry_in phase false) (filter (λ t. (t.phase == phase) && not (took_to_wait workload t)) taken)
 
 -- the number after the greatest phase of taking, and 0 where nothing was taken
 abbrev pub phases_of : List Took → ℕ
 phases_of [] = 0
 phases_of (t ∷ taken) = max (t.phase + 1) (phases_of taken)
 
--- run order: the blocks of all phases in which anything can run
+-- run order: the blocks of all phases in which anything can run, 0, 1, 2, .., joined end to end
 abbrev pub order : Workload → List Took → List Entry
-order workload taken = order_below workload taken (phases_of taken + 1)
+order workload taken = flat_map (block workload taken) (range_with_len 0 (phases_of taken + 1))

@@ -29,7 +29,7 @@ use Rattle.like_promises.specs.declared.log.Ran.{Ran}
 use Rattle.like_promises.specs.declared.log.Took.{Took}
 use Rattle.like_roles.specs.declared.turn.Turn.{Turn}
 use Rattle.like_roles.specs.worker.Follows.{FitsStash, Follows, IsAsked, IsAskedBy, IsInOrder, IsNoted, IsServed, IsSized, IsTallied, IsUnmerged, HasNothingLater, Stands, entry_held, next_joined}
-use Rattle.like_promises.specs.Order.{block, entry_of, order, order_below, stashed_in, took_to_wait}
+use Rattle.like_promises.specs.Order.{block, entry_of, order, took_to_wait}
 use Rattle.like_roles.specs.worker.WorkerView.{is_look_at_sliced, WorkerView, has_to_wait, phase_at, seat_of, submitter_at}
 use Rattle.like_promises.specs.Looks.{page_looked_at}
 use Rattle.like_roles.specs.worker.Serve.{Runs, ran_now, verdict_at}
@@ -39,7 +39,7 @@ use Rattle.like_roles.specs.worker.Turns.{CanGive, Gives, TakesAsk, Turns, Works
 use Rattle.like_requests.specs.Setup.{IsThere}
 use Rattle.like_roles.specs.worker.Merges.{Merges}
 use Rattle.like_seat.specs.StationView.{HasPhaseMask, IsSliceInSplit}
-use Rattle.like_promises.proofs.Blocks.{block-next-prompt, block-next-waits, order-parts, order_below-prompt, order_below-waits, stashed-block, stashed-other, stashed-prompt, took_to_wait-joined}
+use Rattle.like_promises.proofs.Blocks.{order_below, stashed_in, block-next-prompt, block-next-waits, order-parts, order_below-prompt, order_below-waits, stashed-block, stashed-other, stashed-prompt, took_to_wait-joined}
 use Rattle.like_roles.proofs.Effects.{HasRunOne, Runs-effects}
 use Rattle.like_roles.proofs.InBlocks.{before-next, parity, parts, running-of_within, runs-phase, runs-weaker, within-of_running}
 use Rattle.like_roles.proofs.Keeps.{runs-keeps, works-keeps}

@@ -8,10 +8,10 @@ use Rattle.like_core.specs.Phase.{IsJoined}
 use Rattle.like_core.specs.WorkerState.{RunsSome, phase_of}
 use Rattle.like_promises.specs.declared.log.Took.{Took}
 use Rattle.like_roles.specs.worker.Follows.{IsInOrder, HasNothingLater, Stands, entry_held, next_joined}
-use Rattle.like_promises.specs.Order.{Entry, block, entry_of, order_below}
+use Rattle.like_promises.specs.Order.{Entry, block, entry_of}
 use Rattle.like_promises.specs.Workload.{Workload}
 use Rattle.like_roles.specs.worker.WorkerView.{WorkerView, phase_at}
-use Rattle.like_promises.proofs.Blocks.{block-phase, order-parts, order_below-phases}
+use Rattle.like_promises.proofs.Blocks.{order_below, block-phase, order-parts, order_below-phases}
 
 -- a phase is even or odd
 pub parity : (k : ℕ) → (k % 2 ≡ 0) ⊎ (k % 2 ≡ 1)

@@ -12,9 +12,9 @@ use Rattle.like_promises.specs.declared.log.Took.{Took}
 use Rattle.like_promises.specs.places.Adds.{AreOfLikes, IsOfLikes, is_add_to}
 use Rattle.like_roles.specs.worker.Follows.{likes_at}
 use Rattle.like_promises.specs.Likes.{likes_among, likes_within}
-use Rattle.like_promises.specs.Order.{entry_of, order, order_below}
+use Rattle.like_promises.specs.Order.{entry_of, order}
 use Rattle.like_promises.specs.Workload.{Workload, is_split_in}
-use Rattle.like_promises.proofs.Blocks.{block-after_joined, order-parts, order_below-phases}
+use Rattle.like_promises.proofs.Blocks.{order_below, block-after_joined, order-parts, order_below-phases}
 use Rattle.like_roles.proofs.InBlocks.{before-next}
 use Rattle.like_roles.proofs.notes.Noted.{count-none}
 use Rattle.like_crew.proofs.Makings.{all-back}

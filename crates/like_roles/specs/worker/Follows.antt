@@ -1,5 +1,5 @@
 -- What a worker has done, as the plans of its submitters say it should.
-use Rattle.std.specs.Prelude.{◌≡◌, ℕ, ◌+◌, ◌%◌, ◌≤◌, ◌==◌, ◌&&◌, if◌then◌else◌, true, false, List, [], ◌++◌, length, map, count_by, slice_get, slice_index, All, Some, ⊤}
+use Rattle.std.specs.Prelude.{◌≡◌, ℕ, ◌+◌, ◌%◌, ◌≤◌, ◌==◌, ◌&&◌, if◌then◌else◌, true, false, List, [], ◌++◌, length, map, filter, count_by, slice_get, slice_index, All, Some, ⊤}
 use Rattle.std.specs.List.{AllPairs}
 use Rattle.std.specs.Option.{option_to_list}
 use Rattle.like_requests.specs.Pages.{marks_of}
@@ -23,7 +23,7 @@ use Rattle.like_promises.specs.declared.log.Took.{Took}
 use Rattle.like_promises.specs.places.Adds.{IsOfLikes, AreOfLikes, addition_of, is_add_to}
 use Rattle.like_promises.specs.Likes.{last_like, likes_among, likes_within}
 use Rattle.like_roles.specs.worker.Shown.{adds_before_looks, shown_by, shown_in}
-use Rattle.like_promises.specs.Order.{Entry, entry_of, order, stashed_in}
+use Rattle.like_promises.specs.Order.{Entry, entry_of, is_due, order}
 use Rattle.like_promises.specs.Replies.{HasRightAnswers}
 use Rattle.like_promises.specs.Workload.{Workload, is_split_in, request_at, submitters}
 use Rattle.like_requests.specs.Setup.{IsThere}
@@ -126,7 +126,8 @@ Stands v Gone = (v.held.held ≡ []) × TookAllEnds v
 
 -- in no phase do more come out of the stash than it has room for
 abbrev pub FitsStash : Workload → List Took → Type 0
-FitsStash workload taken = (phase : ℕ) → stashed_in workload phase taken ≤ workload.stash
+FitsStash workload taken =
+    (phase : ℕ) → length (filter (is_due workload phase) taken) ≤ workload.stash
 
 -- what is true between two calls of a worker whose requests are those of the workload's plans
 pub record Follows (workload : Workload) (v : WorkerView) : Type 0 where
