@@ -14,6 +14,7 @@ use Rattle.like_requests.specs.declared.request.Op.TheVariants.{Like, Look}
 use Rattle.like_requests.specs.declared.request.PageRef.{PageRef}
 use Rattle.like_requests.specs.declared.request.PageRef.TheVariants.{Known, Unknown}
 use Rattle.like_requests.specs.declared.request.Request.{Request}
+use Rattle.like_promises.proofs.RequestAt.{request_at-plan}
 use Rattle.like_promises.specs.Accepted.{AcceptedRequest}
 use Rattle.like_promises.proofs.Accepted.{accepted_like, like_of, like_ran-tests}
 use Rattle.like_promises.specs.declared.log.Ran.{Ran}
@@ -22,7 +23,7 @@ use Rattle.like_promises.specs.declared.reply.Reply.{Reply}
 use Rattle.like_promises.specs.declared.reply.Reply.TheVariants.{Liked, Seen, Refused}
 use Rattle.like_promises.specs.Likes.{initial_count, last_like, likes, likes_ran}
 use Rattle.like_promises.specs.Replies.{HasRightAnswers, IsReplyTo, IsRightAnswer}
-use Rattle.like_promises.specs.Workload.{Workload, numbered_in, request_at, request_of, submitters}
+use Rattle.like_promises.specs.Workload.{Workload, nth, request_at, request_of, submitters}
 use Rattle.like_promises.specs.declared.answer.Answer.{Answer}
 use Rattle.like_promises.specs.declared.report.Report.{Report}
 use Rattle.like_promises.specs.Collected.{answer_at, rows_of, answer_of, entries_in, entries_of}
@@ -98,7 +99,7 @@ likes_there pages true Look user p rest there all = all
 module _ (workload : Workload) (planned : All (IsPlan workload.pages) workload.plans) where
   -- the page that a request of a plan knows is there
   in_plan : (plan : List Request) (number : ℕ) (r : Request) → IsPlan workload.pages plan
-      → numbered_in plan number ≡ Some r → IsThere (length workload.pages) r.page
+      → nth plan number ≡ Some r → IsThere (length workload.pages) r.page
   in_plan plan zero r is at = absurd (let no : None ≡ Some r = at in cc no)
   in_plan plan (suc n) r is at =
       subst (λ (x : Request). IsThere (length workload.pages) x.page) (get_or_from_slice_get plan n r r at)
@@ -106,9 +107,10 @@ module _ (workload : Workload) (planned : All (IsPlan workload.pages) workload.p
 
   asked_there : (submitter number : ℕ) (r : Request) → request_at workload submitter number ≡ Some r
       → IsThere (length workload.pages) r.page
-  asked_there submitter number r at = by_plan (slice_get workload.plans submitter) refl at where
+  asked_there submitter number r at =
+      by_plan (slice_get workload.plans submitter) refl (sym (request_at-plan workload submitter number) ∙ at) where
     by_plan : (o : Option (List Request)) → slice_get workload.plans submitter ≡ o
-        → option_and_then (λ plan. numbered_in plan number) o ≡ Some r → IsThere (length workload.pages) r.page
+        → option_and_then (λ plan. nth plan number) o ≡ Some r → IsThere (length workload.pages) r.page
     by_plan None is h = absurd (let no : None ≡ Some r = h in cc no)
     by_plan (Some plan) is h =
         in_plan plan number r

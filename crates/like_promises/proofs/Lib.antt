@@ -4,3 +4,4 @@ pub mod Examples
 pub mod LikedPages
 pub mod LikesBelow
 pub mod Lists
+pub mod RequestAt

@@ -1,11 +1,12 @@
 -- What the entries of run lists are collected to: the answer of each request.
-use Rattle.std.specs.Prelude.{◌≡◌, ℕ, zero, suc, ◌==◌, ◌&&◌, List, [], filter, length, map, slice_get, slice_index_or, Option, None}
+use Rattle.std.specs.Prelude.{◌≡◌, ℕ, ◌==◌, ◌&&◌, List, [], filter, length, map, slice_index_or, Option}
 use Rattle.std.specs.List.{flat_map}
 use Rattle.std.specs.Option.{option_to_list}
 use Rattle.like_promises.specs.declared.answer.Answer.{Answer}
 use Rattle.like_promises.specs.declared.log.Ran.{Ran}
 use Rattle.like_promises.specs.declared.log.WorkerLog.{WorkerLog}
 use Rattle.like_promises.specs.declared.replies.Replies.{Replies}
+use Rattle.like_promises.specs.Workload.{nth}
 
 -- the entries of all logs, in the order of the logs and of their lists
 abbrev pub entries_in : List WorkerLog → List Ran
@@ -26,8 +27,7 @@ rows_of replies = map (λ row. row.items) replies.rows.items
 
 -- the answer of a submitter's request with this number, if there is one
 abbrev pub answer_at : List (List Answer) → ℕ → ℕ → Option Answer
-answer_at rows submitter zero = None
-answer_at rows submitter (suc place) = slice_get (slice_index_or rows submitter []) place
+answer_at rows submitter number = nth (slice_index_or rows submitter []) number
 
 -- there is an answer for each request, and that is the answer of its only entry; nothing else has an entry
 pub record IsCollected (sizes : List ℕ) (entries : List Ran) (rows : List (List Answer)) : Type 0 where

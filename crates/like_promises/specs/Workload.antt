@@ -1,5 +1,5 @@
 -- What a run serves.
-use Rattle.std.specs.Prelude.{ℕ, zero, suc, Bool, List, length, slice_get, Option, None, option_and_then}
+use Rattle.std.specs.Prelude.{ℕ, zero, suc, Bool, List, [], length, slice_get, slice_index_or, Option, None}
 use Rattle.like_requests.specs.Pages.{Page, marks_of}
 use Rattle.like_requests.specs.declared.request.Request.{Request}
 use Rattle.like_core.specs.Phase.{is_marked, split}
@@ -17,15 +17,14 @@ pub record Workload : Type 0 where
 abbrev pub submitters : Workload → ℕ
 submitters workload = length workload.plans
 
--- the request of a plan with this number, counted from 1
-abbrev pub numbered_in : List Request → ℕ → Option Request
-numbered_in plan zero = None
-numbered_in plan (suc n) = slice_get plan n
+-- the element of a list with this number, counted from 1, if there is one
+abbrev pub nth : {X : Type 0} → List X → ℕ → Option X
+nth xs zero = None
+nth xs (suc n) = slice_get xs n
 
 -- the request of a submitter with this number
 abbrev pub request_at : Workload → ℕ → ℕ → Option Request
-request_at workload submitter number =
-    option_and_then (λ plan. numbered_in plan number) (slice_get workload.plans submitter)
+request_at workload submitter number = nth (slice_index_or workload.plans submitter []) number
 
 -- the request that an entry ran
 abbrev pub request_of : Workload → Ran → Option Request

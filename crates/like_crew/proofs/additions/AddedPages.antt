@@ -14,13 +14,14 @@ use Rattle.like_requests.specs.declared.request.PageRef.TheVariants.{Known, Unkn
 use Rattle.like_requests.specs.declared.request.Request.{Request}
 use Rattle.like_core.specs.declared.view.Addition.{Addition}
 use Rattle.like_core.specs.Additions.{added_to}
+use Rattle.like_promises.proofs.RequestAt.{request_at-plan}
 use Rattle.like_promises.specs.Accepted.{AcceptedRequest}
 use Rattle.like_promises.proofs.Accepted.{accepted_like, like_of, like_ran-tests}
 use Rattle.like_promises.specs.declared.log.Added.{Added}
 use Rattle.like_promises.specs.declared.log.Ran.{Ran}
 use Rattle.like_promises.specs.places.Adds.{IsOfLikes, addition_of}
 use Rattle.like_promises.specs.Likes.{like_ran, likes, likes_among}
-use Rattle.like_promises.specs.Workload.{Workload, numbered_in, request_at, request_of, submitters}
+use Rattle.like_promises.specs.Workload.{Workload, nth, request_at, request_of, submitters}
 use Rattle.like_roles.proofs.counts.Tallied.{likes_among-append, page_likes}
 use Rattle.like_crew.proofs.lists.Sums.{sum-of-map}
 
@@ -40,15 +41,16 @@ page-of pages op.Look user page l there is = cc is
 module _ (workload : Workload) (plans : All (AreThere workload.pages) workload.plans) where
   -- the page of a request is there
   numbered-there : (plan : List Request) (number : ℕ) (r : Request) → AreThere workload.pages plan
-      → numbered_in plan number ≡ Some r → IsThere (length workload.pages) r.page
+      → nth plan number ≡ Some r → IsThere (length workload.pages) r.page
   numbered-there plan zero r all is = cc is
   numbered-there plan (suc n) r all is = got (λ x. IsThere (length workload.pages) x.page) plan n r all is
 
   asked-there : (submitter number : ℕ) (r : Request) → request_at workload submitter number ≡ Some r
       → IsThere (length workload.pages) r.page
-  asked-there submitter number r is = by_plan (slice_get workload.plans submitter) refl is where
+  asked-there submitter number r is =
+      by_plan (slice_get workload.plans submitter) refl (sym (request_at-plan workload submitter number) ∙ is) where
     by_plan : (o : Option (List Request)) → slice_get workload.plans submitter ≡ o
-        → option_and_then (λ plan. numbered_in plan number) o ≡ Some r → IsThere (length workload.pages) r.page
+        → option_and_then (λ plan. nth plan number) o ≡ Some r → IsThere (length workload.pages) r.page
     by_plan None at same = cc same
     by_plan (Some plan) at same =
         numbered-there plan number r (got (AreThere workload.pages) workload.plans submitter plan plans at) same

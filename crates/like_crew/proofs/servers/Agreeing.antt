@@ -14,11 +14,12 @@ use Rattle.like_core.specs.Post.{pages_of}
 use Rattle.like_core.proofs.PhaseMasks.{masks-before}
 use Rattle.like_queue.specs.Inbox.{HandsOver, InboxView, item_count}
 use Rattle.like_tables.specs.Share.{Share, dealt}
+use Rattle.like_promises.proofs.RequestAt.{request_at-plan}
 use Rattle.like_promises.specs.declared.log.Took.{Took}
 use Rattle.like_roles.specs.declared.turn.Turn.{Turn}
 use Rattle.like_roles.specs.declared.turn.Turn.TheVariants as turn
 use Rattle.like_roles.specs.worker.Follows.{Follows, IsAskedBy}
-use Rattle.like_promises.specs.Workload.{Workload, numbered_in, request_at}
+use Rattle.like_promises.specs.Workload.{Workload, nth, request_at}
 use Rattle.like_roles.specs.worker.Turns.{CanGive, Gives, HasTaken, IsNext, Pends, TakesNothing, Turns, with_taken}
 use Rattle.like_requests.specs.Setup.{IsThere}
 use Rattle.like_roles.specs.worker.WorkerView.{WorkerView, phase_at, submitter_at}
@@ -187,8 +188,9 @@ asked workload v inboxes place i ask here get number some h =
     let plan : slice_get workload.plans (submitter_at v place) ≡ Some i.plan =
     sym (plan-at workload v.last.share.workers v.last.share.worker inboxes place some h)
     ∙ slice_get-map (λ (x : InboxView). x.plan) inboxes place ∙ ap (option_map (λ (x : InboxView). x.plan)) here in
-    ap (λ o. option_and_then (λ p. numbered_in p ask.number) o) plan
-    ∙ ap (numbered_in i.plan) (number ∙ add-one i.taken) ∙ get
+    request_at-plan workload (submitter_at v place) ask.number
+    ∙ ap (λ o. option_and_then (λ p. nth p ask.number) o) plan
+    ∙ ap (nth i.plan) (number ∙ add-one i.taken) ∙ get
 
 module _ (v : WorkerView) (inboxes : List InboxView) (place : ℕ) (i j : InboxView) (a : Agree v inboxes)
     (trying : v.pending ≡ Some place)
