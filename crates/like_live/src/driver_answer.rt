@@ -9,6 +9,6 @@ pub enum DriverAnswer {
     Released,
     /// The phase goes on.
     Running,
-    /// All seats are gone.
+    /// All seats are gone and no phase is ending, or last counts were written.
     Ended,
 }
