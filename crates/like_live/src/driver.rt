@@ -162,7 +162,7 @@ impl<C: Choice> Driver<C> {
 
     /// Writes the last counts of the pages from `from` on, once all seats have left a joined phase, and says whether it
     /// did. It announces the end of that phase if nobody has. Once it wrote counts the service is over: no phase is
-    /// released. Later calls, for any pages, write the same. It takes no seats, since C can't show whose they are.
+    /// released. Later calls write the same counts. It takes no seats, since C can't show whose they are.
     pub fn last_counts(&mut self, from: u32, counts: &mut [u64]) -> bool
         requires places { from + length counts.old ≤ length self.old.lead.seat.opening.counts }
         ensures case { TakesLast self.old from counts.old result self.new counts.new }
