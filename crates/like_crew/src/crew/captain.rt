@@ -30,7 +30,7 @@ impl<'a> Model for Captain<'a> {
 }
 
 impl<'a> Captain<'a> {
-    /// The coordinator at this board, which was made with these counts and the limits of a run; it counts so many turns
+    /// The coordinator at this board, which was made with these counts and the limits of a run; it counts `turns` turns
     /// in each phase, and `hot` likes make a page hot.
     pub(crate) fn new(
         alloc: Global,
