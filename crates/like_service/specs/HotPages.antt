@@ -8,7 +8,7 @@ use Rattle.like_service.specs.declared.log.Ran.{Ran}
 use Rattle.like_service.specs.Likes.{likes_among}
 use Rattle.like_service.specs.Service.{Service}
 
--- at most so many phases have hot pages
+-- at most this many phases have hot pages
 abbrev pub max_chosen : ℕ
 max_chosen = 1024
 
@@ -18,7 +18,7 @@ chosen_below masks phase =
     filter (λ c. nat_lt 0 c.mask)
     (map (λ k. record { phase = k; mask = masks k }) (range_with_len 0 phase))
 
--- the mask of those of the first 64 pages that got at least so many likes before a split phase; 0 in a joined one
+-- the mask of those of the first 64 pages that got at least this many likes before a split phase; 0 in a joined one
 abbrev pub liked_pages : ℕ → ℕ → (ℕ → ℕ → ℕ) → ℕ → ℕ
 liked_pages least pages got phase =
     if phase % 2 == 1 then mask (λ page. nat_le least (got phase page)) (min hot_pages pages) else 0

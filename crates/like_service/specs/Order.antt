@@ -47,7 +47,7 @@ block service taken phase =
     map (entry_in phase true) (filter (is_due service phase) taken)
     ++ map (entry_in phase false) (filter (is_prompt service phase) taken)
 
--- the blocks of the first phases, 0, 1, 2, .., so many of them, joined end to end
+-- the blocks of this many phases, 0, 1, 2, .., joined end to end
 abbrev pub order_below : Service → List Took → ℕ → List Entry
 order_below service taken phases = flat_map (block service taken) (range_with_len 0 phases)
 
