@@ -72,9 +72,10 @@ typedef struct likes_options {
     uint32_t seats; /* 1 to LIKES_MAX_SEATS */
     uint32_t users; /* 1 to 2^32 - 1. Users are numbered from 0, and take 4 bytes each. */
     uint32_t room;  /* how many looks a seat keeps, waiting and found ones together: 1 to LIKES_MAX_ROOM */
-    uint32_t hot;   /* 1 to LIKES_MAX_HOT: a page that gets about this many likes between two choices becomes hot ("Hot
-                       pages" of docs/EMBEDDING.md). The library finds these pages by samples; 1 to 511 act as 512.
-                       0: it finds none, and only marked pages and those of likes_driver_propose are split. */
+    uint32_t hot;   /* 1 to LIKES_MAX_HOT: about how many likes between two choices make a page hot; earlier likes
+                       count too, but less ("Hot pages" of docs/EMBEDDING.md). The library finds these pages by
+                       samples; 1 to 511 act as 512. 0: it finds none, and only marked pages and those of
+                       likes_driver_propose are split. */
     uint64_t reserved[6]; /* 0 */
 } likes_options;
 

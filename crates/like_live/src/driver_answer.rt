@@ -3,7 +3,7 @@
 pub enum DriverAnswer {
     /// It announced the end of the phase.
     Announced,
-    /// The phase is ending, and some seat has neither answered it nor gone.
+    /// The phase is ending, and some seat neither has answered it nor is gone.
     Waiting,
     /// It released the next phase.
     Released,

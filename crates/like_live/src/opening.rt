@@ -33,8 +33,8 @@ pub struct Opening {
     pub lasts: Vec<u32>,
     /// How many looks a seat has room for, those that wait and those that were found together: 1 to 4,096.
     pub room: u32,
-    /// A page becomes hot with about this many likes between two choices: 1 to 1,000,000. 1 to 511 act as 512. With
-    /// none, no page does.
+    /// About how many likes between two choices make a page hot: 1 to 1,000,000. Earlier likes count too, but less. 1
+    /// to 511 act as 512. With none, no page gets hot.
     pub hot: Option<u32>,
 }
 
