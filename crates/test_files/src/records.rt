@@ -148,7 +148,7 @@ fn a_failed_read_stays_failed(rt: HostRuntime) {
     );
 }
 
-// Reads so many records.
+// Reads this many records.
 fn skip<R: Read>(rt: &impl Abort, records: &mut Records<R>, number: u32) {
     for _ in 0..number {
         let is_there = records.read_next().expect(rt, "a record");

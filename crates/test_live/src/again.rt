@@ -25,7 +25,7 @@ const GOING_ON: Numbers = Numbers {
     ..OF_THREE
 };
 
-// The last likes of a seat's first two users, if it has so many.
+// The last likes of a seat's first two users, if it has two.
 fn first_two(seat: &LiveSeat<SharedPost>) -> Option<[u32; 2]> {
     if !seat.has_users(0, 2) {
         return None;

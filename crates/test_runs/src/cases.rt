@@ -175,7 +175,7 @@ fn plan_of_one(rt: &impl Abort, alloc: Global, op: Op, user: u32, each: usize) -
     vec![in alloc; Request { op, user, page }; each].expect(rt, "memory")
 }
 
-/// For each submitter so many requests of page 0 by the user of its number.
+/// For each submitter, this many requests of page 0 by the user of its number.
 pub fn requests(
     rt: &impl Abort,
     alloc: Global,
@@ -190,7 +190,7 @@ pub fn requests(
     plans
 }
 
-/// For each submitter so many likes of page 0 by the user of its number.
+/// For each submitter, this many likes of page 0 by the user of its number.
 pub fn likes(rt: &impl Abort, alloc: Global, submitters: u32, each: usize) -> Vec<Vec<Request>> {
     requests(rt, alloc, Op::Like, submitters, each)
 }

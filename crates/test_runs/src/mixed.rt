@@ -71,13 +71,13 @@ fn order(rt: &impl Abort, alloc: Global, taken: &[Took]) -> Vec<Entry> {
     order
 }
 
-// How many likes ran, by phase and page: those of page 0 in phase 0, of page 1 in phase 0, of page 0 in phase 1 and so on.
+// How many likes ran, by phase and page: of page 0 in phase 0, of page 1 in phase 0, of page 0 in phase 1 and so on.
 #[derive(Drop)]
 struct Likes {
     rows: Vec<u64>,
 }
 
-// Where the likes of a page in a phase stand.
+// The row of the likes of a page in a phase.
 fn row(phase: u32, page: u32) -> usize {
     phase as usize * 2 + page as usize
 }
@@ -143,7 +143,7 @@ impl Bounds<'_> {
         }
     }
 
-    // Whether a page's count in a phase lies between, after so many of the worker's own likes in it.
+    // Whether a page's count in a phase is between its bounds, after this many of the worker's own likes in it.
     fn are_round(&self, count: u64, phase: u32, page: u32, made: u64) -> bool {
         let so_far = self.up_to.within(phase, page);
         let later = self.own.within(phase, page).saturating_sub(made);
@@ -151,7 +151,7 @@ impl Bounds<'_> {
         earlier.saturating_add(made) <= count && count <= so_far.saturating_sub(later)
     }
 
-    // Whether they hold for each entry, beside the likes before it, of which there are none at first.
+    // Whether they hold for each entry and the likes before it: at first there are none.
     fn hold_for(&self, ran: &[Ran], before: &mut Likes) -> bool {
         for entry in ran {
             if !self.hold(entry, before) {
