@@ -47,7 +47,7 @@ fn ends<R: Read>(
     answer == wanted && records.field_count() == 0 && records.read_next() == wanted
 }
 
-// Whether a file has these records. It has to end so.
+// Whether a file has these records. It must end so.
 fn is_read<R: Read + Drop>(
     rt: &impl Abort,
     alloc: Global,

@@ -68,7 +68,7 @@ fn fits(bytes: &[u8], text: &str) -> bool {
     }
 }
 
-// Whether a start has ended as it has to.
+// Whether a start has ended as it says.
 fn is_end(start: &str, status: u8, out: &[u8], errors: &[u8]) -> bool {
     cell(start, 3).parse().ok() == Some(status)
         && fits(out, cell(start, 4))

@@ -169,7 +169,7 @@ pub fn turns(rt: &impl Abort, alloc: Global, script: &str) -> Vec<Turned> {
     turns
 }
 
-// So many requests of page 0 by a user.
+// This many requests of page 0 by a user.
 fn plan_of_one(rt: &impl Abort, alloc: Global, op: Op, user: u32, each: usize) -> Vec<Request> {
     let page = PageRef::Known(0);
     vec![in alloc; Request { op, user, page }; each].expect(rt, "memory")

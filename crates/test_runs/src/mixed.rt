@@ -1,5 +1,5 @@
 //! Example mixed-load: likes and looks of a page that is split and of one that isn't, on threads. Run order, and the bounds
-//! between which each count has to lie, are computed here from what the workers took and from which likes they ran.
+//! of each count, are computed here from what the workers took and from which likes they ran.
 use super::cases::{Case, SMALL, assert_counts};
 use super::gates::Watch;
 use super::lists::{are_alike, push};
@@ -121,7 +121,7 @@ impl Likes {
     }
 }
 
-// What the counts that a worker's looks were shown have to lie between.
+// The bounds of the counts that a worker's looks were shown.
 #[derive(Clone, Copy)]
 struct Bounds<'a> {
     // All likes, in each phase and up to it, and the worker's own ones.
@@ -131,8 +131,9 @@ struct Bounds<'a> {
 }
 
 impl Bounds<'_> {
-    // Whether the count that an entry was shown, if one was, lies between: at least all likes of earlier phases and the
-    // worker's own ones before in its phase, and at most all likes up to that phase less its own later ones in it.
+    // Whether the count that an entry was shown, if any, is within its bounds. The least is all likes of earlier phases
+    // and the worker's own earlier ones in this phase. The most is all likes up to the end of this phase, less the
+    // worker's own later ones in it.
     fn hold(&self, entry: &Ran, before: &Likes) -> bool {
         match entry.reply {
             Reply::Seen { count, .. } => {

@@ -26,7 +26,7 @@ pub struct Player {
     phase: u32,
     answered: bool,
     gone: bool,
-    // Whether memory was wanting, or a user is not there.
+    // Whether memory ran out, or a user is unknown.
     stuck: bool,
     // Those of its submitters whose end mark was not taken, from the cursor on.
     submitters: VecDeque<u32>,

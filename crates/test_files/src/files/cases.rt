@@ -140,7 +140,7 @@ const CHANGED: &[Case] = &[
     ),
 ];
 
-/// Files that are read where memory may be wanting.
+/// Files that are read where memory may run out.
 pub fn good() -> &'static [Case] {
     GOOD
 }

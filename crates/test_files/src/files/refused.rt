@@ -1,4 +1,4 @@
-//! Growths that are refused, as checks/refusals does it: want of memory is told, and the next call is right.
+//! Growths that are refused, as checks/refusals does it: a lack of memory is told, and the next call is right.
 use super::cases::{Case, good};
 use super::{answer, assert_that};
 use std::alloc::Global;

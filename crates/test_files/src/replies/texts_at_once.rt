@@ -32,7 +32,7 @@ fn last_liked(rt: &impl Abort, alloc: Global, users: usize) -> Vec<Option<u32>>
     vec![in alloc; Some(0); users].expect(rt, "memory")
 }
 
-// So many places on the only page.
+// This many places on the only page.
 fn placed(rt: &impl Abort, alloc: Global, count: usize) -> Vec<Vec<Place>>
     ensures { length result.items ≡ 1 }
 {

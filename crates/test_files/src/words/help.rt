@@ -21,7 +21,7 @@ fn begins_with(line: &str, what: &str) -> bool {
     }
 }
 
-// Whether a line of a text says what this is.
+// Whether a line of a text tells of `what`.
 fn explains(text: &str, what: &str) -> bool {
     for line in text.lines() {
         if begins_with(line, what) {

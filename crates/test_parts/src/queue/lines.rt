@@ -232,7 +232,7 @@ fn play_at<R: Wait + Abort>(rt: &R, line: &Line, send: SendPass, take: TakePass,
     play(rt, &mut send.at(line), &mut take.at(line), case);
 }
 
-// So many likes.
+// This many likes.
 fn plan_of(rt: &impl Abort, alloc: Global, size: usize) -> Result<Vec<Request>, AllocError>
     ensures { IfOk result (λ plan. length plan.items ≤ max_requests) }
 {

@@ -37,8 +37,8 @@ impl List {
 
 /// What a run has beside its workers: of its settings those that a turn asks for, how many submitters there are, which
 /// pages are marked as split, the core, the coordinator's turns left, the counts of its last choice, its choices, and
-/// the submitters' requests and lists. It is stuck once memory was wanting, the core refused an event of a turn, or a
-/// script named somebody who is not there.
+/// the submitters' requests and lists. It is stuck once memory ran out, the core refused an event of a turn, or a
+/// script named an unknown worker or submitter.
 #[derive(Drop)]
 pub struct Shared<'a> {
     pub users: u32,
