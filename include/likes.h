@@ -72,9 +72,10 @@ typedef struct likes_options {
     uint32_t seats; /* 1 to LIKES_MAX_SEATS */
     uint32_t users; /* 1 to 2^32 - 1. Users are numbered from 0, and take 4 bytes each. */
     uint32_t room;  /* how many looks a seat keeps, waiting and found ones together: 1 to LIKES_MAX_ROOM */
-    uint32_t hot;   /* 1 to LIKES_MAX_HOT: a page is split from about this many likes of late on ("Hot pages" of
-                       docs/EMBEDDING.md). The library finds these pages by samples; 1 to 511 act as 512. 0: it finds
-                       none, and only marked pages are split, and those of likes_driver_propose. */
+    uint32_t hot;   /* 1 to LIKES_MAX_HOT: about how many likes between two choices make a page hot; earlier likes
+                       count too, but less ("Hot pages" of docs/EMBEDDING.md). The library finds these pages by
+                       samples; 1 to 511 act as 512. 0: it finds none, and only marked pages and those of
+                       likes_driver_propose are split. */
     uint64_t reserved[6]; /* 0 */
 } likes_options;
 
@@ -155,7 +156,7 @@ uint32_t likes_driver_take_phase(likes_driver *driver, likes_phase *phase);
  * then. An empty handle gives 0. */
 uint64_t likes_phase_now(const likes_phase *phase);
 
-/* The seat of a user, in a service with so many seats (1 or more). */
+/* The seat of a user, in a service with this many seats (1 or more). */
 static inline uint32_t likes_seat_of(uint32_t user, uint32_t seats) {
     return user % seats;
 }
@@ -236,9 +237,9 @@ uint32_t likes_seat_turn(likes_seat *seat);
  * likes, its users' last likes and its found looks. */
 uint32_t likes_seat_retire(likes_seat *seat);
 
-/* Comes back, of a seat that is gone, into the phase that goes on now: LIKES_RUNS. Nothing is done where that phase is
- * ending, or where other seats kept changing the phase word: LIKES_BETWEEN. Call it again, after a turn of the driver.
- * Once last counts were written, it is LIKES_BETWEEN for good. Of a seat that isn't gone it is likes_seat_turn. */
+/* Brings a seat that is gone back into the present phase: LIKES_RUNS. If that phase is ending, or if other seats kept
+ * changing the phase word, nothing is done: LIKES_BETWEEN. Call it again, after a turn of the driver. Once last counts
+ * were written, it is LIKES_BETWEEN for good. For a seat that isn't gone it is likes_seat_turn. */
 uint32_t likes_seat_come_back(likes_seat *seat);
 
 /* The phase that the seat runs or has answered last, and 0 once it is gone. Phases with odd numbers are split. */
@@ -295,13 +296,13 @@ uint64_t likes_driver_phase(likes_driver *driver);
 static inline uint32_t likes_driver_last_counts(likes_driver *driver, uint32_t from, uint64_t *counts,
                                                 size_t counts_len);
 
-/* Give back memory, and leave the handle empty. An empty handle stays as it is, and NULL is nothing. Found looks that
- * were not taken are lost. A seat that is freed before it is gone holds up all others for ever. */
+/* Give back memory, and leave the handle empty. With an empty handle or NULL they do nothing. Found looks that were not
+ * taken are lost. A seat that is freed before it is gone holds up all others for ever. */
 static inline void likes_seat_free(likes_seat *seat);
 static inline void likes_driver_free(likes_driver *driver);
 static inline void likes_phase_free(likes_phase *phase);
 
-/* The name of a status, of those of likes_helpers.h too, for messages. */
+/* The name of a status, for messages. It knows those of likes_helpers.h too. */
 static inline const char *likes_status_text(uint32_t status) {
     static const char *const outcomes[] = {
         /* 0 */ "ok", "liked", "seen", "waits", "runs", "between", "no room", "like limit", "gone",
@@ -325,7 +326,7 @@ static inline const char *likes_status_text(uint32_t status) {
     return "unknown status";
 }
 
-/* The library's own calls where the calls above take NULL. They take none: a language that can't include this file
+/* The library's own calls, behind the inline ones above. They take no NULL. A language that can't include this file
  * calls these. */
 uint32_t likes_open_nonnull(const likes_options *options, const uint64_t *counts, size_t pages, const uint32_t *marks,
                             size_t marks_len, const uint32_t *lasts, size_t lasts_len, likes_driver *driver);

@@ -55,29 +55,29 @@
 extern "C" {
 #endif
 
-/* So often likes_service_pause lets a thread try again at once, before it yields the processor. */
+/* How often likes_service_pause lets a thread try again at once, before it yields the processor. */
 #define LIKES_SPINS 64u
 
-/* So long a call tries again before it sleeps, in nanoseconds. */
+/* How long a call tries again before it sleeps, in nanoseconds. */
 #define LIKES_SPIN_TIME UINT64_C(50000)
 
-/* So long a thread sleeps at most if nobody wakes it, in nanoseconds: one that waits for a phase; the driver's thread
+/* How long a thread sleeps at most if nobody wakes it, in nanoseconds: one that waits for a phase; the driver's thread
  * while threads hold their seats; and else while a phase goes on. */
 #define LIKES_PHASE_NAP UINT64_C(10000000)
 #define LIKES_DRIVER_NAP UINT64_C(1000000)
 #define LIKES_LONG_NAP UINT64_C(1000000000)
 
-/* After so many phases in which a thread's call came too late, the driver waits for the thread. */
+/* In how many phases a thread's call comes too late, before the driver waits for the thread. */
 #define LIKES_MISSES 8u
 
-/* After so many rounds without a call, phases stand still. */
+/* After this many rounds without a call, phases stop changing. */
 #define LIKES_QUIET_ROUNDS 2u
 
-/* So long likes_service_snapshot waits for a seat that a thread holds, in nanoseconds. */
+/* How long likes_service_snapshot waits for a seat that a thread holds, in nanoseconds. */
 #define LIKES_MOMENT UINT64_C(100000000)
 
-/* A lock for things that the next thread can do as well. Who only tries it leaves a mark, and the thread that gives it
- * back finds that. Threads that wait for it come before those that try it. */
+/* A lock for things that the next thread can do as well. A thread that only tries it leaves a mark, which the thread
+ * that gives it back finds. Threads that wait for it come before those that try it. */
 typedef struct likes_lock {
     pthread_mutex_t mutex;
     uint32_t waiting; /* how many threads wait for it; atomic */
@@ -103,7 +103,7 @@ typedef struct likes_tally {
     uint64_t looks, late, waits, wait_time, longest_wait; /* written under `asleep` */
 } likes_tally;
 
-/* A seat behind its lock. Rooms of 128 bytes keep what one thread writes out of the cache lines of others. */
+/* A seat behind its lock. 128 bytes of padding prevent false sharing. */
 typedef struct likes_place {
     likes_lock lock;
     bool is_lent;             /* a thread that waits for a phase has the seat, and sleeps */
@@ -199,8 +199,8 @@ static inline void likes_wait_until(pthread_cond_t *condition, pthread_mutex_t *
         pthread_cond_timedwait(condition, lock, &time);
 }
 
-/* Between a mark that is set and a lock that is tried, or a lock that is given back and a mark that is read: on x86 the
- * one is done before the other anyway. */
+/* Orders a mark that is set before a lock that is tried, and a lock that is given back before a mark that is read. On
+ * x86 they are in that order anyway. */
 static inline void likes_order_marks(void) {
 #if !defined(__x86_64__) && !defined(__i386__)
     __atomic_thread_fence(__ATOMIC_SEQ_CST);
@@ -395,7 +395,7 @@ static inline void likes_service_call(likes_service *service) {
     pthread_cond_signal(&service->woken);
 }
 
-/* The driver's thread sleeps for so many nanoseconds, or without end for UINT64_MAX, or until it is called. */
+/* The driver's thread sleeps for this long, for UINT64_MAX without end, or until it is called. */
 static inline void likes_service_sleep(likes_service *service, uint64_t nanoseconds) {
     uint64_t until = nanoseconds == UINT64_MAX ? UINT64_MAX : likes_clock() + nanoseconds;
     pthread_mutex_lock(&service->napping);
@@ -421,7 +421,7 @@ static inline void likes_service_end_round(likes_service *service) {
     service->calls = calls;
 }
 
-/* Makes the next round one with a call, with `driving` held: so the next two split phases come. */
+/* Makes the next round count as one with a call, with `driving` held. So the next two split phases come. */
 static inline void likes_service_stir(likes_service *service) {
     service->quiet = 0;
     service->calls = UINT64_MAX;
@@ -616,7 +616,7 @@ static inline void likes_place_give(likes_service *service, likes_place *place) 
         likes_service_call(service);
 }
 
-/* How long a call that waits for a phase tries again, and how long it waits. */
+/* Until when a call that waits for a phase tries again, and until when it waits. */
 typedef struct likes_patience {
     uint64_t spins_until, until;
 } likes_patience;
@@ -820,7 +820,7 @@ static inline likes_wait *likes_place_look(likes_service *service, likes_place *
                                            uint64_t until, likes_answer *to) {
     likes_place_deliver(place);
     likes_wait *wait = place->unused;
-    /* What the seat may find before this look has to have room in the ring. */
+    /* The ring must have room for what the seat may find before this look. */
     if (wait == NULL || place->others.length > place->others.room / 2) {
         likes_refuse(to, LIKES_NO_ROOM);
         return NULL;

@@ -2,7 +2,7 @@
  *
  * Most programs need four calls: one to start a service, likes_service_like, likes_service_look and likes_service_stop.
  *
- * The code is C and not proved. There are two ways to have it:
+ * The code is C and not proved. There are two ways to use it:
  *   - C and C++ include likes_helpers.h, which has these calls as inline functions and needs liblikes alone. The
  *     service is a variable of yours, from likes_service_start to likes_service_stop.
  *   - Other languages call liblikes_service, as liblikes_service.so or liblikes_service.a. likes_service_open gives a
@@ -23,7 +23,7 @@
 extern "C" {
 #endif
 
-/* Stands before each call. likes_helpers.h makes it `static inline`. */
+/* The prefix of each call. likes_helpers.h makes it `static inline`. */
 #ifndef LIKES_SERVICE_CALL
 #define LIKES_SERVICE_CALL
 #endif
@@ -36,7 +36,7 @@ enum likes_helper_status {
     LIKES_NOT_STARTED = 1002,  /* the service isn't started, or it was stopped */
     LIKES_MOVED = 1003,        /* the service is a copy */
     LIKES_UNKNOWN_SEAT = 1004, /* the service has fewer seats */
-    LIKES_LOOK_LOST = 1005,    /* the look was made, but somebody took what was found by likes_seat_take_found */
+    LIKES_LOOK_LOST = 1005,    /* the look was made, but somebody took its result with likes_seat_take_found */
     LIKES_LATE = 1006          /* the look had no answer in time. If it was made, its answer is thrown away */
 };
 
@@ -63,7 +63,7 @@ LIKES_SERVICE_CALL uint32_t likes_service_open(const likes_options *options, con
                                                const uint32_t *marks, size_t marks_len, const uint32_t *lasts,
                                                size_t lasts_len, uint32_t period, likes_service **service);
 
-/* Ends a service that isn't stopped yet, and gives its memory back. All threads are done with it. NULL is nothing. */
+/* Ends a service that isn't stopped yet, and gives its memory back. All threads are done with it. NULL does nothing. */
 LIKES_SERVICE_CALL void likes_service_close(likes_service *service);
 
 #endif
@@ -79,13 +79,13 @@ LIKES_SERVICE_CALL uint32_t likes_service_like(likes_service *service, uint32_t 
 
 /* Looks, and waits until the look is found if it has to: an answer of likes_seat_look, but never LIKES_BETWEEN or
  * LIKES_WAITS, and LIKES_NO_ROOM only where looks with tags of the host's fill the seat. LIKES_LOOK_LOST: somebody took
- * it by likes_seat_take_found. Any thread may call it. At such a seat, take your own looks by
- * likes_service_take_found. */
+ * its result with likes_seat_take_found. Any thread may call it. At a seat that it is called for, take looks of your
+ * own with likes_service_take_found. */
 LIKES_SERVICE_CALL uint32_t likes_service_look(likes_service *service, uint32_t user, uint32_t page,
                                                likes_answer *answer);
 
-/* The same, but it takes hardly longer than so many microseconds: then it answers LIKES_LATE. A look that was made
- * keeps its place in the seat's room until the phase ends. */
+/* The same with a time limit, in microseconds, which it hardly exceeds: then it answers LIKES_LATE. A look that was
+ * made keeps its place in the seat's room until the phase ends. */
 LIKES_SERVICE_CALL uint32_t likes_service_look_within(likes_service *service, uint32_t user, uint32_t page,
                                                       uint32_t microseconds, likes_answer *answer);
 
@@ -147,7 +147,7 @@ LIKES_SERVICE_CALL size_t likes_service_run(likes_service *service, uint32_t num
  * none. */
 LIKES_SERVICE_CALL bool likes_service_take_found(likes_service *service, uint32_t number, likes_found *found);
 
-/* Takes up to so many found looks at once, and gives their number. */
+/* Takes up to found_len found looks at once, and gives their number. */
 LIKES_SERVICE_CALL size_t likes_seat_take_all_found(likes_seat *seat, likes_found *found, size_t found_len);
 
 /* Makes a turn of the driver, and gives its answer. If that begins or ends a phase, it also does what comes of it: the

@@ -89,7 +89,7 @@ pub record CameBack (phase : ℕ) (v w : View) : Type 0 where
   pub view : w ≡ Worker (returned_view (worker_view_of v) phase)
   pub step : let me = worker_view_of v in ComesBack me (returned_view me phase)
 
--- what an exchange tells by which a worker comes back, where it expected this word and found that one: if they are the
+-- what the exchange by which a worker comes back tells, where it expected this word and found that one: if they are the
 -- same, it came back into the phase that they tell; otherwise nothing changed
 pub record TellsReturn (expected : ℕ) (v : View) (found : ℕ) (w : View) : Type 0 where
   pub back : found ≡ expected → CameBack (phase_at (worker_view_of v).opening found) v w

@@ -10,7 +10,7 @@ use Rattle.like_core.specs.views.Views.{fresh_coord}
 use Rattle.like_core.specs.views.Shows.{ShowsSome}
 use Rattle.like_board.specs.declared.key.Key.{Key}
 
--- the opening that a key stands for
+-- the opening that a key tells
 abbrev pub opening_of : Key → Opening
 opening_of key = record {
   workers = key.workers;

@@ -62,13 +62,13 @@ seat_meaning seat = record (post_of (seat_view seat)) { board = board_numbers (s
 abbrev pub post_meaning : {B : Type 0} {held : _} → PostAt B held → PostView
 post_meaning post = seat_meaning post.seat
 
--- the seats of the workers of a board in order, none of which made a step yet
+-- the seats of a board's workers, in order; none has made a step yet
 abbrev pub AreFresh : TableId → Opening → List WorkerSeat → Type 0
 AreFresh board z seats =
     (i : ℕ) (seat : WorkerSeat) → slice_get seats i ≡ Some seat
     → (seat_board seat ≡ board) × (seat_view seat ≡ fresh z i) × IsFresh (seat_meaning seat)
 
--- each worker's seat stands in the list once
+-- each worker's seat is in the list once
 abbrev pub AreAll : ℕ → List WorkerSeat → Type 0
 AreAll workers seats =
     (i : ℕ) → i < workers → count_by (λ seat. (seat_meaning seat).worker == i) seats ≡ 1
@@ -94,7 +94,8 @@ HaveReadBetween z phase seats =
     All (λ seat. let post = seat_meaning seat in
     AreBetween z.counts (seats_before seats) phase post.additions post.reads) seats
 
--- the additions of the workers of these seats stand between what they all have added before their phases and up to them
+-- the stretch of each addition of these seats' workers lies between what they all have added before its phase and up to
+-- it
 abbrev pub HaveAddedBetween : Opening → ℕ → List WorkerSeat → Type 0
 HaveAddedBetween z phase seats =
     All (λ seat. StandBetween z.counts (seats_before seats) phase (seat_meaning seat).additions) seats

@@ -13,7 +13,7 @@ use atomic_table::Table;
 use like_core::{Limits, View};
 use std::alloc::{AllocError, Global};
 
-/// The factor of a run, by which page i has bucket i.
+/// The factor of a run: with it, page i has bucket i.
 const RUN_FACTOR: u32 = 1 << 22;
 
 /// The phase word, the mask word, one word per slot and one per page, which threads share.
@@ -30,9 +30,9 @@ impl Board {
     ghost use Rattle.like_board.specs.Rule.{opened_coord, opening_of};
     ghost use Rattle.like_board.specs.Seats.{board_id, coord_board, coord_view, AreFresh};
 
-    /// A board in phase 0, running, with these counts by page and the limits of a run, the coordinator's seat and each
-    /// worker's seat in order. Pages that are marked in `split` are split in each odd phase, others of the first 64 in
-    /// those that are released with a mask that has their bit.
+    /// A board in phase 0, running, with these counts by page and the limits of a run; the coordinator's seat; and each
+    /// worker's seat, in order. Pages that are marked in `split` are split in each odd phase. Others of the first 64
+    /// are split in a phase that is released with a mask that has their bit.
     pub fn new(
         alloc: Global,
         workers: u32,
@@ -85,7 +85,7 @@ impl Board {
     }
 
     /// A board of a service, with these counts by page and no page marked: the pages that are split in a phase are
-    /// those in its slots. A page has its bucket by the factor.
+    /// those in its slots. The factor gives each page its bucket.
     pub fn for_service(
         alloc: Global,
         workers: u32,

@@ -123,7 +123,7 @@ impl CoordSeat {
             .store::<Publishing>(&mut self.seat, MASK_WORD, mask);
     }
 
-    /// Puts a page into a slot, while all are in. It is no event of the core. What was published before has to be
+    /// Puts a page into a slot, while all are in. It is no event of the core. What was published before must be
     /// published again.
     pub fn put(&mut self, board: &Board, slot: u32, page: u32)
         requires here { coord_board self.old ≡ board_id board.now }

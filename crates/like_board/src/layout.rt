@@ -1,4 +1,4 @@
-//! Where the words of a board stand in its table.
+//! Where the words of a board are in its table.
 ghost use Rattle.std.specs.Prelude.{◌≡◌, ℕ, ◌^◌, ◌<◌, length, slice_index, IfOk};
 ghost use Rattle.like_limits.specs.Limits.{hot_pages};
 ghost use Rattle.like_core.specs.views.Layout.{mask_place, phase_place, slot_in, slot_place, word_of};
@@ -14,13 +14,13 @@ pub(crate) const MASK_WORD: usize = 16;
 /// The place of the first slot's word. Those of the others follow.
 const FIRST_SLOT: usize = 32;
 
-/// How many places a word has to itself, where it stands apart: 128 bytes.
+/// How many places a word has to itself, against false sharing: 128 bytes.
 const STRIDE: usize = 16;
 
-/// How many times that many places come before those of pages: for the phase word, the mask word and 64 slots.
+/// How many such strides come before the pages' words: for the phase word, the mask word and 64 slots.
 const BEFORE: usize = 6;
 
-/// How many pages' words stand apart: the first ones.
+/// How many pages' words have a stride each: the first ones.
 const APART: u32 = 64;
 
 /// The place of a page's word.

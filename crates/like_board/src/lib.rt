@@ -1,5 +1,5 @@
 //! The board of the like service: the phase word, the pages' counts, the mask of hot pages and their slots, as words
-//! that change in single atomic steps, over which the coordinator and the workers step with seats of their own.
+//! that change in single atomic steps. The coordinator and each worker step on them with a seat.
 #![tactic(auto)]
 
 mod board;

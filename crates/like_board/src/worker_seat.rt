@@ -33,7 +33,7 @@ pub struct WorkerSeat {
     pub(crate) number: u32,
     /// The form of its board's phase word.
     pub(crate) form: Form,
-    /// Whether it has answered an odd phase last: 1 or 0. Who runs a phase has answered the one before.
+    /// Whether it has answered an odd phase last: 1 or 0. A worker that runs a phase has answered the one before.
     pub(crate) turn: u64,
     ghost is_worker: { seat.me ≡ (Worker (worker_view_of seat.me.0), []) },
     ghost numbered: { number ≡ (worker_view_of seat.me.0).worker },
@@ -137,8 +137,8 @@ impl WorkerSeat {
             .fetch_add::<Retiring>(&mut self.seat, PHASE_WORD, retirement);
     }
 
-    /// Takes the worker off the count of those gone, where the phase word is that of a phase that isn't ending and is
-    /// still the same when it is exchanged. `None`, with nothing done, otherwise.
+    /// Takes the worker off the count of those gone, if the phase isn't ending and no other step changes the phase word
+    /// meanwhile. Otherwise nothing is done, and it is `None`.
     pub(crate) fn come_back(&mut self, board: &Board) -> Option<u64>
         requires here { seat_board self.old ≡ board_id board.now }
         requires gone { (seat_view self.old).state ≡ Gone }

@@ -107,7 +107,7 @@ abbrev pub TakesFoundAt : Option BoxedSeat → FoundRow → Bool → FoundRow �
 TakesFoundAt at old is_found row after =
     At ((is_found ≡ false) × (row ≡ old)) (WritesFound old is_found row) at after
 
--- what is written of a user's last like: the page, or the number that stands for none; nothing of a user who is refused
+-- what is written of a user's last like: the page, or `no_page`; for a user who is refused, nothing
 abbrev pub GivesLast : Result (Option ℕ) Verdict → (old result page : ℕ) → Type 0
 GivesLast (Ok last) old result page = (result ≡ status.ok) × (page ≡ page_or_none last)
 GivesLast (Err verdict) old result page = (result ≡ verdict_status verdict) × (page ≡ old)
@@ -118,7 +118,7 @@ LastLikeAt user at old result page after =
     At ((result ≡ status.empty) × (page ≡ old)) (λ s t. (t ≡ s) × ((answer : Result (Option ℕ) Verdict)
     × TellsLast s.seat user answer × GivesLast answer old result page)) at after
 
--- the last likes of a seat's users from a place on are written, if it has so many users
+-- the last likes of a seat's users from a place on are written, if it has that many users
 pub data GivesLasts (v : LiveView) (from : ℕ) (old : List ℕ) (result : ℕ) (pages : List ℕ) : Type 0 where
   gives_range : ¬ (from + length old ≤ users_of v) → result ≡ status.wrong_range → pages ≡ old
       → GivesLasts v from old result pages
@@ -198,11 +198,11 @@ pub data Drives (end result : ℕ) (o p : Opened) : Type 0 where
 abbrev pub DrivesAt : Option Opened → ℕ → ℕ → Option Opened → Type 0
 DrivesAt at end result after = At (result ≡ status.empty) (Drives end result) at after
 
--- a service has so many pages from this one on
+-- a service has this many pages from this one on
 abbrev pub HasPages : Opened → ℕ → ℕ → Type 0
 HasPages o from many = from + many ≤ length o.driver.lead.seat.opening.counts
 
--- a snapshot of the pages from this one on is asked for, with room for so many counts
+-- a snapshot of the pages from this one on is asked for
 pub data Snapshots (from : ℕ) (old : List ℕ) (result : ℕ) (counts : List ℕ) (o p : Opened) : Type 0 where
   snapshot_range : ¬ HasPages o from (length old) → result ≡ status.wrong_range → counts ≡ old → p ≡ o
       → Snapshots from old result counts o p

@@ -10,7 +10,7 @@ use Rattle.like_c.specs.declared.opened.BoxedSeat.{BoxedSeat}
 use Rattle.like_c.specs.declared.opened.Opened.{Opened}
 use Rattle.like_c.specs.declared.rows.Options.{Options}
 
--- so many likes make a page hot; 0: none do
+-- how many likes make a page hot; 0: no page gets hot
 abbrev pub hot_of : ℕ → Option ℕ
 hot_of hot = if hot == 0 then None else Some hot
 

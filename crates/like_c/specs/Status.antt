@@ -1,4 +1,4 @@
--- Which status stands for which answer. The numbers are those of likes.h.
+-- The status of each answer. The numbers are those of likes.h.
 use Rattle.std.specs.Prelude.{ℕ, Bool, true, false, Option, Some, None}
 use Rattle.like_requests.specs.declared.verdict.Verdict.{Verdict}
 use Rattle.like_requests.specs.declared.verdict.Verdict.TheVariants.{Accepted, UnknownUser, OtherHome, UnknownPage}

@@ -51,7 +51,7 @@ impl DriverHandle {
         }
     }
 
-    /// Puts a driver in the place of none.
+    /// Puts a driver into an empty handle.
     pub(crate) fn put(&mut self, driver: Box<Opened, Global>)
         requires { self.old.home ≡ None }
         ensures { self.new.home ≡ Some driver.value }

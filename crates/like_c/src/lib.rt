@@ -114,7 +114,7 @@ pub extern "C" fn likes_driver_turn(driver: &mut DriverHandle, end: u32) -> u32
     }
 }
 
-// Whether a turn may end the phase, if the number says it.
+// The end that this number names, if it names one.
 fn end_of(end: u32) -> Option<End>
     ensures { result ≡ end_of end }
 {
@@ -171,7 +171,7 @@ pub extern "C" fn likes_driver_split_pages_nonnull(
     opened.driver.split_pages(pages)
 }
 
-/// Proposes these pages for slots from now on. If there are none, the service finds them by sampling.
+/// Proposes these pages for slots from now on. If the list is empty, the service finds pages by sampling.
 #[unsafe(no_mangle)]
 pub extern "C" fn likes_driver_propose_nonnull(driver: &mut DriverHandle, pages: &[u32]) -> u32
     ensures { ProposesAt pages.now driver.old.home result driver.new.home }
@@ -183,8 +183,8 @@ pub extern "C" fn likes_driver_propose_nonnull(driver: &mut DriverHandle, pages:
     status::OK
 }
 
-/// The last counts of the pages from one on, once all seats are gone. No seats are given back: C cannot show whose they
-/// are.
+/// The last counts of the pages from `from` on, once all seats are gone in a joined phase. No seats are given back: C
+/// can't show whose they are.
 #[unsafe(no_mangle)]
 pub extern "C" fn likes_driver_last_counts_nonnull(
     driver: &mut DriverHandle,
@@ -277,7 +277,7 @@ pub extern "C" fn likes_seat_last(seat: &mut SeatHandle, user: u32, page: &mut u
     }
 }
 
-/// The pages of the last likes of a seat's users from a place on.
+/// The last likes of a seat's users, from place `from` on.
 #[unsafe(no_mangle)]
 pub extern "C" fn likes_seat_lasts_nonnull(
     seat: &mut SeatHandle,
@@ -312,8 +312,8 @@ pub extern "C" fn likes_seat_take_found(seat: &mut SeatHandle, found: &mut Found
     }
 }
 
-/// Runs rows one by one. It stops before the first that is `BETWEEN` or `NO_ROOM`, whose answer has that status, and at
-/// the end of the shorter row. The answers behind are left as they were.
+/// Runs requests one by one. It stops at the first that is `BETWEEN` or `NO_ROOM`, whose answer has that status, and at
+/// the end of the shorter array. Later answers are left as they were.
 #[unsafe(no_mangle)]
 pub extern "C" fn likes_seat_run_nonnull(
     seat: &mut SeatHandle,

@@ -9,7 +9,7 @@ use like_choice::Guided;
 use like_live::{Driver, LiveSeat, OpenError, Opening, PhaseNow, Service};
 use std::alloc::{AllocError, Global};
 
-// Padding at the end of a box: what two boxes have in use lies at least so far apart, 128 bytes.
+// Padding at the end of a box: 128 bytes, which prevent false sharing between two boxes.
 type Apart = [u64; 16];
 
 const APART: Apart = [0; 16];

@@ -1,4 +1,4 @@
-// A `Box` with its fields in sight of the module above.
+// A `Box` whose fields the modules above can see.
 ghost use Rattle.std.specs.Prelude.{◌≡◌};
 ghost use Rattle.std_alloc.specs.Box.Ownership.{box_owns};
 

@@ -51,7 +51,7 @@ impl PhaseHandle {
         }
     }
 
-    /// Puts a phase in the place of none.
+    /// Puts a phase into an empty handle.
     pub(crate) fn put(&mut self, phase: Box<BoxedPhase, Global>)
         requires { self.old.home ≡ None }
         ensures { self.new.home ≡ Some phase.value }

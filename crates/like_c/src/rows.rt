@@ -82,7 +82,7 @@ pub struct FoundRow {
     pub reserved: u32,
 }
 
-// The number of a page, or the one that stands for none.
+// The number of a page, or `NO_PAGE`.
 #[inline(always)]
 pub(crate) fn page_or_none(page: Option<u32>) -> u32
     ensures { result ≡ page_or_none page }
@@ -168,7 +168,7 @@ impl FoundRow {
     }
 }
 
-// Answers a row that asks for no like. An operation that is none has a status of its own.
+// Answers a row that asks for no like. An unknown operation is answered `UNKNOWN_OP`.
 #[inline(always)]
 fn answer_other(seat: &mut LiveSeat<SharedPost>, request: &RequestRow, row: &mut AnswerRow)
     requires { request.now.op ≢ like_op }
@@ -205,7 +205,7 @@ fn answer(seat: &mut LiveSeat<SharedPost>, request: &RequestRow, row: &mut Answe
     }
 }
 
-/// Answers rows up to the first that is `BETWEEN` or `NO_ROOM`, and to the end of the shorter of the two. Says how many
+/// Answers requests up to the first that is `BETWEEN` or `NO_ROOM`, or to the end of the shorter array. Says how many
 /// were done.
 #[inline(never)]
 pub(crate) fn run(

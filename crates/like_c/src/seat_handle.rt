@@ -51,7 +51,7 @@ impl SeatHandle {
         }
     }
 
-    /// Puts a seat in the place of none.
+    /// Puts a seat into an empty handle.
     pub(crate) fn put(&mut self, seat: Box<BoxedSeat, Global>)
         requires { self.old.home ≡ None }
         ensures { self.new.home ≡ Some seat.value }

@@ -43,7 +43,7 @@ IsTaken factor slots bits page =
 abbrev pub IsFull : ℕ → Type 0
 IsFull bits = (slot : ℕ) → slot < hot_pages → has_bit bits slot ≡ true
 
--- the pages of the slots in use, of the first so many, in order
+-- the pages of the slots in use among the first `many`, in order
 unfoldable pub pages_below : List ℕ → ℕ → ℕ → List ℕ
 pages_below slots bits many = map (slice_index slots) (filter (has_bit bits) (range_with_len 0 many))
 

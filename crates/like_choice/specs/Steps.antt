@@ -17,7 +17,7 @@ abbrev pub StayInUse : List ℕ → ℕ → List ℕ → ℕ → Type 0
 StayInUse slots bits after bits_after = (slot : ℕ) → IsInUse bits slot
     → (has_bit bits_after slot ≡ true) × (slice_index after slot ≡ slice_index slots slot)
 
--- the page of a slot was there before, or stands on the list at this place or an earlier one
+-- the page of a slot was there before, or is on the list at this place or an earlier one
 abbrev pub CameBy : List ℕ → ℕ → ℕ → List ℕ → ℕ → Type 0
 CameBy proposed k bits slots slot =
     (has_bit bits slot ≡ true) ⊎ ((j : ℕ) × (j ≤ k) × (slice_index proposed j ≡ slice_index slots slot))

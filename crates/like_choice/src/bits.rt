@@ -30,7 +30,7 @@ pub(crate) fn first_clear(bits: u64) -> Option<u32>
     }
 }
 
-// The lowest bits, so many of them.
+// The lowest `many` bits.
 pub(crate) fn low_bits(many: u32) -> u64
     requires { many ≤ 64 }
     ensures { result ≡ 2 ^ many - 1 }

@@ -5,11 +5,12 @@ use crate::samples::sampler::Sampler;
 use crate::slots::Slots;
 use std::alloc::AllocError;
 
-/// What proposes the pages that get slots in the split phase that comes next.
+/// Proposes the pages that get slots in the next split phase.
 ///
-/// The driver calls it before it ends a phase. Any proposal is lawful: `Slots::choose` takes of it what it can.
+/// The driver calls it before it ends a split phase, and in a joined one as long as nothing would be split in the next.
+/// Any proposal is lawful: `Slots::choose` takes of it what it can.
 pub trait Choice {
-    /// The pages that it is told to propose; none where it finds them itself.
+    /// The pages that it is told to propose; none if it finds them itself.
     ghost told: { Self → List ℕ };
 
     /// Writes a new proposal over the old one, the most popular page first. The slots are those of the last choice.

@@ -16,7 +16,7 @@ pub struct Guided {
 }
 
 impl Guided {
-    /// For so many seats, and with this estimate of the likes that make a page popular (see `Samples::new`). All its
+    /// For this many seats, and with this estimate of the likes that make a page popular (see `Samples::new`). All its
     /// memory is taken here.
     pub fn new(alloc: Global, seats: u32, hot: u32) -> Result<Guided, AllocError>
         ensures { IfOk result (λ guided. guided.asked ≡ []) }

@@ -22,7 +22,7 @@ impl Model for Proposal {
 }
 
 impl Proposal {
-    /// One of no pages.
+    /// A proposal of no pages.
     pub fn new() -> Proposal
         ensures { result ≡ [] }
     {

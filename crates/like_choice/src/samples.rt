@@ -25,7 +25,7 @@ use std::marker::Model;
 /// (OSDI 2014, section 5.5).
 ///
 /// Each seat stores about one in 256 of its requests. At each choice the driver reads what is new, and proposes the
-/// pages with the most likes of late, but for those at which more looks would wait. All its memory is taken when it is
+/// pages with the most likes of late, but for those with more looks than likes. All its memory is taken when it is
 /// made. Contracts see it as the number of seats.
 #[derive(Drop)]
 pub struct Samples {
@@ -44,9 +44,9 @@ impl Model for Samples {
 }
 
 impl Samples {
-    /// For so many seats. A page is popular from `hot` likes between two choices on, where the likes before them count
-    /// too, a sixteenth less at each choice: 1 to 511 act as 512, and 0 says that no page is. A page gets a slot at
-    /// half as many again, and keeps it down to half as many.
+    /// For this many seats. A page is popular from `hot` likes between two choices on: 1 to 511 act as 512, and with 0
+    /// no page is. Earlier likes count too, a sixteenth less at each choice. A page gets a slot with one and a half
+    /// times as many likes, and keeps it down to half as many.
     pub fn new(alloc: Global, seats: u32, hot: u32) -> Result<Samples, AllocError>
         ensures { IfOk result (λ samples. samples ≡ seats) }
     {

@@ -102,7 +102,7 @@ impl Slots {
         self.marks > 0 || has_page(self.pages, proposed)
     }
 
-    /// The page in each slot. It tells nothing where the slot isn't in use.
+    /// The page in each slot. It means nothing if the slot isn't in use.
     pub fn pages(&self) -> &[u32]
         ensures pages { result.now ≡ self.now.slots }
         ensures all { length self.now.slots ≡ hot_pages }
@@ -121,7 +121,7 @@ impl Slots {
         write_used(&self.slots, self.bits, pages)
     }
 
-    /// The page in a slot. It tells nothing where the slot isn't in use.
+    /// The page in a slot. It means nothing if the slot isn't in use.
     pub fn page(&self, slot: u32) -> u32
         requires { slot < hot_pages }
         ensures { result ≡ slice_index self.now.slots slot }

@@ -1,9 +1,9 @@
--- The requests that entries of run lists are of.
+-- The requests of the entries of run lists.
 use Rattle.std.specs.Prelude.{◌≡◌, ◌⊎◌, ℕ, ◌<◌, ◌≤◌, ◌==◌, ◌&&◌, All, Bool, List, length, slice_index}
 use Rattle.like_promises.specs.declared.log.Ran.{Ran}
 use Rattle.like_promises.specs.Collected.{entries_of}
 
--- the submitter has a request with this number, where the submitters have so many each: numbers count from 1
+-- the submitter has a request with this number, from 1 to how many it has
 pub record IsRequest (sizes : List ℕ) (submitter number : ℕ) : Type 0 where
   pub there : submitter < length sizes
   pub from_one : 1 ≤ number

@@ -9,7 +9,7 @@ use Rattle.like_collection.specs.declared.collect_fault.CollectFault.TheVariants
 use Rattle.like_collection.specs.Entries.{IsRequest, Precedes}
 use Rattle.like_promises.specs.Collected.{answer_of, entries_of}
 
--- the answers at places, of which those marked are there
+-- the answers at places: those that are marked
 abbrev pub answers_there : List Bool → List Answer → List (Option Answer)
 answers_there there answers = map (λ p. if p.0 then Some p.1 else None) (zip there answers)
 

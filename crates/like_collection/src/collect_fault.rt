@@ -13,7 +13,7 @@ pub enum CollectFault {
     /// There is an entry, and an earlier one of the same request.
     #[error("request {number} of submitter {submitter} ran twice")]
     Double { submitter: u32, number: u32 },
-    /// There is no entry of this request, the least one of which that is true.
+    /// This request has no entry. It is the least such request.
     #[error("request {number} of submitter {submitter} did not run")]
     Missing { submitter: u32, number: u32 },
     #[error("out of memory")]

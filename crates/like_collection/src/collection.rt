@@ -11,10 +11,10 @@ use crate::collect_fault::CollectFault;
 use like_promises::{Replies, WorkerLog};
 use std::alloc::Global;
 
-/// Collects the answer of each request from the workers' logs, where the submitters have so many requests each.
+/// Collects the answer of each request from the workers' logs. `sizes` tells how many requests each submitter has.
 ///
 /// Entries are tested in the order of the logs and of their lists, each first for `Stranger` and then for `Double`;
-/// then the least request without an entry is `Missing`. It takes as many steps as there are entries and requests.
+/// then the least request without an entry is `Missing`. The time is linear in the entries and requests.
 pub fn collect(alloc: Global, sizes: &[u32], logs: &[WorkerLog]) -> Result<Replies, CollectFault>
     requires { length sizes.now ≤ max_submitters }
     ensures { MatchResult result

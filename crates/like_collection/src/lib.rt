@@ -1,5 +1,5 @@
-//! What a run leaves: one reply for each request, collected from the workers' logs, and where the additions to each
-//! page stand.
+//! What a run leaves: one reply for each request, collected from the workers' logs, and the places of the additions to
+//! each page.
 #![tactic(auto)]
 
 mod collect_fault;

@@ -6,8 +6,8 @@ ghost use Rattle.like_promises.specs.declared.place.Place.{Place as Entry};
 use like_promises::{Added, Place, WorkerLog};
 use std::alloc::{AllocError, Global};
 
-/// The places of all additions of the workers to each of so many pages, by rising counts before; those with the same one
-/// stand by worker, and in the order of its additions.
+/// The places of all the workers' additions to each page, by rising counts before. Those with the same count before are
+/// in the order of the workers and of their additions.
 pub fn places(alloc: Global, pages: u32, logs: &[WorkerLog]) -> Result<Vec<Vec<Place>>, AllocError>
     requires few { length logs.now ≤ max_workers }
     requires there { All (λ log. All (λ a. a.page < pages) log.adds.items) logs.now }
@@ -23,7 +23,7 @@ pub fn places(alloc: Global, pages: u32, logs: &[WorkerLog]) -> Result<Vec<Vec<P
     Ok(rows)
 }
 
-// No places of so many pages.
+// No places yet, for each page.
 fn empty_rows(alloc: Global, pages: u32) -> Result<Vec<Vec<Place>>, AllocError>
     ensures { IfOk result (λ rows. lists_in rows.items ≡ replicate pages []) }
 {
@@ -34,7 +34,7 @@ fn empty_rows(alloc: Global, pages: u32) -> Result<Vec<Vec<Place>>, AllocError>
     Ok(rows)
 }
 
-// Puts the place of an addition behind those of its page.
+// Appends the place of an addition to its page's places.
 #[tactic(auto, using(crate::proofs::PlaceLists::lists_set, crate::proofs::PlaceLists::lists_get))]
 fn put(rows: &mut Vec<Vec<Place>>, page: usize, place: Place) -> Result<(), AllocError>
     requires { page < length rows.old.items }
@@ -45,7 +45,7 @@ fn put(rows: &mut Vec<Vec<Place>>, page: usize, place: Place) -> Result<(), Allo
     Ok(())
 }
 
-// Puts the places of a worker's additions behind those of their pages.
+// Appends the places of a worker's additions to their pages' places.
 fn put_adds(rows: &mut Vec<Vec<Place>>, worker: u32, adds: &[Added]) -> Result<(), AllocError>
     requires { All (λ a. a.page < length rows.old.items) adds.now }
     ensures len { OnOk result (length (lists_in rows.new.items) ≡ length (lists_in rows.old.items)) }
@@ -81,7 +81,7 @@ fn sort_all(rows: &mut Vec<Vec<Place>>) -> Result<(), AllocError>
     Ok(())
 }
 
-// Sorts those of one page.
+// Sorts the places of one page.
 #[tactic(auto, using(crate::proofs::PlaceLists::lists_set, crate::proofs::PlaceLists::lists_get))]
 fn sort_at(rows: &mut Vec<Vec<Place>>, page: usize) -> Result<(), AllocError>
     requires { page < length rows.old.items }

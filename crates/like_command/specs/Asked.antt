@@ -126,11 +126,11 @@ Asks words (Help text) = AsksForHelp words
 abbrev pub IsMistake : ErrorKind → Type 0
 IsMistake kind = (kind ≢ DisplayHelp) × (kind ≢ DisplayVersion)
 
--- why the words ask for nothing: they have a mistake, or want of memory
+-- why the words ask for nothing: they have a mistake, or memory ran out
 abbrev pub IsParseFault : Words → ParseFault → Type 0
 IsParseFault words (Usage text) = (kind : ErrorKind) × IsAmong kind (faults_of words) × IsMistake kind
 IsParseFault words Memory = ⊤
 
--- what words are answered that clap gives no matches
+-- the answer to words for which clap gives no matches
 abbrev pub RefusesWords : Words → Result Asked ParseFault → Type 0
 RefusesWords words result = MatchResult result (Asks words) (IsParseFault words)

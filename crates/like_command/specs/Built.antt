@@ -5,12 +5,12 @@ use Rattle.clap.specs.declared.builder.arg.Arg.{Arg}
 use Rattle.clap.specs.declared.builder.command.Command.{Command}
 use Rattle.clap.specs.declared.builder.command.Command.TheViews.{out-Command}
 
--- an argument with this rule, of its command alone
+-- an argument with this rule, which isn't global
 pub record IsArgument (rule : Rule) (a : Arg) : Type 0 where
   pub rule_is : rule_of a ≡ rule
   pub local : a.global ≡ false
 
--- a command that reads words so, each of whose arguments is its own alone
+-- a command that reads words so, with no global arguments
 pub record IsCommand (app : App) (c : Command) : Type 0 where
   pub app_is : app_of c ≡ app
   pub local : (out-Command c).has_globals ≡ false

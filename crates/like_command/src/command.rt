@@ -80,8 +80,8 @@ fn requests_argument<'a>(alloc: Global) -> Arg<'a>
         .help(help::REQUESTS)
 }
 
-// A subcommand of this name, about which this is said, with the options of runs and replays that are numbers with a
-// default. An option is made where it is added, so none has to be dropped where the addition of another is refused.
+// A subcommand with this name and this description, and with the options of runs and replays that are numbers with a
+// default. An option is made where it is added, so none must be dropped if adding another fails.
 fn with_numbers<'a>(alloc: Global, name: &'a str, about: &'a str) -> Result<Command<'a>, AllocError>
     ensures { IfOk result (IsCommand (fold with_rule (new_app name.entry.now) number_rules)) }
 {
@@ -141,7 +141,7 @@ fn replay<'a>(alloc: Global) -> Result<Command<'a>, AllocError>
         .arg(requests_argument(alloc))
 }
 
-/// The command line of the program, of which the first word is the first after the program's name.
+/// The program's command line. Its first word is the first one after the program's name.
 pub fn likes_command<'a>(alloc: Global) -> Result<Command<'a>, AllocError>
     ensures { IfOk result (λ c. app_of c ≡ likes_app) }
 {

@@ -28,7 +28,7 @@ impl From<AllocError> for ParseFault {
 }
 
 impl ParseFault {
-    /// The status with which the program ends.
+    /// The exit status.
     pub fn status(&self) -> u8
         ensures { result ≡ status_of self.now }
     {
@@ -38,8 +38,8 @@ impl ParseFault {
         }
     }
 
-    /// Writes the text of a wrong command line, or the line of the want of memory.
-    /// `false` says that a write failed, and nothing of how much was written.
+    /// Writes what is wrong with the command line, or that memory ran out. `false`: a write failed, and a part may have
+    /// been written.
     pub fn line<W: Write>(&self, out: &mut W) -> bool
         ensures { IsTrue result
             → Appends (W.contents out.old) (W.contents out.new) (line_of self.now) }

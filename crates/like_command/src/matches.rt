@@ -7,7 +7,7 @@ use crate::options::Options;
 use clap::ArgMatches;
 use std::alloc::{AllocError, Global};
 
-/// What the subcommand asks for that was matched.
+/// What the matched subcommand asks for.
 pub fn matched(alloc: Global, matches: &ArgMatches<'_>) -> Result<Asked, AllocError>
     requires { (rows : List Row) × IsEntered (subcommand_rows_of matches.now) rows × HasAll rows }
     ensures { IfOk result (MeansAsked (subcommand_rows_of matches.now)) }

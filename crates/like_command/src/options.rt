@@ -7,13 +7,13 @@ pub struct Options {
     pub turns: u32,
     /// How many likes make a page hot, where the coordinator is to choose hot pages.
     pub hot: Option<u32>,
-    /// Whether the report's places are written behind it.
+    /// Whether the report's places are written after it.
     pub places: bool,
     /// Whether the report has no rows of replies.
     pub totals: bool,
     /// Whether a summary of the report is written on standard error.
     pub summary: bool,
-    /// Whether a line on standard error tells when a part of the work begins.
+    /// Whether long work writes a line on standard error after each part.
     pub progress: bool,
     /// The name of the pages file.
     pub pages: String,

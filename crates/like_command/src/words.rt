@@ -14,7 +14,7 @@ use std::alloc::{AllocError, Global};
 use std::convert::AsStr;
 
 /// What the words after the program's name ask for.
-/// A request for help or for the version is no fault, and its text is `Help`. Want of memory is `Memory`, and all else
+/// A request for help or for the version is no fault, and its text is `Help`. Out of memory is `Memory`, and all else
 /// that `clap` refuses is `Usage`.
 pub fn parse<S: AsStr>(alloc: Global, words: &[S]) -> Result<Asked, ParseFault>
     ensures asked { IfOk result (Asks (map S.text words.now)) }

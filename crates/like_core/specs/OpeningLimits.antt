@@ -51,7 +51,7 @@ pub record AreLimits (l : Limits) : Type 0 where
   pub seats : l.seats ≤ most_seats l.form
   -- a page's number fits in 32 bits
   pub pages : l.pages < 2 ^ 32
-  -- so many pages can be hot at a time
+  -- 64 pages can be hot at a time
   pub hot : hot_pages ≤ l.hot
   -- with slots, any page
   pub slotted : has_slots l ≡ true → l.pages ≤ l.hot

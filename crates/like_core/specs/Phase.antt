@@ -2,7 +2,7 @@ use Rattle.std.specs.Prelude.{◌≡◌, ℕ, ◌%◌, ◌==◌, nat_lt, Bool, f
 use Rattle.like_limits.specs.Limits.{hot_pages}
 use Rattle.like_core.specs.Functions.{has_bit}
 
--- the greatest number in a phase word; in a run it is the last phase
+-- the last phase of a run, and the greatest number in its phase word
 abbrev pub last_phase : ℕ
 last_phase = 16777214
 

@@ -12,11 +12,11 @@ mask_of_slots slots word zero = 0
 mask_of_slots slots word (suc n) =
     bit_or (mask_of_slots slots word n) (if has_bit word n then 2 ^ slots n else 0)
 
--- the mask that a mask word tells: in a service that of the pages in the slots in use, in a run the word itself
+-- the mask that a mask word tells: in a service the mask of the pages in the slots in use, in a run the word itself
 abbrev pub mask_by : Limits → (ℕ → ℕ) → ℕ → ℕ
 mask_by l slots word = (if has_slots l then mask_of_slots slots word hot_pages else word)
 
--- a lawful choice: each page in a slot in use is there, and no two of them share a bucket
+-- a lawful choice: each page in a slot in use exists, and no two of them share a bucket
 pub record IsChoice (factor pages : ℕ) (slots : ℕ → ℕ) (word : ℕ) : Type 0 where
   pub there : (i : ℕ) → i < hot_pages → has_bit word i ≡ true → slots i < pages
   pub apart : (i j : ℕ) → i < hot_pages → j < hot_pages → has_bit word i ≡ true → has_bit word j ≡ true

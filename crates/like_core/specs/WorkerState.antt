@@ -34,7 +34,8 @@ RunsJoined s = RunsSome IsJoined s
 abbrev pub RunsSplit : WorkerState → Type 0
 RunsSplit s = RunsSome IsSplit s
 
--- 1 if the phase that it has answered last is odd, and 0 if it is even. Who runs a phase has answered the one before
+-- 1 if the phase that it has answered last is odd, and 0 if it is even. A worker that runs a phase has answered the one
+-- before
 abbrev pub turn_of : WorkerState → ℕ
 turn_of (Runs phase) = (phase + 1) % 2
 turn_of (Answered phase) = phase % 2

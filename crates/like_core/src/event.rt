@@ -1,4 +1,4 @@
-/// One step of a worker or of the coordinator. The first number is the worker, the second the page.
+/// One step of a worker or of the coordinator. Of a worker's step the first number is the worker, the second the page.
 #[derive(Clone, Copy, PartialEq, Eq)]
 pub enum Event {
     /// The worker looks at the phase word.
@@ -13,7 +13,7 @@ pub enum Event {
     Like(u32, u32),
     /// The worker reads the count of a page that is not sliced.
     Read(u32, u32),
-    /// The worker reads the count of a page that is sliced, before the present phase's slices are merged.
+    /// The worker reads the count of a page that is sliced. The count lacks what slices still hold.
     Glance(u32, u32),
     /// The worker adds its slice of a page to the page's count.
     Merge(u32, u32),

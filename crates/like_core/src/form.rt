@@ -21,9 +21,9 @@ const MOST: u64 = 127;
 /// How a phase word tells who has answered.
 #[derive(Clone, Copy, PartialEq, Eq)]
 pub enum Form {
-    /// Two bits for each worker: that of a program.
+    /// Two bits for each worker: the form of a run.
     Bits,
-    /// How many have answered, and how many are gone: that of a service.
+    /// How many have answered, and how many are gone: the form of a service.
     Counts,
 }
 
@@ -44,7 +44,7 @@ fn released_kind(word: u64) -> u64
 }
 
 impl Form {
-    /// The word at the start: so many workers run phase 0.
+    /// The word at the start: all workers run phase 0.
     pub fn first(self, workers: u32) -> u64
         requires { workers ≤ most_seats self }
         ensures { result ≡ first_word (form_of self) workers }
@@ -88,8 +88,8 @@ impl Form {
         }
     }
 
-    /// What a worker sees in the word. `turn` is 1 where it has answered an odd phase last, and 0 where an even one. Who
-    /// runs a phase needs bit 0 alone.
+    /// What a worker sees in the word. `turn` is 1 where it has answered an odd phase last, and 0 where an even one. A
+    /// worker that runs a phase needs bit 0 alone.
     #[inline(always)]
     pub fn sight_in(self, word: u64, turn: u64) -> Sight
         ensures { result ≡ sight_in (form_of self) turn word }
@@ -101,7 +101,7 @@ impl Form {
         }
     }
 
-    /// Whether the word shows all of so many workers in.
+    /// Whether the word shows all workers in.
     fn all_in(self, word: u64, workers: u32) -> bool
         requires { workers ≤ most_seats self }
         ensures { result ≡ (form_of self).all_in workers word }
@@ -127,7 +127,7 @@ impl Form {
         }
     }
 
-    /// What the coordinator of so many workers sees.
+    /// What the coordinator of this many workers sees.
     pub fn coord_sight_in(self, word: u64, workers: u32) -> CoordSight
         requires { workers ≤ most_seats self }
         ensures { result ≡ coord_sight_in (form_of self) workers word }

@@ -45,8 +45,8 @@ pub fn nobody_returns()
     ensures { NobodyReturns }
 {}
 
-/// Once all workers are in at the end of a phase, nothing changes before the next is released, in every interleaving: no
-/// look, and no seat that comes back.
+/// In every interleaving, once all workers are in at the end of a phase, nothing changes the state before the next is
+/// released: no look does, and no seat comes back.
 pub fn all_in_stays()
     ensures { AllInStays }
 {}
@@ -62,51 +62,51 @@ pub fn addition_keeps_reads()
     ensures { AdditionKeepsReads }
 {}
 
-/// A read does, where it finds what was added up to the present phase.
+/// So does a read that finds what was added up to the present phase.
 pub fn read_keeps_reads()
     ensures { ReadKeepsReads }
 {}
 
-/// A glance does.
+/// So does a glance.
 pub fn glance_keeps_reads()
     ensures { GlanceKeepsReads }
 {}
 
-/// A worker's seat that is given back does: its additions and reads go on to stand in the coordinator's view.
+/// So does a worker's seat that is given back: the coordinator's view then has its additions and reads.
 pub fn join_keeps_reads()
     ensures { JoinKeepsReads }
 {}
 
-/// An addition of some likes leaves the stretches of each page one behind the other: a new stretch begins where the
-/// page's count stands, and leaves it at its end.
+/// An addition of some likes leaves the stretches of each page one behind the other: a new stretch begins at the page's
+/// count, and the count is then at its end.
 pub fn addition_keeps_places()
     ensures { AdditionKeepsPlaces }
 {}
 
-/// A read does, since it finds the page's count, which is that at the start or the end of the last stretch.
+/// So does a read, since it finds the page's count: the one at the start, or the end of the last stretch.
 pub fn read_keeps_places()
     ensures { ReadKeepsPlaces }
 {}
 
-/// A glance does.
+/// So does a glance.
 pub fn glance_keeps_places()
     ensures { GlanceKeepsPlaces }
 {}
 
-/// A worker's seat that is given back does: its stretches and reads go on to stand in the coordinator's view.
+/// So does a worker's seat that is given back: the coordinator's view then has its stretches and reads.
 pub fn join_keeps_places()
     ensures { JoinKeepsPlaces }
 {}
 
-/// The counts that the coordinator read at the end of a phase are those of one moment: each has all that was added by
-/// then. So a page that is read twice there has the same count twice.
+/// The counts that the coordinator read at the end of a phase are of one moment: each has all that was added by then.
+/// So a page that is read twice there has the same count twice.
 pub fn counts_are_of_one_moment()
     ensures { CountsAreOfOneMoment }
 {}
 
-/// No two pages have the same word on a board, and none has the phase word, the mask word or that of a slot. The first
-/// two and the words of the first 64 pages have 128 bytes each to themselves, so no two of them share a cache line of 64
-/// or 128 bytes.
+/// No two pages have the same word on a board, and none has the phase word, the mask word or a slot's word. The phase
+/// word, the mask word and the words of the first 64 pages have 128 bytes each to themselves, so no two of them share a
+/// cache line of 64 or 128 bytes.
 pub fn words_stand_apart()
     ensures { WordsStandApart }
 {}
@@ -162,7 +162,7 @@ pub fn all_gone_counts()
     ensures { AllGoneCounts }
 {}
 
-/// A phase word is that of one phase alone.
+/// No two phases have the same phase word.
 pub fn word_tells_phase()
     ensures { WordTellsPhase }
 {}

@@ -13,7 +13,7 @@ pub struct Limits {
     pub likes: u64,
     /// The most pages.
     pub pages: u32,
-    /// How many pages may be hot: the first ones.
+    /// How many pages may get hot: the first ones, in a service all.
     pub hot: u32,
     /// The most workers.
     pub seats: u32,

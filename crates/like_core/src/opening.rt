@@ -9,6 +9,6 @@ pub struct Opening {
     /// Whether each page is marked as split.
     pub marks: LinkedList<bool>,
     pub limits: Limits,
-    /// By which a page has its bucket.
+    /// The factor for buckets.
     pub factor: u32,
 }

@@ -7,7 +7,7 @@ ghost use Rattle.like_core.specs.Post.{PostView, looked_at, answered, retired, a
 
 use crate::sight::Sight;
 
-/// A worker's place at a board. It runs phase 0 at first.
+/// A worker's place at a board. At first the worker runs phase 0.
 ///
 /// Each call is one step on the board's words, and none waits. A like of a sliced page is no call: it goes into a slice
 /// that the worker keeps, and the slice's number is added at the end of the phase.
@@ -29,14 +29,14 @@ pub trait Post {
         requires ending { SawEnding (view self.old).last }
         ensures { view self.new ≡ answered (view self.old) };
 
-    /// Stops at the end of a split phase, and waits for the release of the next. That the worker's slices are merged by
-    /// then is kept by the worker.
+    /// Stops at the end of a split phase, and waits for the release of the next. The worker sees to it that its slices
+    /// are merged by then.
     fn report(&mut self)
         requires runs { RunsSplit (view self.old).state }
         requires ending { SawEnding (view self.old).last }
         ensures { view self.new ≡ answered (view self.old) };
 
-    /// Ends the worker's part, in a joined phase. No call may follow.
+    /// Ends the worker's part, in a joined phase. No call may follow but `Returns::come_back`.
     fn retire(&mut self)
         requires { RunsJoined (view self.old).state }
         ensures { view self.new ≡ retired (view self.old) };
@@ -61,8 +61,8 @@ pub trait Post {
         ensures own { additions_of (view self.old) page ≤ result }
         ensures bounded { result < total_bound };
 
-    /// The mask of the hot pages of the split phase that the worker runs: bit `p` is that of page `p`. A board with slots
-    /// has no such mask.
+    /// The mask of the hot pages of the split phase that the worker runs: bit `p` is page `p`'s. A board with slots has
+    /// no such mask.
     fn hot(&mut self) -> u64
         requires split { RunsSplit (view self.old).state }
         requires plain { has_slots (view self.old).limits ≡ false }

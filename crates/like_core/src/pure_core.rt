@@ -44,7 +44,7 @@ pub struct Core {
     ghost last: { ending ≡ true → phase < limits.last_phase },
 }
 
-/// So many workers with nothing unmerged.
+/// Nothing unmerged, for each worker.
 fn empty_rows(alloc: Global, workers: u32, pages: usize) -> Result<Vec<PageNumbers>, AllocError>
     ensures { IfOk result (λ rows. rows.items ≡ replicate workers (replicate pages 0)) }
 {
@@ -113,7 +113,7 @@ impl Core {
         })
     }
 
-    /// Makes the event where it may happen now. Else it answers the first reason against it, and the core is as before.
+    /// Makes the event if it may happen now. Else it answers the first reason against it, and the core is as before.
     pub fn step(&mut self, event: Event) -> Result<Shown, NotNow>
         ensures permitted { IsOk result ↔ Permits (numbers_of self.old) event }
         ensures shown { IfOk result (IsShown (numbers_of self.old) event) }

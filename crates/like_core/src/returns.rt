@@ -8,7 +8,7 @@ use crate::post::Post;
 /// A post of a service, whose worker can come back after it retired.
 pub trait Returns: Post {
     /// Comes back, and tells the phase that the worker runs now: the present one, which isn't ending. `None`, with nothing
-    /// done, where it is ending, or where another step changed the phase word meanwhile.
+    /// done, if it is ending or another step changed the phase word meanwhile.
     fn come_back(&mut self) -> Option<u64>
         requires gone { (Self.view self.old).state ≡ Gone }
         requires lets { LetsReturn (Self.view self.old).limits }

@@ -15,6 +15,6 @@ pub enum Shown {
     Old(u64),
     /// The page's count.
     Count(u64),
-    /// The mask of hot pages of the present phase: bit `p` is that of page `p`.
+    /// The mask of hot pages of the present phase: bit `p` is page `p`'s.
     Hot(u64),
 }

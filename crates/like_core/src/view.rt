@@ -31,7 +31,7 @@ pub struct Look {
     pub glances: u64,
 }
 
-/// The mask of a phase's hot pages: bit `p` is that of page `p`.
+/// The mask of a phase's hot pages: bit `p` is page `p`'s.
 pub struct PhaseMask {
     pub phase: u64,
     pub mask: u64,

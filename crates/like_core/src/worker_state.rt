@@ -2,7 +2,7 @@ ghost use Rattle.std.specs.Prelude.{◌≡◌, ◌↔◌, IsTrue};
 ghost use Rattle.like_core.specs.WorkerState.{IsIn, looked};
 
 /// What a worker does: it runs a phase, has answered one by an acknowledgement or a report and waits for the next, or
-/// is gone for good.
+/// is gone.
 #[derive(Clone, Copy, PartialEq, Eq)]
 pub enum WorkerState {
     Runs(u64),

@@ -14,8 +14,8 @@ use Rattle.like_crew.specs.Server.{ServerGoesOn, ServerView}
 use Rattle.like_crew.specs.Servers.{AreServers}
 use Rattle.like_crew.specs.Site.{opening_of}
 
--- the same coordinator, later: of the same board, which opened in the same way, with as many turns in each phase and as
--- many likes that make a page hot
+-- the same coordinator, later: of the same board, which opened in the same way, with the same number of turns in each
+-- phase, and of likes that make a page hot
 pub record CoordinatorGoesOn (v w : CoordinatorView) : Type 0 where
   pub board : w.board ≡ v.board
   pub opening : w.seat.opening ≡ v.seat.opening
@@ -36,7 +36,7 @@ pub record IsCrew {I : Type 0} (setup : Setup) (plans : List (List Request)) (si
   pub servers : AreServers (workload_of setup plans) setup.workers (board_numbers (board_id site.board)) site.notes
       c.servers.items
 
--- among these servers a submitter has an inbox: that of its worker has it
+-- among these servers a submitter has an inbox: its worker's server has it
 abbrev pub HasInbox : List ServerView → ℕ → Type 0
 HasInbox servers submitter = (0 < length servers)
     × ((s : ServerView) → slice_get servers (worker_of (length servers) submitter) ≡ Some s

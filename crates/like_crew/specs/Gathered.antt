@@ -13,7 +13,7 @@ pub record RunsOnce (sizes : List ℕ) (entries : List Ran) : Type 0 where
   pub others : (submitter number : ℕ) → ¬ IsRequest sizes submitter number
       → length (entries_of submitter number entries) ≡ 0
 
--- the user tables of the logs are those of the workers, in order
+-- the logs have the workers' user tables, in order
 abbrev pub AreTables : ℕ → ℕ → List WorkerLog → Type 0
 AreTables users submitters logs =
     (worker : ℕ) (log : WorkerLog) → slice_get logs worker ≡ Some log

@@ -28,7 +28,7 @@ pub data ServerTurns (answer : Turn) (s t : ServerView) : Type 0 where
 abbrev pub MakesTurn : ServerView → ServerView → Type 0
 MakesTurn s t = (answer : Turn) × ServerTurns answer s t
 
--- one item more of a submitter's list is open, where not all were
+-- one item more of a submitter's list is open, if not all were
 pub record OpensOne (submitter : ℕ) (s t : ServerView) : Type 0 where
   pub inbox : InboxView
   pub here : slice_get s.inboxes (place_at s submitter) ≡ Some inbox
@@ -37,7 +37,7 @@ pub record OpensOne (submitter : ℕ) (s t : ServerView) : Type 0 where
         opened = slice_set s.opened (place_at s submitter) (min (open_now + 1) (item_count inbox.plan));
       }
 
--- all items of the list at a place are open, and of no other list more
+-- all items of the list at a place are open, and no more of any other list
 pub record OpensWhole (place : ℕ) (s t : ServerView) : Type 0 where
   pub inbox : InboxView
   pub here : slice_get s.inboxes place ≡ Some inbox

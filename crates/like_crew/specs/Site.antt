@@ -1,4 +1,4 @@
--- What a run stands on.
+-- What a run uses.
 use Rattle.std.specs.Prelude.{◌≡◌, List, [], length, map}
 use Rattle.like_requests.specs.Pages.{counts_of, marks_of}
 use Rattle.like_requests.specs.declared.request.Request.{Request}
@@ -19,7 +19,7 @@ pub record IsSite (setup : Setup) (plans : List (List Request)) (site : Site) : 
   pub sizes : site.sizes.items ≡ map length plans
   pub counts : site.counts.items ≡ (opening_of setup).counts
 
--- the seats of the coordinator and of each worker of a site's board, none of which made a step yet
+-- the seats of the coordinator and of each worker of a site's board; none has made a step yet
 pub record AreSeats (setup : Setup) (site : Site) (seats : Seats) : Type 0 where
   pub board : coord_board seats.coord ≡ board_id site.board
   pub start : (coord_view seats.coord).phase ≡ 0

@@ -79,7 +79,7 @@ impl<'a, I: Inbox> Crew<'a, I> {
         })
     }
 
-    /// Takes a crew apart whose run has ended.
+    /// Takes apart a crew whose run has ended.
     pub fn finish(self, alloc: Global) -> Result<Ended, AllocError>
         requires ended { HasEndedJoined self.coordinator }
         requires gone { AreGone self.servers.items }
@@ -95,7 +95,8 @@ impl<'a, I: Inbox> Crew<'a, I> {
 }
 
 impl<'a> Crew<'a, ListInbox> {
-    /// The crew of a run within the limits, at a new board, with the lists of the submitters. Nothing of them is open.
+    /// The crew of a run within the limits, at a new board, with the lists of the submitters. None of their requests is
+    /// open.
     pub fn new(
         alloc: Global,
         setup: &Setup,
@@ -163,7 +164,7 @@ impl<'a> Crew<'a, ListInbox> {
     }
 }
 
-// The inboxes of plans, of which nothing is open.
+// The inboxes of plans, with nothing open.
 fn list_inboxes(alloc: Global, plans: Vec<Vec<Request>>) -> Result<Vec<ListInbox>, AllocError>
     requires { All (λ plan. length plan.items ≤ max_requests) plans.items }
     ensures { IfOk result (λ inboxes. map view_of inboxes.items ≡ map untouched (lists_of plans.items)) }

@@ -8,7 +8,7 @@ use like_board::{Board, CoordSeat, WorkerSeat};
 use like_requests::{Request, Setup};
 use std::alloc::{AllocError, Global};
 
-/// What a run stands on until its report is made.
+/// What a run uses until its report is made.
 #[derive(Drop)]
 pub struct Site {
     /// How many requests each submitter has.

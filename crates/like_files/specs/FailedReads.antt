@@ -1,4 +1,4 @@
--- Which file a fault names whose read failed.
+-- Which file the fault of a failed read names.
 use Rattle.std.specs.Prelude.{◌≡◌, ◌-◌, ◌^◌, ℕ, List, min, slice_get, Option, IsSomeAnd, ⊤}
 use Rattle.like_records.specs.Reading.{ReadFailed}
 use Rattle.like_requests.specs.declared.pages_file.PagesFault.TheVariants as pages_fault
@@ -7,7 +7,7 @@ use Rattle.like_requests.specs.declared.script_file.ScriptFault.TheVariants as s
 use Rattle.like_files.specs.declared.fault.DriverFault.{DriverFault}
 use Rattle.like_files.specs.declared.fault.DriverFault.TheVariants.{Pages, Requests, Script}
 
--- a read of this submitter's request file failed; a submitter's number stops at the last of a u32
+-- a read of this submitter's request file failed; a submitter's number is at most 2 ^ 32 - 1
 abbrev pub FailedAt : {R : Type 0} → List R → ℕ → Type 0
 FailedAt requests submitter =
     (place : ℕ) × (submitter ≡ min place (2 ^ 32 - 1))

@@ -1,4 +1,4 @@
--- The statuses with which the program ends, and what the faults of the crates below stand for.
+-- The statuses with which the program ends, and what the faults of the crates below become.
 use Rattle.std.specs.Prelude.{ℕ, ⊤}
 use Rattle.like_requests.specs.declared.pages_file.PagesFault.TheVariants as pages
 use Rattle.like_requests.specs.declared.requests_file.RequestsFault.TheVariants as requests
@@ -28,24 +28,24 @@ status_of Unfinished = 5
 status_of Write = 3
 status_of Memory = 4
 
--- the fault that a fault of a replay stands for
+-- the fault that a replay's fault becomes
 abbrev pub fault_of_replay : ReplayFault → DriverFault
 fault_of_replay (replay.Settings fault) = Settings fault
 fault_of_replay replay.Unfinished = Unfinished
 fault_of_replay replay.Memory = Memory
 
--- the fault that a fault of a run on threads stands for
+-- the fault that a run's fault becomes
 abbrev pub fault_of_run : RunFault → DriverFault
 fault_of_run (run.Settings fault) = Settings fault
 fault_of_run run.Start = Start
 fault_of_run run.Memory = Memory
 
--- the fault that a fault of writing stands for
+-- the fault that a fault of writing becomes
 abbrev pub fault_of : WriteFault → DriverFault
 fault_of write.Write = Write
 fault_of write.Memory = Memory
 
--- the fault stood before anything was written
+-- the fault came before anything was written
 abbrev pub IsBeforeOutput : DriverFault → Type 0
 IsBeforeOutput Write = ⊥
 IsBeforeOutput Memory = ⊥

@@ -32,7 +32,7 @@ pub record Inputs : Type 0 where
   pub requests : List (Option (List ℕ))
   pub script : Option (Option (List ℕ))
 
--- what readers have left to give, by what each has
+-- the inputs of these readers, by what each has left to give
 abbrev pub inputs_of : {R : Type 0} → (R → Option (List ℕ)) → R → List R → Option R → Inputs
 inputs_of left pages requests script = record {
   pages = left pages;
@@ -96,7 +96,7 @@ pub record IsFirstRefused (pages : List Page) (sources : List (Option (List ℕ)
   pub before : GivesPlans pages (take place sources) plans
   pub refused : IsSomeAnd (slice_get sources place) (λ source. RefusesPlan source fault)
 
--- why the request files give no plans: the first that is refused, whose number stops at the last of a u32
+-- why the request files give no plans: the first that is refused; its number is at most 2 ^ 32 - 1
 abbrev pub RefusesPlans : List Page → List (Option (List ℕ)) → DriverFault → Type 0
 RefusesPlans pages sources (driver.Requests submitter fault) =
     (place : ℕ) × (submitter ≡ min place (2 ^ 32 - 1)) × IsFirstRefused pages sources place fault
@@ -134,8 +134,8 @@ ReadsLists file files answer =
     MatchResult answer (λ lists. GivesLists file files lists.0 (map (λ plan. plan.items) lists.1.items))
     (RefusesLists file files)
 
--- the text of a right report was written, with right places if they are asked for, else with none; what is said of it
--- is its summary if one is asked for, else its refused requests
+-- the text of a right report was written, with right places if they are asked for, else with none; its notice is its
+-- summary if one is asked for, else its refused requests
 pub record WritesReport (options : Options) (setup : Setup) (plans : List (List Request))
     (old new : Option (List ℕ)) (notice : Option Notice) : Type 0 where
   pub report : Report

@@ -39,7 +39,7 @@ module _ {R : Type 0} (Opens : List ℕ → R → Type 0) where
           IsSomeAnd (slice_get names place) (λ name.
           ((why ≡ requests_fault.Read) × Refuses (string_bytes name)) ⊎ (why ≡ requests_fault.Memory))
 
-    -- why the request files were not opened; a submitter's number stops at the last of a u32
+    -- why the request files were not opened; a submitter's number is at most 2 ^ 32 - 1
     abbrev pub IsUnopenedRequest : List (String Global) → DriverFault → Type 0
     IsUnopenedRequest names (Requests submitter why) =
         (place : ℕ) × (submitter ≡ min place (2 ^ 32 - 1)) × IsFirstUnopened names place why

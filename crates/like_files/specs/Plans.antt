@@ -17,7 +17,8 @@ pub record AddsPlan (answer : Answer) (old new : List (Vec Request Global)) : Ty
   pub given : answer ≡ Ok plan
   pub added : new ≡ old ++ plan ∷ []
 
--- the answer at this place adds no plan: it is a fault, or memory was refused; a submitter's number stops at the last of a u32
+-- the answer at this place adds no plan: it is a fault, or memory was refused; a submitter's number is at most 2 ^ 32 -
+-- 1
 pub record Stops (answer : Answer) (place : ℕ) (fault : DriverFault) : Type 0 where
   pub why : RequestsFault
   pub named : fault ≡ Requests (min place (2 ^ 32 - 1)) why

@@ -20,7 +20,7 @@ pub record GivesAll (inputs : Inputs) (pages : List Page) (plans : List (List Re
   pub lists : GivesLists inputs.pages inputs.requests pages plans
   pub script_given : GivesScript inputs.script script
 
--- the values of the files were replayed, and the report was written, of which this is said
+-- the values of the files were replayed, and the report was written, with this notice
 pub record HasReplayed (options : Options) (inputs : Inputs) (old new : Option (List ℕ))
     (notice : Option Notice) : Type 0 where
   pub pages : List Page
@@ -30,7 +30,7 @@ pub record HasReplayed (options : Options) (inputs : Inputs) (old new : Option (
   pub fits : replay.CanReplayScript (setup_of options pages) plans script
   pub reported : WritesReport options (setup_of options pages) plans old new notice
 
--- these values were replayed, and the report was written, of which this is said
+-- these values were replayed, and the report was written, with this notice
 pub record HasReplayedLists (options : Options) (setup : Setup) (plans : List (List Request)) (script : List Turned)
     (old new : Option (List ℕ)) (notice : Option Notice) : Type 0 where
   pub fits : replay.CanReplayScript setup plans script
@@ -43,8 +43,8 @@ pub record HasReplayedSome (options : Options) (old new : Option (List ℕ)) (no
   pub scripted : is_some inputs.script ≡ is_some options.script
   pub replayed : HasReplayed options inputs old new notice
 
--- why a replay of these values ended: a fault of the settings, the replay or the output; want of memory is that of the replay
--- or of its report
+-- why a replay of these values ended: a fault of the settings, the replay or the output; memory ran out in the replay
+-- or in its report
 abbrev pub IsReplayListsFault : Setup → List (List Request) → List Turned → DriverFault → Type 0
 IsReplayListsFault setup plans script (Settings fault) = replay.IsReplayFault setup plans script (why.Settings fault)
 IsReplayListsFault setup plans script Unfinished = replay.IsReplayFault setup plans script why.Unfinished
@@ -59,7 +59,7 @@ pub record ScriptRefused (inputs : Inputs) (fault : ScriptFault) : Type 0 where
   pub lists : GivesLists inputs.pages inputs.requests pages plans
   pub refused : RefusesScript inputs.script fault
 
--- the files give values of which a replay was refused with this fault
+-- the files give values, and their replay was refused with this fault
 pub record ReplayRefused (options : Options) (inputs : Inputs) (fault : ReplayFault) : Type 0 where
   pub pages : List Page
   pub plans : List (List Request)
@@ -76,7 +76,7 @@ pub record CanReplay (options : Options) (inputs : Inputs) : Type 0 where
   pub fits : replay.CanReplayScript (setup_of options pages) plans script
 
 -- why a replay ended: the first fault of the pages file, the request files, the script file, the settings, the replay and the
--- output; want of memory is that of the replay or of its report
+-- output; memory ran out in the replay or in its report
 abbrev pub IsReplayFilesFault : Options → Inputs → DriverFault → Type 0
 IsReplayFilesFault options inputs (Pages fault) = RefusesLists inputs.pages inputs.requests (Pages fault)
 IsReplayFilesFault options inputs (Requests submitter fault) =

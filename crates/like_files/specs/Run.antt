@@ -13,7 +13,7 @@ use Rattle.like_command.specs.declared.options.Options.{Options}
 use Rattle.like_files.specs.declared.fault.DriverFault.{DriverFault}
 use Rattle.like_files.specs.declared.fault.DriverFault.TheVariants.{Pages, Requests, Script, Settings, Start, Unfinished, Write, Memory}
 
--- the run that the files ask for was made, and its report was written, of which this is said
+-- the run that the files ask for was made, and its report was written, with this notice
 pub record HasRun (options : Options) (inputs : Inputs) (old new : Option (List ℕ))
     (notice : Option Notice) : Type 0 where
   pub pages : List Page
@@ -22,7 +22,7 @@ pub record HasRun (options : Options) (inputs : Inputs) (old new : Option (List 
   pub within : IsWithinLimits (setup_of options pages) plans
   pub reported : WritesReport options (setup_of options pages) plans old new notice
 
--- the run of these values was made, and its report was written, of which this is said
+-- the run of these values was made, and its report was written, with this notice
 pub record HasRunLists (options : Options) (setup : Setup) (plans : List (List Request))
     (old new : Option (List ℕ)) (notice : Option Notice) : Type 0 where
   pub within : IsWithinLimits setup plans
@@ -34,7 +34,7 @@ pub record HasRunSome (options : Options) (old new : Option (List ℕ)) (notice 
   pub all_requests : length inputs.requests ≡ length options.requests.items
   pub run : HasRun options inputs old new notice
 
--- why a run of these values ended: a fault of the settings, the run or the output; want of memory is that of the run or of its
+-- why a run of these values ended: a fault of the settings, the run or the output; memory ran out in the run or in its
 -- report
 abbrev pub IsRunListsFault : Setup → List (List Request) → DriverFault → Type 0
 IsRunListsFault setup plans (Settings fault) = run.IsRunFault setup plans (why.Settings fault)
@@ -43,7 +43,7 @@ IsRunListsFault setup plans Write = IsWithinLimits setup plans
 IsRunListsFault setup plans Memory = IsWithinLimits setup plans
 IsRunListsFault setup plans fault = ⊥
 
--- the files give values of which a run was refused with this fault
+-- the files give values, and their run was refused with this fault
 pub record RunRefused (options : Options) (inputs : Inputs) (fault : RunFault) : Type 0 where
   pub pages : List Page
   pub plans : List (List Request)
@@ -57,8 +57,8 @@ pub record CanRun (options : Options) (inputs : Inputs) : Type 0 where
   pub given : GivesLists inputs.pages inputs.requests pages plans
   pub within : IsWithinLimits (setup_of options pages) plans
 
--- why a run ended: the first fault of the pages file, the request files, the settings, the run and the output; want of memory
--- is that of the run or of its report
+-- why a run ended: the first fault of the pages file, the request files, the settings, the run and the output; memory
+-- ran out in the run or in its report
 abbrev pub IsRunFilesFault : Options → Inputs → DriverFault → Type 0
 IsRunFilesFault options inputs (Pages fault) = RefusesLists inputs.pages inputs.requests (Pages fault)
 IsRunFilesFault options inputs (Requests submitter fault) =

@@ -1,15 +1,15 @@
--- The name that stands for standard input, and options that give it to more than one file.
+-- The name that means standard input, and options that give it to more than one file.
 use Rattle.std.specs.Prelude.{ℕ, Bool, false, if◌then◌else◌, List, [], ◌∷◌, ◌++◌, map, Option, None, Some, String, codes, string_bytes}
 use Rattle.std.specs.declared.alloc.Global.{Global}
 use Rattle.std.specs.List.{list_any}
 use Rattle.std.specs.Str.{bytes_eq}
 use Rattle.like_command.specs.declared.options.Options.{Options}
 
--- a name stands for standard input
+-- a name means standard input
 abbrev pub is_input : List ℕ → Bool
 is_input name = bytes_eq name (codes "-")
 
--- two of the names or more stand for standard input
+-- two of the names or more mean standard input
 abbrev pub names_twice : List (List ℕ) → Bool
 names_twice [] = false
 names_twice (name ∷ rest) = if is_input name then list_any is_input rest else names_twice rest

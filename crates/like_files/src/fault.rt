@@ -93,7 +93,7 @@ impl From<WriteFault> for DriverFault {
 }
 
 impl DriverFault {
-    /// The fault of the request file at a place. A submitter's number stops at the last of a u32.
+    /// The fault of the request file at a place. A submitter's number is at most 2^32 - 1.
     pub(crate) fn of_requests(place: usize, fault: RequestsFault) -> DriverFault
         ensures { result ≡ driver.Requests (min place (2 ^ 32 - 1)) fault }
     {
@@ -103,7 +103,7 @@ impl DriverFault {
         }
     }
 
-    /// The status with which the program ends.
+    /// The exit status.
     pub fn status(&self) -> u8
         ensures { result ≡ status_of self.now }
     {

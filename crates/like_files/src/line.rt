@@ -17,7 +17,7 @@ const ROOM: usize = 128;
 
 impl DriverFault {
     /// Writes the fault's line, with the name of the file at fault from the options: an empty name where they have none.
-    /// `false` says that a write failed, and nothing of how much was written.
+    /// `false`: a write failed, and a part may have been written.
     pub fn line<W: Write>(&self, options: &Options, out: &mut W) -> bool
         ensures { IsTrue result
             → ShowsLine options.now self.now (W.contents out.old) (W.contents out.new) }

@@ -16,8 +16,8 @@ pub struct Opened<R> {
     pub script: Option<R>,
 }
 
-/// Opens the pages file, the request files in their order and the script file. The first that can't be opened ends it,
-/// with the fault of a read of it that failed.
+/// Opens the pages file, the request files in their order and the script file. It stops at the first that can't be
+/// opened, with the `Read` fault of that file.
 pub fn open_files<O: Opener>(
     opener: &O,
     alloc: Global,
@@ -44,7 +44,7 @@ pub fn open_files<O: Opener>(
     })
 }
 
-// Opens the request files in their order. Where memory for one more is refused, that is its `Memory`.
+// Opens the request files in their order. If there is no memory for one more, the fault is its `Memory`.
 fn open_requests<O: Opener>(
     opener: &O,
     alloc: Global,

@@ -22,8 +22,8 @@ pub trait Opener {
         ensures { MatchOption result (refuses self.now name.now) (opens self.now name.now) };
 }
 
-/// Opens the files of the system, and standard input under the name `-`. The kit says nothing of what an opened file has,
-/// so neither do the facts of this opener.
+/// Opens the files of the system, and standard input under the name `-`. The kit says nothing about an opened file's
+/// bytes, so this opener states no facts.
 #[derive(Drop)]
 pub struct Disk<'a, F: Files + Input> {
     pub files: &'a F,

@@ -25,7 +25,7 @@ pub fn read_lists<R: Read + Drop>(
     Ok((pages, plans))
 }
 
-/// The same, where a thread may be started for each request file.
+/// The same, with the request files read in parallel.
 pub fn read_lists_at_once<T: Threads + Sync, R: Read + Drop + Send>(
     rt: &T,
     alloc: Global,
@@ -40,8 +40,8 @@ pub fn read_lists_at_once<T: Threads + Sync, R: Read + Drop + Send>(
     Ok((pages, plans))
 }
 
-// The plans of the submitters, each read from its file. Where memory for one more plan is refused, that is its file's
-// `Memory`.
+// The plans of the submitters, each read from its file. If there is no memory for one more plan, the fault is its
+// file's `Memory`.
 fn read_plans<R: Read + Drop>(
     alloc: Global,
     pages: &Pages,
@@ -57,9 +57,9 @@ fn read_plans<R: Read + Drop>(
     Ok(plans)
 }
 
-// The same, where a thread may be started for each file, which reads it beside the others: the fault is still that of
-// the first file at fault. A thread that can't be started is no fault, since the caller's own thread does its work.
-// More files than a run takes are read by the caller's thread alone.
+// The same in parallel, with a thread for each file. The fault is still that of the first file at fault. A thread that
+// can't be started is no fault: the caller's thread does its work. More files than a run takes are read by the caller's
+// thread alone.
 fn read_plans_at_once<T: Threads + Sync, R: Read + Drop + Send>(
     rt: &T,
     alloc: Global,
@@ -100,7 +100,7 @@ fn gather(
     Ok(plans)
 }
 
-// Adds the plan that the next file gave. Where memory for it is refused, that is its file's `Memory`.
+// Adds the plan that the next file gave. If there is no memory for it, the fault is its file's `Memory`.
 fn add_plan(
     plans: &mut Vec<Vec<Request>>,
     answer: Result<Vec<Request>, RequestsFault>,

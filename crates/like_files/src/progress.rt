@@ -11,7 +11,7 @@ pub trait Progress {
     fn done(&mut self, part: Part);
 }
 
-/// Hears, and does nothing.
+/// Does nothing.
 #[derive(Drop)]
 pub struct NoProgress;
 

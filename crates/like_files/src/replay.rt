@@ -19,9 +19,9 @@ use like_run::{ScriptFault, Turned, read_script, replay_noting};
 use std::alloc::Global;
 use std::io::{Read, Write};
 
-/// Reads the pages file, the request files in their order and the script file, replays the run that they ask for, and
-/// writes its report, or its totals alone, with its places where the options ask for them. Without a script, no turn
-/// comes before the rounds. After `Write` and `Memory` nothing is said of how much was written.
+/// Reads the pages file, the request files in their order and the script file; replays the run that they ask for; and
+/// writes its report. The options say whether that has the totals alone, and whether it has places. Without a script,
+/// no turn comes before the rounds. After `Write` and `Memory` a part of the report may have been written.
 pub fn replay_files<R: Read + Drop, W: Write>(
     alloc: Global,
     options: &Options,
@@ -52,7 +52,7 @@ pub fn replay_files<R: Read + Drop, W: Write>(
     Ok(())
 }
 
-/// The same, with what is said of the report (`Notice`), while `progress` hears of each part.
+/// The same, with the notice on the report, while `progress` hears of each part.
 pub fn replay_files_with_notice<R: Read + Drop, W: Write, P: Progress>(
     alloc: Global,
     options: &Options,
@@ -101,7 +101,7 @@ fn replay_lists<W: Write, P: Progress>(
     Ok(Notice::of(&report, options.summary))
 }
 
-// The entries of the script, and none where there is no script.
+// The entries of the script: none if there is no script.
 fn read_turns<R: Read + Drop>(alloc: Global, script: Option<R>) -> Result<Vec<Turned>, ScriptFault>
     ensures few { IfOk result (λ entries. length entries.items ≤ max_entries) }
     ensures given { MatchResult result

@@ -45,7 +45,7 @@ pub fn run_files<T: Threads + Wait + Sync, R: Read + Drop + Send, W: Write>(
     Ok(())
 }
 
-/// The same, with what is said of the report (`Notice`), while `progress` hears of each part.
+/// The same, with the notice on the report, while `progress` hears of each part.
 pub fn run_files_with_notice<
     T: Threads + Wait + Sync,
     R: Read + Drop + Send,

@@ -1,11 +1,11 @@
-//! The name that stands for standard input.
+//! The name that means standard input.
 ghost use Rattle.std.specs.Prelude.{◌≡◌, codes};
 ghost use Rattle.std.specs.Str.{bytes_eq};
 ghost use Rattle.like_files.specs.StandardInput.{is_input, names_of, names_twice};
 
 use like_command::Options;
 
-/// Whether a name stands for standard input.
+/// Whether a name means standard input.
 pub(crate) fn is_input(name: &str) -> bool
     ensures { result ≡ is_input name.now }
 {

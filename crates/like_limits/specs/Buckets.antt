@@ -9,6 +9,6 @@ buckets = 1024
 abbrev pub bucket : ℕ → ℕ → ℕ
 bucket factor page = page * factor % 2 ^ 32 / 2 ^ 22
 
--- the factor of a run, by which page i has bucket i
+-- the factor of a run: with it, page i has bucket i
 abbrev pub run_factor : ℕ
 run_factor = 2 ^ 22

@@ -13,7 +13,7 @@ max_submitters = 64
 abbrev pub max_requests : ℕ
 max_requests = 1000000
 
--- the most likes that a worker of a run adds: those of 64 submitters
+-- the most likes that a worker of a run adds: all requests of 64 submitters
 abbrev pub max_likes : ℕ
 max_likes = 64000000
 
@@ -41,7 +41,7 @@ max_count = 10 ^ 18
 abbrev pub total_bound : ℕ
 total_bound = 2 ^ 63
 
--- how many pages can be hot at a time; in a run these are the first ones
+-- how many pages can be hot at a time; in a run only the first 64 can be
 abbrev pub hot_pages : ℕ
 hot_pages = 64
 

@@ -45,21 +45,21 @@ IfShown P Q now (glance user page (glanced.Seen shown)) = Q (shown_now now page 
 IfShown P Q now (take_found (Some f)) = P (found_count f)
 IfShown P Q now told = Unit {0}
 
--- the count is that of a read of the seat's, of this page in this phase, which has the seat's own likes before it
+-- the seat read this count of this page in this phase, after it had added its own likes
 abbrev pub IsRead : LiveView → Shown → Type 0
 IsRead v s =
     (after : ℕ) × Contains v.seat.post.reads (page_read s.phase s.page s.count after)
     × (s.own ≤ added_in s.phase s.page (take after v.seat.post.additions))
 
--- n likes of a page that the seat had in its slice in a phase, after so many additions: it has added them in that
+-- n likes of a page that the seat had in its slice in a phase, after this many additions: it has added them in that
 -- phase, or it runs that phase and has them in its slice still
 abbrev pub AreKept : LiveView → (phase page after n : ℕ) → Type 0
 AreKept v phase page after n =
     (n ≤ added_in phase page (drop after v.seat.post.additions))
     ⊎ ((v.seat.post.state ≡ Runs phase) × (n ≤ slice_index v.seat.slice page))
 
--- the count is that of a glance of the seat's, of this page in this phase, plus the likes of the page that the seat had
--- in its slice then, which are kept; the seat's own likes are added before the glance or in that slice
+-- the seat glanced at this page in this phase. The count is the board's at that glance plus the likes of the page in
+-- the seat's slice, which are kept. The seat's own likes were added before the glance, or are in that slice
 pub record IsGlanced (now v : LiveView) (s : Shown) : Type 0 where
   pub after : ℕ
   pub board : ℕ
@@ -70,8 +70,8 @@ pub record IsGlanced (now v : LiveView) (s : Shown) : Type 0 where
   pub own : s.own ≤ added_in s.phase s.page (take after v.seat.post.additions) + sliced
   pub kept : AreKept v s.phase s.page after sliced
 
--- the count that a glance was told: of a page that is not split then, it is that of a read; of one that is, that of a
--- glance and the seat's own likes
+-- the count that a glance was told. If the page isn't split then, the seat read it; otherwise the seat glanced at the
+-- page, and its own likes are added
 pub record IsReadOrGlanced (now v : LiveView) (s : Shown) : Type 0 where
   pub plain : slices now.seat.post s.page ≡ false → IsRead v s
   pub split : slices now.seat.post s.page ≡ true → IsGlanced now v s

@@ -32,7 +32,7 @@ IsPutOff v (call.Look user page tag) after =
     LookCase v user page tag looked.Between after ⊎ LookCase v user page tag looked.NoRoom after
 IsPutOff v (call.Glance user page) after = GlanceCase v user page glanced.Between after
 
--- the first calls of a batch, so many, are made and have these answers
+-- the first `done` calls of a batch are made, and have these answers
 pub record HasRun (v : LiveView) (calls : List Call) (answers : List Answer) (done : ℕ) (after : LiveView)
     : Type 0 where
   pub told : List Told

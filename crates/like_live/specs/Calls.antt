@@ -28,7 +28,7 @@ use Rattle.like_live.specs.declared.asked.Found.{Found}
 use Rattle.like_live.specs.LiveView.{LiveView, room_of, tally, waiting, with_seat}
 use Rattle.like_live.specs.Moves.{FindsAll, Moves, MovesBy, Works}
 
--- a page by its number, if there are so many pages
+-- a page by its number, where there are this many pages
 abbrev pub page_ref : ℕ → ℕ → PageRef
 page_ref pages page = if nat_lt page pages then Known page else Unknown
 
@@ -92,8 +92,8 @@ pub data LookCase (v : LiveView) (user page tag : ℕ) (answer : LookAnswer) (af
   runs : (now : LiveView) → Moves v turn.Runs now → LooksNow now user page tag answer after
       → LookCase v user page tag answer after
 
--- what a glance does at a seat that runs a phase. A page that is not split is read. Of a split page, the count is that
--- on the board plus the seat's own slice
+-- what a glance does at a seat that runs a phase. A page that is not split is read. Of a split page, the count is the
+-- board's plus the seat's own slice
 pub data GlancesNow (v : LiveView) (user page : ℕ) (answer : GlanceAnswer) (after : LiveView) : Type 0 where
   refused : verdict_at v.seat user page ≢ Accepted
       → answer ≡ glance.Refused (verdict_at v.seat user page) → after ≡ v → GlancesNow v user page answer after

@@ -42,7 +42,7 @@ asks_end No v = false
 asks_end IfItServes v = (v.lead.seat.phase % 2 == 1) || would_split v.splits
 asks_end Always v = true
 
--- the driver gives slots to the pages that are proposed, and publishes them
+-- the driver chooses slots for the proposed pages, and publishes them
 pub record PublishesSlots (v after : DriverView) : Type 0 where
   pub chooses : Chooses v.splits.slots v.splits.proposed after.splits.slots
   pub lawful : AreSlots after.splits.slots
@@ -68,7 +68,7 @@ pub record IsDue (v : DriverView) (end : End) : Type 0 where
 abbrev pub ProposesPages : DriverView → DriverView → Type 0
 ProposesPages v after = after ≡ record v { splits = record v.splits { proposed = after.splits.proposed } }
 
--- the driver asks its choice before it ends a split phase, or a joined one in which nothing is proposed yet
+-- the driver asks its choice before it ends a split phase, or a joined one if nothing would be split in the next
 abbrev pub MustPropose : DriverView → Type 0
 MustPropose v = IsSplit v.lead.seat.phase ⊎ (would_split v.splits ≡ false)
 
@@ -109,6 +109,7 @@ pub data DriverTurns (v : DriverView) (end : End) (answer : DriverAnswer) (after
   over : v.is_over ≡ true → answer ≡ Ended → after ≡ v → DriverTurns v end answer after
 
 -- the counts of all pages can be read as those of one moment: a joined phase is ending, and each seat has answered it
+-- or is gone
 pub record IsBoundary (v : LeadView) (sight : CoordSight) : Type 0 where
   pub joined : IsJoined v.seat.phase
   pub ending : sight.ending ≡ true

@@ -32,7 +32,7 @@ users_of v = v.seat.last.room
 abbrev pub user_at : LiveView → ℕ → ℕ
 user_at v place = place * v.seat.last.share.workers + v.seat.last.share.worker
 
--- a row has the last likes of a seat's users, from a place on: of each the page, or the number that stands for none
+-- a row has the last likes of a seat's users, from a place on: of each the page, or `no_page`
 pub record AreLastsAt (v : LiveView) (from : ℕ) (row : List ℕ) : Type 0 where
   pub users : (i : ℕ) → i < length row → owns v.seat.last.share (user_at v (from + i)) ≡ true
   pub lasts : (i : ℕ) → i < length row

@@ -36,14 +36,15 @@ asking o = record {
   hot = o.hot;
 }
 
--- these can be marked, of so many pages: a few, and by some factor no two share a bucket, so no two are alike
+-- these can be marked where there are this many pages: they are few, they are pages, and with some factor no two share
+-- a bucket, so no two are alike
 pub record AreMarks (pages : ℕ) (marks : List ℕ) : Type 0 where
   pub few : length marks ≤ max_marks
   pub there : All (λ page. page < pages) marks
   pub apart : (factor : ℕ) × IsFirstApart marks factor
 
--- these can be the last likes of so many users: there are none, or one for each user, which is one of so many pages, or
--- the number that stands for none
+-- these can be the last likes of this many users at this many pages: there are none, or one for each user, a page or
+-- `no_page`
 pub record AreLasts (pages users : ℕ) (lasts : List ℕ) : Type 0 where
   pub len : IsForUsers users lasts
   pub there : All (λ page. (page ≡ no_page) ⊎ (page < pages)) lasts

@@ -14,8 +14,8 @@ use Rattle.like_live.specs.LiveView.{IsNewLive, IsSameSeat, LiveView, tally}
 use Rattle.like_live.specs.Driver.{DriverView, IsSameDriver, new_driver}
 use Rattle.like_live.specs.Opening.{IsWithinLimits, board_opening}
 
--- a seat of an opened service, by its number: it is new, at this board; its users are those that are this number modulo
--- the number of seats; and their last likes are those of the opening
+-- a seat of an opened service, by its number: it is new, at this board; its users are those with this number modulo the
+-- number of seats; and they have the opening's last likes
 pub record IsOpenedSeat (o : Opening) (factor : ℕ) (board : BoardId) (number : ℕ) (s : LiveView) : Type 0 where
   pub here : s.seat.post.board ≡ board_numbers board
   pub worker : s.seat.post.worker ≡ number

@@ -12,47 +12,48 @@ pub enum TurnAnswer {
     Gone,
 }
 
-/// What a like is told.
+/// What a like is told. Unless it is `Liked`, nothing of the like was done. The call may have done phase work.
 #[derive(Clone, Copy, Debug, PartialEq, Eq)]
 pub enum LikeAnswer {
     /// It is counted.
     Liked,
-    /// The seat is between two phases. Nothing was done: call again.
+    /// The seat is between two phases: call again.
     Between,
-    /// It is of an unknown user, of another seat's user, or of an unknown page. Nothing was done.
+    /// The user is unknown or another seat's, or the page is unknown.
     Refused(Verdict),
-    /// The seat has counted as many likes as a seat may. Nothing was done.
+    /// The seat has counted as many likes as a seat may.
     Full,
-    /// The seat has retired. Nothing was done.
+    /// The seat has retired.
     Gone,
 }
 
-/// What a look is told.
+/// What a look is told. Unless it is `Seen` or `Waits`, nothing of the look was done. The call may have done phase
+/// work.
 #[derive(Clone, Copy, Debug, PartialEq, Eq)]
 pub enum LookAnswer {
     /// The user's last like, and the page's count.
     Seen(Seen),
     /// The page is split in this phase. The look is found in the next joined phase, with its tag.
     Waits,
-    /// The look would wait, and there is no room. Nothing was done: take found looks, or call again.
+    /// The look would wait, and there is no room: take found looks, or call again in the next phase.
     NoRoom,
-    /// The seat is between two phases. Nothing was done: call again.
+    /// The seat is between two phases: call again.
     Between,
-    /// As of a like. Nothing was done.
+    /// As for a like.
     Refused(Verdict),
-    /// The seat has retired. Nothing was done.
+    /// The seat has retired.
     Gone,
 }
 
-/// What a glance is told.
+/// What a glance is told. The call may have done phase work in each case.
 #[derive(Clone, Copy, Debug, PartialEq, Eq)]
 pub enum GlanceAnswer {
     /// The user's last like, and the page's count with the seat's own likes.
     Seen(Seen),
-    /// The seat is between two phases. Nothing was done: call again.
+    /// The seat is between two phases: call again.
     Between,
-    /// As of a like. Nothing was done.
+    /// As for a like.
     Refused(Verdict),
-    /// The seat has retired. Nothing was done.
+    /// The seat has retired.
     Gone,
 }

@@ -1,7 +1,7 @@
 /// A look that waits for the next joined phase.
 #[derive(Clone, Copy, Debug, PartialEq, Eq)]
 pub struct Asked {
-    /// A number of the host's, by which it knows the look again.
+    /// A number that the host chose, to recognize the look.
     pub tag: u64,
     pub user: u32,
     pub page: u32,

@@ -28,11 +28,11 @@ use std::alloc::{AllocError, Global};
 use std::marker::Model;
 use std::sync::Arc;
 
-/// What leads the phases of a service: it ends a phase once the host says so, and releases the next once every seat has
-/// answered or is gone.
+/// The coordinator of a service's phases. It ends a phase once the host says so, and releases the next one once every
+/// seat has answered or is gone.
 ///
-/// It owns its board with the seats. Its choice proposes the pages that get slots. No call of it waits or takes memory,
-/// but for what the choice does.
+/// It shares its board with the seats. Its choice proposes the pages that get slots. Its calls never wait, and take no
+/// memory unless the choice does.
 #[derive(Drop)]
 pub struct Driver<C: Choice> {
     board: Arc<Board, Global>,
@@ -63,7 +63,7 @@ impl<C: Choice> Model for Driver<C> {
 }
 
 impl<C: Choice + Drop> Driver<C> {
-    /// The driver of a new board, by this factor. All its room is made here.
+    /// The driver of a new board, with this factor for buckets. All its memory is taken here.
     pub(crate) fn new(
         alloc: Global,
         opening: &Opening,
@@ -121,8 +121,8 @@ impl<C: Choice> Driver<C> {
     /// has answered it or is gone. A phase that runs is ended as `end` says, and a split phase also if the looks
     /// that wait at a seat take half of its room. A joined phase that all seats have left goes on, and so does a
     /// service's last phase. Once last counts were written it does nothing.
-    ///
-    /// Before it ends a phase it asks its choice for pages, and before it releases a split phase it gives these slots.
+    /// Before it ends a split phase it asks its choice for pages, and in a joined one as long as nothing would be split
+    /// in the next. Before it releases a split phase it gives slots to these pages.
     pub fn turn(&mut self, end: End) -> DriverAnswer
         ensures case { DriverTurns self.old end result self.new }
         ensures keeps { IsService self.new }
@@ -144,9 +144,9 @@ impl<C: Choice> Driver<C> {
         answer
     }
 
-    /// Writes the counts of the pages from one on, if a joined phase is ending and every seat has answered it or is
+    /// Writes the counts of the pages from `from` on, if a joined phase is ending and every seat has answered it or is
     /// gone. They are the counts of one moment, the boundary of that phase and the split one that comes next, and the
-    /// answer is the phase that ends there. Otherwise it writes nothing, and answers none. Until the driver releases
+    /// answer is the phase that ends there. Otherwise it writes nothing, and answers `None`. Until the driver releases
     /// the next phase, further ranges are of the same moment.
     pub fn snapshot(&mut self, from: u32, counts: &mut [u64]) -> Option<u64>
         requires places { from + length counts.old ≤ length self.old.lead.seat.opening.counts }
@@ -160,9 +160,9 @@ impl<C: Choice> Driver<C> {
         read_boundary(&mut self.lead, &self.board, from, counts)
     }
 
-    /// Writes the last counts of the pages from one on, once all seats have left a joined phase, and says whether it
-    /// did. It ends that phase, which is never released: the service is over. It can be called again, for any pages,
-    /// and each page then has the same count. It takes no seats, so it serves a host that can't show whose they are.
+    /// Writes the last counts of the pages from `from` on, once all seats have left a joined phase, and says whether it
+    /// did. It announces the end of that phase if nobody has. Once it wrote counts the service is over: no phase is
+    /// released. Later calls write the same counts. It takes no seats, since C can't show whose they are.
     pub fn last_counts(&mut self, from: u32, counts: &mut [u64]) -> bool
         requires places { from + length counts.old ≤ length self.old.lead.seat.opening.counts }
         ensures case { TakesLast self.old from counts.old result self.new counts.new }
@@ -188,7 +188,7 @@ impl<C: Choice> Driver<C> {
         self.phase_now.share()
     }
 
-    /// Whether there are so many pages from one on.
+    /// Whether there are `many` pages from `from` on.
     pub fn has_pages(&self, from: u32, many: usize) -> bool
         ensures { IsTrue result ↔ (from + many ≤ length self.now.lead.seat.opening.counts) }
     {

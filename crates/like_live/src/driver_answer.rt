@@ -3,12 +3,12 @@
 pub enum DriverAnswer {
     /// It announced the end of the phase.
     Announced,
-    /// The phase is ending, and some seat has neither answered it nor gone.
+    /// The phase is ending, and some seat neither has answered it nor is gone.
     Waiting,
     /// It released the next phase.
     Released,
     /// The phase goes on.
     Running,
-    /// All seats are gone.
+    /// All seats are gone and no phase is ending, or last counts were written.
     Ended,
 }

@@ -2,8 +2,8 @@ use std::alloc::{AllocError, Global};
 use std::sync::Arc;
 use std::sync::atomic::{AtomicU64, Ordering};
 
-/// A wish that the phase ends soon, which a service's seats and its driver share. A seat asks when the looks that wait
-/// there take half of its room. Found looks don't count: the end of a phase gives their room to nobody.
+/// A request to end the phase soon, which a service's seats share with its driver. A seat asks when the looks that wait
+/// there take half of its room. Found looks don't count, since the end of a phase frees none of their room.
 ///
 /// It only makes the driver end a split phase earlier.
 #[derive(Drop)]
@@ -12,7 +12,7 @@ pub(crate) struct Hint {
 }
 
 impl Hint {
-    /// One that nobody has asked for.
+    /// A new one: nobody has asked.
     pub fn new(alloc: Global) -> Result<Hint, AllocError> {
         Ok(Hint {
             asked: Arc::new(alloc, AtomicU64::new(0))?,
@@ -36,7 +36,7 @@ impl Hint {
         self.asked.load(Ordering::SeqCst) != 0
     }
 
-    /// Forgets who asked.
+    /// Forgets that someone asked.
     pub fn clear(&self) {
         self.asked.store(0, Ordering::SeqCst);
     }

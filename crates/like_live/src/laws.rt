@@ -30,7 +30,7 @@ pub fn slices_are_slots()
     ensures { SlicesAreSlots }
 {}
 
-/// A marked page is in a slot in use for ever.
+/// A marked page is always in a slot in use.
 pub fn marked_keep_slots()
     ensures { MarkedKeepSlots }
 {}

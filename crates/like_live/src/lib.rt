@@ -1,7 +1,7 @@
 //! The live core: a service that a host embeds. Its threads hold seats and call them, and a driver ends and releases
 //! phases, for ever and in bounded memory.
 //!
-//! After it is opened no call takes memory, and none waits, sleeps or locks.
+//! Once a service is open, no call takes memory, waits, sleeps or locks.
 #![tactic(auto)]
 
 mod answer;

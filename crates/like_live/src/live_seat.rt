@@ -56,8 +56,8 @@ impl<P: Post> Model for LiveSeat<P> {
 }
 
 impl<P: Post + Drop> LiveSeat<P> {
-    /// A new seat of a board with so many pages, none of them marked, whose buckets are by this factor. It has room for so
-    /// many looks that wait or were found, and these last likes. All memory is taken here, and none by its calls.
+    /// A new seat of a board with this many pages, none of them marked, and this factor for buckets. It has room for
+    /// `room` looks, waiting and found ones together, and these last likes. All its memory is taken here.
     pub(crate) fn new(
         alloc: Global,
         post: P,
@@ -127,7 +127,7 @@ impl<P: SlotPost> LiveSeat<P> {
         }
     }
 
-    /// Looks for a user at a page. A look that waits is found later, with its tag.
+    /// Looks at a page for a user. A look that waits is found later, with its tag.
     #[inline(always)]
     pub fn look(&mut self, user: u32, page: u32, tag: u64) -> LookAnswer
         ensures case { LookCase self.old user page tag result self.new }
@@ -143,7 +143,7 @@ impl<P: SlotPost> LiveSeat<P> {
         }
     }
 
-    /// Looks for a user at a page, and never waits. If the page is split now, the count may lack other seats' likes of
+    /// Looks at a page for a user, and never waits. If the page is split now, the count may lack other seats' likes of
     /// this phase.
     #[inline(always)]
     pub fn glance(&mut self, user: u32, page: u32) -> GlanceAnswer
@@ -179,7 +179,7 @@ impl<P: SlotPost> LiveSeat<P> {
         work_or_retire(&mut self.seat, &mut self.found, sight.ending)
     }
 
-    /// Gives and takes out the first of the found looks, if there is one. It makes no look at the phase word.
+    /// Takes out the first found look, if there is one. It makes no look at the phase word.
     pub fn take_found(&mut self) -> Option<Found>
         ensures takes { TakesFound self.old result self.new }
         ensures next { IfSome result RanNext }
@@ -212,7 +212,7 @@ impl<P: SlotPost> LiveSeat<P> {
         self.seat.users()
     }
 
-    /// Leaves the post, whatever is left to do. A seat that is gone leaves nothing in its slice.
+    /// Gives its post back, whatever is left to do. A seat that is gone leaves nothing in its slice.
     pub fn leave(self) -> P
         ensures post { P.view result ≡ self.seat.post }
         ensures live { IsLive self }
@@ -223,9 +223,9 @@ impl<P: SlotPost> LiveSeat<P> {
 }
 
 impl<P: SlotPost + Returns> LiveSeat<P> {
-    /// Comes back, of a seat that is gone, into the present phase, unless that is ending: it runs it, of a split one with
-    /// its slots read. `Between`, with nothing done, where it is ending, or where others changed the phase word at each of
-    /// 64 tries. Of any other seat this is a turn.
+    /// Brings a seat that is gone back into the present phase, which it then runs, a split one with its slots read. If
+    /// the phase is ending, or if others changed the phase word at each of 64 tries, nothing is done and the answer is
+    /// `Between`. Of any other seat this is a turn.
     pub fn come_back(&mut self) -> TurnAnswer
         ensures case { ComeBackCase self.old result self.new }
         ensures keeps { IsLive self.new }

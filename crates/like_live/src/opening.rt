@@ -33,12 +33,13 @@ pub struct Opening {
     pub lasts: Vec<u32>,
     /// How many looks a seat has room for, those that wait and those that were found together: 1 to 4,096.
     pub room: u32,
-    /// From about how many likes of late on a page is hot, if any gets hot: 1 to 1,000,000. 1 to 511 act as 512.
+    /// About how many likes between two choices make a page hot: 1 to 1,000,000. Earlier likes count too, but less. 1
+    /// to 511 act as 512. With none, no page gets hot.
     pub hot: Option<u32>,
 }
 
 impl Opening {
-    /// Tests every number, in the order of `OpenError`, whose `Memory` it never answers.
+    /// Tests every number, in the order of `OpenError`. It never answers `Memory`.
     pub fn check(&self) -> Result<(), OpenError>
         ensures { MatchResult result (λ _. IsWithinLimits self.now) (IsFirstWrong (asking self.now)) }
     {
@@ -53,7 +54,7 @@ impl Opening {
         )
     }
 
-    /// Tests the same of an opening that is not made yet.
+    /// The same, for the numbers of an opening that isn't built yet.
     pub fn check_numbers(
         counts: &[u64],
         marks: &[u32],
@@ -110,7 +111,7 @@ impl Opening {
         user % self.seats
     }
 
-    /// The factor by which its pages have their buckets: the first by which no two marked pages share one.
+    /// The factor for its pages' buckets: the first with which no two marked pages share one.
     pub(crate) fn factor(&self) -> u32
         requires { IsWithinLimits self.now }
         ensures { IsFirstApart self.now.marks.items result }
@@ -122,7 +123,7 @@ impl Opening {
     }
 }
 
-// Whether so many likes may be asked of a hot page.
+// Whether this is a lawful limit for hot pages.
 fn is_hot_limit(hot: Option<u32>) -> bool
     ensures { IsTrue result ↔ IsHotLimit hot }
 {
@@ -132,7 +133,7 @@ fn is_hot_limit(hot: Option<u32>) -> bool
     }
 }
 
-// Whether these can be marked, of so many pages.
+// Whether these can be the marked pages, where there are `pages` in all.
 fn are_marks(marks: &[u32], pages: usize) -> bool
     ensures { IsTrue result ↔ AreMarks pages marks.now }
 {
@@ -141,7 +142,7 @@ fn are_marks(marks: &[u32], pages: usize) -> bool
         && factor_for(marks).is_some()
 }
 
-// Whether these can be the last likes of so many users, at so many pages.
+// Whether these can be the users' last likes.
 fn are_lasts(lasts: &[u32], users: u32, pages: usize) -> bool
     ensures { IsTrue result ↔ AreLasts pages users lasts.now }
 {

@@ -2,7 +2,7 @@ use std::alloc::{AllocError, Global};
 use std::sync::Arc;
 use std::sync::atomic::{AtomicU64, Ordering};
 
-/// The phase of a service, for any thread: what the driver released last, without the driver.
+/// The phase that a service's driver released last, for any thread to read.
 ///
 /// The driver stores it right after each release. No proof rests on it: contracts speak of the `phase` of a driver or a
 /// seat.
@@ -12,7 +12,7 @@ pub struct PhaseNow {
 }
 
 impl PhaseNow {
-    /// That of a new service, which runs phase 0.
+    /// The phase of a new service: 0.
     pub(crate) fn new(alloc: Global) -> Result<PhaseNow, AllocError> {
         Ok(PhaseNow {
             phase: Arc::new(alloc, AtomicU64::new(0))?,

@@ -17,25 +17,25 @@ use std::alloc::{AllocError, Global};
 #[derive(Drop)]
 pub struct Service<C: Choice> {
     pub driver: Driver<C>,
-    /// Seat `u mod seats` is that of user `u`.
+    /// User `u` belongs to seat `u mod seats`.
     pub seats: Vec<LiveSeat<SharedPost>>,
 }
 
-/// Some seat is not gone. The service that was passed comes back.
+/// A seat isn't gone yet. The service is given back.
 #[derive(Drop)]
 pub struct NotAllGone<C: Choice> {
     pub service: Service<C>,
 }
 
-/// The driver's and the seats' calls leave them one service: `Service::open` gives all seats of a driver, and those are
-/// what `Service::close` takes.
+/// The calls of a driver and its seats keep them one service. `Service::open` gives all seats of a driver, and
+/// `Service::close` takes these.
 pub fn calls_keep_seats()
     ensures { CallsKeepSeats }
 {}
 
 impl Service<Guided> {
-    /// A service in phase 0, a joined one, which finds by sampling which pages get slots, or is told by its host. Each
-    /// number of the opening is tested, and nothing takes memory after this.
+    /// A service in phase 0, a joined one. It finds the pages that get slots by sampling, or its host proposes them.
+    /// Each number of the opening is tested, and nothing takes memory after this.
     pub fn open(alloc: Global, opening: &Opening) -> Result<Service<Guided>, OpenError>
         ensures opened { IfOk result (λ s. AreOpened opening.now s.driver s.seats.items) }
         ensures told { IfOk result (λ s. s.driver.splits.told ≡ []) }
@@ -52,8 +52,8 @@ impl Service<Guided> {
 }
 
 impl<C: Choice + Drop> Service<C> {
-    /// A service in phase 0, a joined one, whose driver asks this choice which pages get slots. Each number of the opening
-    /// is tested, and nothing takes memory after this but the choice.
+    /// A service in phase 0, a joined one. Its driver asks this choice which pages get slots. Each number of the
+    /// opening is tested, and after this only the choice may take memory.
     pub fn open_with(alloc: Global, opening: &Opening, choice: C) -> Result<Service<C>, OpenError>
         ensures opened { IfOk result (λ s. AreOpened opening.now s.driver s.seats.items) }
         ensures told { IfOk result (λ s. s.driver.splits.told ≡ C.told choice) }

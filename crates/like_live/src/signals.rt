@@ -10,13 +10,13 @@ pub const MAX_LIKES: u64 = 1 << 56;
 /// What a seat tells its driver beside the board: that looks wait, and which pages its requests are for. No proof rests on
 /// that.
 ///
-/// One of about 256 requests is stored as a sample. A seat may count likes up to a number, and tests it before each: so
-/// the next sample comes at such a number too, and costs a like nothing. Contracts see that number.
+/// About one in 256 requests is stored as a sample. A seat tests before each like that its likes are below `stop`:
+/// there the next sample is due, or the limit is reached. So sampling costs a like nothing. Contracts see `stop`.
 #[derive(Drop)]
 pub(crate) struct Signals {
     hint: Hint,
     sampler: Sampler,
-    // At so many likes of the seat there is a sample, or no more room. A look makes it one less.
+    // At this number of likes the next sample is due, or the limit is reached. A look makes it one less.
     stop: u64,
 }
 
@@ -31,7 +31,7 @@ impl Model for Signals {
 }
 
 impl Signals {
-    /// Those of a new seat, whose first request is a sample.
+    /// For a new seat, whose first request is a sample.
     pub fn new(hint: Hint, sampler: Sampler) -> Signals {
         Signals {
             hint,
@@ -40,7 +40,7 @@ impl Signals {
         }
     }
 
-    /// Whether a seat with so many likes may count one more that is no sample. Mostly it may.
+    /// Whether a seat with this many likes may count one more that is no sample. Mostly it may.
     #[inline(always)]
     pub fn allows(&self, likes: u64) -> bool
         ensures { IsTrue result → likes < 2 ^ 56 }
@@ -59,7 +59,7 @@ impl Signals {
         true
     }
 
-    /// Counts a look at the page, of a seat with so many likes.
+    /// Counts a look at the page, of a seat with this many likes.
     #[inline(always)]
     pub fn count_look(&mut self, likes: u64, page: u32) {
         if likes < self.stop {

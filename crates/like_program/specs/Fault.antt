@@ -22,7 +22,7 @@ abbrev pub of_files : {A : Type 0} → Options → Result A DriverFault → Resu
 of_files options (Ok done) = Ok done
 of_files options (Err fault) = Err (program.Files options fault)
 
--- the line of more than one file that is standard input
+-- the line for standard input as more than one file
 abbrev pub inputs_line : List ℕ
 inputs_line = codes "likes: only one file can be -, which is standard input\n"
 

@@ -34,7 +34,7 @@ pub record IsExample (o : Options) : Type 0 where
   pub summary : o.summary ≡ false
   pub progress : o.progress ≡ false
 
--- the example was replayed, and this is said of its report
+-- the example was replayed, with this notice on its report
 pub record HasReplayedExample (old new : Option (List ℕ)) (notice : Option Notice) : Type 0 where
   pub options : Options
   pub numbers : IsExample options
@@ -49,13 +49,13 @@ pub record HasReplayedExample (old new : Option (List ℕ)) (notice : Option Not
 abbrev pub NamesInputOnce : Options → Type 0
 NamesInputOnce options = names_twice (names_of options) ≡ false
 
--- what was asked for was done, and this is said of its report, if there is one
+-- what was asked for was done, with this notice on its report, if there is one
 abbrev pub HasDone : Asked → Option (List ℕ) → Option (List ℕ) → Option Notice → Type 0
 HasDone (Run options) old new notice = NamesInputOnce options × HasRunSome options old new notice
 HasDone (Replay options) old new notice = NamesInputOnce options × HasReplayedSome options old new notice
 HasDone (Help text) old new notice = Appends old new (string_bytes text) × (notice ≡ None)
 
--- the program has done what its words ask for, of which this is said: without any word it has replayed its example
+-- the program has done what its words ask for, with this notice: without any word it has replayed its example
 abbrev pub HasServed : Words → Option (List ℕ) → Option (List ℕ) → Option Notice → Type 0
 HasServed [] old new notice = HasReplayedExample old new notice
 HasServed (word ∷ words) old new notice =

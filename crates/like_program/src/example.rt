@@ -14,7 +14,7 @@ const PAGES: &str = "name,count,split\na,10,no\n";
 // Its request file.
 const REQUESTS: &str = "op,user,page\nlike,0,a\nlike,1,a\nlike,0,a\n";
 
-/// Replays the example that the program holds onto `out`.
+/// Replays the built-in example onto `out`.
 pub fn replay_example<W: Write>(alloc: Global, out: &mut W) -> Result<Option<Notice>, ProgramFault>
     ensures replayed { IfOk result (HasReplayedExample (W.contents out.old) (W.contents out.new)) }
     ensures fault { IfErr result (IsExampleFault (W.contents out.old) (W.contents out.new)) }

@@ -6,7 +6,7 @@ use like_files::{DriverFault, WRITE_FAILED};
 use std::alloc::{AllocError, AllocFailed};
 use std::io::Write;
 
-// The line of more than one file that is standard input.
+// The line for standard input as more than one file.
 const INPUTS: &str = "likes: only one file can be -, which is standard input\n";
 
 /// Why the program has not done what its words ask for.
@@ -62,7 +62,7 @@ pub fn with_options<A: Drop>(
 }
 
 impl ProgramFault {
-    /// The status with which the program ends.
+    /// The exit status.
     pub fn status(&self) -> u8
         ensures { result ≡ program_status self.now }
     {
@@ -75,7 +75,7 @@ impl ProgramFault {
         }
     }
 
-    /// Writes the fault's line. `false` says that a write failed, and nothing of how much was written.
+    /// Writes the fault's line. `false`: a write failed, and a part may have been written.
     pub fn line<W: Write>(&self, out: &mut W) -> bool
         ensures { IsTrue result
             → ShowsProgramLine self.now (W.contents out.old) (W.contents out.new) }

@@ -1,4 +1,4 @@
-//! The program: what it does for its words.
+//! The program: what it does for the words of its command line.
 #![tactic(auto)]
 
 mod example;

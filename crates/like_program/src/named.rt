@@ -13,8 +13,8 @@ use std::io::{Read, Write};
 use std::sync::Wait;
 use std::thread::Threads;
 
-/// Opens the files that the options name, and makes the run that they ask for, on threads, onto `out`. Gives what is
-/// said of the report. After `Write` and `Memory` nothing is said of how much was written.
+/// Opens the files that the options name, and makes the run that they ask for, on threads, onto `out`. Gives the notice
+/// on the report, if there is one. After `Write` and `Memory` a part of the report may have been written.
 pub fn run_named<T: Threads + Wait + Sync, O: Opener, W: Write, P: Progress>(
     rt: &T,
     opener: &O,
@@ -39,8 +39,8 @@ where
     run_files_with_notice(rt, alloc, options, pages, requests, out, progress)
 }
 
-/// Opens the files that the options name, and replays them onto `out`. Gives what is said of the report. After `Write` and
-/// `Memory` nothing is said of how much was written.
+/// Opens the files that the options name, and replays them onto `out`. Gives the notice on the report, if there is one.
+/// After `Write` and `Memory` a part of the report may have been written.
 pub fn replay_named<O: Opener, W: Write, P: Progress>(
     opener: &O,
     alloc: Global,

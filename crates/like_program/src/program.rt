@@ -21,10 +21,9 @@ use std::rt::Clock;
 use std::sync::Wait;
 use std::thread::Threads;
 
-/// Does what the words after the program's name ask for: runs or replays the files that they name or prints help, onto
-/// `out`.
-/// Without any word it replays the example that the program holds. A fault, a summary or the refused requests, and how
-/// far the work is if that is asked for, are told on `errors`. Answers the status with which the program ends.
+/// Does what the words after the program's name ask for: it runs or replays the files that they name, or prints help,
+/// onto `out`. Without words it replays a built-in example. Onto `errors` it writes a fault, the summary or the number
+/// of refused requests, and progress if that is asked for. Answers the exit status.
 pub fn serve_words<R: Files + Input + Threads + Wait + Clock + Sync, W: Write, E: Write>(
     rt: &R,
     alloc: Global,
@@ -41,7 +40,7 @@ where
     match serve(rt, alloc, words, out, &mut watch) {
         Ok(None) => 0,
         Ok(Some(notice)) => {
-            // Where this can't be written, the report stands without it.
+            // If this can't be written, the report is whole without it.
             let _ = give_notice(&notice, &mut watch);
             0
         }
@@ -49,7 +48,7 @@ where
     }
 }
 
-// Writes what is said of a report, and behind a summary how long each part took.
+// Writes the notice on a report, and after a summary how long each part took.
 fn give_notice<C: Clock, E: Write>(
     notice: &Notice,
     watch: &mut Stopwatch<'_, C, E>,
@@ -61,16 +60,16 @@ fn give_notice<C: Clock, E: Write>(
     }
 }
 
-/// Tells a fault, and answers the status with which the program ends.
+/// Writes a fault, and answers the exit status.
 pub fn tell<E: Write>(fault: &ProgramFault, errors: &mut E) -> u8
     ensures { result ≡ program_status fault.now }
 {
-    // Where this can't be written either, the status alone tells of the fault.
+    // If this can't be written either, the exit status alone tells of the fault.
     let _ = fault.line(errors);
     fault.status()
 }
 
-// Does what the words ask for, and gives what is said of the report.
+// Does what the words ask for, and gives the notice on the report.
 fn serve<R: Files + Input + Threads + Wait + Clock + Sync, W: Write, E: Write>(
     rt: &R,
     alloc: Global,

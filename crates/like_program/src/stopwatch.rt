@@ -38,12 +38,13 @@ impl<'a, C: Clock, E: Write> Stopwatch<'a, C, E> {
         }
     }
 
-    /// From now on, tells of each part that is done once two seconds have passed, if progress is asked for.
+    /// From now on, writes a line for each part that ends two seconds or more after the start, if progress is asked
+    /// for.
     pub fn follow(&mut self, progress: bool) {
         self.tells = progress;
     }
 
-    /// Where faults are told too.
+    /// The writer, for faults too.
     pub fn errors(&mut self) -> &mut E {
         self.errors
     }
@@ -84,7 +85,7 @@ impl<'a, C: Clock, E: Write> Stopwatch<'a, C, E> {
         writeln!(self.errors, "{part}: {seconds}.{millis:03} seconds")
     }
 
-    // Writes that a part is done, and which begins.
+    // Writes that a part is done, and which one begins.
     fn tell(&mut self, part: Part, took: Duration) -> io::Result<()> {
         let (seconds, millis) = (took.as_secs(), took.subsec_millis());
         match part {

@@ -1,4 +1,4 @@
--- What the entries of run lists are collected to: the answer of each request.
+-- What is collected from the entries of run lists: the answer of each request.
 use Rattle.std.specs.Prelude.{◌≡◌, ℕ, ◌==◌, ◌&&◌, List, [], filter, length, map, slice_index_or, Option}
 use Rattle.std.specs.List.{flat_map}
 use Rattle.std.specs.Option.{option_to_list}

@@ -7,7 +7,7 @@ use Rattle.like_promises.specs.declared.log.Ran.{Ran}
 use Rattle.like_promises.specs.Likes.{likes_among}
 use Rattle.like_promises.specs.Workload.{Workload}
 
--- at most so many phases have hot pages
+-- at most this many phases have hot pages
 abbrev pub max_chosen : ℕ
 max_chosen = 1024
 
@@ -17,7 +17,7 @@ chosen_below masks phase =
     filter (λ c. nat_lt 0 c.mask)
     (map (λ k. record { phase = k; mask = masks k }) (range_with_len 0 phase))
 
--- the mask of those of the first 64 pages that got at least so many likes before a split phase; 0 in a joined one
+-- the mask of those of the first 64 pages that got at least this many likes before a split phase; 0 in a joined one
 abbrev pub liked_pages : ℕ → ℕ → (ℕ → ℕ → ℕ) → ℕ → ℕ
 liked_pages least pages got phase =
     if phase % 2 == 1 then sum_by (λ page. if nat_le least (got phase page) then 2 ^ page else 0)

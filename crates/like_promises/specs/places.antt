@@ -1,4 +1,4 @@
--- Where a report's additions to the counts of pages stand.
+-- The places of a report's additions to the counts of pages.
 pub mod Adds
 pub mod Places
 pub mod Tiling

@@ -44,7 +44,7 @@ pub struct WorkerLog {
     pub taken: Vec<Took>,
     /// The requests that it ran, in their order.
     pub ran: Vec<Ran>,
-    /// The additions that it made, in their order; none where it did not note them.
+    /// The additions that it made, in their order; none if it did not note them.
     pub adds: Vec<Added>,
     /// The last likes of its users.
     pub last: Users,

@@ -1,5 +1,5 @@
-/// Where an addition to a page stands: it found the count `old` and added `n`, so its stretch has the counts from `old` to
-/// below `old + n`.
+/// The place of an addition to a page: it found the count `old` and added `n`, so its stretch is the counts from `old`
+/// to `old + n - 1`.
 #[derive(Clone, Copy, Debug, PartialEq, Eq)]
 pub struct Place {
     pub worker: u32,

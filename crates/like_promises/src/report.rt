@@ -15,8 +15,8 @@ pub struct Report {
     pub last: Vec<Option<u32>>,
     /// The number of the last phase, in which the run ended; the first phase is 0.
     pub phases: u32,
-    /// The phases with hot pages, rising, each with the mask of its own.
+    /// The phases with hot pages, in order, each with its mask.
     pub hot: Vec<Chosen>,
-    /// By page, where the additions to it stand, by rising counts before.
+    /// By page, the places of the additions to it, by rising counts before.
     pub places: Vec<Vec<Place>>,
 }

@@ -22,7 +22,7 @@ pub record AreLines (plans : List (List Request)) (l : Lines) : Type 0 where
   pub plans_are : map (λ line. line.plan) l.lines.items ≡ plans
   pub passes : l.passes.items ≡ map new_ends l.lines.items
 
--- the ends of the submitters, none of which has sent anything
+-- the ends of the submitters; none has sent anything
 pub record AreNewEnds (ends : List Sender) : Type 0 where
   pub few : length ends ≤ max_submitters
   pub new : All (λ end. end.sent ≡ 0) ends

@@ -7,13 +7,13 @@ use like_requests::Taken;
 pub trait Inbox: Drop {
     ghost view: { Self → InboxView };
 
-    /// How many of its items are open to the worker, as far as a list of them says so: all of a line's are.
+    /// How many of its items are open to the worker. Of a line's all are.
     ghost opened: { Self → ℕ };
 }
 
-/// An inbox from which is taken with a runtime of type `R`.
+/// An inbox that takes with a runtime of type `R`.
 pub trait TakeWith<R>: Inbox {
-    /// Takes the next item, where one is there; after the end mark, that again.
+    /// Takes the next item, if there is one; after the end mark, that again.
     fn take_with(&mut self, rt: &R) -> Taken
         ensures handed { HandsOver (Self.view self.old) result (Self.view self.new) }
         ensures opened { Self.opened self.new ≡ Self.opened self.old };

@@ -1,5 +1,5 @@
-//! How requests reach the workers: as a list that is opened by and by, or through a queue between two threads. And what
-//! the threads of a run need for that: a line for each submitter, and where they wait.
+//! How requests reach the workers: as a list that is opened bit by bit, or through a queue between two threads. A run
+//! on threads also has here a line for each submitter, and where its threads wait.
 #![tactic(auto)]
 
 mod inbox;

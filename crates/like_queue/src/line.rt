@@ -17,10 +17,10 @@ use std::time::Duration;
 /// How many items a line holds at most.
 const CAPACITY: usize = 64;
 
-/// How many items one end hands over before it wakes the other, where that waits: as many as a line holds.
+/// How many items one end hands over before it wakes the other, if that waits: as many as a line holds.
 pub const BATCH: usize = CAPACITY;
 
-// How many microseconds the thread that sends waits at most.
+// How many microseconds the sending thread waits at most.
 const PATIENCE: u64 = 1000;
 
 /// A bounded queue between the thread of a submitter and its worker's, with the submitter's plan. Through it go the
@@ -29,7 +29,7 @@ const PATIENCE: u64 = 1000;
 pub struct Line {
     pub(crate) queue: Queue,
     pub(crate) plan: Vec<Request>,
-    // Where the thread waits that sends.
+    // Where the sending thread waits.
     pub(crate) sender: Parker,
 }
 
@@ -48,7 +48,7 @@ impl Model for Line {
 }
 
 impl Line {
-    /// A line for a plan, of which nothing was sent, and the passes of its two ends.
+    /// A line for a plan, with nothing sent yet, and the passes of its two ends.
     pub fn new(alloc: Global, plan: Vec<Request>) -> Result<(Line, SendPass, TakePass), AllocError>
         requires { length plan.items ≤ max_requests }
         ensures line { IfOk result (λ r. r.0.plan ≡ plan.items) }
@@ -73,7 +73,7 @@ impl Line {
         Ok((line, send, take))
     }
 
-    // The thread that sends waits, but not for long.
+    // The sending thread waits, but not for long.
     pub(crate) fn wait<R: Wait>(&self, rt: &R) {
         self.sender
             .park_timeout(rt, Duration::from_micros(PATIENCE));
@@ -85,8 +85,8 @@ impl Line {
     }
 }
 
-// Splits the pass of a new queue into the one that sends the plan, and that which takes it. Both know the plan from here
-// on: the proof of a call takes that of `J` from the argument.
+// Splits the pass of a new queue into one that sends the plan and one that takes it. Both know the plan from here on:
+// the proof of a call chooses the argument as the plan of `J`.
 fn split<J: Planned>(queue: &Queue, pass: &mut QueuePass, _plan: &Vec<Request>) -> QueuePass
     requires queue { IsPassOf queue.now pass.old }
     requires new { known_by pass.old ≡ unsplit }

@@ -26,7 +26,7 @@ pub struct Lines {
 }
 
 impl Lines {
-    /// The lines of these plans, through which nothing went.
+    /// The lines of these plans, with nothing sent yet.
     pub fn new(alloc: Global, plans: Vec<Vec<Request>>) -> Result<Lines, AllocError>
         requires { All (λ plan. length plan.items ≤ max_requests) plans.items }
         ensures { IfOk result (AreLines (map (λ plan. plan.items) plans.items)) }

@@ -6,8 +6,8 @@ use crate::inbox::{Inbox, TakeWith};
 use like_requests::{Numbered, Request, Taken};
 use std::marker::Model;
 
-/// A submitter's requests as a list of which more and more is open to its worker. Its items are the requests,
-/// numbered from 1, and then the end mark. A take moves no list.
+/// A submitter's requests as a list that is opened to its worker bit by bit. Its items are the requests, numbered from
+/// 1, and then the end mark. A take shifts nothing.
 #[derive(Drop)]
 pub struct ListInbox {
     plan: Vec<Request>,
@@ -30,7 +30,7 @@ impl Model for ListInbox {
 }
 
 impl ListInbox {
-    /// The inbox of a plan, of which nothing is open.
+    /// The inbox of a plan, with nothing open.
     pub fn new(plan: Vec<Request>) -> Self
         requires { length plan.items ≤ max_requests }
         ensures { result ≡ record { plan = plan.items; opened = 0; taken = 0 } }
@@ -42,7 +42,7 @@ impl ListInbox {
         }
     }
 
-    /// Opens the next item. `false` where all were open.
+    /// Opens the next item. `false`: all were open.
     pub fn open_one(&mut self) -> bool
         ensures opened { result ≡ nat_lt self.old.opened (item_count self.old.plan) }
         ensures inbox { self.new

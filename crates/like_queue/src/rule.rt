@@ -38,7 +38,7 @@ impl Planned for Brand {
     ghost plan = { [] };
 }
 
-/// The one pass of a new queue becomes the one that sends a plan, and that which takes it.
+/// The pass of a new queue becomes one that sends a plan and one that takes it.
 pub(crate) struct Splitting<J: Planned> {
     of: PhantomData<J>,
 }

@@ -28,7 +28,7 @@ impl<'a> Model for SendEnd<'a> {
 }
 
 impl SendEnd<'_> {
-    /// The next request of the plan. `None` where all were sent.
+    /// The next request of the plan. `None`: all were sent.
     pub fn next(&self) -> Option<Request>
         ensures next { result ≡ next_of self.now }
         ensures few { length self.now.line.plan ≤ max_requests }
@@ -71,13 +71,13 @@ impl SendEnd<'_> {
         }
     }
 
-    /// Waits until a batch of items is taken, but not for long: for a line that was full. It may return early.
+    /// Waits after the line was full, until a batch of items is taken or a millisecond has passed. It may return early.
     pub fn wait<R: Wait>(&self, rt: &R) {
         let line = self.line;
         line.wait(rt);
     }
 
-    // The end mark was pushed.
+    // Whether the end mark was pushed.
     fn has_ended(&self) -> bool
         ensures ended { result ≡ true → HasSentEnd self.now }
         ensures not { result ≡ false → self.now.sent ≤ length self.now.line.plan }

@@ -51,7 +51,7 @@ impl SendPass {
         self.sent
     }
 
-    // Pushes the next item of the plan through its line, where the queue is not full.
+    // Pushes the next item of the plan through its line, if the queue is not full.
     pub(crate) fn push<R: Wait>(&mut self, rt: &R, line: &Line, item: Item) -> bool
         requires here { self.old.line ≡ line.now }
         requires next { slice_get (items_of self.old.line.plan) self.old.sent ≡ Some item }

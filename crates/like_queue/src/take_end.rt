@@ -28,7 +28,7 @@ impl<'a> Model for TakeEnd<'a> {
 }
 
 impl TakeEnd<'_> {
-    /// Takes the next item, where one is there; after the end mark, that again.
+    /// Takes the next item, if there is one; after the end mark, that again.
     pub fn take<R: Wait>(&mut self, rt: &R) -> Taken
         ensures line { self.new.line ≡ self.old.line }
         ensures taken { HandsOver (inbox_of self.old) result (inbox_of self.new) }

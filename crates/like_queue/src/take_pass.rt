@@ -53,8 +53,8 @@ impl TakePass {
         self.taken
     }
 
-    // Takes the next item of the plan from its line, where the queue is not empty. After a batch it wakes the thread that
-    // sends, where that waits.
+    // Takes the next item of the plan from its line, if the queue is not empty. After each batch it wakes the sending
+    // thread.
     pub(crate) fn pop<R: Wait>(&mut self, rt: &R, line: &Line) -> Option<Item>
         requires { self.old.line ≡ line.now }
         ensures nothing { IfNone result (self.new ≡ self.old) }

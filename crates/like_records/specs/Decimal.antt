@@ -7,7 +7,7 @@ use Rattle.std.specs.Str.Parse.{digits_value}
 abbrev pub decimal_value : List ℕ → ℕ
 decimal_value text = digits_value 10 text
 
--- the text is of one to so many digits, and writes a number up to the limit
+-- the text has one digit or more, at most this many, and writes a number up to the limit
 pub record IsDecimal (digits limit : ℕ) (text : List ℕ) : Type 0 where
   pub some : 1 ≤ length text
   pub few : length text ≤ digits

@@ -1,10 +1,10 @@
--- What the errors of the reader of CSV stand for.
+-- The faults for the errors of CSV's reader.
 use Rattle.csv.specs.declared.error.ErrorKind.{ErrorKind}
 use Rattle.csv.specs.declared.error.ErrorKind.TheVariants as kind
 use Rattle.like_records.specs.declared.fault.RecordsFault.{RecordsFault}
 use Rattle.like_records.specs.declared.fault.RecordsFault.TheVariants as fault
 
--- the fault that an error stands for: the reader underneath failed, or else memory ran out
+-- the fault for an error: the reader underneath failed, or else memory ran out
 abbrev pub fault_of : ErrorKind → RecordsFault
 fault_of (kind.Io e) = fault.Read
 fault_of (kind.Utf8 pos err) = fault.Memory

@@ -1,4 +1,4 @@
--- Where the reading of a file's records stands, and what the next record does to it.
+-- How far a file's records were read, and what the next record does to that.
 use Rattle.std.specs.Prelude.{◌≡◌, ◌+◌, ℕ, Bool, true, false, List, [], ◌∷◌, length, Option, Some, None, option_map, Result, Ok, Err}
 use Rattle.std.specs.Option.{ForSome}
 use Rattle.csv.specs.Reading.{default_config, has_failed, strip_bom, records, records_from, Ready, is_flexible, reader_config, reader_trim}
@@ -54,7 +54,7 @@ stopped_by progress.Open = None
 stopped_by progress.Ended = None
 stopped_by (progress.Failed why) = Some why
 
--- a reader that hands out each record as it stands in the text, the first one too, of however many fields
+-- a reader that hands out each record as it is in the text, the first one too, with any number of fields
 pub record GivesEach {R : Type 0} (reader : Reader R) : Type 0 where
   pub config : reader_config reader ≡ default_config
   pub trim : reader_trim reader ≡ trim.None

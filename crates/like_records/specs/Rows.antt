@@ -17,7 +17,7 @@ field r i = slice_index_or r i []
 abbrev pub max_rows : ℕ
 max_rows = 1000000
 
--- the records are the header and, behind it, a body of which that holds
+-- the records are the header and, after it, a body for which this holds
 abbrev pub Behind : Record → (List Record → Type 0) → List Record → Type 0
 Behind header Holds rows = (body : List Record) × (rows ≡ header ∷ body) × Holds body
 
@@ -25,7 +25,7 @@ Behind header Holds rows = (body : List Record) × (rows ≡ header ∷ body) ×
 abbrev pub IsHeadless : {T : Type 0} → Record → T → List Record → T → Type 0
 IsHeadless header headless rows t = (t ≡ headless) × ((body : List Record) → rows ≢ header ∷ body)
 
--- the fault says that a record could not be had, and nothing of the file
+-- the fault says that a record could not be read, and nothing about the file
 abbrev pub Excuses : {T : Type 0} → (RecordsFault → T) → T → Type 0
 Excuses fault_of t = (why : RecordsFault) × (t ≡ fault_of why)
 
@@ -34,7 +34,7 @@ abbrev pub EndsReading : {T : Type 0} → (RecordsFault → T) → Type 0 → (T
 EndsReading fault_of Failed Fails t =
     (t ≡ fault_of fault.Memory) ⊎ ((t ≡ fault_of fault.Read) × Failed) ⊎ Fails t
 
--- Asks says what each test asks of a record, given the records before it; tests lists those of a row, in order
+-- Asks says what each test asks of a record, given the records before it; tests lists the tests of a row, in order
 module _ {T : Type 0} (Asks : List Record → Record → T → Type 0) (tests : ℕ → List T) where
   -- every record passes every test of its row
   abbrev pub PassAll : List Record → Type 0
@@ -51,6 +51,6 @@ module _ {T : Type 0} (Asks : List Record → Record → T → Type 0) (tests : 
   abbrev pub FailsSome : T → Type 0
   FailsSome t = (done : List Record) × (r : Record) × FailsFirst (Asks done r) (tests (length done + 1)) t
 
-  -- that holds of some records of which every one passes every test of its row
+  -- this holds for some records that each pass every test of their rows
   abbrev pub MadeOf : (List Record → Type 0) → Type 0
   MadeOf Holds = (body : List Record) × PassAll body × Holds body

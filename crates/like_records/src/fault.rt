@@ -1,4 +1,4 @@
-// Why a record could not be had.
+// Why a record could not be read.
 ghost use Rattle.std.specs.Prelude.{◌≡◌, true};
 ghost use Rattle.csv.specs.Reading.{stops_reader};
 ghost use Rattle.like_records.specs.Fault.{fault_of};
@@ -6,7 +6,7 @@ ghost use Rattle.like_records.specs.Fault.{fault_of};
 use csv::ErrorKind;
 use thiserror::Error;
 
-/// Why the next record could not be had.
+/// Why the next record could not be read.
 #[derive(Debug, Clone, Copy, PartialEq, Eq, Error)]
 pub enum RecordsFault {
     /// The reader underneath failed.
@@ -18,7 +18,7 @@ pub enum RecordsFault {
 }
 
 impl RecordsFault {
-    // The fault that an error which stops a reader of CSV stands for.
+    // The fault for an error that stops a CSV reader.
     pub(crate) fn of(error: &ErrorKind) -> RecordsFault
         requires { stops_reader error.now ≡ true }
         ensures { result ≡ fault_of error.now }

@@ -2,8 +2,8 @@
 ghost use Rattle.std.specs.Prelude.{◌≡◌, ◌≤◌, MatchOption};
 ghost use Rattle.like_records.specs.Decimal.{IsDecimal, decimal_value};
 
-/// The number that a text of 1 to `digits` ASCII digits writes, where it is at most `limit`.
-/// Zeros may lead; a sign or a space is refused.
+/// The number that a text of 1 to `digits` ASCII digits writes, if it is at most `limit`. Zeros may lead; a sign or a
+/// space is refused.
 pub fn decimal(text: &[u8], digits: usize, limit: u64) -> Option<u64>
     requires { digits ≤ 19 }
     ensures { MatchOption result

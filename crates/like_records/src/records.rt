@@ -15,14 +15,13 @@ enum Progress {
     Open,
     // The last record was read.
     Ended,
-    // A record could not be had.
+    // A record could not be read.
     Failed(RecordsFault),
 }
 
-/// The records of a CSV file, one at a time, each in the room of the one before, so that no file is
-/// held whole. Fields stand between commas, and in double quotes where they need them, and a record
-/// ends with CR, LF or CRLF. Empty lines are skipped, and nothing is trimmed. A header row is the
-/// first record, and records may differ in length.
+/// The records of a CSV file, one at a time, each in the memory of the one before, so that no file is held whole.
+/// Fields are separated by commas, and in double quotes where they need them. A record ends with CR, LF or CRLF. Empty
+/// lines are skipped, and nothing is trimmed. A header row is the first record, and records may differ in length.
 #[derive(Drop)]
 pub struct Records<R: Read> {
     reader: Reader<R>,

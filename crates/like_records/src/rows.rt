@@ -29,7 +29,7 @@ pub trait FileKind {
 
     ghost holds: { Self → Self.Made → List Record → Type 0 };
 
-    /// The fault of a file of which a record could not be had.
+    /// The fault of a file when a record could not be read.
     fn fault(why: RecordsFault) -> Self::Fault
         ensures { result ≡ fault_of why };
 
@@ -50,8 +50,8 @@ pub trait FileKind {
             ⊎ FailsFirst (asks done records.now.fields) (tests row) why) };
 }
 
-/// Reads a file of this kind: the header, in whose place another first record is the fault `headless`, and the rows
-/// behind it. The first row that fails a test ends it.
+/// Reads a file of this kind: the header, and the rows after it. If the first record isn't the header, the fault is
+/// `headless`. The first row that fails a test ends it.
 pub fn read_file<R: Read + Drop, K: FileKind>(
     alloc: Global,
     reader: R,

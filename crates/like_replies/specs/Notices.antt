@@ -1,4 +1,4 @@
--- What is said of a report beside it.
+-- The notice on a report, beside it.
 use Rattle.std.specs.Prelude.{ℕ, Bool, if◌then◌else◌, List, Option, None, Some, ◌==◌}
 use Rattle.like_promises.specs.declared.report.Report.{Report}
 use Rattle.like_replies.specs.Refusals.{refusals_line, refusals_of, refused_in}
@@ -12,7 +12,7 @@ notice_of is_asked r =
     if is_asked then Some (Summed (summary_of r))
     else (if refused_in r.replies == 0 then None else Some (Refused (refusals_of r)))
 
--- the text of what is said
+-- the text of a notice
 abbrev pub notice_text : Notice → List ℕ
 notice_text (Summed summary) = summary_text summary
 notice_text (Refused refusals) = refusals_line refusals

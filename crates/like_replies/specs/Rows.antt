@@ -65,7 +65,7 @@ abbrev pub hot_row : List Page → ℕ → ℕ → List (List ℕ)
 hot_row pages phase page =
     codes "hot" ∷ decimal page ∷ [] ∷ decimal phase ∷ [] ∷ name_of pages page ∷ [] ∷ []
 
--- the rows of those of a submitter's requests that come after so many others, by their numbers
+-- the rows of a submitter's requests after the first `before`, by their numbers
 abbrev pub answer_rows : List Page → ℕ → ℕ → List Answer → List (List (List ℕ))
 answer_rows pages submitter before answers =
     map (λ p. reply_row pages submitter p.0 p.1) (enumerate_from (before + 1) answers)
@@ -82,7 +82,7 @@ reply_rows pages replies = flat_map (λ p. submitter_rows pages p.0 p.1) (enumer
 abbrev pub page_rows : List Page → List ℕ → List (List (List ℕ))
 page_rows pages counts = map (λ p. page_row pages p.0 p.1) (enumerate_from 0 counts)
 
--- the rows of those users with an accepted like that come after so many users, by their numbers
+-- the rows of the users from number `before` on that have an accepted like, by their numbers
 abbrev pub liker_rows : List Page → ℕ → List (Option ℕ) → List (List (List ℕ))
 liker_rows pages before last = filter_map (λ p. option_map (user_row pages p.0) p.1) (enumerate_from before last)
 
@@ -90,7 +90,7 @@ liker_rows pages before last = filter_map (λ p. option_map (user_row pages p.0)
 abbrev pub user_rows : List Page → List (Option ℕ) → List (List (List ℕ))
 user_rows pages last = liker_rows pages 0 last
 
--- the rows of a phase's hot pages, of the first so many pages
+-- the rows of a phase's hot pages with numbers below this one
 abbrev pub hot_rows_below : List Page → Chosen → ℕ → List (List (List ℕ))
 hot_rows_below pages c below = map (hot_row pages c.phase) (filter (is_hot c.mask) (range_with_len 0 below))
 

@@ -17,7 +17,7 @@ section_rows pages (Users before last) = liker_rows pages before last.now
 section_rows pages (Hot hot) = hot_rows pages hot.now
 section_rows pages (Places page places) = page_place_rows pages page places.now
 
--- a section shows replies that can be shown and pages that are there, and its numbers are those of 64 bits
+-- a section shows replies that can be shown and pages that are there, and its numbers have at most 64 bits
 abbrev pub HasRows : List Page → Section → Type 0
 HasRows pages Header = ⊤
 HasRows pages (Answers submitter before answers) =

@@ -1,4 +1,4 @@
--- What a report comes to in numbers, and their text.
+-- The numbers of a report, and their text.
 use Rattle.std.specs.Prelude.{ℕ, List, ◌++◌, ◌+◌, length, codes, decimal, fold, bit_or, count_by, count_ones, sum_by}
 use Rattle.std.specs.Str.{bytes_eq}
 use Rattle.like_promises.specs.declared.chosen.Chosen.{Chosen}

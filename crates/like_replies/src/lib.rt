@@ -1,4 +1,4 @@
-//! The text of a report. What a run leaves, of which the report is made, stands in `like_collection` and is named here
+//! The text of a report. `like_collection` collects the report from what a run leaves, and its calls are named here
 //! too.
 #![tactic(auto)]
 

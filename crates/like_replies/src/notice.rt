@@ -9,7 +9,7 @@ use like_promises::Report;
 use std::io;
 use std::io::Write;
 
-/// What is said of a report beside it.
+/// A notice on a report, beside it.
 #[derive(Clone, Copy, PartialEq, Eq)]
 pub enum Notice {
     /// Its summary, which was asked for.

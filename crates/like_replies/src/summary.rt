@@ -8,7 +8,7 @@ use like_requests::Verdict;
 use std::io;
 use std::io::Write;
 
-/// What a report comes to: how many requests had each answer, and how many phases there were.
+/// The numbers of a report: how many requests had each answer, how many phases there were, and how many pages were hot.
 #[derive(Clone, Copy, PartialEq, Eq)]
 pub struct Summary {
     pub requests: u64,

@@ -1,4 +1,4 @@
--- What the entries of a map from names stand for.
+-- The pages that the entries of a map from names are.
 use Rattle.std.specs.Prelude.{◌≡◌, ℕ, List, Vec, map, string_bytes}
 use Rattle.std.specs.declared.alloc.Global.{Global}
 use Rattle.like_requests.specs.declared.entries.Listed.{Listed}

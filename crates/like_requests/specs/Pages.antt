@@ -1,4 +1,4 @@
--- The pages of the service, as the pages file lists them.
+-- The pages of a run, as the pages file lists them.
 use Rattle.std.specs.Prelude.{ℕ, Bool, ◌<◌, ◌≤◌, List, length, map, position, bytes_eq, Option, All, IsUtf8}
 use Rattle.std.specs.List.{IsDistinct}
 use Rattle.like_limits.specs.Limits.{max_count, max_name, max_pages}

@@ -20,7 +20,7 @@ page_of r = record { name = field r 0; count = decimal_value (field r 1); split 
 abbrev pub IsSplitMark : List ℕ → Type 0
 IsSplitMark text = (text ≡ codes "yes") ⊎ (text ≡ codes "no")
 
--- what the test asks that is named by its fault, of a record after those that list pages with these names
+-- what the test with this fault asks of a record after those that list pages with these names
 abbrev pub AsksPage : List (List ℕ) → Record → PagesFault → Type 0
 AsksPage earlier r (Fields row) = length r ≡ 3
 AsksPage earlier r (Name row) = IsName (field r 0)
@@ -41,7 +41,7 @@ AsksPageRecord earlier r fault = AsksPage (map (λ e. field e 0) earlier) r faul
 abbrev pub page_tests : ℕ → List PagesFault
 page_tests row = Fields row ∷ Name row ∷ Duplicate row ∷ Count row ∷ Split row ∷ TooMany ∷ []
 
--- the fault that stands for a record that could not be had
+-- the fault when a record could not be read
 abbrev pub fault_of : RecordsFault → PagesFault
 fault_of records.Read = Read
 fault_of records.Memory = Memory

@@ -38,7 +38,7 @@ request_made pages r = record {
   page = page_ref (number_of pages (field r 2));
 }
 
--- what the test asks that is named by its fault, of a record after so many others
+-- what the test with this fault asks of a record after this many others
 abbrev pub AsksRequest : ℕ → Record → RequestsFault → Type 0
 AsksRequest earlier r (fault.Fields row) = length r ≡ 3
 AsksRequest earlier r (fault.Op row) = IsOp (field r 0)
@@ -56,7 +56,7 @@ AsksRequestRecord earlier r why = AsksRequest (length earlier) r why
 abbrev pub request_tests : ℕ → List RequestsFault
 request_tests row = fault.Fields row ∷ fault.Op row ∷ fault.User row ∷ fault.TooMany ∷ []
 
--- the fault that stands for a record that could not be had
+-- the fault when a record could not be read
 abbrev pub fault_of : RecordsFault → RequestsFault
 fault_of records.Read = fault.Read
 fault_of records.Memory = fault.Memory

@@ -6,13 +6,13 @@ use Rattle.like_requests.specs.declared.setup.SettingsFault.TheVariants.{Script}
 use Rattle.like_requests.specs.declared.script.Turned.{Turned}
 use Rattle.like_requests.specs.declared.script.Turned.TheVariants.{OpenOne, Worker, Coordinator}
 
--- the submitter or the worker of an entry is one of a run of so many workers and submitters
+-- the submitter or the worker of an entry exists, in a run of this many workers and submitters
 abbrev pub IsInRun : ℕ → ℕ → Turned → Type 0
 IsInRun workers submitters (OpenOne submitter) = submitter < submitters
 IsInRun workers submitters (Worker worker) = worker < workers
 IsInRun workers submitters Coordinator = ⊤
 
--- the fault names the first entry of which that is not so
+-- the fault names the first entry whose submitter or worker doesn't exist
 abbrev pub IsFirstAway : ℕ → ℕ → List Turned → SettingsFault → Type 0
 IsFirstAway workers submitters script fault =
     (at : ℕ) × (fault ≡ Script at) × IsFirstBad (IsInRun workers submitters) script at

@@ -38,7 +38,7 @@ IsEntry r = (length r ≡ 2) × Names (field r 0) (field r 1)
 abbrev pub turned_of : Record → Turned
 turned_of r = named (field r 0) (field r 1)
 
--- what the test asks that is named by its fault, of a record after so many others
+-- what the test with this fault asks of a record after this many others
 abbrev pub AsksEntry : ℕ → Record → ScriptFault → Type 0
 AsksEntry earlier r (fault.Line row) = IsEntry r
 AsksEntry earlier r fault.TooMany = earlier < max_entries
@@ -53,7 +53,7 @@ AsksEntryRecord earlier r why = AsksEntry (length earlier) r why
 abbrev pub entry_tests : ℕ → List ScriptFault
 entry_tests row = fault.Line row ∷ fault.TooMany ∷ []
 
--- the fault that stands for a record that could not be had
+-- the fault when a record could not be read
 abbrev pub fault_of : RecordsFault → ScriptFault
 fault_of records.Read = fault.Read
 fault_of records.Memory = fault.Memory

@@ -12,12 +12,12 @@ use Rattle.like_requests.specs.declared.setup.Setup.{Setup}
 use Rattle.like_requests.specs.declared.setup.SettingsFault.{SettingsFault}
 use Rattle.like_requests.specs.declared.setup.SettingsFault.TheVariants.{Workers, Submitters, Users, Stash, Turns, Plan, Script, Hot}
 
--- a page that a request knows is one of so many
+-- a page that a request knows is one of this many
 abbrev pub IsThere : ℕ → PageRef → Type 0
 IsThere pages (Known page) = page < pages
 IsThere pages Unknown = ⊤
 
--- a submitter's list is not too long, and knows no page that is not there
+-- a submitter's list is not too long, and each page that it knows exists
 pub record IsPlan (pages : List Page) (plan : List Request) : Type 0 where
   pub few : length plan ≤ max_requests
   pub there : All (λ r. IsThere (length pages) r.page) plan
@@ -26,7 +26,7 @@ pub record IsPlan (pages : List Page) (plan : List Request) : Type 0 where
 abbrev pub IsHotLimit : Option ℕ → Type 0
 IsHotLimit hot = ForSome hot (λ least. (1 ≤ least) × (least ≤ max_hot))
 
--- what the limit asks that is named by the fault of breaking it
+-- what the limit with this fault asks
 abbrev pub Holds : Setup → List (List Request) → SettingsFault → Type 0
 Holds s plans Workers = (1 ≤ s.workers) × (s.workers ≤ max_workers)
 Holds s plans Submitters = (1 ≤ length plans) × (length plans ≤ max_submitters)
@@ -41,7 +41,7 @@ Holds s plans Hot = IsHotLimit s.hot
 abbrev pub number_limits : List SettingsFault
 number_limits = Workers ∷ Submitters ∷ Users ∷ Stash ∷ Turns ∷ []
 
--- all limits of a run with so many submitters, in the order of their tests
+-- all limits of a run with this many submitters, in the order of their tests
 abbrev pub limits : ℕ → List SettingsFault
 limits submitters = number_limits ++ (map Plan (range_with_len 0 submitters) ++ Hot ∷ [])
 
@@ -64,7 +64,7 @@ pub record IsWithin (s : Setup) (sizes : List ℕ) : Type 0 where
   pub stash : (1 ≤ s.stash) × (s.stash ≤ max_stash)
   pub small : All (λ n. n ≤ max_requests) sizes
 
--- the requests know no page that is not there
+-- each page that the requests know exists
 abbrev pub AreThere : List Page → List Request → Type 0
 AreThere pages plan = All (λ r. IsThere (length pages) r.page) plan
 

@@ -6,7 +6,7 @@ use Rattle.like_requests.specs.declared.request.Request.{Request}
 use Rattle.like_requests.specs.declared.verdict.Verdict.{Verdict}
 use Rattle.like_requests.specs.declared.verdict.Verdict.TheVariants.{Accepted, UnknownUser, OtherHome, UnknownPage}
 
--- the submitter by whom a user is served
+-- the submitter that serves a user
 abbrev pub home : ℕ → ℕ → ℕ
 home submitters user = user % submitters
 
@@ -14,7 +14,7 @@ abbrev pub is_known : PageRef → Bool
 is_known (Known page) = true
 is_known Unknown = false
 
--- the user is there, the submitter is the user's home, and the page is there
+-- the user exists, the submitter is the user's home, and the page exists
 abbrev pub is_accepted : ℕ → ℕ → ℕ → Request → Bool
 is_accepted users submitters submitter r =
     nat_lt r.user users && (home submitters r.user == submitter) && is_known r.page

@@ -5,7 +5,7 @@ use crate::entries::Entries;
 use std::alloc::{AllocError, Global};
 use std::marker::Model;
 
-/// The most pages of a service.
+/// The most pages of a run.
 pub const MAX_PAGES: u32 = 1_024;
 
 /// The most bytes of a page's name.
@@ -14,7 +14,7 @@ pub const MAX_NAME: usize = 64;
 /// The greatest initial count of a page.
 pub const MAX_COUNT: u64 = 1_000_000_000_000_000_000;
 
-/// The pages of the service in the order of the pages file, numbered from 0: 1 to 1,024 of them, with distinct names.
+/// The pages of a run in the order of the pages file, numbered from 0: 1 to 1,024 of them, with distinct names.
 #[derive(Drop)]
 pub struct Pages {
     entries: Entries,
@@ -32,7 +32,7 @@ impl Model for Pages {
 }
 
 impl Pages {
-    // The pages, where there are any.
+    // The pages, if there are any.
     pub(crate) fn of(entries: Entries) -> Option<Self>
         ensures { MatchOption result (entries ≡ []) (λ pages. (pages ≡ entries) × (entries ≢ [])) }
     {

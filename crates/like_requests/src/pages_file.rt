@@ -27,14 +27,14 @@ pub enum PagesFault {
     Fields { row: u32 },
     #[error("row {row}: page name is not 1 to 64 bytes of UTF-8")]
     Name { row: u32 },
-    /// The name is that of an earlier page, byte for byte.
+    /// An earlier page has this name, byte for byte.
     #[error("row {row}: page name appears twice")]
     Duplicate { row: u32 },
     #[error("row {row}: count is not a whole number up to 1000000000000000000")]
     Count { row: u32 },
     #[error("row {row}: split is not yes or no")]
     Split { row: u32 },
-    /// A 1,025th record is good.
+    /// There is a 1,025th record, which passes all other tests.
     #[error("more than 1024 pages")]
     TooMany,
     /// No record follows the header.
@@ -89,7 +89,7 @@ impl FileKind for PagesFile {
 }
 
 /// Reads a pages file: CSV by the default settings, the header `name,count,split`, and a record for each page.
-/// Tests stand in the order of `PagesFault`'s variants for each record, and the first record that fails one ends it.
+/// Each record is tested in the order of `PagesFault`'s variants, and the first one that fails a test ends it.
 pub fn read_pages<R: Read + Drop>(alloc: Global, reader: R) -> Result<Pages, PagesFault>
     ensures file { (rows : List Record) → option_map records_of (R.remaining reader) ≡ Some rows
         → MatchResult result (IsPagesFile rows) (IsPagesFault rows) }
@@ -140,7 +140,7 @@ fn entry_at<'r, R: Read>(
     Ok((name, Initial { count, split }))
 }
 
-// The name that a field writes, where it may be a page's.
+// The name that a field writes, if it may be a page's.
 fn page_name(field: &[u8]) -> Option<&str>
     ensures { MatchOption result (¬ IsName field.now)
         (λ name. IsName field.now × (name.now ≡ field.now)) }

@@ -7,7 +7,7 @@ pub enum Op {
     Look,
 }
 
-/// The page of a request: its number in the pages file, from 0, or a page that is not there.
+/// The page of a request: its number in the pages file, from 0, or a page that doesn't exist.
 #[derive(Clone, Copy, Debug, PartialEq, Eq)]
 pub enum PageRef {
     Known(u32),
@@ -22,7 +22,7 @@ pub struct Request {
     pub page: PageRef,
 }
 
-/// A request with its number among those of its submitter, from 1.
+/// A request with its number among its submitter's, from 1.
 #[derive(Clone, Copy, PartialEq, Eq)]
 pub struct Numbered {
     pub number: u32,
@@ -34,7 +34,7 @@ pub struct Numbered {
 pub enum Taken {
     /// The next request.
     Ask(Numbered),
-    /// The end mark, which stands after the last request.
+    /// The end mark, which comes after the last request.
     End,
     /// Nothing was there to be taken.
     Nothing,

@@ -32,7 +32,7 @@ pub enum RequestsFault {
     Op { row: u32 },
     #[error("row {row}: user is not a whole number up to 4294967295")]
     User { row: u32 },
-    /// A 1,000,001st record is good.
+    /// There is a 1,000,001st record, which passes all other tests.
     #[error("more than 1000000 requests")]
     TooMany,
     /// Memory was refused.
@@ -83,8 +83,8 @@ impl FileKind for RequestsFile<'_> {
 }
 
 /// Reads a submitter's requests file: CSV by the default settings, the header `op,user,page`, and a record for each
-/// request. Tests stand in the order of `RequestsFault`'s variants for each record, and the first record that fails
-/// one ends it. A page that is not in `pages` is no fault.
+/// request. Each record is tested in the order of `RequestsFault`'s variants, and the first one that fails a test ends
+/// it. A page that is not in `pages` is no fault.
 pub fn read_requests<R: Read + Drop>(
     alloc: Global,
     reader: R,

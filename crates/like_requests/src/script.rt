@@ -15,7 +15,7 @@ pub enum Turned {
     Coordinator,
 }
 
-/// Names the first entry of a script whose submitter or worker is not there.
+/// Tests a script, and names the first entry whose submitter or worker doesn't exist.
 pub fn check_script(script: &[Turned], workers: u32, submitters: usize) -> Result<(), SettingsFault>
     requires { length script.now ≤ max_entries }
     ensures { MatchResult result
@@ -30,7 +30,7 @@ pub fn check_script(script: &[Turned], workers: u32, submitters: usize) -> Resul
     Ok(())
 }
 
-// Whether the submitter or the worker of an entry is there.
+// Whether the submitter or the worker of an entry exists.
 fn is_there(entry: &Turned, workers: u32, submitters: usize) -> bool
     ensures { IsTrue result ↔ IsInRun workers submitters entry.now }
 {

@@ -28,7 +28,7 @@ pub enum ScriptFault {
     /// The record is no entry; at row 0, the first record isn't the header, or there is none.
     #[error("row {row}: not a turn")]
     Line { row: u32 },
-    /// A 1,000,001st record is good.
+    /// There is a 1,000,001st record, which is an entry.
     #[error("more than 1000000 turns")]
     TooMany,
     /// Memory was refused.

@@ -40,7 +40,7 @@ pub struct Setup {
     pub stash: u32,
     /// How many turns the coordinator counts before it ends a phase: 0 to 1,000,000.
     pub turns: u32,
-    /// How many likes make a page hot, 1 to 1,000,000, where the coordinator is to choose hot pages.
+    /// How many likes make a page hot, 1 to 1,000,000, if the coordinator is to choose hot pages.
     pub hot: Option<u32>,
     pub pages: Pages,
 }
@@ -58,10 +58,10 @@ pub enum SettingsFault {
     Stash,
     #[error("settings")]
     Turns,
-    /// The submitter's list has more than 1,000,000 requests, or one of a page that is not there.
+    /// The submitter's list has more than 1,000,000 requests, or one with a page number that no page has.
     #[error("settings")]
     Plan { submitter: u32 },
-    /// The script's entry at this place, from 0, names a submitter or a worker that is not there.
+    /// The script's entry at this place, from 0, names a submitter or a worker that doesn't exist.
     #[error("no such worker or submitter")]
     Script { at: u32 },
     /// The number of likes that make a page hot. It is tested after the submitters' lists.
@@ -69,8 +69,8 @@ pub enum SettingsFault {
     Hot,
 }
 
-/// Tests the settings and the submitters' lists against every limit of a run, in the order of `SettingsFault`, whose
-/// `Script` it never answers.
+/// Tests the settings and the submitters' lists against every limit of a run, in the order of `SettingsFault`. It never
+/// answers `Script`.
 pub fn check_setup(setup: &Setup, plans: &[Vec<Request>]) -> Result<(), SettingsFault>
     ensures { let lists = map (λ plan. plan.items) plans.now in
         MatchResult result (λ _. IsWithinLimits setup.now lists) (IsFirstBroken setup.now lists) }
@@ -115,7 +115,7 @@ fn broken_number(setup: &Setup, submitters: usize) -> Option<SettingsFault>
     None
 }
 
-// Whether so many likes may be asked of a hot page.
+// Whether this is a lawful limit for hot pages.
 fn is_hot_limit(hot: Option<u32>) -> bool
     ensures { IsTrue result ↔ IsHotLimit hot }
 {
@@ -125,7 +125,7 @@ fn is_hot_limit(hot: Option<u32>) -> bool
     }
 }
 
-// Whether a list is within the limit and knows pages below `pages` alone.
+// Whether a list is within the limit and has only page numbers below `pages`.
 fn is_plan(plan: &[Request], pages: u32) -> bool
     ensures { (list : List Page) → length list ≡ pages → IsTrue result ↔ IsPlan list plan.now }
 {

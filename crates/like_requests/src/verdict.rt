@@ -9,9 +9,9 @@ pub enum Verdict {
     Accepted,
     /// The user's number is not below the number of users.
     UnknownUser,
-    /// The user's home is another submitter.
+    /// The user's home is another submitter, or in a service another seat.
     OtherHome,
-    /// The page is not in the pages file.
+    /// There is no such page.
     UnknownPage,
 }
 

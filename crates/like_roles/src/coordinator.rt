@@ -44,7 +44,7 @@ impl Model for Coordinator {
     ghost invariant = { λ c. c.lead.seat.opening.limits ≡ run_limits };
 }
 
-/// There is no memory for a coordinator. The seat that was passed comes back.
+/// There is no memory for a coordinator. The seat is given back.
 #[derive(Drop)]
 pub struct NoCoordinator {
     pub seat: CoordSeat,
@@ -98,9 +98,9 @@ fn release(lead: &mut Lead, choices: &mut Choices, board: &Board, phase: u32)
 }
 
 impl Coordinator {
-    /// A coordinator of a board with these first counts, which counts so many turns in each phase. If `hot` is a number, a
-    /// page is hot in a split phase once it got as many likes since the choice before. All memory is taken here, and none
-    /// by its turns.
+    /// A coordinator of a board with these first counts, which counts `turns` turns in each phase. If `hot` is a
+    /// number, it chooses hot pages before each split phase: those of the first 64 pages that got that many likes since
+    /// the choice before, in at most 1,024 phases. All memory is taken here, and none by its turns.
     pub fn new(
         alloc: Global,
         seat: CoordSeat,

@@ -27,7 +27,7 @@ use std::marker::Model;
 
 /// A worker: it takes the requests of its submitters and runs them at its post, phase by phase.
 ///
-/// Its submitters are `w`, `w + N`, `w + 2 N`, .. for worker `w` of `N`; place `j` is that of submitter `w + j N`.
+/// Its submitters are `w`, `w + N`, `w + 2 N`, .. for worker `w` of `N`; place `j` belongs to submitter `w + j N`.
 #[derive(Drop)]
 pub struct Worker<P: Post> {
     seat: Station<P, Held>,
@@ -46,7 +46,7 @@ impl<P: Post> Model for Worker<P> {
     ghost invariant = { λ w. IsSound w.seat w.desk };
 }
 
-/// There is no memory for a worker. The post that was passed comes back.
+/// There is no memory for a worker. The post is given back.
 #[derive(Drop)]
 pub struct NoWorker<P: Post> {
     pub post: P,
@@ -91,8 +91,8 @@ impl Parts {
 }
 
 impl<P: Post> Worker<P> {
-    /// Worker `worker` of a run with this many requests of each submitter. It notes its additions. All its room is made
-    /// here: its turns take no memory.
+    /// Worker `worker` of a run with this many requests of each submitter. It notes its additions. All its memory is
+    /// taken here: its turns take none.
     pub fn new(
         alloc: Global,
         setup: &Setup,
@@ -113,7 +113,7 @@ impl<P: Post> Worker<P> {
         Worker::noting(alloc, setup, sizes, worker, post, true)
     }
 
-    /// The same of a worker that notes its additions only where `notes` says so, and else has no room for notes.
+    /// The same, but the worker notes its additions only if `notes`, and else takes no memory for them.
     pub fn noting(
         alloc: Global,
         setup: &Setup,
@@ -170,7 +170,7 @@ impl<P: Post> Worker<P> {
         self.desk.give(&mut self.seat, gate, taken)
     }
 
-    /// Leaves the post, whatever is left to do.
+    /// Gives the post back, whatever is left to do.
     pub fn leave(self) -> P
         ensures { P.view result ≡ self.post }
     {

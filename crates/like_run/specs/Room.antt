@@ -2,7 +2,7 @@
 use Rattle.std.specs.Prelude.{◌≡◌, ℕ, [], vec_capacity}
 use Rattle.like_run.specs.declared.threads.room.Room.{Room}
 
--- nothing is in it, and it has room for so many workers and submitters
+-- it is empty, and has room for this many workers and submitters
 pub record IsRoom (workers submitters : ℕ) (r : Room) : Type 0 where
   pub no_workers : r.workers.items ≡ []
   pub no_submitters : r.submitters.items ≡ []

@@ -23,7 +23,7 @@ abbrev pub MakesAll : {I : Type 0} → List Turned → Crew I → Crew I → Typ
 MakesAll [] c d = d ≡ c
 MakesAll {I} (entry ∷ script) c d = (next : Crew I) × (Makes entry c next × MakesAll script next d)
 
--- so many rounds are made
+-- this many rounds are made
 abbrev pub MakesRounds : {I : Type 0} → ℕ → Crew I → Crew I → Type 0
 MakesRounds zero c d = d ≡ c
 MakesRounds {I} (suc n) c d = (next : Crew I) × (IsRound c next × MakesRounds n next d)

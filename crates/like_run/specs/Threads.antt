@@ -9,8 +9,8 @@ use Rattle.like_promises.specs.declared.run_fault.RunFault.TheVariants.{Settings
 use Rattle.like_run.specs.declared.threads.worker.Served.{Served}
 use Rattle.like_run.specs.declared.threads.worker.Served.TheVariants.{Left, Stopped}
 
--- what a thread ends with that began with this server: what the server left; or the word that no thread goes on, and the
--- seat with which it began, of which no turn was made
+-- what a thread that began with this server ends with: what the server left; or the token that says that no thread goes
+-- on, and the seat with which it began, unused
 abbrev pub Keeps : ℕ → ServerView → Served → Type 0
 Keeps start first (Left log seat) = HasLeft first log seat
 Keeps start first (Stopped token seat) = (token.of ≡ start) × (token.value ≡ false) × IsSeatOf first seat

@@ -27,8 +27,8 @@ pub const MAX_ROUNDS: u32 = 1_000_000;
 
 /// Replays a run on one thread. First the script's entries are made in their order; then all lists are opened, and
 /// rounds follow: one turn of the coordinator, and one of each worker in order. It ends with the round in which the
-/// coordinator finds the run ended and every worker is gone; where 1,000,000 rounds were made without that, it is
-/// `Unfinished`. On a fault the lists are given up.
+/// coordinator finds the run ended and every worker is gone; after 1,000,000 rounds without that, it is `Unfinished`.
+/// On a fault the lists are dropped.
 pub fn replay(
     alloc: Global,
     setup: &Setup,
@@ -44,8 +44,8 @@ pub fn replay(
     replay_noting(alloc, setup, plans, script, true)
 }
 
-/// Replays a run, as `replay`, whose workers note their additions or do not: then it takes no room for them, and its
-/// report has no places.
+/// Replays a run as `replay` does. If `notes`, the workers note their additions and the report has places. Else these
+/// take no memory.
 pub fn replay_noting(
     alloc: Global,
     setup: &Setup,

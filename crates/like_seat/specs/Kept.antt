@@ -61,7 +61,7 @@ pub record IsUnsplit (s : SplitSlice) (f : ℕ) : Type 0 where
   pub factor : s.splits.factor ≡ f
   pub none : (page : ℕ) → has_split s page ≡ false
 
--- just those of the first n pages are split now that pass a test, and the numbers are as before
+-- just those of the first n pages that pass a test are split now, and the numbers are as before
 pub record IsFilled (s : SplitSlice) (n : ℕ) (test : ℕ → Bool) (after : SplitSlice) : Type 0 where
   pub slice : IsSplitSlice after
   pub factor : after.splits.factor ≡ s.splits.factor
@@ -82,7 +82,7 @@ AreSlotsApart factor slots word =
     (i j : ℕ) → i < hot_pages → j < hot_pages → has_bit word i ≡ true → has_bit word j ≡ true
     → bucket factor (slots i) ≡ bucket factor (slots j) → i ≡ j
 
--- just the pages in the first n slots are split now, of those in use, and the numbers are as before
+-- just the pages in those of the first n slots that are in use are split now, and the numbers are as before
 pub record IsFilledBySlots (s : SplitSlice) (slots : ℕ → ℕ) (word n : ℕ) (after : SplitSlice) : Type 0 where
   pub slice : IsSplitSlice after
   pub factor : after.splits.factor ≡ s.splits.factor

@@ -72,12 +72,12 @@ counted_from c page (count ∷ counts) = counted_from (counted_coord c page coun
 abbrev pub with_counts : LeadView → ℕ → List ℕ → LeadView
 with_counts v from counts = record v { seat = counted_from v.seat from counts }
 
--- whether a page's count rose by at least so many
+-- whether a page's count rose by at least this many
 abbrev pub has_risen : ℕ → List ℕ → List ℕ → ℕ → Bool
 has_risen least before counts page =
     nat_le least (slice_index counts page - slice_index before page)
 
--- the mask of the pages whose counts rose by at least so many
+-- the mask of the pages whose counts rose by at least this many
 abbrev pub risen : ℕ → List ℕ → List ℕ → ℕ
 risen least before counts = mask (has_risen least before counts) (length before)
 
@@ -99,7 +99,7 @@ pub record MayPublishChoice (c : CoordSeatView) (pages : List ℕ) (bits : ℕ) 
   pub len : length pages ≡ hot_pages
   pub choice : IsChoice c.opening.factor (length c.opening.counts) (slice_index pages) bits
 
--- each slot in use, of the first so many, holds its page
+-- each slot in use of the first `many` holds its page
 abbrev pub HoldPages : List ℕ → List ℕ → ℕ → ℕ → Type 0
 HoldPages slots pages bits many =
     (slot : ℕ) → slot < many → has_bit bits slot ≡ true → slice_index slots slot ≡ slice_index pages slot
@@ -120,7 +120,7 @@ pub record PutsPage (c : CoordSeatView) (slot page : ℕ) (after : CoordSeatView
   pub slots : after.slots ≡ slice_set c.slots slot page
   pub rest : after ≡ record c { slots = after.slots; published = after.published }
 
--- its seat put these pages into the slots in use, of the first so many
+-- its seat put these pages into those of the first `many` slots that are in use
 pub record PutsPages (c : CoordSeatView) (pages : List ℕ) (bits many : ℕ) (after : CoordSeatView) : Type 0 where
   pub all : length after.slots ≡ hot_pages
   pub holds : HoldPages after.slots pages bits many

@@ -7,7 +7,7 @@ pub record SlicedLike : Type 0 where
   pub page : ℕ
   pub looks : ℕ
 
--- a like of this page, after so many looks
+-- a like of this page, after this many looks
 abbrev pub sliced_like : ℕ → ℕ → SlicedLike
 sliced_like page looks = record { page = page; looks = looks }
 

@@ -41,7 +41,8 @@ IsSliceInSplit post slice =
     (page : ℕ) → slice_index slice page ≢ 0 → RunsSplit post.state × (slices post page ≡ true)
 
 -- what is true of every seat: its board's limits are lawful, and its pages and its phase are within them; in a run page i
--- has bucket i; its slice has a number for each page; it has counted no more likes than a worker may add; and it holds no more than it has room for
+-- has bucket i; its slice has a number for each page; it has counted at most as many likes as a worker may add; and it
+-- holds no more than it has room for
 pub record IsStation {W : Type 0} (s : StationView W) : Type 0 where
   pub few_pages : pages_of s.post ≤ s.post.limits.pages
   pub limits : AreLimits s.post.limits

@@ -21,12 +21,12 @@ pub record IsNewStation {W : Type 0} (post : PostView) (room : ℕ) (users : Use
   pub sliced : s.sliced ≡ []
   pub last : s.last ≡ users
 
--- the masks that were read by who enters a phase: in a split one also that one's, which is this
+-- the masks that a seat has read that enters a phase: of a split one also its mask, which is this
 abbrev pub masks_entered : List PhaseMask → ℕ → ℕ → List PhaseMask
 masks_entered masks phase mask =
     if phase % 2 == 1 then record { phase = phase; mask = mask } ∷ masks else masks
 
--- the masks that were read by who goes from one phase to another, or stays
+-- the masks that a seat has read that goes from one phase to another, or stays
 abbrev pub masks_in : List PhaseMask → ℕ → ℕ → ℕ → List PhaseMask
 masks_in masks from to mask = if to == from then masks else masks_entered masks to mask
 
@@ -120,11 +120,11 @@ merged_page s page old =
     let t = with_addition s page old (slice_index s.slice page) in
     record t { slice = slice_set s.slice page 0 }
 
--- no page of a slice whose bucket is from one on has a like
+-- no page with its bucket from `from` on has a like in the slice
 abbrev pub NoneFrom : ℕ → List ℕ → ℕ → Type 0
 NoneFrom factor slice from = (page : ℕ) → from ≤ bucket factor page → slice_index slice page ≡ 0
 
--- the page is the next of a slice that has a like, by the pages' buckets, from one on
+-- the page is the first, by the pages' buckets from `from` on, that has a like in the slice
 pub record IsNext (factor : ℕ) (slice : List ℕ) (from page : ℕ) : Type 0 where
   pub after : from ≤ bucket factor page
   pub there : page < length slice
@@ -139,7 +139,7 @@ pub record MergesPage {W : Type 0} (s : StationView W) (from : ℕ) (m : Merged)
   pub likes : m.likes ≡ slice_index s.slice m.page
   pub merged : after ≡ merged_page s m.page m.old
 
--- the next page that has a like is merged, by the pages' buckets from one on, if there is one
+-- the first page, by the pages' buckets from `from` on, that has a like is merged, if there is one
 abbrev pub MergesNext : {W : Type 0} → StationView W → ℕ → Option Merged → StationView W → Type 0
 MergesNext s from merged after =
     MatchOption merged

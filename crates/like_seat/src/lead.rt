@@ -18,7 +18,7 @@ use like_core::{CoordSight, HOT_PAGES};
 use std::alloc::{AllocError, Global};
 use std::marker::Model;
 
-/// What leads the phases of a board: it ends a phase, chooses the hot pages of the next one, and releases it.
+/// Leads the phases of a board: it ends a phase, chooses the hot pages of the next one, and releases it.
 ///
 /// Each step is at its seat's board, which is passed.
 #[derive(Drop)]
@@ -48,15 +48,16 @@ impl Model for Lead {
     ghost invariant = { λ l. length l.before.items ≡ min hot_pages (length (coord_view l.seat).opening.counts) };
 }
 
-/// There is no memory for a lead. The seat that was passed comes back.
+/// There is no memory for a lead. The seat is given back.
 #[derive(Drop)]
 pub struct NoLead {
     pub seat: CoordSeat,
 }
 
 impl Lead {
-    /// The lead of a board that was made with these counts. Where `hot` is a number, a page is hot in a split phase if
-    /// it got as many likes since the choice before. All its room is made here: its steps take no memory.
+    /// The lead of a board that was made with these counts. If `hot` is a number, those of the first 64 pages are hot
+    /// in a split phase that got that many likes since the choice before. All its memory is taken here: its steps take
+    /// none.
     pub fn new(
         alloc: Global,
         seat: CoordSeat,
@@ -112,8 +113,8 @@ impl Lead {
         self.seat.announce(board);
     }
 
-    /// Reads the counts of the pages from one on at the end of a joined phase: each is the page's count at the start
-    /// and all that was added up to that phase. So all that are read before the release are those of one moment.
+    /// Reads the counts of the pages from `from` on at the end of a joined phase: each is the page's count at the start
+    /// and all that was added up to that phase. So all that are read before the release are of one moment.
     pub fn read_counts(&mut self, board: &Board, from: u32, counts: &mut [u64])
         requires here { self.old.board ≡ board_id board.now }
         requires saw { SawAllIn self.old.seat }
@@ -154,9 +155,9 @@ impl Lead {
         self.seat.publish(board, mask);
     }
 
-    /// Puts these pages into the slots of a service that these bits say are in use, and publishes that: they are what is
-    /// split in the phase that comes next. A slot that holds its page already isn't written. `held` is what the slots
-    /// hold, before and after.
+    /// Puts these pages into the slots of a service that these bits say are in use, and publishes that: the pages in
+    /// these slots are split in the next phase. A slot that holds its page already isn't written. `held` is what the
+    /// slots hold, before and after.
     pub fn publish_choice(&mut self, board: &Board, held: &mut [u32], pages: &[u32], bits: u64)
         requires here { self.old.board ≡ board_id board.now }
         requires may { MayPublishChoice self.old.seat pages.now bits }

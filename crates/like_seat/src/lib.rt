@@ -1,9 +1,9 @@
 //! A worker's seat, and the lead of all workers: what each does at a board, phase by phase, apart from where requests
 //! come from and what a run keeps of them.
 //!
-//! Each step is one call. A worker's seat looks, counts a like, reads for a look, puts a look by until the next joined
-//! phase, merges its slice, and answers the end of a phase. The lead looks, announces the end of a phase, chooses the hot
-//! pages of the next one, and releases it.
+//! Each step is one call. A worker's seat looks, counts a like, reads for a look, stashes a look until the next joined
+//! phase, merges its slice, and answers the end of a phase. The lead looks, announces the end of a phase, chooses the
+//! hot pages of the next one, and releases it.
 #![tactic(auto)]
 
 mod lead;

@@ -43,15 +43,15 @@ impl<P: Post, W: Copy> Model for Station<P, W> {
     ghost invariant = { λ s. IsKept (P.view s.post) s.tables };
 }
 
-/// There is no memory for a seat. The post that was passed comes back.
+/// There is no memory for a seat. The post is given back.
 #[derive(Drop)]
 pub struct NoStation<P: Post> {
     pub post: P,
 }
 
 impl<P: Post, W: Copy> Station<P, W> {
-    /// A new seat of a run, with these marks of split pages, room for so many that wait, and these last likes. All memory
-    /// is taken here, and none by its steps.
+    /// A new seat of a run, with these marks of split pages, room for `room` that wait, and these last likes. All
+    /// memory is taken here, and none by its steps.
     pub fn new(
         alloc: Global,
         post: P,
@@ -108,7 +108,7 @@ impl<P: Post, W: Copy> Station<P, W> {
         &self.tables.last
     }
 
-    /// Leaves the post, whatever is left to do.
+    /// Gives the post back, whatever is left to do.
     pub fn leave(self) -> P
         ensures post { P.view result ≡ self.post }
         ensures seat { IsStation self }

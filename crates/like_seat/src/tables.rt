@@ -32,7 +32,7 @@ pub(crate) struct Tables<W: Copy> {
 }
 
 impl<W: Copy> Tables<W> {
-    // Those of a seat that has done nothing yet. All room is made here.
+    // The tables of a seat that has done nothing yet. All memory is taken here.
     pub fn new(
         alloc: Global,
         marks: Vec<bool>,
@@ -76,7 +76,7 @@ fn split_pages(slice: &mut SplitSlice, marks: &[bool], mask: u64)
     }
 }
 
-// Whether a word has a bit of the first 64.
+// Whether a word has this bit.
 fn has_bit(word: u64, bit: usize) -> bool
     requires { bit < hot_pages }
     ensures { result ≡ has_bit word bit }
@@ -98,8 +98,8 @@ fn split_slots(slice: &mut SplitSlice, pages: &[u32; 64], used: u64)
 }
 
 impl<W: Copy> Tables<W> {
-    // Runs the phase that was released. Of a split one of a run its post reads the mask, and the pages are split that are
-    // marked or hot.
+    // Runs the phase that was released, in a run. In a split one the post reads the mask, and the pages that are marked
+    // or hot are split.
     #[cold]
     #[inline(never)]
     pub fn enter<P: Post>(&mut self, post: &mut P, phase: u64)

@@ -1,4 +1,4 @@
--- The factor by which the pages of a service have their buckets.
+-- The factor of a service's buckets.
 use Rattle.std.specs.Prelude.{◌≡◌, ℕ, ◌+◌, ◌*◌, ◌%◌, ◌^◌, ◌<◌, ◌≤◌, List, length, slice_index}
 use Rattle.like_limits.specs.Buckets.{bucket}
 
@@ -16,11 +16,12 @@ max_tries = 1000
 abbrev pub factor_at : ℕ → ℕ
 factor_at n = 2654435769 + 1640534 * n
 
--- by each of the first factors two of these pages share a bucket
+-- with each of the first `tries` factors two of these pages share a bucket
 abbrev pub NoneParts : List ℕ → ℕ → Type 0
 NoneParts pages tries = (n : ℕ) → n < tries → ¬ AreApart (factor_at n) pages
 
--- the factor is the first of all by which no two of these pages share a bucket. It is odd, and page 1 isn't in bucket 0
+-- the factor is the first of all with which no two of these pages share a bucket. It is odd, and page 1 isn't in bucket
+-- 0
 pub record IsFirstApart (pages : List ℕ) (factor : ℕ) : Type 0 where
   pub apart : AreApart factor pages
   pub odd : factor % 2 ≡ 1

@@ -19,11 +19,11 @@ IsAtHome h user = user % h.seats ≡ h.seat
 abbrev pub user_at : Home → ℕ → ℕ
 user_at h place = place * h.seats + h.seat
 
--- the number of seats without its factors of two, of which there are so many
+-- the number of seats without its factors of two; `turn` is how many there are
 abbrev pub odd_part : ℕ → ℕ → ℕ
 odd_part seats turn = seats / 2 ^ turn
 
--- two to the power of the turn divides the number of seats, and modulo 2 ^ 32 the inverse is that of the rest
+-- 2 ^ turn divides the number of seats, and modulo 2 ^ 32 the inverse is the quotient's
 pub record IsTurned (h : Home) (inverse turn : ℕ) : Type 0 where
   pub there : h.seat < h.seats
   pub fits : h.seats < 2 ^ 32

@@ -2,7 +2,7 @@
 use Rattle.std.specs.Prelude.{◌≡◌, ℕ, ◌+◌, ◌^◌, ◌<◌, ◌≤◌, List, length, slice_index}
 use Rattle.like_tables.specs.Share.{IsShare, Share, homes_below}
 
--- the numbers say how many of the submitters below one the worker serves, of each and of all
+-- the numbers say how many of the submitters below each one the worker serves, and how many of all
 pub record AreHomesBelow (share : Share) (homes : List ℕ) : Type 0 where
   pub lawful : IsShare share
   pub fits : share.submitters < 2 ^ 32

@@ -12,11 +12,11 @@ pub record SetsBit (page bit : ℕ) (old new : List ℕ) : Type 0 where
   pub here : bit_of new page ≡ bit
   pub others : (other : ℕ) → other ≢ page → bit_of new other ≡ bit_of old other
 
--- no page from one on and below another is in the set
+-- no page from `from` on and below `end` is in the set
 abbrev pub HasNone : List ℕ → ℕ → ℕ → Type 0
 HasNone words from end = (page : ℕ) → from ≤ page → page < end → bit_of words page ≡ 0
 
--- the page is the least from one on that is in the set
+-- the page is the least from `from` on that is in the set
 pub record IsNextIn (words : List ℕ) (from page : ℕ) : Type 0 where
   pub after : from ≤ page
   pub inside : bit_of words page ≡ 1

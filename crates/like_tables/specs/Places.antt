@@ -10,13 +10,13 @@ pub record HoldsUsers (share : Share) (pages : List (Option ℕ)) : Type 0 where
   pub lawful : IsShare share
   pub enough : length pages ≡ owned_below share share.users
 
--- what stands for a user: the page at the place that is numbered by the share's users below it
+-- a user's last like: the page at the user's place, which is how many of the share's users are below it
 abbrev pub last_at : Share → List (Option ℕ) → ℕ → Option ℕ
 last_at share pages user =
     if owns share user then slice_index_or pages (owned_below share user) None else None
 
--- what was written of so many places: to each user with such a place what stands for it, and nothing to the users of
--- other workers
+-- the first places were written: to each user with such a place the user's last like, and nothing to the users of other
+-- workers
 pub record IsGiven (share : Share) (pages was now : List (Option ℕ)) (places : ℕ) : Type 0 where
   pub len : length now ≡ length was
   pub own : (user : ℕ) → owns share user ≡ true → owned_below share user < places
@@ -24,13 +24,13 @@ pub record IsGiven (share : Share) (pages was now : List (Option ℕ)) (places :
   pub others : (user : ℕ) → owns share user ≡ false
       → slice_index_or now user None ≡ slice_index_or was user None
 
--- what was taken from a list of last likes at so many places: the last like of the user whose place it is
+-- the first places were filled from a list of last likes: each has the last like of the user whose place it is
 pub record AreTaken (share : Share) (lasts : List ℕ) (pages : List (Option ℕ)) (places : ℕ) : Type 0 where
   pub len : length pages ≡ owned_below share share.users
   pub own : (user : ℕ) → owns share user ≡ true → owned_below share user < places
       → slice_index_or pages (owned_below share user) None ≡ last_in lasts user
 
--- a row has the last likes of the users from a place on: each page, or the number that stands for none
+-- a row has the last likes of the users from a place on: each page, or `no_page`
 abbrev pub AreLastsFrom : UserTable → ℕ → List ℕ → Type 0
 AreLastsFrom t from row =
     (user i : ℕ) → owns t.share user ≡ true → owned_below t.share user ≡ from + i → i < length row

@@ -24,11 +24,11 @@ pub record IsShare (s : Share) : Type 0 where
   pub submitters : 1 ≤ s.submitters
   pub workers : 1 ≤ s.workers
 
--- the worker by whom a submitter is served
+-- the worker that serves a submitter
 abbrev pub worker_of : ℕ → ℕ → ℕ
 worker_of workers submitter = submitter % workers
 
--- the place of a submitter among those of its worker
+-- the place of a submitter among its worker's
 abbrev pub place_of : ℕ → ℕ → ℕ
 place_of workers submitter = submitter / workers
 
@@ -36,7 +36,7 @@ place_of workers submitter = submitter / workers
 abbrev pub submitter_of : ℕ → ℕ → ℕ → ℕ
 submitter_of workers worker place = worker + workers * place
 
--- those of a list at k, k + n, k + 2 n, ..: what worker k of n has of what each submitter has one of
+-- the elements of a list at k, k + n, k + 2 n, ..: what worker k of n gets of a list with one for each submitter
 abbrev pub dealt : {A : Type 0} → ℕ → ℕ → List A → List A
 dealt n k [] = []
 dealt n zero (x ∷ xs) = x ∷ dealt n (n - 1) xs
@@ -50,7 +50,7 @@ serves s submitter = worker_of s.workers submitter == s.worker
 abbrev pub serves_home : Share → ℕ → Bool
 serves_home s user = serves s (home s.submitters user)
 
--- whether the user is the worker's: it is there, and the worker serves its home
+-- whether the user is the worker's: it exists, and the worker serves its home
 abbrev pub owns : Share → ℕ → Bool
 owns s user = nat_lt user s.users && serves_home s user
 

@@ -2,7 +2,7 @@
 use Rattle.std.specs.Prelude.{◌≡◌, ℕ, ◌^◌, ◌<◌, ◌≤◌, ◌==◌, Bool, true, false, List, length, replicate, slice_index_or, slice_set, Option, Some, None}
 use Rattle.like_limits.specs.Buckets.{bucket, buckets}
 
--- the factor by which pages have their buckets, and the page that each bucket holds, if any
+-- the factor of the buckets, and the page that each bucket holds, if any
 pub record SplitPages : Type 0 where
   pub factor : ℕ
   pub pages : List (Option ℕ)
@@ -42,11 +42,11 @@ none_split factor = record { factor = factor; pages = replicate buckets None }
 abbrev pub with_page : SplitPages → ℕ → SplitPages
 with_page s page = record s { pages = slice_set s.pages (bucket s.factor page) (Some page) }
 
--- no bucket from one on and below another holds a page
+-- no bucket from `from` on and below `end` holds a page
 abbrev pub HoldNone : SplitPages → ℕ → ℕ → Type 0
 HoldNone s from end = (b : ℕ) → from ≤ b → b < end → page_in s b ≡ None
 
--- the page is in the first bucket from one on that holds a page
+-- the page is in the first bucket from `from` on that holds a page
 pub record IsNextSplit (s : SplitPages) (from page : ℕ) : Type 0 where
   pub after : from ≤ bucket s.factor page
   pub split : is_split s page ≡ true

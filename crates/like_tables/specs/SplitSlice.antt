@@ -21,7 +21,7 @@ has_split s page = is_split s.splits page
 abbrev pub likes_in : SplitSlice → ℕ → ℕ
 likes_in s page = if has_split s page then slice_index s.counts (bucket_in s page) else 0
 
--- and of each of so many pages
+-- and of each of this many pages
 abbrev pub by_page : SplitSlice → ℕ → List ℕ
 by_page s pages = map (likes_in s) (range_with_len 0 pages)
 
@@ -39,15 +39,15 @@ no_slice factor = record { splits = none_split factor; counts = replicate bucket
 abbrev pub with_split : SplitSlice → ℕ → SplitSlice
 with_split s page = record s { splits = with_page s.splits page }
 
--- a page has so many likes
+-- a page has this many likes
 abbrev pub with_likes : SplitSlice → ℕ → ℕ → SplitSlice
 with_likes s page likes = record s { counts = slice_set s.counts (bucket_in s page) likes }
 
--- no page whose bucket is from one on and below another has a like
+-- no page with its bucket from `from` on and below `end` has a like
 abbrev pub AreUnsliced : SplitSlice → ℕ → ℕ → Type 0
 AreUnsliced s from end = (page : ℕ) → from ≤ bucket_in s page → bucket_in s page < end → likes_in s page ≡ 0
 
--- the page is in the first bucket from one on whose page has a like
+-- the page is in the first bucket from `from` on whose page has a like
 pub record IsNextSliced (s : SplitSlice) (from page : ℕ) : Type 0 where
   pub after : from ≤ bucket_in s page
   pub split : has_split s page ≡ true

@@ -24,7 +24,7 @@ table_by factor tags = record {
   pages = map (page_at factor tags) (range_with_len 0 (length tags));
 }
 
--- by the factor page 1 is not in bucket 0; each bucket has a number; and those whose number is a page are in the set
+-- with the factor page 1 is not in bucket 0; each bucket has a number; and those whose number is a page are in the set
 pub record AreTags (factor : ℕ) (tags used : List ℕ) : Type 0 where
   pub least : 2 ^ 22 ≤ factor
   pub below : factor < 2 ^ 32

@@ -25,7 +25,7 @@ last_of t user = slice_index_or t.last user None
 abbrev pub with_last : UserTable → ℕ → ℕ → UserTable
 with_last t user page = record t { last = slice_set t.last user (Some page) }
 
--- a list of last likes has none, or one for each of so many users
+-- a list of last likes is empty, or has one for each user
 abbrev pub IsForUsers : ℕ → List ℕ → Type 0
 IsForUsers users lasts = (lasts ≡ []) ⊎ (length lasts ≡ users)
 

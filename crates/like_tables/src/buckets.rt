@@ -20,8 +20,8 @@ pub fn bucket(factor: u32, page: u32) -> u32
     page.wrapping_mul(factor) >> 22
 }
 
-/// The first of a thousand odd factors by which no two of these pages share a bucket, if there is one. Of 64 pages
-/// about one factor in seven parts them.
+/// The first of a thousand odd factors with which no two of these pages share a bucket, if there is one. About one
+/// factor in seven separates 64 pages.
 pub fn factor_for(pages: &[u32]) -> Option<u32>
     ensures first { IfSome result (IsFirstApart pages.now) }
     ensures none { IfNone result (NoneParts pages.now max_tries) }

@@ -5,8 +5,9 @@ use std::marker::Model;
 
 /// Where the users of one seat have their places: `seat`, `seat + seats`, `seat + 2 seats` and so on.
 ///
-/// The number of seats is an odd number times a power of two. To divide by it is to multiply by the inverse of the odd
-/// number modulo 2^32, and to turn the bits to the right. What isn't divisible gets a place beyond all users.
+/// The number of seats is an odd number times a power of two. So a division by it is a multiplication by the odd
+/// number's inverse modulo 2^32, and a rotation of the bits to the right. What isn't divisible gets a place beyond all
+/// users.
 #[derive(Drop)]
 pub struct Home {
     seats: u32,
@@ -28,7 +29,7 @@ impl Model for Home {
 }
 
 impl Home {
-    /// That of a seat, by how many seats there are and its number.
+    /// The home of a seat, by how many seats there are and its number.
     pub fn new(seats: u32, seat: u32) -> Self
         requires { seat < seats }
         ensures { result ≡ home_of seats seat }

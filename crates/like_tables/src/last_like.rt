@@ -3,7 +3,7 @@ ghost use Rattle.like_tables.specs.LastLike.{no_page, page_in, page_or_none};
 
 use std::marker::Model;
 
-/// No page has this number: in the place of a page, it says that there is none.
+/// No page has this number. Instead of a page's number, it says that there is none.
 pub const NO_PAGE: u32 = u32::MAX;
 
 /// The page of a user's last like, if there is one, in four bytes.

@@ -53,7 +53,7 @@ impl PageSet {
         ensures none { IfNone result (HasNone self.now from (64 * length self.now)) }
     {
         let first = from as usize / 64;
-        // Of the first word only the bits from that of `from` on count.
+        // Of the first word only the bits from `from` on count.
         let mut counted = u64::MAX << (from % 64);
         for place in first..self.words.len() {
             let word = self.words[place] & counted;

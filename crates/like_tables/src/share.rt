@@ -87,7 +87,7 @@ impl UserShare {
         rounds * self.homes_below[self.submitters as usize] + self.homes_below[submitter as usize]
     }
 
-    // The user with its place, if it is one of the worker's, of which there are so many. It costs no division.
+    // The user with its place, if it is one of the worker's `many` users. It costs no division.
     #[inline(always)]
     pub fn find(&self, home: &Home, user: u32, many: usize) -> Option<Placed>
         requires home { IsHomeOf home.now self.now }
@@ -123,7 +123,7 @@ impl UserShare {
         }
     }
 
-    // Writes the last likes of the worker's users to their places, out of those of all users. It walks as `give` does.
+    // Writes the last likes of the worker's users to their places, from a list for all users. It walks as `give` does.
     pub fn take(&self, lasts: &[u32], pages: &mut [LastLike])
         requires places { HoldsUsers self.now pages.old }
         requires users { length lasts.now ≡ self.now.users }

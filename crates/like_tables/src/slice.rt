@@ -27,7 +27,7 @@ impl Model for Slice {
 }
 
 impl Slice {
-    /// A slice without a like. Its room, a number for each page, is made here.
+    /// A slice without a like. Its memory, a number for each page, is taken here.
     pub fn new(alloc: Global, pages: u32) -> Result<Self, AllocError>
         ensures { IfOk result (λ slice. slice ≡ replicate pages 0) }
     {

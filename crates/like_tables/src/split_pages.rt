@@ -10,11 +10,11 @@ use std::marker::Model;
 
 /// The pages that are split in the phase that a worker runs, in a table of 1,024 buckets.
 ///
-/// A page is split if its bucket holds it. So one comparison tells it, and that the page is one of the service.
+/// A page is split if its bucket holds it. So one comparison tells that, and that the page exists.
 #[derive(Drop)]
 pub struct SplitPages {
     factor: u32,
-    // By bucket: the page that it holds. An empty one has a number that belongs into another.
+    // By bucket: the page that it holds. An empty one has a number that belongs in another.
     tags: [u32; BUCKETS],
     // The buckets that hold a page.
     used: PageSet,
@@ -51,7 +51,7 @@ fn empty_tags() -> [u32; BUCKETS]
 }
 
 impl SplitPages {
-    /// A table in which no page is split. By the factor page 1 is not in bucket 0.
+    /// A table in which no page is split. With the factor page 1 is not in bucket 0.
     pub fn new(alloc: Global, factor: u32) -> Result<Self, AllocError>
         requires { 2 ^ 22 ≤ factor }
         ensures { IfOk result (λ splits. splits ≡ none_split factor) }
@@ -102,7 +102,7 @@ impl SplitPages {
         }
     }
 
-    /// The page in the first bucket from one on that holds a page. A word tells of 64 buckets at once.
+    /// The page in the first bucket from `from` on that holds a page. A word tells of 64 buckets at once.
     pub fn next(&self, from: u32) -> Option<u32>
         ensures next { IfSome result (IsNextSplit self.now from) }
         ensures none { IfNone result (HoldNone self.now from buckets) }

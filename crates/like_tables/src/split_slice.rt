@@ -31,7 +31,7 @@ impl Model for SplitSlice {
 }
 
 impl SplitSlice {
-    /// A slice in which no page is split. By the factor page 1 is not in bucket 0.
+    /// A slice in which no page is split. With the factor page 1 is not in bucket 0.
     pub fn new(alloc: Global, factor: u32) -> Result<Self, AllocError>
         requires { 2 ^ 22 ≤ factor }
         ensures slice { IfOk result (λ slice. slice ≡ no_slice factor) }
@@ -100,7 +100,7 @@ impl SplitSlice {
         self.likes.likes(self.bucket(page))
     }
 
-    /// Gives the page's likes and takes them out.
+    /// Takes the page's likes out.
     pub fn take(&mut self, page: u32) -> u64
         requires { has_split self.old page ≡ true }
         ensures taken { result ≡ likes_in self.old page }
@@ -112,7 +112,7 @@ impl SplitSlice {
         self.likes.take(bucket)
     }
 
-    /// The page in the first bucket from one on whose page has a like. A word tells of 64 buckets at once.
+    /// The page in the first bucket from `from` on whose page has a like. A word tells of 64 buckets at once.
     pub fn next(&self, from: u32) -> Option<u32>
         requires { from ≤ buckets }
         ensures next { IfSome result (IsNextSliced self.now from) }

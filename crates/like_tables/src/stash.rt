@@ -24,7 +24,7 @@ impl<W: Copy> Model for Stash<W> {
 }
 
 impl<W: Copy> Stash<W> {
-    /// A stash that holds nothing. Its room, for `capacity` of them, is made here.
+    /// A stash that holds nothing. Its memory, for `capacity` of them, is taken here.
     pub fn new(alloc: Global, capacity: u32) -> Result<Self, AllocError>
         requires some { 1 ≤ capacity }
         requires few { capacity ≤ max_stash }
@@ -35,7 +35,7 @@ impl<W: Copy> Stash<W> {
         })
     }
 
-    /// Puts one more behind all others.
+    /// Adds one behind all others.
     pub fn push(&mut self, held: W)
         requires { length self.old.held < self.old.capacity }
         ensures { self.new ≡ record self.old { held = self.old.held ++ held ∷ [] } }
@@ -43,7 +43,7 @@ impl<W: Copy> Stash<W> {
         self.ring.push_back(held);
     }
 
-    /// Gives and takes out the first, if it holds one.
+    /// Takes out the first, if it holds one.
     #[inline(always)]
     pub fn pop_front(&mut self) -> Option<W>
         ensures first { result ≡ slice_get self.old.held 0 }

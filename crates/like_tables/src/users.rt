@@ -37,8 +37,8 @@ impl Model for Users {
 }
 
 impl Users {
-    /// The table of worker `worker`, in which no user has liked a page. Its room, a place for each user that this
-    /// worker serves, is made here.
+    /// The table of worker `worker`, in which no user has liked a page. Its memory, a place for each user that this
+    /// worker serves, is taken here.
     pub fn new(
         alloc: Global,
         users: u32,
@@ -59,8 +59,8 @@ impl Users {
         })
     }
 
-    /// The table of worker `worker`, with the last likes of its users out of those of all: by user number, a page or
-    /// `NO_PAGE`. If there are none at all, no user has liked a page.
+    /// The table of worker `worker`, with the last likes of its users. `lasts` has those of all users, by user number:
+    /// a page or `NO_PAGE`. If it is empty, no user has liked a page.
     pub fn with_lasts(
         alloc: Global,
         users: u32,
@@ -194,7 +194,7 @@ impl Users {
         self.pages[placed.place as usize] = LastLike::of(page);
     }
 
-    /// Whether the worker serves so many users from a place on, where its users are in the order of their numbers.
+    /// Whether the worker serves `many` users from place `from` on. Its users are in the order of their numbers.
     pub fn has_places(&self, from: u32, many: usize) -> bool
         ensures places { IsTrue result ↔ (from + many ≤ self.now.room) }
         ensures table { IsUserTable self.now }
@@ -203,7 +203,7 @@ impl Users {
         from as usize <= places && many <= places - from as usize
     }
 
-    /// Writes the last likes of the worker's users from a place on: each one's page, or `NO_PAGE`.
+    /// Writes the last likes of the worker's users from place `from` on: each one's page, or `NO_PAGE`.
     pub fn write_lasts(&self, from: u32, row: &mut [u32])
         requires { from + length row.old ≤ self.now.room }
         ensures len { length row.new ≡ length row.old }

@@ -119,7 +119,7 @@ impl Drawn {
     }
 }
 
-// The page with so many more popular ones: each page is one of these.
+// The page with this rank by popularity, from 0 on. Every page has one rank.
 fn page_at(rank: u32) -> u32 {
     (u64::from(rank) * 611_953 % 1_000_000) as u32
 }

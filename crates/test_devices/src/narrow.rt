@@ -11,7 +11,7 @@ pub struct Narrow {
 }
 
 impl Narrow {
-    /// A writer of up to `width` bytes a write, of which so many writes succeed, and each flush or none.
+    /// A writer of up to `width` bytes a write. Its first `writes` writes succeed, and each flush or none.
     pub fn new(width: usize, writes: usize, flushes: bool) -> Self {
         Narrow {
             width,
@@ -21,7 +21,7 @@ impl Narrow {
         }
     }
 
-    /// A writer of up to `width` bytes a write, of which one write fails after so many, and one flush.
+    /// A writer of up to `width` bytes a write. One write fails, after this many, and one flush.
     pub fn failing_once(width: usize, writes: usize, flushes: usize) -> Self {
         Narrow {
             width,

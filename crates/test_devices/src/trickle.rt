@@ -10,7 +10,7 @@ pub struct Trickle<'t> {
 }
 
 impl<'t> Trickle<'t> {
-    /// A reader of this text of which so many reads succeed. A read at the end of the text is one too.
+    /// A reader of this text whose first `reads` reads succeed. A read at the end of the text is one too.
     pub fn new(text: &'t [u8], reads: usize) -> Self {
         Trickle {
             text,
@@ -19,7 +19,7 @@ impl<'t> Trickle<'t> {
         }
     }
 
-    /// The same, but of which all reads behind the first that fails succeed again.
+    /// The same, but all reads after the first that fails succeed again.
     pub fn failing_once(text: &'t [u8], reads: usize) -> Self {
         Trickle {
             text,

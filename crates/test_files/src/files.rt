@@ -149,7 +149,7 @@ fn has_only_second(pages: &Pages) -> bool {
     pages.find(b"b") == Some(1) && pages.find(b"B").is_none() && pages.find(b"\xff").is_none()
 }
 
-// What is read of the first bytes of a file, or where so many reads of a byte succeed.
+// What is read from the first bytes of a file, or where this many reads of a byte succeed.
 fn answer_within(
     rt: &impl Abort,
     alloc: Global,
@@ -164,8 +164,8 @@ fn answer_within(
     answer(rt, alloc, kind, file.get(..number).unwrap_or(file))
 }
 
-// What is read of the first 0, 1, 2 .. bytes of a file, or after 0, 1, 2 .. reads of a byte. A number stands before
-// each answer that is not the one before.
+// What is read of the first 0, 1, 2 .. bytes of a file, or after 0, 1, 2 .. reads of a byte. Each answer that differs
+// from the one before has its number before it.
 fn answers(rt: &impl Abort, alloc: Global, kind: Kind, file: &[u8], by_reads: bool) -> String {
     let mut text = String::new(alloc);
     let mut last = String::new(alloc);

@@ -47,7 +47,7 @@ fn ends<R: Read>(
     answer == wanted && records.field_count() == 0 && records.read_next() == wanted
 }
 
-// Whether a file has these records. It has to end so.
+// Whether a file has these records. It must end so.
 fn is_read<R: Read + Drop>(
     rt: &impl Abort,
     alloc: Global,
@@ -148,7 +148,7 @@ fn a_failed_read_stays_failed(rt: HostRuntime) {
     );
 }
 
-// Reads so many records.
+// Reads this many records.
 fn skip<R: Read>(rt: &impl Abort, records: &mut Records<R>, number: u32) {
     for _ in 0..number {
         let is_there = records.read_next().expect(rt, "a record");

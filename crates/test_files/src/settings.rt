@@ -8,7 +8,7 @@ use like_requests::{
 use std::alloc::Global;
 use std::process::Abort;
 
-// For so many submitters so many likes each: submitter 0 of this page, and each other one of the page after.
+// The likes of the submitters, `each` of each one. Submitter n likes page `first` + n.
 fn likes(rt: &impl Abort, alloc: Global, numbers: &[u32; 3]) -> Vec<Vec<Request>> {
     let [submitters, each, first] = *numbers;
     let mut plans = Vec::new(alloc);
@@ -29,8 +29,8 @@ fn like_of(page: u32) -> Request {
 }
 
 // Workers, users, places of the stash and turns; likes of a hot page, if pages are chosen; submitters, how many likes
-// each of these has, and the page of those of submitter 0; and the answer. There is one page, so a like of another is
-// at fault.
+// each of these has, and the page that submitter 0 likes; and the answer. There is one page, so a like of another is at
+// fault.
 type Case = ([u32; 4], Option<u32>, [u32; 3], Result<(), SettingsFault>);
 
 const SETTINGS: &[Case] = &[

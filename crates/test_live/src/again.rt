@@ -1,4 +1,4 @@
-//! A service that lasts: what it tells of last likes, and another one that goes on from its counts and last likes.
+//! The last likes that a service tells at its end, and another service that goes on from them and from its counts.
 use crate::play::are_last_counts;
 use crate::services::{Numbers, PLAIN, opened_with};
 use like_board::SharedPost;
@@ -25,7 +25,7 @@ const GOING_ON: Numbers = Numbers {
     ..OF_THREE
 };
 
-// The last likes of a seat's first two users, if it has so many.
+// The last likes of a seat's first two users, if it has two.
 fn first_two(seat: &LiveSeat<SharedPost>) -> Option<[u32; 2]> {
     if !seat.has_users(0, 2) {
         return None;

@@ -9,10 +9,10 @@ use std::process::Abort;
 use std::rt::Files;
 use std::test::Fail;
 
-// So many services are opened: a block that each of them keeps takes 32 bytes or more.
+// How many services are opened. A block that each of them kept would take 32 bytes or more.
 const SERVICES: usize = 5_000;
 
-// The pages of memory that a process may come to have beside.
+// At the end, the process must have fewer than this many more pages of memory.
 const PAGES: usize = 32;
 
 // The last seat likes, and all are dropped, that one first.

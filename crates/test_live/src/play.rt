@@ -7,7 +7,7 @@ use like_live::{Answer, Call, Driver, LiveSeat, Service};
 use std::process::Abort;
 use std::test::Fail;
 
-// Whether so many calls of a batch are made, with these answers behind it.
+// Whether this many calls of a batch are made, with these answers after it.
 fn is_run(
     seat: &mut LiveSeat<SharedPost>,
     calls: &[Call; 5],

@@ -52,7 +52,7 @@ pub struct Scene {
     pub parts: &'static [&'static [Step]],
 }
 
-/// What stands in place of an answer before a batch.
+/// What each answer is before a batch.
 pub const UNANSWERED: Answer = Answer::Like(LikeAnswer::Gone);
 
 /// The scenes. A function that takes them from here has none of them in its proof.

@@ -204,7 +204,7 @@ fn opens_at_each_limit(rt: HostRuntime) -> Result<(), Fail> {
     Ok(())
 }
 
-// Whether a service of 100 pages is opened with so many of them marked, the last of these first.
+// Whether a service of 100 pages is opened with this many of them marked, the last of these first.
 fn opens_with_marks(alloc: Global, many: u32) -> Result<bool, Fail> {
     let numbers = Numbers {
         counts: &[0; 100],

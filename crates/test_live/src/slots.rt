@@ -52,7 +52,7 @@ fn is_split<C: Choice>(driver: &Driver<C>, page: u32) -> bool {
     driver.split_pages(&mut pages) == 1 && pages[0] == page
 }
 
-// So many likes of a page by a user.
+// This many likes of a page by a user.
 fn likes(rt: &impl Abort, seat: &mut LiveSeat<SharedPost>, user: u32, page: u32, many: u32) {
     for _ in 0..many {
         assert!(rt; seat.like(user, page) == LikeAnswer::Liked);

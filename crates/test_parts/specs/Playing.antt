@@ -8,7 +8,7 @@ use Rattle.like_requests.specs.Setup.{IsThere}
 use Rattle.like_core.specs.Post.{pages_of}
 use Rattle.like_roles.specs.worker.WorkerView.{WorkerView, submitter_at}
 
--- the first so many requests of the plan were taken, and the rest are left where the submitter is the worker's
+-- the first `next` requests of the plan were taken, and the rest are left where the submitter is the worker's
 pub record IsAt (plan : List Request) (next : ℕ) (v : WorkerView) : Type 0 where
   pub one : length v.ended ≤ 1
   pub taken : count_by (λ t. t.submitter == submitter_at v 0) v.taken ≡ next
@@ -21,7 +21,7 @@ pub record IsPlaying (plan : List Request) (next : ℕ) (v : WorkerView) : Type 
   pub at : IsAt plan next v
   pub settled : v.pending ≡ None
 
--- what is given when so many requests of the plan were taken, and how many were taken then
+-- what is given when `next` requests of the plan were taken, and how many were taken then
 abbrev pub IsNextGiven : List Request → ℕ → Taken → ℕ → Type 0
 IsNextGiven plan next (Ask ask) then =
     (slice_get plan next ≡ Some ask.request) × (ask.number ≡ next + 1) × (then ≡ next + 1)

@@ -13,8 +13,8 @@ use Rattle.like_board.specs.declared.worker_seat.WorkerSeat.{WorkerSeat}
 use Rattle.like_board.specs.Seats.{BoardId, AreFresh, board_numbers, coord_board, coord_view}
 use Rattle.test_parts.specs.declared.known.Known.{Known}
 
--- the seats of a board of so many pages, whose first is marked or is not, within these limits, which give it no slots; no
--- call was made on them
+-- the seats of a board of this many pages, whose first is marked or is not, within these limits, which give it no
+-- slots; no call was made on them
 pub record AreOpened (board : BoardId) (pages : ℕ) (marked : Bool) (limits : Limits) (coord : CoordSeat)
     (seats : List WorkerSeat) : Type 0 where
   pub here : coord_board coord ≡ board
@@ -62,7 +62,7 @@ pub record IsWorkerAt (board : BoardId) (worker : ℕ) (v : PostView) : Type 0 w
   pub board_is : v.board ≡ board_numbers board
   pub worker_is : v.worker ≡ worker
 
--- the coordinator's seat is that of a board of so many workers and one page
+-- the coordinator's seat is that of a board of this many workers and one page
 pub record IsCoordOf (board : BoardId) (workers : ℕ) (coord : CoordSeat) : Type 0 where
   pub here : coord_board coord ≡ board
   pub workers_are : (coord_view coord).opening.workers ≡ workers

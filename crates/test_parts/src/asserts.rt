@@ -1,7 +1,7 @@
 //! What the tests assert, with its message. It is formatted here, so that their own proofs have none of it.
 use std::process::Abort;
 
-/// Asserts what has to hold of a case.
+/// Asserts what must hold of a case.
 pub fn assert_named(rt: &impl Abort, holds: bool, case: &str) {
     assert!(rt; holds, "{case}");
 }

@@ -24,7 +24,7 @@ use std::process::Abort;
 use std::test::Fail;
 use walker::Walker;
 
-// The last of the workers' seats, taken to its board, which has so many pages.
+// The last of the workers' seats, taken to its board, which has this many pages.
 fn last_walker<'a>(
     rt: &impl Abort,
     seats: &mut Vec<WorkerSeat>,
@@ -43,7 +43,7 @@ fn last_walker<'a>(
     Walker::new(seat.at(board), limits, pages, marked)
 }
 
-// A board of so many pages that begin at this count, with the coordinator's seat and each worker's.
+// A board of this many pages that begin at this count, with the coordinator's seat and each worker's.
 fn opened(
     alloc: Global,
     workers: u32,
@@ -211,7 +211,7 @@ fn walked(
     }
 }
 
-// Whether a page has this count at the end, and each worker added so many likes to it.
+// Whether a page has this count at the end, and each worker added this many likes to it.
 fn is_end(end: End, count: u64, first: u64, second: u64) -> bool {
     let (now, likes) = end;
     now == count && likes.0 == first && likes.1 == second

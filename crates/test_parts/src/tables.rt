@@ -57,7 +57,7 @@ fn a_factor_parts_pages(rt: HostRuntime) {
     assert!(rt; factor_for(&[7, 7]) == None);
 }
 
-// Makes a call of a slice of so many pages, and tells whether it may be made and is answered as it says.
+// Makes a call of a slice of this many pages, and tells whether it may be made and is answered as it says.
 fn answers_slice(slice: &mut Slice, pages: u32, call: OnSlice) -> bool
     requires { length slice.old ≡ pages }
     ensures { length slice.new ≡ pages }
@@ -78,7 +78,7 @@ fn answers_slice(slice: &mut Slice, pages: u32, call: OnSlice) -> bool
     }
 }
 
-// Makes the calls of a slice of so many pages, and asserts their answers.
+// Makes the calls of a slice of this many pages, and asserts their answers.
 fn call_slice(rt: &impl Abort, slice: &mut Slice, pages: u32, calls: &[OnSlice])
     requires { length slice.old ≡ pages }
 {
@@ -97,7 +97,7 @@ fn a_slice_gives_what_was_added(rt: HostRuntime) -> Result<(), Fail> {
     Ok(())
 }
 
-// Pushes so many looks, and tells whether there is room for them.
+// Pushes this many looks, and tells whether there is room for them.
 fn fills(stash: &mut Stash<Held>, looks: u32) -> bool {
     for _ in 0..looks {
         if stash.is_full() {
@@ -125,7 +125,7 @@ fn answers_stash(stash: &mut Stash<Held>, call: OnStash) -> bool {
     }
 }
 
-// Makes the calls of a stash with room for so many looks, and asserts their answers.
+// Makes the calls of a stash with room for this many looks, and asserts their answers.
 fn call_stash(rt: &impl Abort, stash: &mut Stash<Held>, capacity: usize, calls: &[OnStash]) {
     for at in 0..calls.len() {
         assert_call_at(rt, answers_stash(stash, calls[at]), capacity, at);
@@ -187,7 +187,7 @@ fn judges_unknown_page(users: &Users) -> bool {
     users.judge(1, &home) == Verdict::UnknownPage
 }
 
-// Whether a table of five users is that of worker 1 of two.
+// Whether a table of five users is worker 1's, of two workers.
 fn is_worker_one(users: &Users) -> bool
     requires { users.now.share.users ≡ 5 }
 {

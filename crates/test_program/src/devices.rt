@@ -20,7 +20,7 @@ fn plain_files() -> (&'static str, &'static str) {
     (PAGES, REQUESTS)
 }
 
-// A reader of a text of which so many reads succeed. One read fails behind them, or all do.
+// A reader of a text whose first `reads` reads succeed. One read after them fails, or all do.
 fn reader(text: &'static str, reads: usize, recovers: bool) -> Trickle<'static> {
     if recovers {
         return Trickle::failing_once(text.as_bytes(), reads);
@@ -28,7 +28,7 @@ fn reader(text: &'static str, reads: usize, recovers: bool) -> Trickle<'static> 
     Trickle::new(text.as_bytes(), reads)
 }
 
-// The fault of the plain example, of whose files so many reads succeed.
+// The fault of the plain example, where this many reads of each file succeed.
 fn read_fault(
     rt: &impl Abort,
     alloc: Global,
@@ -53,7 +53,7 @@ fn read_fault(
 
 const ALL: usize = usize::MAX;
 
-// Asserts that the pages file or the request file of so many bytes is at fault at each of its reads.
+// Asserts that the pages file or the request file of this many bytes is at fault at each of its reads.
 fn assert_reads_fail(
     rt: &impl Abort,
     alloc: Global,
@@ -102,7 +102,7 @@ fn write_fault(
     fault_of(rt, alloc, settings, pages.as_bytes(), files, None, &mut out)
 }
 
-// Asserts that a writer is at fault, which takes so many writes or flushes.
+// Asserts that a writer is at fault that takes this many writes or flushes.
 fn assert_fails(rt: &impl Abort, alloc: Global, settings: &str, out: Narrow, takes: usize) {
     let fault = write_fault(rt, alloc, settings, out);
     assert!(rt;
@@ -122,7 +122,7 @@ fn assert_writes_fail(rt: &impl Abort, alloc: Global, settings: &str, length: us
     assert_done(rt, settings, fault);
 }
 
-// Asserts that a writer is at fault at each of its flushes, of which there are so many.
+// Asserts that a writer is at fault at each of this many flushes.
 fn assert_flushes_fail(rt: &impl Abort, alloc: Global, settings: &str, flushes: usize) {
     for flush in 0..flushes {
         let once = Narrow::failing_once(1, ALL, flush);

@@ -14,7 +14,7 @@ use std::sync::Wait;
 use std::thread::Threads;
 use test_devices::Narrow;
 
-// The words of a text, each a text of its own.
+// The words of a text, each as a text.
 fn texts(rt: &impl Abort, alloc: Global, text: &str) -> Vec<String> {
     let mut texts = Vec::new(alloc);
     for word in text.split_whitespace() {
@@ -57,7 +57,7 @@ fn place_file(rt: &(impl Files + Abort), file: &str, is_there: bool) {
     assert_that(rt, done.is_ok(), name);
 }
 
-// Whether bytes are a text, in which `..` at an end stands for more.
+// Whether bytes are this text. A `..` at one of its ends means any more.
 fn fits(bytes: &[u8], text: &str) -> bool {
     if let Some(end) = text.strip_prefix("..") {
         return bytes.ends_with(end.as_bytes());
@@ -68,7 +68,7 @@ fn fits(bytes: &[u8], text: &str) -> bool {
     }
 }
 
-// Whether a start has ended as it has to.
+// Whether a start has ended as it says.
 fn is_end(start: &str, status: u8, out: &[u8], errors: &[u8]) -> bool {
     cell(start, 3).parse().ok() == Some(status)
         && fits(out, cell(start, 4))
@@ -105,7 +105,7 @@ fn ends_of_starts(rt: HostRuntime) {
     }
 }
 
-// Asserts what words end in on an output of one byte a write, of which so many succeed: the line and the status.
+// Asserts what words end in, the line and the status, on an output of one byte a write where this many succeed.
 fn assert_told<R: Files + Input + Threads + Wait + Abort + Clock + Sync>(
     rt: &R,
     alloc: Global,

@@ -18,7 +18,7 @@ pub fn assert_done(rt: &impl Abort, name: &str, fault: Option<DriverFault>) {
     assert!(rt; fault.is_none(), "{name}: {fault:?}");
 }
 
-/// The cell of a text at an index, where `|` stands between cells.
+/// The cell of a text at an index, with `|` between cells.
 pub fn cell(text: &str, index: usize) -> &str {
     text.split('|').nth(index).unwrap_or("")
 }
@@ -57,7 +57,7 @@ fn setting(settings: &str, index: usize) -> Option<u32> {
     word.and_then(|word| word.parse().ok())
 }
 
-/// The options with these settings, which name so many request files, and a script where there is one.
+/// The options with these settings, which name this many request files, and a script where there is one.
 pub fn options_of(
     rt: &impl Abort,
     alloc: Global,
@@ -81,12 +81,12 @@ pub fn options_of(
     }
 }
 
-/// A text of its own.
+/// A copy of a text.
 pub fn owned(rt: &impl Abort, alloc: Global, text: &str) -> String {
     String::from_str(alloc, text).expect(rt, "memory")
 }
 
-// The names of so many request files.
+// The names of this many request files.
 fn names(rt: &impl Abort, alloc: Global, files: usize) -> Vec<String> {
     let mut names = Vec::new(alloc);
     for file in 0..files {
@@ -142,7 +142,7 @@ const WHOLE: Cuts = Cuts {
     script: usize::MAX,
 };
 
-// The files of one kind have so many bytes at most.
+// The files of one kind have this many bytes at most.
 fn cuts_of(file: File, most: usize) -> Cuts {
     let mut cuts = WHOLE;
     match file {
@@ -153,13 +153,13 @@ fn cuts_of(file: File, most: usize) -> Cuts {
     cuts
 }
 
-// The first bytes of a text, up to so many.
+// The first bytes of a text, up to this many.
 fn cut(text: &str, most: usize) -> &[u8] {
     let bytes = text.as_bytes();
     bytes.get(..most).unwrap_or(bytes)
 }
 
-/// The first bytes of request files, up to so many of each.
+/// The first bytes of request files, up to this many of each.
 pub fn requests_of<'a>(
     rt: &impl Abort,
     alloc: Global,
@@ -173,7 +173,7 @@ pub fn requests_of<'a>(
     files
 }
 
-// The first bytes of the script, up to so many, where there is one.
+// The first bytes of the script, up to this many, where there is one.
 fn script_of(script: &str, most: usize) -> Option<&[u8]> {
     if script == "-" {
         return None;
@@ -195,7 +195,7 @@ fn replayed(
     fault_of(rt, alloc, case.settings, pages, requests, script, out)
 }
 
-// Whether a file of this kind, of which an end is missing, is replayed, or is at fault itself.
+// Whether a file of this kind whose end is missing is replayed, or is at fault itself.
 fn is_harmless(rt: &impl Abort, alloc: Global, case: &Case<'_>, file: File, most: usize) -> bool {
     match replayed(rt, alloc, case, cuts_of(file, most), &mut Vec::new(alloc)) {
         None => true,
@@ -213,7 +213,7 @@ fn is_of(fault: &DriverFault, file: File) -> bool {
     }
 }
 
-// Asserts that files of this kind and length, of which any end is missing, are replayed, or are at fault themselves.
+// Asserts that a file of this kind and length, whatever end is missing, is replayed, or is at fault itself.
 fn assert_prefixes(rt: &impl Abort, alloc: Global, case: &Case<'_>, file: File, length: usize) {
     for most in 0..length {
         let is_harmless = is_harmless(rt, alloc, case, file, most);
@@ -285,7 +285,7 @@ fn refused_replays(rt: HostRuntime) {
     }
 }
 
-// A case with these settings and so many request files.
+// A case with these settings and this many request files.
 fn with_files(rt: &impl Abort, alloc: Global, settings: &str, files: usize, end: &str) -> String {
     let requests = "op,user,page\nlike,0,a\nlike,1,a\nlike,0,a\n&".repeat(alloc, files);
     let requests = requests.expect(rt, "memory");

@@ -14,7 +14,7 @@ fn pages() -> &'static str {
     PAGES
 }
 
-// A request file that has these rows so many times.
+// A request file that has these rows this many times.
 fn requests(rt: &impl Abort, alloc: Global, rows: &str, count: usize) -> String {
     let mut text = String::from_str(alloc, "op,user,page\n").expect(rt, "memory");
     for _ in 0..count {
@@ -23,7 +23,7 @@ fn requests(rt: &impl Abort, alloc: Global, rows: &str, count: usize) -> String 
     text
 }
 
-// The fault of a run with these settings, whose request file has these rows so many times, onto a writer.
+// The fault of a run with these settings, whose request file has these rows this many times, onto a writer.
 fn run_onto<'a, W: Write>(
     rt: &(impl Threads + Wait + Abort + Sync),
     alloc: Global,
@@ -38,7 +38,7 @@ fn run_onto<'a, W: Write>(
     run_files(rt, alloc, &options, pages.as_bytes(), files, out).err()
 }
 
-// Runs of so many likes of the page by user 0: their settings, how often each is made, and how its report ends.
+// Runs of this many likes of the page by user 0: their settings, how often each is made, and how its report ends.
 const RUNS: &[(&str, usize, u32, &str)] = &[
     // A replay would be `Unfinished`: a worker runs one request a round.
     (
@@ -68,7 +68,7 @@ fn runs() -> &'static [(&'static str, usize, u32, &'static str)] {
     RUNS
 }
 
-// Asserts how the report of a run of so many likes ends.
+// Asserts how the report of a run of this many likes ends.
 fn assert_ends(
     rt: &(impl Threads + Wait + Abort + Sync),
     alloc: Global,
@@ -92,8 +92,8 @@ fn ends_of_reports(rt: HostRuntime) {
     }
 }
 
-// The fault of a run of so many likes of the page by user 0 onto a writer, with places, and how many of its writes are
-// left.
+// The fault of a run of this many likes of the page by user 0 onto a writer, with places, and how many of its writes
+// are left.
 fn write_fault(
     rt: &(impl Threads + Wait + Abort + Sync),
     alloc: Global,
@@ -106,7 +106,7 @@ fn write_fault(
     (fault, out.writes_left())
 }
 
-// Asserts that a writer is at fault, which takes so many writes or flushes.
+// Asserts that a writer is at fault that takes this many writes or flushes.
 fn assert_fails(
     rt: &(impl Threads + Wait + Abort + Sync),
     alloc: Global,
@@ -121,7 +121,7 @@ fn assert_fails(
     );
 }
 
-// Asserts that a writer of so many bytes a write is at fault at each of its writes.
+// Asserts that a writer of this many bytes a write is at fault at each of its writes.
 fn assert_writes_fail(
     rt: &(impl Threads + Wait + Abort + Sync),
     alloc: Global,

@@ -169,13 +169,13 @@ pub fn turns(rt: &impl Abort, alloc: Global, script: &str) -> Vec<Turned> {
     turns
 }
 
-// So many requests of page 0 by a user.
+// This many requests of page 0 by a user.
 fn plan_of_one(rt: &impl Abort, alloc: Global, op: Op, user: u32, each: usize) -> Vec<Request> {
     let page = PageRef::Known(0);
     vec![in alloc; Request { op, user, page }; each].expect(rt, "memory")
 }
 
-/// For each submitter so many requests of page 0 by the user of its number.
+/// For each submitter, this many requests of page 0 by the user of its number.
 pub fn requests(
     rt: &impl Abort,
     alloc: Global,
@@ -190,7 +190,7 @@ pub fn requests(
     plans
 }
 
-/// For each submitter so many likes of page 0 by the user of its number.
+/// For each submitter, this many likes of page 0 by the user of its number.
 pub fn likes(rt: &impl Abort, alloc: Global, submitters: u32, each: usize) -> Vec<Vec<Request>> {
     requests(rt, alloc, Op::Like, submitters, each)
 }

@@ -1,5 +1,5 @@
 //! Example mixed-load: likes and looks of a page that is split and of one that isn't, on threads. Run order, and the bounds
-//! between which each count has to lie, are computed here from what the workers took and from which likes they ran.
+//! of each count, are computed here from what the workers took and from which likes they ran.
 use super::cases::{Case, SMALL, assert_counts};
 use super::gates::Watch;
 use super::lists::{are_alike, push};
@@ -71,13 +71,13 @@ fn order(rt: &impl Abort, alloc: Global, taken: &[Took]) -> Vec<Entry> {
     order
 }
 
-// How many likes ran, by phase and page: those of page 0 in phase 0, of page 1 in phase 0, of page 0 in phase 1 and so on.
+// How many likes ran, by phase and page: of page 0 in phase 0, of page 1 in phase 0, of page 0 in phase 1 and so on.
 #[derive(Drop)]
 struct Likes {
     rows: Vec<u64>,
 }
 
-// Where the likes of a page in a phase stand.
+// The row of the likes of a page in a phase.
 fn row(phase: u32, page: u32) -> usize {
     phase as usize * 2 + page as usize
 }
@@ -121,7 +121,7 @@ impl Likes {
     }
 }
 
-// What the counts that a worker's looks were shown have to lie between.
+// The bounds of the counts that a worker's looks were shown.
 #[derive(Clone, Copy)]
 struct Bounds<'a> {
     // All likes, in each phase and up to it, and the worker's own ones.
@@ -131,8 +131,9 @@ struct Bounds<'a> {
 }
 
 impl Bounds<'_> {
-    // Whether the count that an entry was shown, if one was, lies between: at least all likes of earlier phases and the
-    // worker's own ones before in its phase, and at most all likes up to that phase less its own later ones in it.
+    // Whether the count that an entry was shown, if any, is within its bounds. The least is all likes of earlier phases
+    // and the worker's own earlier ones in this phase. The most is all likes up to the end of this phase, less the
+    // worker's own later ones in it.
     fn hold(&self, entry: &Ran, before: &Likes) -> bool {
         match entry.reply {
             Reply::Seen { count, .. } => {
@@ -143,7 +144,7 @@ impl Bounds<'_> {
         }
     }
 
-    // Whether a page's count in a phase lies between, after so many of the worker's own likes in it.
+    // Whether a page's count in a phase is between its bounds, after this many of the worker's own likes in it.
     fn are_round(&self, count: u64, phase: u32, page: u32, made: u64) -> bool {
         let so_far = self.up_to.within(phase, page);
         let later = self.own.within(phase, page).saturating_sub(made);
@@ -151,7 +152,7 @@ impl Bounds<'_> {
         earlier.saturating_add(made) <= count && count <= so_far.saturating_sub(later)
     }
 
-    // Whether they hold for each entry, beside the likes before it, of which there are none at first.
+    // Whether they hold for each entry and the likes before it: at first there are none.
     fn hold_for(&self, ran: &[Ran], before: &mut Likes) -> bool {
         for entry in ran {
             if !self.hold(entry, before) {

@@ -1,4 +1,4 @@
-//! Where the additions of runs stand.
+//! The places of the additions in runs.
 use super::cases::{assert_counts, plain_likes};
 use super::gates::Watch;
 use like_replies::{Place, Report};

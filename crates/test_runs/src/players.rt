@@ -26,7 +26,7 @@ pub struct Player {
     phase: u32,
     answered: bool,
     gone: bool,
-    // Whether memory was wanting, or a user is not there.
+    // Whether memory ran out, or a user is unknown.
     stuck: bool,
     // Those of its submitters whose end mark was not taken, from the cursor on.
     submitters: VecDeque<u32>,
@@ -245,7 +245,7 @@ fn submitters_of(
     own
 }
 
-// The players of so many workers.
+// The players of this many workers.
 fn players_of(rt: &impl Abort, alloc: Global, workers: u32, submitters: u32) -> Vec<Player>
     requires { 1 ≤ workers }
 {
@@ -257,7 +257,7 @@ fn players_of(rt: &impl Abort, alloc: Global, workers: u32, submitters: u32) -> 
     players
 }
 
-// A core of so many workers, with four pages of which these are split.
+// A core of this many workers, with four pages, these of them split.
 fn core_of(rt: &impl Abort, alloc: Global, workers: u32, split: &[bool; 4]) -> Core
     requires some { 1 ≤ workers }
     requires few { workers ≤ 16 }
@@ -265,7 +265,7 @@ fn core_of(rt: &impl Abort, alloc: Global, workers: u32, split: &[bool; 4]) -> C
     Core::new(alloc, workers, &[10, 20, 30, 40], split).expect(rt, "memory")
 }
 
-// Lists of which no item is open.
+// Lists with no open item.
 fn closed_lists(rt: &impl Abort, alloc: Global, submitters: usize) -> Vec<List> {
     vec![in alloc; List { open: 0, taken: 0 }; submitters].expect(rt, "memory")
 }
@@ -321,7 +321,7 @@ impl Played {
     }
 }
 
-/// Plays a script, and then rounds, with four pages of 10, 20, 30 and 40 likes of which these are split.
+/// Plays a script, and then rounds, with four pages of 10, 20, 30 and 40 likes, these of them split.
 pub fn play(
     rt: &impl Abort,
     alloc: Global,

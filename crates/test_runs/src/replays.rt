@@ -1,5 +1,5 @@
-//! Replays of scripts: what the workers took and ran and where their additions stand, refused scripts, and how long a replay
-//! may last.
+//! Replays of scripts: what the workers took and ran, the places of their additions, refused scripts, and how long a
+//! replay may last.
 use super::cases::{
     Case, FULL_STASH, IDLE_WORKERS, LATE_WORKER, PLAIN_LIKES, SMALL, SPLIT_AND_STASH,
     STASH_THEN_LIKE, TWO_SLICES, UNSPLIT, assert_counts, likes,
@@ -345,7 +345,7 @@ fn names_an_entry_that_is_away(rt: HostRuntime) {
     assert!(rt; fault == Some(ReplayFault::Settings(SettingsFault::Script { at: 1 })));
 }
 
-// Whether 2,060 entries ran, of which entry n ran in phase n and is number n, from 1 on.
+// Whether 2,060 entries ran: entry n in phase n with number n, from 1 on.
 fn ran_by_phase(ran: &[Ran]) -> bool {
     let mut phase = 0_u32;
     for entry in ran {
@@ -369,7 +369,7 @@ fn is_hot_in_odd_phases(hot: &[Chosen]) -> bool {
     phase == 2_049
 }
 
-// Asserts that like n of 2,060 ran in phase n, and that page 0 alone was hot in 1,024 odd phases, of which 3 is the first.
+// Asserts that like n of 2,060 ran in phase n, and that page 0 alone was hot in 1,024 odd phases, from 3 on.
 fn assert_hot_in_1024_phases(rt: &impl Abort, report: Report) {
     let log = report.logs.first().expect(rt, "a log");
     assert!(rt; ran_by_phase(&log.ran));
@@ -406,7 +406,7 @@ fn bounds() -> &'static Case {
     &BOUNDS
 }
 
-// What a replay of so many likes ends in.
+// What a replay of this many likes ends in.
 fn replay_likes(rt: &impl Abort, alloc: Global, number: usize) -> Result<Report, ReplayFault> {
     bounds().replay_plans(rt, alloc, likes(rt, alloc, 1, number))
 }

@@ -14,7 +14,7 @@ use std::thread::Threads;
 // How many times a gate looks before it gives up.
 const LOOKS: u32 = 1 << 24;
 
-// Whether a submitter has so many replies, all of them `Liked`.
+// Whether a submitter has `each` replies, all of them `Liked`.
 fn is_all_liked(row: &[Answer], each: usize) -> bool {
     for answer in row {
         if answer.reply != Reply::Liked {
@@ -24,7 +24,7 @@ fn is_all_liked(row: &[Answer], each: usize) -> bool {
     row.len() == each
 }
 
-// Whether so many submitters have so many replies each, all of them `Liked`.
+// Whether there are `submitters` rows of `each` replies, all of them `Liked`.
 fn are_all_liked(rows: &[Vec<Answer>], submitters: usize, each: usize) -> bool {
     for row in rows {
         if !is_all_liked(row, each) {
@@ -34,7 +34,7 @@ fn are_all_liked(rows: &[Vec<Answer>], submitters: usize, each: usize) -> bool {
     rows.len() == submitters
 }
 
-// Whether so many users like page 0.
+// Whether there are `users` users, and each likes page 0.
 fn like_the_page(last: &[Option<u32>], users: usize) -> bool {
     for page in last {
         if *page != Some(0) {
@@ -44,8 +44,8 @@ fn like_the_page(last: &[Option<u32>], users: usize) -> bool {
     last.len() == users
 }
 
-// Asserts that so many submitters have so many replies each, all of them `Liked`, and that so many users like the page,
-// whose count this is.
+// Asserts that there are `submitters` rows of `each` replies, all of them `Liked`, and that `users` users like the
+// page, whose count this is.
 fn assert_liked(
     rt: &impl Abort,
     report: Report,
@@ -69,7 +69,7 @@ fn runs_plain_likes(rt: HostRuntime) {
     assert_liked(&rt, report, 1, 3, 2, 13);
 }
 
-// A run of so many likes of each submitter, who are all users, with a gate that holds calls.
+// A run of `each` likes of each submitter, where every submitter is a user, with a gate that holds calls.
 #[derive(Clone, Copy)]
 struct Run {
     workers: u32,
@@ -135,7 +135,7 @@ fn assert_likes(rt: &(impl Abort + Threads + Wait + Sync), alloc: Global, run: &
     assert_calls(rt, &gate, run.submitters.saturating_mul(run.each));
 }
 
-// Asserts that so many submitters have so many replies each, all of them `Liked`, and that they are the users.
+// Asserts that there are `submitters` rows of `each` replies, all of them `Liked`, and that each submitter is a user.
 fn assert_all_liked(rt: &impl Abort, report: Report, submitters: u32, each: u32) {
     let count = u64::from(submitters.saturating_mul(each));
     let submitters = submitters as usize;
@@ -194,7 +194,7 @@ fn assert_told(rt: &impl Abort, report: Report, gate: &Ledger) {
     assert_counts(rt, report, &[140_000]);
 }
 
-// What a run of two likes with at most so many threads ends in.
+// What a run of two likes ends in with at most this many threads.
 fn limited(
     rt: &(impl Abort + Threads + Wait + Sync),
     alloc: Global,
@@ -210,7 +210,7 @@ fn fault_of(ran: Result<Report, RunFault>) -> Option<RunFault> {
     ran.err()
 }
 
-// Asserts that a run with at most so many threads, which are too few, makes no call.
+// Asserts that a run makes no call with at most this many threads, which are too few.
 fn assert_not_started(rt: &(impl Abort + Threads + Wait + Sync), alloc: Global, starts: u32) {
     let gate = Watch::idle();
     let fault = fault_of(limited(rt, alloc, &gate, starts));
@@ -218,7 +218,7 @@ fn assert_not_started(rt: &(impl Abort + Threads + Wait + Sync), alloc: Global, 
     assert!(rt; gate.has_calls(0) && gate.phases() == 0);
 }
 
-// Asserts that a run with at most so many threads, which are enough, makes its report.
+// Asserts that a run makes its report with at most this many threads, which are enough.
 fn assert_started(rt: &(impl Abort + Threads + Wait + Sync), alloc: Global, starts: u32) {
     let report = limited(rt, alloc, &Watch::idle(), starts).expect(rt, "a report");
     assert_liked(rt, report, 2, 1, 2, 2);

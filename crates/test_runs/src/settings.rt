@@ -1,5 +1,5 @@
 //! That a run keeps to the turns and the stash of its settings. No schedule is sure to show it, so each test makes runs
-//! until one has shown it, and so many at most.
+//! until one has shown it, and 50 at most.
 use super::cases::{Case, likes, one_page, requests};
 use super::gates::{Held, Watch};
 use like_replies::Report;
@@ -13,7 +13,7 @@ use std::thread::Threads;
 // The most runs that a test makes.
 const RUNS: u32 = 50;
 
-// A run with one worker, whose gate holds calls for so many looks.
+// A run with one worker, whose gate holds calls for this many looks.
 #[derive(Clone, Copy)]
 struct Waiting {
     held: Held,
@@ -27,7 +27,7 @@ struct Waiting {
 
 // 16 submitters look until phase 400, and let others run after each look; the coordinator rests after 32 turns in a
 // row. So on any machine one of them at least looks as often as it makes turns, or nearly: in phases of 1,000 turns each
-// of them has given up long before, loaded or not, and in phases of none no one has, save in a run now and then.
+// of them has given up long before, loaded or not, and in phases of no turns none has, but for a rare run.
 const NO_TURNS: Waiting = Waiting {
     held: Held::FirstRequests(400),
     looks: 50_000,
@@ -55,7 +55,7 @@ fn waits_so(rt: &(impl Abort + Threads + Wait + Sync), alloc: Global, run: &Wait
     gate.gave_up() == run.in_vain && (!run.in_vain || gate.phases() == 1)
 }
 
-// Whether a run went through so many phases.
+// Whether a run went through this many phases.
 fn has_phases(report: Report, phases: u32) -> bool {
     report.phases.saturating_add(1) == phases
 }
@@ -105,7 +105,7 @@ fn most_stashed(report: Report) -> u32 {
     most
 }
 
-// Makes a run of 200 looks of the page that begins with phase 1, with a stash of so many, and says how full it was.
+// Makes a run of 200 looks of the page that begins with phase 1, with a stash for this many, and says how full it was.
 fn fill_stash(rt: &(impl Abort + Threads + Wait + Sync), alloc: Global, stash: u32) -> u32 {
     let case = Case {
         stash,

@@ -158,7 +158,7 @@ fn assert_answers(rt: &impl Abort, alloc: Global, case: &Case, expected: &str, c
     assert_counts(rt, report, counts);
 }
 
-// Three rounds of four workers, of which three have no submitter, and the turns that end the run.
+// Three rounds of four workers, three of them without a submitter, and the turns that end the run.
 const IDLE: &str =
     "Announced Acknowledged Retired Retired Retired Released Ran Retired Retired Retired \
     Announced Reported Retired Retired Retired Released TookEnd Retired Retired Retired \

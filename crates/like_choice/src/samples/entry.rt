@@ -15,7 +15,7 @@ pub(crate) struct Entry {
 }
 
 impl Entry {
-    /// One of no page.
+    /// An entry of no page.
     pub fn empty() -> Entry {
         Entry {
             page: 0,

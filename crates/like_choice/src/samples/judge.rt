@@ -2,16 +2,16 @@ use super::best::Candidate;
 use super::entry::Entry;
 use super::table::Table;
 
-/// Fewer likes than these between two choices are as these: two samples.
+/// The least number of likes between two choices that make a page popular: two samples.
 const LEAST: u32 = 512;
 
-/// Three samples, without which no page gets a slot.
+/// A page gets a slot with three samples or more.
 const SEEN: u32 = 3 * 256;
 
 /// The samples of the service's share of likes and looks that count with each page's own, in points.
 const SHARE: u32 = 16 * 256;
 
-/// What says of a page whether it is popular enough for a slot, at one choice.
+/// Judges at one choice which pages are popular enough for a slot.
 #[derive(Clone, Copy)]
 pub(crate) struct Judge {
     /// The likes from which on a page gets a slot.
@@ -24,7 +24,7 @@ pub(crate) struct Judge {
 }
 
 impl Judge {
-    /// Where a page is popular from so many likes between two choices on.
+    /// For pages that are popular from `hot` likes between two choices on.
     pub fn new(hot: u32, table: &Table) -> Judge {
         let popular = hot.max(LEAST);
         let all = u64::from(table.likes) + u64::from(table.looks);

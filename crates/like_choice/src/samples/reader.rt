@@ -4,7 +4,7 @@ use super::ring::{PLACES, Ring};
 use super::sample::{SEQUENCES, Sample};
 use super::table::Table;
 
-/// The points that a sample counts: it stands for about so many requests.
+/// The points that a sample counts: one of about this many requests is stored.
 pub(crate) const POINTS: u32 = 256;
 
 /// What the driver reads a seat's ring with.
@@ -57,7 +57,7 @@ impl Reader {
         (PLACES, stored)
     }
 
-    // What the ring has at a place behind that of the last one that was read.
+    // What the ring has `step` places after the last sample that was read.
     fn sample(&self, step: u32) -> Sample
         requires { step ≤ 256 }
         ensures { result.sequence < 2 ^ 31 }

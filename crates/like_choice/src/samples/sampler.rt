@@ -26,7 +26,7 @@ impl Model for Sampler {
 }
 
 impl Sampler {
-    /// That of a seat. Each seat's generator begins elsewhere.
+    /// For a seat. Each seat's generator begins elsewhere.
     pub(crate) fn new(ring: Ring, seat: u32) -> Sampler {
         Sampler {
             ring: Some(ring),

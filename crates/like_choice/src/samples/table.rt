@@ -87,7 +87,7 @@ fn first_of(page: u32) -> usize
     WAYS * (page.wrapping_mul(0x9e37_79b1) >> 23) as usize
 }
 
-// The place of a page in its set, or that of the weakest entry.
+// The place of a page in its set, or the weakest entry's.
 fn place_in(set: &[Entry], page: u32) -> usize
     requires { length set.now ≡ 4 }
     ensures { result < 4 }

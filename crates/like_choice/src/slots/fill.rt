@@ -5,7 +5,7 @@ ghost use Rattle.like_choice.specs.Steps.{Fills};
 use super::taken::is_taken;
 use crate::bits::{first_clear, with_bit};
 
-// Puts these pages into free slots, in order, but for those that can't be in.
+// Puts these pages into free slots, in order, but for those that can't have one.
 pub(crate) fn fill(slots: &mut [u32], bits: u64, factor: u32, pages: u32, proposed: &[u32]) -> u64
     requires { length slots.old ≡ hot_pages }
     ensures { Fills factor pages proposed.now slots.old bits slots.new result }

@@ -23,7 +23,7 @@ fn write_first(slots: &mut [u32], pages: &[u32])
     slots[..pages.len()].copy_from_slice(pages);
 }
 
-// Whether one of these is a page of a service that has so many.
+// Whether one of these is a page of a service with this many.
 pub(crate) fn has_page(pages: u32, proposed: &[u32]) -> bool
     ensures { result ≡ list_any (λ page. nat_lt page pages) proposed.now }
 {

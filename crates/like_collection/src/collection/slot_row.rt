@@ -6,7 +6,7 @@ use like_promises::{Answer, Reply};
 use std::alloc::{AllocError, Global};
 use std::marker::Model;
 
-// What stands at a place where there is no answer yet.
+// What a place holds while it has no answer.
 const NO_ANSWER: Answer = Answer {
     phase: 0,
     stashed: false,
@@ -33,7 +33,7 @@ impl Model for SlotRow {
 }
 
 impl SlotRow {
-    /// So many places, all empty.
+    /// This many places, all empty.
     pub fn new(alloc: Global, size: u32) -> Result<Self, AllocError>
         ensures { IfOk result (λ row. row ≡ replicate size None) }
     {
@@ -67,7 +67,7 @@ impl SlotRow {
         self.there[place] = true;
     }
 
-    /// The answers at all places, which are those of this submitter; `Missing` at the first that is empty.
+    /// The answers at all places, of this submitter; `Missing` at the first that is empty.
     pub fn into_answers(self, submitter: u32) -> Result<Vec<Answer>, CollectFault>
         requires { length self < 2 ^ 32 }
         ensures { MatchResult result

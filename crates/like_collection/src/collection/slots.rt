@@ -27,7 +27,7 @@ impl Model for Slots {
 }
 
 impl Slots {
-    /// A place for each request of submitters with so many requests, all empty.
+    /// An empty place for each request. `sizes` tells how many requests each submitter has.
     pub fn new(alloc: Global, sizes: &[u32]) -> Result<Self, AllocError>
         ensures { IfOk result (λ slots. slots ≡ map (λ size. replicate size None) sizes.now) }
     {

@@ -17,7 +17,7 @@ pub data Move : Type 0 where
   makes : Event → Move
   comes_back : ℕ → Move
 
--- workers come back to a board whose word counts who is gone: to that of a service
+-- workers may come back to a board whose word counts who is gone: a service's
 abbrev pub LetsReturn : Limits → Type 0
 LetsReturn l = l.form ≡ Counts
 

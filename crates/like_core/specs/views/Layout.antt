@@ -10,7 +10,7 @@ phase_place = 0
 abbrev pub mask_place : ℕ
 mask_place = 16
 
--- the place of a slot's word: those of the 64 slots follow one after the other
+-- the place of a slot's word: the 64 slots' words follow one after the other
 abbrev pub slot_place : ℕ → ℕ
 slot_place slot = 32 + slot
 
@@ -18,8 +18,8 @@ slot_place slot = 32 + slot
 abbrev pub slot_in : List ℕ → ℕ → ℕ
 slot_in words slot = slice_index words (slot_place slot)
 
--- the place of a page's word: those of the first 64 pages are 16 words, or 128 bytes, apart, and the others follow one
--- after the other
+-- the place of a page's word: the words of the first 64 pages are 16 words, or 128 bytes, apart, and the others follow
+-- one after the other
 unfoldable pub word_of : ℕ → ℕ
 word_of page = (if nat_lt page 64 then 16 * (page + 6) else 16 * 70 + (page - 64))
 

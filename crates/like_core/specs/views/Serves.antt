@@ -54,21 +54,21 @@ answered_now z s = how_many (λ i. has_answered s.phase (s.state i)) z.workers
 abbrev pub gone_now : Opening → CoreState → ℕ
 gone_now z s = how_many (λ i. is_gone (s.state i)) z.workers
 
--- an answer raises the count of those that have answered by one, and leaves that of those gone
+-- an answer raises the count of those that have answered by one, and leaves the count of those gone
 abbrev pub AnswersOne : Type 0
 AnswersOne =
     (z : Opening) (s : CoreState) (i phase : ℕ) → i < z.workers → s.state i ≡ Runs phase
     → (answered_now z (moved s i (Answered s.phase)) ≡ answered_now z s + 1)
     × (gone_now z (moved s i (Answered s.phase)) ≡ gone_now z s)
 
--- a retirement raises the count of those gone by one, and leaves that of those that have answered
+-- a retirement raises the count of those gone by one, and leaves the count of those that have answered
 abbrev pub RetiresOne : Type 0
 RetiresOne =
     (z : Opening) (s : CoreState) (i phase : ℕ) → i < z.workers → s.state i ≡ Runs phase
     → (gone_now z (moved s i Gone) ≡ gone_now z s + 1)
     × (answered_now z (moved s i Gone) ≡ answered_now z s)
 
--- a return lowers the count of those gone by one, and leaves that of those that have answered
+-- a return lowers the count of those gone by one, and leaves the count of those that have answered
 abbrev pub ReturnsOne : Type 0
 ReturnsOne =
     (z : Opening) (s : CoreState) (i : ℕ) → i < z.workers → s.state i ≡ Gone

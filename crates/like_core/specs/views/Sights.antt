@@ -12,7 +12,7 @@ sight_in f turn word = record {
   waits = word / 2 % 2 == turn;
 }
 
--- what the coordinator of so many workers sees there
+-- what the coordinator of this many workers sees there
 abbrev pub coord_sight_in : WordForm → ℕ → ℕ → CoordSight
 coord_sight_in f workers word = record {
   number = f.phase_in word;

@@ -219,8 +219,8 @@ SawAllIn c = IsSomeAnd c.last (λ sight. (sight.ending ≡ true) × (sight.all_i
 abbrev pub MayCount : CoordSeatView → ℕ → Type 0
 MayCount c page = SawAllIn c × IsJoined c.phase × (page < length c.opening.counts)
 
--- it may publish a mask: it saw all in, the phase is joined, each bit of the mask is that of a page that exists, and
--- the board has no slots
+-- it may publish a mask: it saw all in, the phase is joined, there is a page for each bit of the mask, and the board
+-- has no slots
 abbrev pub MayPublish : CoordSeatView → ℕ → Type 0
 MayPublish c mask =
     SawAllIn c × IsJoined c.phase × (mask < 2 ^ length c.opening.counts)
@@ -246,7 +246,7 @@ pub record MayPublishSlots (c : CoordSeatView) (bits : ℕ) : Type 0 where
 abbrev pub MayRelease : CoordSeatView → Type 0
 MayRelease c = SawAllIn c × (IsJoined c.phase → IsSome c.published)
 
--- how many seats of worker i a view stands for: the coordinator's stands for those that were given back
+-- how many seats of worker i a view has: the coordinator's has those that were given back
 abbrev pub seats_of : ℕ → View → ℕ
 seats_of i (Coord c) = count_by (λ w. w.worker == i) c.joined
 seats_of i (Worker v) = (if v.worker == i then 1 else 0)

@@ -31,14 +31,14 @@ released_kind word = (if word % 4 == 1 then 2 else 0)
 
 -- a form of the phase word
 pub record WordForm : Type 0 where
-  -- the word of so many workers in a phase, which may be ending, if these are their states
+  -- the word of this many workers in a phase, which may be ending, if these are their states
   pub word : ℕ → ℕ → Bool → (ℕ → WorkerState) → ℕ
   -- what worker i adds to it by an answer, and by retiring
   pub answer : ℕ → ℕ
   pub retirement : ℕ → ℕ
   -- the phase that a word tells
   pub phase_in : ℕ → ℕ
-  -- whether a word of so many workers shows all in, and all gone
+  -- whether a word of this many workers shows all in, and all gone
   pub all_in : ℕ → ℕ → Bool
   pub all_gone : ℕ → ℕ → Bool
   -- the word that a release stores, if it saw this one
@@ -96,6 +96,6 @@ form_of Counts = counts
 abbrev pub first_states : ℕ → ℕ → WorkerState
 first_states workers i = (if nat_lt i workers then Runs 0 else Gone)
 
--- the word at the start: so many workers run phase 0
+-- the word at the start: this many workers run phase 0
 abbrev pub first_word : WordForm → ℕ → ℕ
 first_word f workers = f.word workers 0 false (first_states workers)

@@ -2,8 +2,7 @@ use Rattle.std.specs.Prelude.{ℕ}
 use Rattle.like_core.specs.declared.phase_word.kind.Kind.{Kind}
 use Rattle.like_core.specs.declared.phase_word.kind.Kind.TheVariants.{JoinedRunning, JoinedEnding, SplitRunning, SplitEnding}
 
--- the two bits of a phase word that stand for a kind: the low one is set if the phase is ending, the high one if it is
--- split
+-- a kind's two bits in a phase word: the low one is set if the phase is ending, the high one if it is split
 abbrev pub code_of : Kind → ℕ
 code_of JoinedRunning = 0
 code_of JoinedEnding = 1

@@ -34,7 +34,7 @@ answer_bit i = 2 ^ (8 + i)
 abbrev pub retirement_bit : ℕ → ℕ
 retirement_bit i = 2 ^ (24 + i)
 
--- the fields are those of a phase word
+-- the fields are a phase word's
 pub record IsLawful (f : Fields) : Type 0 where
   pub some_worker : 1 ≤ f.workers
   pub few_workers : f.workers ≤ max_workers
@@ -43,10 +43,10 @@ pub record IsLawful (f : Fields) : Type 0 where
   pub retired : f.retired < 2 ^ f.workers
   pub apart : bit_and f.answered f.retired ≡ 0
   pub kind : f.kind < 4
-  -- the kind is joined if the number is that of a joined phase
+  -- the kind is joined just if the phase is
   pub joined : (f.kind < 2) ↔ IsJoined f.number
   -- nobody has answered a running phase
   pub running : f.kind % 2 ≡ 0 → f.answered ≡ 0
   pub number : f.number ≤ last_phase
-  -- the greatest number is that of a running phase
+  -- the phase with the greatest number is joined and running
   pub last : f.number ≡ last_phase → f.kind ≡ 0

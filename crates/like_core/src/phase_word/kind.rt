@@ -11,7 +11,7 @@ pub enum Kind {
 }
 
 impl Kind {
-    /// The two bits that stand for the kind in a phase word.
+    /// The kind's two bits in a phase word.
     pub fn code(self) -> u8
         ensures { result ≡ code_of self }
     {
@@ -23,7 +23,7 @@ impl Kind {
         }
     }
 
-    /// The kind for which two bits stand.
+    /// The kind with these two bits.
     pub fn from_code(code: u8) -> Kind
         requires { code < 4 }
         ensures { code_of result ≡ code }

@@ -28,7 +28,7 @@ impl Core {
         (page as usize) < self.counts.len()
     }
 
-    /// Whether each bit of the mask is that of a page that is there.
+    /// Whether there is a page for each bit of the mask.
     fn has_pages(&self, mask: u64) -> bool
         ensures { IsTrue result ↔ (mask < 2 ^ (numbers_of self.now).pages) }
     {

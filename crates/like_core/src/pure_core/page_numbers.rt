@@ -16,7 +16,7 @@ impl Model for PageNumbers {
 }
 
 impl PageNumbers {
-    /// 0 for each of so many pages.
+    /// 0 for each page.
     pub fn zeros(alloc: Global, pages: usize) -> Result<Self, AllocError>
         ensures { IfOk result (λ numbers. numbers ≡ replicate pages 0) }
     {

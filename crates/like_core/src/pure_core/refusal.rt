@@ -1,7 +1,7 @@
-/// Why an event may not happen now: the first of these that stands.
+/// Why an event may not happen now: the first of these that applies.
 #[derive(Clone, Copy, PartialEq, Eq)]
 pub enum NotNow {
-    /// The worker or the page is not there, or the page of a bit.
+    /// There is no such worker or page, or no page for a bit of the mask.
     NoSuch,
     /// The worker's state, the kind of the phase or the unmerged likes do not allow it.
     Phase,

@@ -5,7 +5,7 @@ ghost use Rattle.like_core.specs.core.Core.{numbers_of, TakesStatesAll, KeepsRea
 use super::{Core, Wrong};
 use crate::event::Event;
 
-/// Makes the events in order, up to the first that may not happen. The core then stands after the events before it.
+/// Makes the events in order, up to the first that may not happen. The core is then as after the events before it.
 pub fn check_events(core: &mut Core, events: &[Event]) -> Result<(), Wrong>
     ensures permitted { IsOk result ↔ PermitsEach (numbers_of core.old) events.now }
     ensures next { OnOk result (numbers_of core.new ≡ next_all (numbers_of core.old) events.now) }

@@ -3,7 +3,7 @@ ghost use Rattle.like_tables.specs.Share.{dealt};
 
 use std::alloc::{AllocError, Global};
 
-/// What each submitter has one of, by worker: that of submitter `s` is dealt to worker `s mod N`.
+/// Deals items, one of each submitter, to the workers: that of submitter `s` to worker `s mod N`.
 pub fn deal<T: Drop>(alloc: Global, items: Vec<T>, workers: u32) -> Result<Vec<Vec<T>>, AllocError>
     requires { 0 < workers }
     ensures len { IfOk result (λ hands. length hands.items ≡ workers) }
@@ -19,7 +19,7 @@ pub fn deal<T: Drop>(alloc: Global, items: Vec<T>, workers: u32) -> Result<Vec<V
     Ok(hands)
 }
 
-// So many hands with nothing in them.
+// An empty hand for each worker.
 fn empty_hands<T: Drop>(alloc: Global, workers: u32) -> Result<Vec<Vec<T>>, AllocError>
     ensures len { IfOk result (λ hands. length hands.items ≡ workers) }
     ensures none { IfOk result (λ hands. All (λ hand. hand.items ≡ []) hands.items) }

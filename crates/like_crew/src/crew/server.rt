@@ -40,8 +40,8 @@ impl<P: Post, I: Inbox> Model for Server<P, I> {
 }
 
 impl<P: Post, I: Inbox> Server<P, I> {
-    /// Worker `number` at its post, with the inboxes of its submitters; it notes its additions or does not. All its room
-    /// is made here: its turns take no memory.
+    /// Worker `number` at its post, with the inboxes of its submitters; it notes its additions or does not. All its
+    /// memory is taken here: its turns take none.
     pub fn new(
         alloc: Global,
         setup: &Setup,
@@ -79,7 +79,7 @@ impl<P: Post, I: Inbox> Server<P, I> {
         self.inboxes.len()
     }
 
-    /// Makes one whole turn of the worker: where it tries a submitter, it is given what that one's inbox has.
+    /// Makes one whole turn of the worker. If it tries a submitter, it is given what that submitter's inbox has.
     pub fn turn<G: Gate, R>(&mut self, rt: &R, gate: &G) -> Turn
     where
         I: TakeWith<R>,
@@ -97,7 +97,7 @@ impl<P: Post, I: Inbox> Server<P, I> {
         }
     }
 
-    /// Gives the post up, whatever is left to do.
+    /// Gives the post back, whatever is left to do.
     pub fn leave(self) -> P
         ensures { P.view result ≡ self.worker.post }
     {

@@ -70,7 +70,7 @@ pub fn open_all<P: Post>(servers: &mut Vec<Server<P, ListInbox>>)
     }
 }
 
-/// Takes all servers apart, where all workers are gone: their logs, and their seats.
+/// Takes apart all servers, whose workers are gone: their logs, and their seats.
 pub fn finish_all<I: Inbox>(
     alloc: Global,
     servers: Vec<Server<BoardPost<'_>, I>>,

@@ -12,7 +12,7 @@ use like_collection::{CollectFault, collect, places};
 use like_promises::{Place, Replies, WorkerLog};
 use std::alloc::{AllocError, Global};
 
-/// The replies, where the logs have one entry for each request and no other.
+/// The replies. The logs have one entry for each request, and no other.
 pub fn replies_of(alloc: Global, sizes: &[u32], logs: &[WorkerLog]) -> Result<Replies, AllocError>
     requires few { length sizes.now ≤ max_submitters }
     requires once { RunsOnce sizes.now (entries_in logs.now) }
@@ -50,7 +50,7 @@ pub fn last_likes(
     Ok(last)
 }
 
-/// Where the additions to each page stand, where they were noted, and else nothing.
+/// The places of the additions to each page if they were noted, else nothing.
 pub fn places_of(
     alloc: Global,
     notes: bool,

@@ -7,7 +7,7 @@ use super::turns::{LAST_PHASE, is_left};
 use like_board::Board;
 use like_seat::Lead;
 
-// Looks, and writes the counts of the pages from one on where a joined phase is ending and all are in. The answer is
+// Looks, and writes the counts of the pages from `from` on if a joined phase is ending and all are in. The answer is
 // that phase.
 pub(crate) fn read_boundary(
     lead: &mut Lead,
@@ -27,7 +27,7 @@ pub(crate) fn read_boundary(
     Some(lead.phase())
 }
 
-// Writes the last counts of the pages from one on, once all seats have left a joined phase. Says whether it did.
+// Writes the last counts of the pages from `from` on, once all seats have left a joined phase. Says whether it did.
 pub(crate) fn read_last(lead: &mut Lead, board: &Board, from: u32, counts: &mut [u64]) -> bool
     requires here { lead.old.board ≡ board_id board.now }
     requires limits { lead.old.seat.opening.limits ≡ service_limits }

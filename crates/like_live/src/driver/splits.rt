@@ -14,7 +14,7 @@ use like_core::HOT_PAGES;
 use like_seat::Lead;
 use std::marker::Model;
 
-/// Which pages are split: those in slots. And which are proposed for the next split phase.
+/// The pages that are split, in their slots, and those that are proposed for the next split phase.
 #[derive(Drop)]
 pub(crate) struct Splits<C: Choice> {
     /// The slots of the present or last split phase.
@@ -70,8 +70,7 @@ impl<C: Choice> Splits<C> {
         self.choice.propose(&self.slots, &mut self.proposed);
     }
 
-    /// Gives slots to the pages that are proposed, and publishes them: they are what is split in the phase that comes
-    /// next.
+    /// Chooses slots for the proposed pages, and publishes them. The pages in these slots are split in the next phase.
     pub fn publish(&mut self, lead: &mut Lead, board: &Board)
         requires here { lead.old.board ≡ board_id board.now }
         requires limits { lead.old.seat.opening.limits ≡ service_limits }

@@ -82,8 +82,8 @@ pub(crate) fn is_left(lead: &Lead, sight: CoordSight) -> bool
 }
 
 // Whether the end of the phase is asked for, by the host or by a hint. A hint counts in split phases alone, since looks
-// wait in these alone. Before that, pages are proposed for the next split phase: in a split phase, and in a joined one as
-// long as nothing would be split in the next.
+// wait in these alone. Pages are then proposed for the next split phase: in a split phase, and in a joined one as long
+// as nothing would be split in the next.
 fn is_asked<C: Choice>(lead: &Lead, splits: &mut Splits<C>, hint: &Hint, end: End) -> bool
     requires running { SawRunning lead.now.seat }
     ensures proposes { MayPropose splits.old splits.new }

@@ -9,7 +9,7 @@ use like_core::SlotPost;
 
 impl<P: SlotPost> LiveSeat<P> {
     /// Makes calls one by one, up to the first that is told `Between` or `NoRoom`, and writes their answers. Says how
-    /// many were done. That first one was not: call it again. Its answer, and those behind, are left as they were.
+    /// many were done. The one that stopped it was not: call it again. Its answer and later ones are left as they were.
     pub fn run(&mut self, calls: &[Call], answers: &mut [Answer]) -> usize
         requires { length calls.now ≤ length answers.old }
         ensures case { RunCase self.old calls.now answers.new result self.new }

@@ -23,15 +23,15 @@ impl<P: Post> LiveSeat<P> {
         }
     }
 
-    /// Whether the seat has so many users from a place on. At place `i` of seat `s` is user `i * seats + s`.
+    /// Whether the seat has `many` users from place `from` on. At place `i` of seat `s` is user `i * seats + s`.
     pub fn has_users(&self, from: u32, many: usize) -> bool
         ensures { IsTrue result ↔ (from + many ≤ users_of self.now) }
     {
         self.seat.users().has_places(from, many)
     }
 
-    /// Writes the last likes of the seat's users from a place on: each one's page, or `NO_PAGE`. As `last`, it works in
-    /// every state. After all seats have answered a joined phase, or are gone, their last likes are of one moment.
+    /// Writes the last likes of the seat's users from place `from` on: each one's page, or `NO_PAGE`. It works in every
+    /// state. While a joined phase is ending and all seats are in, all last likes are of one moment.
     pub fn lasts(&self, from: u32, row: &mut [u32])
         requires { from + length row.old ≤ users_of self.now }
         ensures len { length row.new ≡ length row.old }

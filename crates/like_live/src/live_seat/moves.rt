@@ -98,7 +98,7 @@ fn work<P: Post>(seat: &mut Station<P, Asked>, found: &mut Stash<Found>, ending:
     TurnAnswer::Between
 }
 
-// Of a joined phase: all that waits runs first.
+// The phase work of a joined phase: all that waits runs first.
 fn joined_work<P: Post>(
     seat: &mut Station<P, Asked>,
     found: &mut Stash<Found>,
@@ -143,7 +143,7 @@ fn find_all<P: Post>(seat: &mut Station<P, Asked>, found: &mut Stash<Found>)
 // How often a seat tries to come back, where others change the phase word meanwhile.
 const TRIES: u32 = 64;
 
-// Whether a seat that was gone has come back.
+// Tries to bring back a seat that is gone, and says whether it did.
 pub(crate) fn returns<P: SlotPost + Returns>(seat: &mut Station<P, Asked>) -> bool
     requires gone { seat.old.post.state ≡ Gone }
     requires limits { seat.old.post.limits ≡ service_limits }

@@ -16,7 +16,7 @@ use like_tables::Placed;
 
 impl<P: Post> LiveSeat<P> {
     // The user with its place, if a request of the user for a page is accepted. It costs no division. A page that is
-    // split is there, and needs no other test.
+    // split exists, and needs no other test.
     #[inline(always)]
     fn accepts(&self, user: u32, page: u32) -> Option<Placed>
         requires { IsRunning self.now.seat.post.state }
@@ -33,7 +33,7 @@ impl<P: Post> LiveSeat<P> {
         Some(placed)
     }
 
-    // Why it is not. This stands apart, so that a request that is accepted costs less.
+    // Why it is not. Kept out of line, so that an accepted request costs less.
     #[cold]
     #[inline(never)]
     fn refusal(&self, user: u32, page: u32) -> Verdict
@@ -68,7 +68,7 @@ impl<P: Post> LiveSeat<P> {
         self.like_late(placed, page)
     }
 
-    // A like that is a sample, or too many. It stands apart, so that between the tests of other likes there is no call.
+    // A like that is a sample, or too many. Kept out of line, so that other likes make no call.
     #[cold]
     #[inline(never)]
     fn like_late(&mut self, placed: Placed, page: u32) -> LikeAnswer
@@ -111,7 +111,7 @@ impl<P: Post> LiveSeat<P> {
         LookAnswer::Waits
     }
 
-    // Puts a look at a split page by until the next joined phase.
+    // Stashes a look at a split page until the next joined phase.
     #[inline(never)]
     fn wait(&mut self, asked: Asked)
         requires split { RunsSplit self.old.seat.post.state }

@@ -27,7 +27,7 @@ pub(crate) fn are_gone(seats: &[LiveSeat<SharedPost>]) -> bool
     seats.iter().all(|seat| seat.is_gone())
 }
 
-// A new service. All its room is made here.
+// A new service. All its memory is taken here.
 pub(crate) fn new_service<C: Choice + Drop>(
     alloc: Global,
     opening: &Opening,

@@ -1,4 +1,4 @@
--- Where the additions to each page stand.
+-- The places of the additions to each page.
 use Rattle.std.specs.Prelude.{◌≡◌, ℕ, ◌<◌, ◌==◌, List, [], Vec, filter, length, map, slice_index_or}
 use Rattle.std.specs.List.{enumerate_from, flat_map}
 use Rattle.std.specs.List.Sorted.{IsNonDecreasingBy}
@@ -28,7 +28,7 @@ pub record AreByOld (made placed : List Place) : Type 0 where
   pub rising : IsNonDecreasingBy (λ p. p.old) placed
   pub same : (old : ℕ) → filter (λ p. p.old == old) placed ≡ filter (λ p. p.old == old) made
 
--- for each of so many pages the places of all additions to it
+-- for each of this many pages the places of all additions to it
 pub record ArePlaces (pages : ℕ) (logs : List WorkerLog) (rows : List (List Place)) : Type 0 where
   pub sized : length rows ≡ pages
   pub each : (page : ℕ) → page < pages → AreByOld (places_in page logs) (slice_index_or rows page [])

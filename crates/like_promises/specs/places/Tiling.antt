@@ -1,4 +1,4 @@
--- What a report says of where the additions to each page stand.
+-- What a report says of the places of the additions to each page.
 use Rattle.std.specs.Prelude.{◌≡◌, ◌⊎◌, ◌≤◌, ℕ, ◌&&◌, nat_le, nat_lt, if◌then◌else◌, All, List, [], count_by, length, map, slice_get, slice_index, Option, option_and_then, option_map}
 use Rattle.std.specs.List.{filter_map, flat_map, range_with_len}
 use Rattle.like_requests.specs.declared.request.Request.{Request}
@@ -21,7 +21,7 @@ use Rattle.like_promises.specs.EndToEnd.{runs_of}
 abbrev pub all_noted : List WorkerLog → List Addition
 all_noted logs = flat_map (λ log. map addition_of log.adds.items) logs
 
--- the read of the accepted look that an entry ran, if it ran one: the count in its reply, after so many additions
+-- the read of the accepted look that an entry ran, if it ran one: the count in its reply, after this many additions
 abbrev pub read_of : Workload → ℕ → Ran → Option PageRead
 read_of workload after e =
     option_map (λ page. record { phase = e.phase; page = page; count = count_in e.reply; after = after })

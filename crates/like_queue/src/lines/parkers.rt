@@ -10,7 +10,7 @@ const PATIENCE: u64 = 1000;
 // How many microseconds the coordinator leaves the processor to others at a time.
 const PAUSE: u64 = 50;
 
-/// Where the threads wait that make turns: the workers, in order, for requests or for a change of phase, and the
+/// Where the threads that make turns wait: the workers, in order, for requests or for a change of phase, and the
 /// coordinator for the workers. A thread that is woken before it waits goes on at once.
 #[derive(Drop)]
 pub struct Parkers {
@@ -21,7 +21,7 @@ pub struct Parkers {
 }
 
 impl Parkers {
-    /// Those of so many workers and their coordinator.
+    /// For this many workers and their coordinator.
     pub fn new(alloc: Global, count: usize) -> Result<Parkers, AllocError> {
         let mut workers = Vec::new(alloc);
         for _ in 0..count {
@@ -60,7 +60,7 @@ impl Parkers {
             .park_timeout(rt, Duration::from_micros(PATIENCE));
     }
 
-    /// The coordinator leaves the processor to others, where no worker is idle.
+    /// The coordinator leaves the processor to others, unless a worker is idle.
     pub fn pause<R: Wait>(&self, rt: &R) {
         if self.idle.load(Ordering::SeqCst) == 0 {
             self.coordinator

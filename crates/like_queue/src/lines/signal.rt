@@ -2,7 +2,7 @@ ghost use Rattle.std.specs.Prelude.{◌≡◌, true, IfSome};
 
 use std::sync::{OnceLock, OnceToken, Wait};
 
-/// Tells the threads to go on where all were started, and to end where not.
+/// Tells the threads to go on if all were started, and else to end.
 pub fn tell<'a, R: Wait>(
     rt: &R,
     start: &'a OnceLock<bool>,
@@ -18,7 +18,7 @@ pub fn tell<'a, R: Wait>(
     }
 }
 
-/// Waits until all threads were started, or are told to end.
+/// Waits until the threads are told to go on, or to end.
 pub fn hear<'a, R: Wait>(rt: &R, start: &'a OnceLock<bool>) -> OnceToken<'a, bool>
     ensures { result.of ≡ start.now.id }
 {

@@ -60,7 +60,7 @@ impl PhaseTexts {
         })
     }
 
-    /// Goes to this phase, where it is not there already.
+    /// Goes to this phase, if it isn't there yet.
     pub fn go_to(&mut self, alloc: Global, phase: u32) -> Result<(), AllocError>
         ensures { OnOk result (self.new ≡ phase) }
     {

@@ -16,11 +16,11 @@ use like_core::is_hot;
 use like_promises::{Answer, Chosen, Place};
 use std::alloc::{AllocError, Global};
 
-/// A section of rows whose text is made at once.
+/// A part of the rows, whose text is made in one go.
 #[derive(Drop)]
 pub enum Section<'a> {
     Header,
-    /// Those of a submitter's requests that come after so many others of its own.
+    /// Requests of a submitter, after the first `before` of them.
     Answers {
         submitter: u64,
         before: u64,
@@ -28,7 +28,7 @@ pub enum Section<'a> {
     },
     /// The pages, by their final counts.
     Counts(&'a [u64]),
-    /// The users that come after so many others, by their last likes.
+    /// The users from number `before` on, by their last likes.
     Users {
         before: u64,
         last: &'a [Option<u32>],
@@ -66,7 +66,7 @@ pub fn add_section(
     }
 }
 
-// Adds the rows of those of a submitter's requests that come after so many others.
+// Adds the rows of a submitter's requests, after the first `before` of them.
 fn add_answers(
     alloc: Global,
     sheet: &mut Sheet,
@@ -114,7 +114,7 @@ fn add_counts(sheet: &mut Sheet, names: &Names, counts: &[u64]) -> Result<(), Al
     Ok(())
 }
 
-// Adds the rows of those users with an accepted like that come after so many users.
+// Adds the rows of the users from number `before` on that have an accepted like.
 fn add_users(
     alloc: Global,
     sheet: &mut Sheet,

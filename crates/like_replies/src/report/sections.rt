@@ -11,10 +11,10 @@ use crate::report::section::Section;
 use like_promises::{Answer, Place, Report};
 use std::alloc::{AllocError, Global};
 
-// How many requests, users or places a section has rows of at most.
+// The most requests, users or places that a section has rows of.
 const MOST: usize = 16_384;
 
-/// The sections of a report, with the rows of these replies in place of its own.
+/// The sections of a report, with these replies in place of its own.
 pub fn report_sections<'a>(
     alloc: Global,
     replies: &'a [Vec<Answer>],

@@ -13,7 +13,7 @@ use std::io::Write;
 use std::thread;
 use std::thread::Threads;
 
-// How many sections are made side by side.
+// How many sections are made in parallel.
 const AT_ONCE: usize = 8;
 
 /// Writes the rows of sections.
@@ -37,7 +37,7 @@ pub fn write_rows<W: Write>(
     flush(out)
 }
 
-/// The same, with some sections made side by side.
+/// The same, with some sections made in parallel.
 pub fn write_rows_at_once<T: Threads + Sync, W: Write>(
     rt: &T,
     alloc: Global,
@@ -57,7 +57,7 @@ pub fn write_rows_at_once<T: Threads + Sync, W: Write>(
     flush(out)
 }
 
-// Writes the rows of a few sections, which are made side by side.
+// Writes the rows of a few sections, which are made in parallel.
 fn write_group<T: Threads + Sync, W: Write>(
     rt: &T,
     alloc: Global,
@@ -90,7 +90,7 @@ fn sheet_of(alloc: Global, names: &Names, sections: &[Section]) -> Result<Sheet,
     Ok(sheet)
 }
 
-// Hands the text of all sheets on, in their order, where all were made.
+// Hands the text of the sheets on, in their order, up to the first that could not be made.
 fn hand_on_all<W: Write>(
     out: &mut W,
     sheets: Vec<Result<Sheet, AllocError>>,
@@ -104,7 +104,7 @@ fn hand_on_all<W: Write>(
     Ok(())
 }
 
-// Lets the writer hand on what it keeps.
+// Flushes the writer.
 fn flush<W: Write>(out: &mut W) -> Result<(), WriteFault>
     ensures { OnOk result (Keeps (W.contents out.old) (W.contents out.new)) }
 {

@@ -17,7 +17,7 @@ use std::alloc::Global;
 use std::io::Write;
 use std::thread::Threads;
 
-/// Writes the text of a report. After a fault nothing is said of how much was written.
+/// Writes the text of a report. After a fault a part may have been written.
 pub fn write_report<W: Write>(
     alloc: Global,
     report: &Report,
@@ -34,7 +34,7 @@ pub fn write_report<W: Write>(
     write_report_rows(alloc, false, &names, report, out)
 }
 
-// The same, or with totals alone without its replies, with the pages' names at hand.
+// The same, without the replies if it is for totals alone, and with the pages' names at hand.
 fn write_report_rows<W: Write>(
     alloc: Global,
     totals: bool,
@@ -62,7 +62,7 @@ fn shown_replies(totals: bool, report: &Report) -> &[Vec<Answer>]
     &report.replies.rows
 }
 
-/// Writes a row for each place of each page, with no header. After a fault nothing is said of how much was written.
+/// Writes a row for each place of each page, with no header. After a fault a part may have been written.
 pub fn write_places<W: Write>(
     alloc: Global,
     report: &Report,
@@ -96,8 +96,8 @@ fn write_place_rows<W: Write>(
     write_rows(alloc, names, &sections, out)
 }
 
-/// Writes the text of a report, or of its totals alone, and behind it, where they are asked for, the rows of its places.
-/// After a fault nothing is said of how much was written.
+/// Writes the text of a report, or of its totals alone. The rows of its places follow, if they are asked for. After a
+/// fault a part may have been written.
 pub fn write_text<W: Write>(
     alloc: Global,
     extent: Extent,
@@ -135,8 +135,8 @@ fn write_asked_rows<W: Write>(
     Ok(())
 }
 
-/// The same, where threads may make sections of the text side by side. A thread that can't be started is no fault, since
-/// the caller's own does its work.
+/// The same, with sections of the text made in parallel. A thread that can't be started is no fault: the caller's
+/// thread does its work.
 pub fn write_text_at_once<T: Threads + Sync, W: Write>(
     rt: &T,
     alloc: Global,
@@ -155,7 +155,7 @@ pub fn write_text_at_once<T: Threads + Sync, W: Write>(
     write_asked_rows_at_once(rt, alloc, extent.places, &names, report, out)
 }
 
-// Writes the rows of the report, or with totals alone without its replies, some of them made side by side.
+// Writes the rows of the report, without the replies if it is for totals alone, some of them made in parallel.
 fn write_report_rows_at_once<T: Threads + Sync, W: Write>(
     rt: &T,
     alloc: Global,
@@ -180,7 +180,7 @@ fn write_report_rows_at_once<T: Threads + Sync, W: Write>(
     )
 }
 
-// Writes the rows of the places where they are asked for, some of them made side by side.
+// Writes the rows of the places where they are asked for, some of them made in parallel.
 fn write_asked_rows_at_once<T: Threads + Sync, W: Write>(
     rt: &T,
     alloc: Global,

@@ -24,7 +24,7 @@ pub record ChoiceView : Type 0 where
 abbrev pub first_choice : Option ℕ → List ℕ → ChoiceView
 first_choice hot counts = record { hot = hot; before = of_hot_pages counts; chosen = [] }
 
--- what the coordinator chooses by whose lead this is, and whose choices these are
+-- what the coordinator with this lead and these choices chooses by
 abbrev pub choice_of : LeadView → List Chosen → ChoiceView
 choice_of lead chosen = record { hot = lead.hot; before = lead.before; chosen = chosen }
 
@@ -32,7 +32,7 @@ choice_of lead chosen = record { hot = lead.hot; before = lead.before; chosen = 
 abbrev pub within_limit : List Chosen → ℕ → ℕ
 within_limit chosen m = (if nat_lt (length chosen) max_chosen then m else 0)
 
--- the choices with that of this mask, where it is of some page
+-- the choices, with the one of this mask if that has some page
 abbrev pub with_chosen : List Chosen → ℕ → ℕ → List Chosen
 with_chosen chosen phase m =
     chosen ++ (if nat_lt 0 m then record { phase = phase; mask = m } ∷ [] else [])

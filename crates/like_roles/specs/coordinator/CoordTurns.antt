@@ -45,7 +45,7 @@ pub record IsCoordSight (c : CoordSeatView) (sight : CoordSight) : Type 0 where
 abbrev pub surveyed : CoordinatorView → ℕ → CoordSight → CoordinatorView
 surveyed v word sight = record v { seat = looked_coord v.seat word sight; phase = sight.number }
 
--- what the coordinator does that saw this: the answer, and the coordinator after
+-- what the coordinator does after it saw this: the answer, and the coordinator after
 pub data Acts (v : CoordinatorView) (sight : CoordSight) (answer : CoordTurn)
     (after : CoordinatorView) : Type 0 where
   ends : sight.all_gone ≡ true → answer ≡ Ended → after ≡ v → Acts v sight answer after

@@ -63,8 +63,8 @@ pub record HasSubmitters (s : Share) (d : Desk) : Type 0 where
       → submitter_of s.workers s.worker place < s.submitters
   pub cursor : d.cursor ≤ vec_len d.ended
 
--- there is room to take and to run what was not taken yet, and to run what is held; and, where additions are noted, to
--- note one for each like that was not added yet, of which there are no more than all these and those in the slice
+-- there is room to take and to run what was not taken yet, and to run what is held; and, if additions are noted, to
+-- note one for each like that was not added yet: at most one for each of these requests and for each like in the slice
 pub record HasRoom (s : StationView Held) (d : Desk) : Type 0 where
   pub taken : vec_len d.taken + sum d.left.items ≤ vec_capacity d.taken
   pub ran : vec_len d.ran + length s.held.held + sum d.left.items ≤ vec_capacity d.ran

@@ -61,7 +61,7 @@ pub record IsTallied (workload : Workload) (v : WorkerView) : Type 0 where
 abbrev pub adds_to : ℕ → ℕ → List Added → ℕ
 adds_to phase page adds = count_by (is_add_to phase page) adds
 
--- how many of them were made when so many entries had run
+-- how many of them were made when `at` entries had run
 abbrev pub adds_at : ℕ → ℕ → ℕ → List Added → ℕ
 adds_at phase page at adds = count_by (λ a. is_add_to phase page a && (a.at == at)) adds
 
@@ -70,9 +70,9 @@ abbrev pub likes_at : Workload → ℕ → ℕ → ℕ → List Ran → ℕ
 likes_at workload phase page at ran =
     likes_within workload page (option_to_list (slice_get ran at)) phase
 
--- the additions of a worker are noted: they are its post's, in order; each is of accepted likes of its run list, of a page
--- that is not split in the phase one at each like, and of a page that is at most one; and before each look ran as many
--- as its post had made before the read
+-- the additions of a worker are noted: they are its post's, in order; each is of accepted likes of its run list, to a
+-- page that is not split in a phase there is one at each like, and to a page that is at most one; and before each look
+-- there were as many as its post had made before the read
 pub record IsNoted (workload : Workload) (additions : List Addition) (reads : List PageRead)
     (adds : List Added) (ran : List Ran) : Type 0 where
   pub additions_are : additions ≡ map addition_of adds
@@ -94,7 +94,7 @@ IsUnmerged workload adds (Runs phase) =
 IsUnmerged workload adds (Answered phase) = All (λ a. a.phase ≤ phase) adds
 IsUnmerged workload adds Gone = ⊤
 
--- a request that is held is that of its submitter's plan, of a page that is there
+-- a request that is held is the one in its submitter's plan, and its page exists
 pub record IsAsked (workload : Workload) (h : Held) : Type 0 where
   pub asked : request_at workload h.submitter h.ask.number ≡ Some h.ask.request
   pub there : IsThere (length (marks_of workload.pages)) h.ask.request.page

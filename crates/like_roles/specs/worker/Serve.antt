@@ -1,4 +1,4 @@
--- What it does to a worker to run a request.
+-- What running a request does to a worker.
 use Rattle.std.specs.Prelude.{◌≡◌, ◌≢◌, ℕ, ◌≤◌, Bool, if◌then◌else◌, List, [], ◌∷◌, ◌++◌, length, map}
 use Rattle.like_requests.specs.Verdict.{verdict_of}
 use Rattle.like_requests.specs.declared.request.Op.TheVariants.{Like, Look}
@@ -21,11 +21,11 @@ use Rattle.like_roles.specs.worker.WorkerView.{WorkerView, phase_at, seat_of, wi
 abbrev pub verdict_at : WorkerView → ℕ → Request → Verdict
 verdict_at v submitter r = verdict_of v.last.share.users v.last.share.submitters submitter r
 
--- an addition as it is noted when so many entries had run
+-- an addition as it is noted when `at` entries had run
 abbrev pub noted_at : ℕ → Addition → Added
 noted_at at a = record { page = a.page; phase = a.phase; at = at; old = a.old; n = a.likes }
 
--- what is noted of additions, where they are noted: each, when so many entries had run
+-- what is noted of additions, if they are noted: each, when `at` entries had run
 abbrev pub noted_if : Bool → ℕ → List Addition → List Added
 noted_if notes at adds = if notes then map (noted_at at) adds else []
 

@@ -81,7 +81,7 @@ pub data Turns (v : WorkerView) (answer : Turn) (after : WorkerView) : Type 0 wh
       → sight.waits ≡ false → Works (saw v sight mask) sight.ending answer after
       → Turns v answer after
 
--- the request is the next one of the submitter at a place, which has one left, and its page is there, where it is known
+-- the request is the next one of the submitter at a place, which has one left, and its page exists, if it is known
 pub record IsNext (v : WorkerView) (place : ℕ) (ask : Numbered) : Type 0 where
   pub number : ask.number ≡ count_by (λ t. t.submitter == submitter_at v place) v.taken + 1
   pub some : 1 ≤ slice_index v.left place

@@ -28,7 +28,7 @@ impl Model for Choices {
 }
 
 impl Choices {
-    /// None yet. All room is made here.
+    /// None yet. All memory is taken here.
     pub fn new(alloc: Global) -> Result<Choices, AllocError>
         ensures { IfOk result (λ choices. choices ≡ []) }
     {
@@ -37,7 +37,7 @@ impl Choices {
         })
     }
 
-    /// The mask, or that of no page once so many choices were of some page as may be.
+    /// The mask, or 0 once 1,024 choices had some page.
     pub fn limited(&self, mask: u64) -> u64
         ensures { result ≡ within_limit self.now mask }
     {
@@ -48,7 +48,7 @@ impl Choices {
         }
     }
 
-    /// Notes the choice for a phase, where it is of some page.
+    /// Notes the choice for a phase, if it has some page.
     pub fn note(&mut self, phase: u32, mask: u64)
         requires { 0 < mask → length self.old < max_chosen }
         ensures { self.new ≡ with_chosen self.old phase mask }

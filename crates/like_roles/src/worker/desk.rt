@@ -13,7 +13,7 @@ use like_promises::{Added, Ran, Took};
 use like_seat::Station;
 use like_tables::Held;
 
-/// What a worker keeps, beside its seat: of its submitters' plans, and of what it has done.
+/// What a worker keeps beside its seat, of its submitters' plans and of what it has done.
 #[derive(Drop)]
 pub(crate) struct Desk {
     /// Whether it has entered phase 0.

@@ -12,7 +12,7 @@ use like_roles::CoordTurn;
 use std::sync::{OnceToken, Wait};
 use std::thread::{PromisedHandle, Threads};
 
-// How many turns it counts in a row.
+// How many turns it counts between two pauses.
 const STRETCH: u32 = 32;
 
 /// Makes the coordinator's turns until it finds the run ended. A change of phase keeps workers from their requests, so
@@ -49,14 +49,14 @@ pub fn coordinate<R: Wait>(rt: &R, parkers: &Parkers, coordinator: &mut Coordina
     unreachable!()
 }
 
-// Pauses so often.
+// Pauses this many times.
 fn rest<R: Wait>(rt: &R, parkers: &Parkers, times: u32) {
     for _ in 0..times {
         parkers.pause(rt);
     }
 }
 
-/// Waits for all threads to end, in order, where all were told to go on: the logs and the seats that they end with.
+/// Joins all threads, in order, which were told to go on, and gathers the logs and the seats that they end with.
 pub fn join_all<'s, R: Threads>(
     rt: &R,
     threads: Vec<PromisedHandle<Served<'s>, Owes<'s>>>,

@@ -17,7 +17,7 @@ pub struct Room<'s> {
 }
 
 impl<'s> Room<'s> {
-    /// Room for so many workers and submitters. Nothing is in it.
+    /// Empty room for this many workers and submitters.
     pub fn new(alloc: Global, workers: usize, submitters: usize) -> Result<Room<'s>, AllocError>
         ensures { IfOk result (IsRoom workers submitters) }
     {

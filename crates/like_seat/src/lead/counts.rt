@@ -9,7 +9,7 @@ ghost use Rattle.like_limits.specs.Limits.{hot_pages};
 
 use like_board::{Board, CoordSeat};
 
-// Reads the counts of the pages from one on, as many as there is room for.
+// Reads the counts of the pages from `from` on, as many as there is room for.
 pub(crate) fn read_range(seat: &mut CoordSeat, board: &Board, from: u32, counts: &mut [u64])
     requires here { coord_board seat.old ≡ board_id board.now }
     requires saw { SawAllIn (coord_view seat.old) }
@@ -27,7 +27,7 @@ pub(crate) fn read_range(seat: &mut CoordSeat, board: &Board, from: u32, counts:
 }
 
 // Reads the counts of the first pages in place of those that were read before, and gives the mask of the pages whose
-// counts rose by at least so many.
+// counts rose by `least` or more.
 pub(crate) fn count_risen(
     seat: &mut CoordSeat,
     board: &Board,

@@ -23,7 +23,7 @@ impl<P: Post, W: Copy> Station<P, W> {
     }
 
     /// Counts a user's like of a page, and remembers it as the user's last. Of a sliced page it goes into the slice. Else
-    /// it is added to the page's count, and the count before comes back.
+    /// it is added to the page's count, and the answer is the count before.
     #[inline(always)]
     pub fn count_like(&mut self, user: u32, page: u32) -> Option<u64>
         requires running { IsRunning self.old.post.state }

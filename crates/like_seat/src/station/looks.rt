@@ -60,7 +60,7 @@ impl<P: Post, W: Copy> Station<P, W> {
         self.post.acknowledge();
     }
 
-    /// Ends the worker's part, in a joined phase. No step may follow.
+    /// Ends the worker's part, in a joined phase. No step may follow but `come_back`.
     pub fn retire(&mut self)
         requires { RunsJoined self.old.post.state }
         ensures ends { self.new ≡ record self.old { post = retired self.old.post } }

@@ -16,7 +16,7 @@ use like_tables::Users;
 use std::alloc::Global;
 
 impl<P: Post, W: Copy> Station<P, W> {
-    /// A seat of a service that has done nothing yet, at a board whose pages have their buckets by this factor.
+    /// A seat of a service that has done nothing yet, at a board with this factor for buckets.
     pub fn of_service(
         alloc: Global,
         post: P,
@@ -62,8 +62,8 @@ impl<P: SlotPost, W: Copy> Station<P, W> {
 }
 
 impl<P: SlotPost + Returns, W: Copy> Station<P, W> {
-    /// Comes back, of a seat that is gone: it runs the present phase, of a split one with its slots read. `false`, with
-    /// nothing done, where that phase is ending, or where another step changed the phase word meanwhile.
+    /// Brings a seat that is gone back into the present phase, which it then runs, a split one with its slots read.
+    /// `false`, with nothing done, if that phase is ending or another step changed the phase word meanwhile.
     pub fn come_back(&mut self) -> bool
         requires gone { self.old.post.state ≡ Gone }
         requires slotted { has_slots self.old.post.limits ≡ true }

@@ -15,7 +15,7 @@ impl<P: Post, W: Copy> Station<P, W> {
         self.tables.held.push(waiting);
     }
 
-    /// Gives and takes out the first that waits, if one does.
+    /// Takes out the first that waits, if one does.
     #[inline(always)]
     pub fn next_held(&mut self) -> Option<W>
         ensures first { result ≡ slice_get self.old.held.held 0 }

@@ -74,7 +74,7 @@ turn,index/open,/|Err(Line { row: 1 })
 turn,index/coordinator,1/|Err(Line { row: 1 })
 turn,index/coordinator,00/|Err(Line { row: 1 })";
 
-/// Files that end after so many bytes: a number stands before each answer that is not the one before.
+/// Files that end after 0, 1, 2 .. bytes. Each answer that differs from the one before has its number before it.
 pub fn prefixes() -> &'static [Case] {
     PREFIXES
 }
@@ -98,7 +98,7 @@ const PREFIXES: &[Case] = &[
     ),
 ];
 
-/// Files that fail after so many reads.
+/// Files that fail after 0, 1, 2 .. reads.
 pub fn reads() -> &'static [Case] {
     READS
 }
@@ -121,7 +121,7 @@ const READS: &[Case] = &[
     ),
 ];
 
-/// Files of which a byte is changed.
+/// Files with one byte changed.
 pub fn changed() -> &'static [Case] {
     CHANGED
 }
@@ -140,7 +140,7 @@ const CHANGED: &[Case] = &[
     ),
 ];
 
-/// Files that are read where memory may be wanting.
+/// Files that are read where memory may run out.
 pub fn good() -> &'static [Case] {
     GOOD
 }

@@ -11,7 +11,7 @@ fn push_pages(text: &mut String, pages: u32) -> Result<(), AllocError> {
     Ok(())
 }
 
-// A file with so many pages.
+// A file with this many pages.
 fn pages_text(alloc: Global, pages: u32) -> Result<String, AllocError> {
     let mut text = String::from_str(alloc, "name,count,split\n")?;
     push_pages(&mut text, pages)?;
@@ -24,7 +24,7 @@ fn pages(rt: &impl Abort, alloc: Global, pages: u32) -> Result<Pages, PagesFault
     read_pages(alloc, text.as_bytes())
 }
 
-// Whether there are so many, and memory for them.
+// Whether the list has this length, and there was memory for it.
 fn has_length<T: Drop>(list: &Result<Vec<T>, AllocError>, length: usize) -> bool {
     match list {
         Ok(list) => list.len() == length,
@@ -50,7 +50,7 @@ fn of_a_page_past_them(rt: HostRuntime) {
     );
 }
 
-// A script of so many turns of the coordinator.
+// A script of this many turns of the coordinator.
 fn script_text(alloc: Global, turns: usize) -> Result<String, AllocError> {
     let turns = "coordinator,0\n".repeat(alloc, turns)?;
     format!(in alloc; "turn,index\n{turns}")

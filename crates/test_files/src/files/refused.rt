@@ -1,10 +1,10 @@
-//! Growths that are refused, as checks/refusals does it: want of memory is told, and the next call is right.
+//! Growths that are refused, as checks/refusals does it: a lack of memory is told, and the next call is right.
 use super::cases::{Case, good};
 use super::{answer, assert_that};
 use std::alloc::Global;
 use std::process::Abort;
 
-// Whether a read was told that memory is wanting. Otherwise it has to be right.
+// Whether a read was told that there is no memory. Otherwise it must be right.
 fn is_refused(rt: &impl Abort, alloc: Global, case: &Case) -> bool {
     let (kind, file, wanted) = *case;
     let answer = answer(rt, alloc, kind, file);

@@ -60,7 +60,7 @@ fn logs(rt: &impl Abort, alloc: Global, workers: &[&[Entry]]) -> Vec<WorkerLog> 
     logs
 }
 
-// What logs are collected to, where the submitters have so many requests each.
+// What logs are collected to, where the submitters have this many requests each.
 fn collected(
     rt: &impl Abort,
     alloc: Global,
@@ -146,7 +146,7 @@ fn entries_and_faults(rt: HostRuntime) {
     }
 }
 
-// A like of each of so many submitters.
+// A like of each of this many submitters.
 fn one_each(alloc: Global, submitters: u32) -> Result<Vec<Entry>, AllocError> {
     let mut entries = Vec::new(alloc);
     for submitter in 0..submitters {

@@ -1,4 +1,4 @@
-//! Where the additions of logs stand.
+//! The places of the additions in logs.
 ghost use Rattle.std.specs.Prelude.{◌≡◌, ◌<◌, All};
 
 use crate::files::{assert_text, shown};
@@ -8,7 +8,7 @@ use like_roles::Added;
 use std::alloc::Global;
 use std::process::Abort;
 
-// An addition in phase 1 of so many likes to a page whose count was this.
+// An addition in phase 1 of `n` likes to a page whose count was `old`.
 fn added(page: u32, old: u64, n: u64) -> Added
     ensures { result.page ≡ page }
 {
@@ -31,7 +31,7 @@ pub fn place(worker: u32, old: u64, n: u64) -> Place {
     }
 }
 
-// The places on so many pages of what two workers added.
+// The places on this many pages of what two workers added.
 fn placed(rt: &impl Abort, alloc: Global, pages: u32, first: &[Added], second: &[Added]) -> String
     requires first { All (λ a. a.page < pages) first.now }
     requires second { All (λ a. a.page < pages) second.now }

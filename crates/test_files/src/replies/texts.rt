@@ -84,7 +84,7 @@ fn verdicts_report(rt: &impl Abort, alloc: Global) -> Report
     report(alloc, rows, counts, last, 0, Vec::new(alloc))
 }
 
-// The report on a like in this phase, of so many phases, of which these had hot pages.
+// The report on a like in this phase. There are this many phases, and these had hot pages.
 fn like_report(rt: &impl Abort, alloc: Global, phase: u32, phases: u32, hot: &[Chosen]) -> Report
     ensures { (pages : List Page) → length pages ≡ 1 → IsWritable pages (reported result) }
 {
@@ -135,7 +135,7 @@ pub fn assert_writes<F: Fn(&mut &mut [u8]) -> Result<(), WriteFault>>(
     );
 }
 
-// The fault of a write where there is room for so many bytes.
+// The fault of a write where there is room for this many bytes.
 fn fault_within<F: Fn(&mut &mut [u8]) -> Result<(), WriteFault>>(
     rt: &impl Abort,
     alloc: Global,

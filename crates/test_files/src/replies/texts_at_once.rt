@@ -1,4 +1,4 @@
-//! The text of a report whose sections threads make side by side.
+//! The text of a report whose sections threads make in parallel.
 ghost use Rattle.std.specs.Prelude.{◌≡◌, ◌<◌, All, List, length};
 ghost use Rattle.std.specs.Option.{ForSome};
 ghost use Rattle.like_requests.specs.Pages.{Page};
@@ -15,7 +15,7 @@ use std::alloc::{AllocError, Global};
 use std::process::Abort;
 use std::thread::Threads;
 
-// The replies to so many likes of one submitter.
+// The replies to this many likes of one submitter.
 fn liked(rt: &impl Abort, alloc: Global, count: usize) -> Replies
     ensures { (pages : List Page) → All (All (λ a. IsShowable pages a.reply)) (rows_of result) }
 {
@@ -24,7 +24,7 @@ fn liked(rt: &impl Abort, alloc: Global, count: usize) -> Replies
     Replies { rows }
 }
 
-// The only page, as the last that each of so many users liked.
+// The only page, as the last one that each of this many users liked.
 fn last_liked(rt: &impl Abort, alloc: Global, users: usize) -> Vec<Option<u32>>
     ensures { (pages : List Page) → length pages ≡ 1
         → All (λ last. ForSome last (λ page. page < length pages)) result.items }
@@ -32,7 +32,7 @@ fn last_liked(rt: &impl Abort, alloc: Global, users: usize) -> Vec<Option<u32>>
     vec![in alloc; Some(0); users].expect(rt, "memory")
 }
 
-// So many places on the only page.
+// This many places on the only page.
 fn placed(rt: &impl Abort, alloc: Global, count: usize) -> Vec<Vec<Place>>
     ensures { length result.items ≡ 1 }
 {
@@ -40,7 +40,7 @@ fn placed(rt: &impl Abort, alloc: Global, count: usize) -> Vec<Vec<Place>>
     vec![in alloc; places].expect(rt, "memory")
 }
 
-// The report on so many likes of one submitter, each of a user of its own, with a place for each.
+// The report on this many likes of one submitter, each of another user, with a place for each.
 fn report_of_likes(rt: &impl Abort, alloc: Global, count: usize) -> Report
     ensures written { (pages : List Page) → length pages ≡ 1 → IsWritable pages (reported result) }
     ensures placed { length result.places.items ≡ 1 }
@@ -59,7 +59,7 @@ fn report_of_likes(rt: &impl Abort, alloc: Global, count: usize) -> Report
     }
 }
 
-// The rows of so many requests.
+// The rows of this many requests.
 fn push_requests(text: &mut String, count: usize) -> Result<(), AllocError> {
     for number in 1..=count {
         write!(text, "reply,0,{number},0,liked,,\n")?;
@@ -67,7 +67,7 @@ fn push_requests(text: &mut String, count: usize) -> Result<(), AllocError> {
     Ok(())
 }
 
-// The rows of so many users.
+// The rows of this many users.
 fn push_users(text: &mut String, count: usize) -> Result<(), AllocError> {
     for user in 0..count {
         write!(text, "user,{user},,,,a,\n")?;
@@ -75,7 +75,7 @@ fn push_users(text: &mut String, count: usize) -> Result<(), AllocError> {
     Ok(())
 }
 
-// The rows of so many places.
+// The rows of this many places.
 fn push_places(text: &mut String, count: usize) -> Result<(), AllocError> {
     for _ in 0..count {
         text.push_str("place,0,0,1,7,a,1\n")?;
@@ -83,7 +83,7 @@ fn push_places(text: &mut String, count: usize) -> Result<(), AllocError> {
     Ok(())
 }
 
-// Its text, with so many places.
+// Its text, with this many places.
 fn text_of_likes(alloc: Global, count: usize, places: usize) -> Result<String, AllocError> {
     let mut text = String::from_str(alloc, HEADER)?;
     push_rows(&mut text, count, places)?;
@@ -114,7 +114,7 @@ fn assert_text(
     assert_bytes(rt, out, text.as_bytes());
 }
 
-// The same of so many likes.
+// The same of this many likes.
 fn assert_written(
     rt: &(impl Abort + Threads + Sync),
     alloc: Global,
@@ -131,7 +131,7 @@ fn extent(totals: bool, places: bool) -> Extent {
 }
 
 // 40,000 requests, users and places have three sections each, the last of them shorter than the others: more than are
-// made side by side.
+// made in parallel.
 #[test]
 fn all_sections_in_order(rt: HostRuntime) {
     for count in [0, 1, 16_384, 40_000] {

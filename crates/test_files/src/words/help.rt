@@ -13,7 +13,7 @@ fn help(rt: &impl Abort, alloc: Global, words: &str) -> String {
     }
 }
 
-// Whether a line says what this is: it stands first, and two spaces or more behind it.
+// Whether a line tells of `what`: it comes first, and two spaces or more behind it.
 fn begins_with(line: &str, what: &str) -> bool {
     match line.trim_start().split_once("  ") {
         Some((first, _)) => first == what,
@@ -21,7 +21,7 @@ fn begins_with(line: &str, what: &str) -> bool {
     }
 }
 
-// Whether a line of a text says what this is.
+// Whether a line of a text tells of `what`.
 fn explains(text: &str, what: &str) -> bool {
     for line in text.lines() {
         if begins_with(line, what) {

@@ -8,7 +8,7 @@ pub enum OnPost {
     Answer,
     /// A like of this page in a joined phase, and the page's count before.
     Like(u32, u64),
-    /// The merge of the slice of page 0, which has so many likes, and the page's count before.
+    /// The merge of the slice of page 0, which has this many likes, and the page's count before.
     Merge(u64, u64),
     /// This page's count in a joined phase.
     Read(u32, u64),

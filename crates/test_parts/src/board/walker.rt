@@ -30,7 +30,7 @@ pub struct Walker<P: Post> {
 }
 
 impl<P: Post> Walker<P> {
-    /// A worker at a post on which no call was made, at a board with so many pages, whose first is marked or is not.
+    /// A worker at a post on which no call was made, at a board with this many pages, whose first is marked or is not.
     pub fn new(post: P, limits: Limits, pages: u32, marked: bool) -> Walker<P>
         requires fresh { IsFresh (P.view post) }
         requires limits { (P.view post).limits ≡ limits }
@@ -122,7 +122,7 @@ impl<P: Post> Walker<P> {
             && (self.known.is_marked || self.known.hot_in == Some(phase))
     }
 
-    // The count of a page before so many likes are added.
+    // The count of a page before this many likes are added.
     fn add(&mut self, page: u32, likes: u64) -> u64
         requires may { MayAdd (P.view self.old.post) page likes }
         requires room { likes ≤ self.old.known.room }

@@ -67,7 +67,7 @@ macro_rules! wrong_phase {
     };
 }
 
-// A worker and a page that begins at 0 and is marked; what else a case names stands in it.
+// A worker and a page that begins at 0 and is marked; a case names what else it has.
 const LONE: Case = Case {
     name: "",
     workers: 1,

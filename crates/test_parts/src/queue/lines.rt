@@ -169,7 +169,7 @@ impl Passed {
     }
 }
 
-// Whether so many pushes are answered as they have to be, where a request is left.
+// Whether this many pushes are answered right, where a request is left.
 fn pushes_some<R: Wait>(rt: &R, end: &mut SendEnd<'_>, passed: &mut Passed, count: u32) -> bool {
     for _ in 0..count {
         if end.next().is_some() && !pushes(rt, end, passed.push()) {
@@ -179,7 +179,7 @@ fn pushes_some<R: Wait>(rt: &R, end: &mut SendEnd<'_>, passed: &mut Passed, coun
     true
 }
 
-// Whether so many takes are answered as they have to be.
+// Whether this many takes are answered right.
 fn takes_some<R: Wait>(rt: &R, end: &mut TakeEnd<'_>, passed: &mut Passed, count: u32) -> bool {
     for _ in 0..count {
         if end.take(rt) != passed.take() {
@@ -232,7 +232,7 @@ fn play_at<R: Wait + Abort>(rt: &R, line: &Line, send: SendPass, take: TakePass,
     play(rt, &mut send.at(line), &mut take.at(line), case);
 }
 
-// So many likes.
+// This many likes.
 fn plan_of(rt: &impl Abort, alloc: Global, size: usize) -> Result<Vec<Request>, AllocError>
     ensures { IfOk result (λ plan. length plan.items ≤ max_requests) }
 {
@@ -256,7 +256,7 @@ fn plays_each_line(rt: HostRuntime) -> Result<(), Fail> {
     Ok(())
 }
 
-// Want of memory is told, and the next call is right.
+// A lack of memory is told, and the next call is right.
 #[test]
 fn a_refused_growth_is_told(rt: HostRuntime) -> Result<(), Fail> {
     let mut refused = false;

@@ -49,7 +49,7 @@ fn assert_leads(rt: &impl Abort, alloc: Global, board: &Board, coord: CoordSeat)
     Ok(())
 }
 
-// Want of memory is told and gives the seat back, and the next call is right.
+// A lack of memory is told and gives the seat back, and the next call is right.
 #[test]
 fn a_refused_coordinator_gives_its_seat_back(rt: HostRuntime) -> Result<(), Fail> {
     let (board, coord, _) = Board::new(rt.alloc(), 1, &[10], &[false])?;

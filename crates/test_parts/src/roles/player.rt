@@ -48,7 +48,7 @@ fn next_of(plan: &[Request], next: &mut usize) -> Taken
     })
 }
 
-// The worker with this number in a run with one submitter, of so many requests.
+// The worker with this number in a run with one submitter, of this many requests.
 fn worker_of<P: Post>(
     alloc: Global,
     setup: &Setup,

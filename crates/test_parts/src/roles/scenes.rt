@@ -95,7 +95,7 @@ macro_rules! seen {
     };
 }
 
-// An addition of likes to a page in a phase, when so many requests had run and its count was this.
+// An addition of likes to a page in a phase, when this many requests had run and its count was this.
 macro_rules! added {
     ($page:literal, $phase:literal, $at:literal, $old:literal, $likes:literal) => {
         Added {
@@ -143,7 +143,7 @@ const LAST_PHASE: &[Step] = &[
     Coord(CoordTurn::Ended),
 ];
 
-// A worker with a stash for 256 looks, which likes page 0 last; what else a scene names stands in it.
+// A worker with a stash for 256 looks, which likes page 0 last; a scene names what else it has.
 const LONE: Scene = Scene {
     name: "",
     workers: 1,

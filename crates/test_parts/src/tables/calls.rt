@@ -20,7 +20,7 @@ pub enum OnSlice {
 pub enum OnStash {
     /// A look of this submitter.
     Push(u32),
-    /// So many looks.
+    /// This many looks.
     Fill(u32),
     Pop(Option<Held>),
     IsFull(bool),

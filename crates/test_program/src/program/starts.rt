@@ -1,17 +1,17 @@
 //! Starts of the program as data.
 
 /// Starts, with `;` between them. Each has six cells with `|` between them: its name; the files that are there, as
-/// `NAME>TEXT` with `&` behind each; the words; the status; and what stands on the output and the errors, where `..` stands
-/// for more.
+/// `NAME>TEXT` with `&` behind each; the words; the status; and what is written to the output and the errors, where
+/// `..` means any more.
 ///
-/// - `replays-by-the-options`: the files of `late-worker` with a request of a user who is not there, by the options and the
+/// - `replays-by-the-options`: the files of `late-worker` with a request of an unknown user, by the options and the
 ///   script that are named: with other numbers, in another order or without the script, the requests would run in other
 ///   phases.
-/// - `runs-files`: of three submitters, of whom each has the likes of its own user: in another order, they would be
-///   refused. And `plain-likes`, which is done in phase 0 long before the coordinator has counted a million turns.
+/// - `runs-files`: three submitters, each with the likes of its own user: in another order, they would be refused. And
+///   `plain-likes`, which is done in phase 0 long before the coordinator has counted a million turns.
 /// - `writes-a-summary`: each number but the seconds. And `tells-refused-requests`: those files without a summary.
-/// - `tells-no-progress`: work that takes less than two seconds is told nothing of.
-/// - `tells-two-inputs`: standard input is two files, of which none is opened.
+/// - `tells-no-progress`: of work that takes less than two seconds, nothing is told.
+/// - `tells-two-inputs`: standard input is two files, and none is opened.
 /// - `opens-in-order`: all files are opened before one is read, and the first that can't be opened is told.
 ///
 /// A function that takes them from here has none of their text in its proof.

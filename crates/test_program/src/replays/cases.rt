@@ -1,6 +1,7 @@
 //! The cases of replays as data, with `;` between them. Each has six cells with `|` between them: its name; its workers,
-//! users, places of the stash and turns, likes that make a page hot (`-`: no page is hot), and whether places, or totals alone, are written;
-//! the pages file; the request files, each with `&` behind it; the script (`-`: there is none); and what it ends in.
+//! users, places of the stash and turns, likes that make a page hot (`-`: no page is hot), and whether places are
+//! written, or totals alone; the pages file; the request files, each with `&` behind it; the script (`-`: there is
+//! none); and what it ends in.
 
 /// The worked examples. Each ends in a report, whose header row is left out.
 ///

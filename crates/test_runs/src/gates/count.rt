@@ -57,7 +57,7 @@ impl Counts {
         self.get(0) == number && self.get(1) == number && self.get(2) == number
     }
 
-    /// The number at a place, and 0 at a place that is not there.
+    /// The number at a place, or 0 if there is no such place.
     pub fn get(&self, place: u32) -> u32 {
         match self.at(place) {
             Some(count) => count.get(),

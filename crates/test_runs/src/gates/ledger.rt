@@ -35,7 +35,7 @@ impl Ledger {
         self.wrong.get() == 0
     }
 
-    /// Whether each submitter pushed so many requests, and so many ran of each.
+    /// Whether each submitter pushed this many requests, and as many of each ran.
     pub fn has_all(&self, each: u32) -> bool {
         self.pushed.are_all(each) && self.ran.are_all(each)
     }

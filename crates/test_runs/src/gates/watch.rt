@@ -17,7 +17,7 @@ pub enum Held {
     SecondRequest,
 }
 
-/// A gate at which calls wait, each for so many looks at most.
+/// A gate at which calls wait, each for this many looks at most.
 #[derive(Drop)]
 pub struct Watch {
     held: Held,
@@ -49,7 +49,7 @@ impl Watch {
         Watch::new(Held::Nobody, 0)
     }
 
-    /// Whether so many requests were pushed, and so many ran.
+    /// Whether this many requests were pushed, and as many ran.
     pub fn has_calls(&self, number: u32) -> bool {
         self.pushed.get() == number && self.ran.get() == number
     }
@@ -81,7 +81,7 @@ impl Watch {
         self.made.add(1);
     }
 
-    // Waits until so many calls were noted.
+    // Waits until this many calls were noted.
     fn wait(&self, calls: u32) {
         for _ in 0..self.looks {
             if self.made() >= calls {

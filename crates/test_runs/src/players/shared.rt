@@ -10,7 +10,7 @@ pub fn phase_of(number: u64) -> u32 {
     u32::try_from(number).unwrap_or(u32::MAX)
 }
 
-/// How many items of a submitter's list are open, of which the end mark is the last, and how many requests are taken.
+/// How many items of a submitter's list are open (the end mark is the last one), and how many requests are taken.
 #[derive(Clone, Copy)]
 pub struct List {
     pub open: u32,
@@ -37,8 +37,8 @@ impl List {
 
 /// What a run has beside its workers: of its settings those that a turn asks for, how many submitters there are, which
 /// pages are marked as split, the core, the coordinator's turns left, the counts of its last choice, its choices, and
-/// the submitters' requests and lists. It is stuck once memory was wanting, the core refused an event of a turn, or a
-/// script named somebody who is not there.
+/// the submitters' requests and lists. It is stuck once memory ran out, the core refused an event of a turn, or a
+/// script named an unknown worker or submitter.
 #[derive(Drop)]
 pub struct Shared<'a> {
     pub users: u32,
@@ -124,7 +124,7 @@ impl Shared<'_> {
         self.stuck |= self.chosen.push(Chosen { phase, mask }).is_err();
     }
 
-    // The mask of the pages whose counts are by so many likes greater than when this was asked before.
+    // The mask of the pages whose counts grew by this many likes or more since this was asked before.
     fn grown_pages(&mut self, least: u32) -> u64 {
         let mut mask = 0;
         for page in 0..4 {
@@ -135,7 +135,7 @@ impl Shared<'_> {
         mask
     }
 
-    // By how many likes a page's count is greater than when this was asked before.
+    // By how many likes a page's count grew since this was asked before.
     fn growth(&mut self, page: u32) -> u64 {
         let count = self.count(Event::CoordRead(page));
         match self.counts.get_mut(page as usize) {

@@ -9,7 +9,7 @@ use like_requests::Setup;
 use std::alloc::{AllocError, Global};
 
 impl Desk {
-    /// What a worker keeps at first. All its room is made here.
+    /// What a worker keeps at first. All its memory is taken here.
     pub fn new(
         alloc: Global,
         setup: &Setup,

@@ -35,7 +35,7 @@ pub(crate) fn waits<P: Post>(seat: &Station<P, Held>, held: &Held, verdict: Verd
 }
 
 impl Desk {
-    // Counts an accepted like of a page, which is then the user's last, and notes its addition, if it is one.
+    // Counts an accepted like of a page, which is then the user's last, and notes its addition, if it makes one.
     fn like<P: Post>(&mut self, seat: &mut Station<P, Held>, user: u32, page: u32)
         requires settled { IsSettled seat.old self.old }
         requires room { HasRoomForOne seat.old self.old }

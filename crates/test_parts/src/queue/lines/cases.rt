@@ -22,7 +22,7 @@ pub enum Call {
     GoThrough,
 }
 
-/// A line of a plan with so many requests, and the calls of its ends on one thread.
+/// A line of a plan with this many requests, and the calls of its ends on one thread.
 #[derive(Clone, Copy)]
 pub struct Case {
     pub name: &'static str,
