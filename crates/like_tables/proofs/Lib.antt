@@ -4,6 +4,7 @@ pub mod ByPage
 pub mod Dealt
 pub mod Homes
 pub mod Inverses
+pub mod NextSliced
 pub mod Owned
 pub mod PageSets
 pub mod Places

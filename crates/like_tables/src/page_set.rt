@@ -31,8 +31,6 @@ impl PageSet {
         })
     }
 
-    #[cold]
-    #[inline(never)]
     pub fn insert(&mut self, page: u32)
         requires { page < 64 * length self.old }
         ensures { SetsBit page 1 self.old self.new }

@@ -77,16 +77,8 @@ impl SplitPages {
     pub fn has(&self, page: u32) -> bool
         ensures { result ≡ is_split self.now page }
     {
-        self.holds(page, self.bucket(page))
-    }
-
-    /// The same, of a page that has this bucket.
-    #[inline(always)]
-    pub fn holds(&self, page: u32, place: u32) -> bool
-        requires { place ≡ bucket self.now.factor page }
-        ensures { result ≡ is_split self.now page }
-    {
-        self.tags[place as usize] == page
+        let bucket = self.bucket(page);
+        self.tags[bucket as usize] == page
     }
 
     /// The page that a bucket holds, if any.

@@ -4,7 +4,6 @@ ghost use Rattle.like_tables.specs.SplitPages.{MayPut};
 ghost use Rattle.like_tables.specs.SplitSlice.{AreUnsliced, IsNextSliced, IsSplitSlice, bucket_in, has_split, likes_in, no_slice, with_likes, with_split};
 
 use crate::buckets::BUCKETS;
-use crate::slice::Slice;
 use crate::split_pages::SplitPages;
 use std::alloc::{AllocError, Global};
 use std::marker::Model;
@@ -12,12 +11,12 @@ use std::marker::Model;
 /// A worker's slice of its split pages: which pages are split in its phase, and how many likes of each it has counted
 /// and not merged yet.
 ///
-/// It has a number for each of 1,024 buckets, whatever the number of pages.
+/// It has a number for each of 1,024 buckets, whatever the number of pages. A like writes that number and nothing else.
 #[derive(Drop)]
 pub struct SplitSlice {
     splits: SplitPages,
     // By bucket.
-    likes: Slice,
+    counts: [u64; BUCKETS],
 }
 
 impl Model for SplitSlice {
@@ -25,9 +24,9 @@ impl Model for SplitSlice {
 
     ghost Value = { SplitSlice };
 
-    ghost view = { λ s. record { splits = s.splits; counts = s.likes } };
+    ghost view = { λ s. record { splits = s.splits; counts = s.counts } };
 
-    ghost invariant = { λ s. IsSplitSlice (record { splits = s.splits; counts = s.likes }) };
+    ghost invariant = { λ s. IsSplitSlice (record { splits = s.splits; counts = s.counts }) };
 }
 
 impl SplitSlice {
@@ -39,7 +38,7 @@ impl SplitSlice {
     {
         Ok(SplitSlice {
             splits: SplitPages::new(alloc, factor)?,
-            likes: Slice::new(alloc, BUCKETS as u32)?,
+            counts: [0; BUCKETS],
         })
     }
 
@@ -60,15 +59,6 @@ impl SplitSlice {
         self.splits.has(page)
     }
 
-    /// The same, of a page that has this bucket.
-    #[inline(always)]
-    pub fn holds(&self, page: u32, bucket: u32) -> bool
-        requires { bucket ≡ bucket_in self.now page }
-        ensures { result ≡ has_split self.now page }
-    {
-        self.splits.holds(page, bucket)
-    }
-
     /// Splits the page. No other page may be in its bucket.
     pub fn put(&mut self, page: u32)
         requires { MayPut self.old.splits page }
@@ -78,17 +68,17 @@ impl SplitSlice {
         self.splits.put(page);
     }
 
-    /// Counts a like of the page, which has this bucket.
+    /// Counts a like of the page.
     #[inline(always)]
-    pub fn add(&mut self, _page: u32, bucket: u32)
-        requires split { has_split self.old _page ≡ true }
-        requires bucket { bucket ≡ bucket_in self.old _page }
+    pub fn add(&mut self, page: u32)
+        requires split { has_split self.old page ≡ true }
         requires below { sum self.old.counts + 1 < 2 ^ 63 }
-        ensures counted { self.new ≡ with_likes self.old _page (likes_in self.old _page + 1) }
+        ensures counted { self.new ≡ with_likes self.old page (likes_in self.old page + 1) }
         ensures total { sum self.new.counts ≡ sum self.old.counts + 1 }
         ensures slice { IsSplitSlice self.new }
     {
-        self.likes.add(bucket);
+        let bucket = self.bucket(page);
+        self.counts[bucket as usize] += 1;
     }
 
     /// How many likes it has of the page.
@@ -97,7 +87,7 @@ impl SplitSlice {
         requires { has_split self.now page ≡ true }
         ensures { result ≡ likes_in self.now page }
     {
-        self.likes.likes(self.bucket(page))
+        self.counts[self.bucket(page) as usize]
     }
 
     /// Takes the page's likes out.
@@ -108,18 +98,27 @@ impl SplitSlice {
         ensures total { sum self.new.counts + result ≡ sum self.old.counts }
         ensures slice { IsSplitSlice self.new }
     {
-        let bucket = self.bucket(page);
-        self.likes.take(bucket)
+        let bucket = self.bucket(page) as usize;
+        let likes = self.counts[bucket];
+        self.counts[bucket] = 0;
+        likes
     }
 
-    /// The page in the first bucket from `from` on whose page has a like. A word tells of 64 buckets at once.
+    /// The page in the first bucket from `from` on whose page has a like. It goes over the split pages.
     pub fn next(&self, from: u32) -> Option<u32>
         requires { from ≤ buckets }
         ensures next { IfSome result (IsNextSliced self.now from) }
         ensures none { IfNone result (AreUnsliced self.now from buckets) }
     {
-        let bucket = self.likes.next(from)?;
-        self.splits.page_in(bucket)
+        let mut place = from;
+        while let Some(page) = self.splits.next(place) {
+            let bucket = self.bucket(page);
+            if self.counts[bucket as usize] != 0 {
+                return Some(page);
+            }
+            place = bucket + 1;
+        }
+        None
     }
 
     /// Splits no page from now on. It has no like.

@@ -1,13 +1,11 @@
-ghost use Rattle.std.specs.Prelude.{◌≡◌, length};
+ghost use Rattle.std.specs.Prelude.{◌≡◌};
 
 mod calls;
 
 use crate::asserts::{assert_call, assert_call_at};
-use calls::{
-    OnSlice, OnSplits, OnStash, OnUsers, held_of, of_a_million, of_five, slices, splits, stashes,
-};
+use calls::{OnSplits, OnStash, OnUsers, held_of, of_a_million, of_five, splits, stashes};
 use like_requests::{Op, PageRef, Request, Verdict};
-use like_tables::{Held, Slice, SplitPages, Stash, Users, factor_for};
+use like_tables::{Held, SplitPages, SplitSlice, Stash, Users, factor_for};
 use std::process::Abort;
 use std::test::Fail;
 
@@ -57,43 +55,17 @@ fn a_factor_parts_pages(rt: HostRuntime) {
     assert!(rt; factor_for(&[7, 7]) == None);
 }
 
-// Makes a call of a slice of this many pages, and tells whether it may be made and is answered as it says.
-fn answers_slice(slice: &mut Slice, pages: u32, call: OnSlice) -> bool
-    requires { length slice.old ≡ pages }
-    ensures { length slice.new ≡ pages }
-{
-    match call {
-        OnSlice::Add(page) => {
-            if page >= pages || slice.total() >= 64 {
-                return false;
-            }
-            slice.add(page);
-            true
-        }
-        OnSlice::Likes(page, want) => page < pages && slice.likes(page) == want,
-        OnSlice::Take(page, want) => page < pages && slice.take(page) == want,
-        OnSlice::Next(from, want) => from <= pages && slice.next(from) == want,
-        OnSlice::Total(want) => slice.total() == want,
-        OnSlice::IsEmpty(want) => slice.is_empty() == want,
-    }
-}
-
-// Makes the calls of a slice of this many pages, and asserts their answers.
-fn call_slice(rt: &impl Abort, slice: &mut Slice, pages: u32, calls: &[OnSlice])
-    requires { length slice.old ≡ pages }
-{
-    for at in 0..calls.len() {
-        let answered = answers_slice(slice, pages, calls[at]);
-        assert_call_at(rt, answered, pages as usize, at);
-    }
-}
-
 #[test]
 fn a_slice_gives_what_was_added(rt: HostRuntime) -> Result<(), Fail> {
-    for (pages, calls) in slices() {
-        let mut slice = Slice::new(rt.alloc(), *pages)?;
-        call_slice(&rt, &mut slice, *pages, calls);
-    }
+    let mut slice = SplitSlice::new(rt.alloc(), 1 << 22)?;
+    slice.put(64);
+    slice.add(64);
+    slice.add(64);
+    assert!(rt; slice.has(64) && !slice.has(65) && slice.bucket(64) == 64);
+    assert!(rt; slice.likes(64) == 2);
+    assert!(rt; slice.next(64) == Some(64) && slice.next(65) == None);
+    assert!(rt; slice.take(64) == 2);
+    assert!(rt; slice.next(0) == None);
     Ok(())
 }
 

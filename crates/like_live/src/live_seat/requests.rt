@@ -1,5 +1,5 @@
 ghost use Rattle.std.specs.Prelude.{◌≡◌, ◌≢◌, ◌+◌, ◌<◌, IfNone, IfSome, IsTrue, length};
-ghost use Rattle.like_core.specs.Post.{pages_of};
+ghost use Rattle.like_core.specs.Post.{pages_of, slices};
 ghost use Rattle.like_core.specs.WorkerState.{IsRunning, RunsSplit};
 ghost use Rattle.like_seat.specs.StationView.{phase_at};
 ghost use Rattle.like_seat.specs.Steps.{holding};
@@ -14,23 +14,39 @@ use like_core::Post;
 use like_requests::{Op, PageRef, Request, Verdict};
 use like_tables::Placed;
 
+// A request that is accepted.
+#[derive(Clone, Copy)]
+struct Accepted {
+    // Its user.
+    placed: Placed,
+    // Whether its page is split now.
+    split: bool,
+}
+
 impl<P: Post> LiveSeat<P> {
     // The user with its place, if a request of the user for a page is accepted. It costs no division. A page that is
-    // split exists, and needs no other test.
+    // split exists, and needs no other test. Whether it is split is tested once.
     #[inline(always)]
-    fn accepts(&self, user: u32, page: u32) -> Option<Placed>
+    fn accepts(&self, user: u32, page: u32) -> Option<Accepted>
         requires { IsRunning self.now.seat.post.state }
-        ensures accepted { IfSome result (IsAccepted self.now.seat user page) }
+        ensures accepted { IfSome result (λ a. IsAccepted self.now.seat user page a.placed) }
+        ensures split { IfSome result (λ a. a.split ≡ slices self.now.seat.post page) }
         ensures refused { IfNone result (verdict_at self.now.seat user page ≢ Verdict.Accepted) }
     {
         let placed = self.seat.users().find(&self.home, user)?;
         if self.seat.is_sliced(page) {
-            return Some(placed);
+            return Some(Accepted {
+                placed,
+                split: true,
+            });
         }
         if page >= self.pages {
             return None;
         }
-        Some(placed)
+        Some(Accepted {
+            placed,
+            split: false,
+        })
     }
 
     // Why it is not. Kept out of line, so that an accepted request costs less.
@@ -58,14 +74,19 @@ impl<P: Post> LiveSeat<P> {
         ensures case { LikesNow self.old user page result self.new }
         ensures keeps { IsLive self.new }
     {
-        let Some(placed) = self.accepts(user, page) else {
+        let Some(accepted) = self.accepts(user, page) else {
             return LikeAnswer::Refused(self.refusal(user, page));
         };
-        if self.signals.allows(self.seat.likes()) {
-            self.seat.count_like_at(placed, page);
+        if accepted.split {
+            if self.signals.allows(self.seat.likes()) {
+                self.seat.count_sliced_at(accepted.placed, page);
+                return LikeAnswer::Liked;
+            }
+        } else if self.signals.allows(self.seat.likes()) {
+            self.seat.count_plain_at(accepted.placed, page);
             return LikeAnswer::Liked;
         }
-        self.like_late(placed, page)
+        self.like_late(accepted.placed, page)
     }
 
     // A like that is a sample, or too many. Kept out of line, so that other likes make no call.
@@ -91,12 +112,12 @@ impl<P: Post> LiveSeat<P> {
         ensures case { LooksNow self.old user page tag result self.new }
         ensures keeps { IsLive self.new }
     {
-        let Some(placed) = self.accepts(user, page) else {
+        let Some(accepted) = self.accepts(user, page) else {
             return LookAnswer::Refused(self.refusal(user, page));
         };
-        if !self.seat.is_sliced(page) {
+        if !accepted.split {
             self.signals.count_look(self.seat.likes(), page);
-            return LookAnswer::Seen(self.seat.read_at(placed, page));
+            return LookAnswer::Seen(self.seat.read_at(accepted.placed, page));
         }
         if self.room == 0 {
             return LookAnswer::NoRoom;
@@ -136,12 +157,12 @@ impl<P: Post> LiveSeat<P> {
         ensures case { GlancesNow self.old user page result self.new }
         ensures keeps { IsLive self.new }
     {
-        let Some(placed) = self.accepts(user, page) else {
+        let Some(accepted) = self.accepts(user, page) else {
             return GlanceAnswer::Refused(self.refusal(user, page));
         };
-        if self.seat.is_sliced(page) {
-            return GlanceAnswer::Seen(self.seat.glance(placed, page));
+        if accepted.split {
+            return GlanceAnswer::Seen(self.seat.glance(accepted.placed, page));
         }
-        GlanceAnswer::Seen(self.seat.read_at(placed, page))
+        GlanceAnswer::Seen(self.seat.read_at(accepted.placed, page))
     }
 }

@@ -1,4 +1,4 @@
-ghost use Rattle.std.specs.Prelude.{◌≡◌, ◌<◌, false, true, IsTrue};
+ghost use Rattle.std.specs.Prelude.{◌≡◌, ◌<◌, false, true, IsTrue, None, Some};
 ghost use Rattle.like_core.specs.Post.{pages_of, slices};
 ghost use Rattle.like_core.specs.WorkerState.{IsRunning};
 ghost use Rattle.like_tables.specs.Placed.{IsPlaced};
@@ -47,16 +47,44 @@ impl<P: Post, W: Copy> Station<P, W> {
         ensures counts { CountsLike self.old placed.user page result self.new }
         ensures seat { IsStation self.new }
     {
-        let bucket = self.tables.slice.bucket(page);
-        let sliced = self.tables.slice.holds(page, bucket);
-        self.tables.last.set_at(placed, page);
-        self.tables.likes += 1;
-        if sliced {
-            self.tables.slice.add(page, bucket);
-            self.tables.sliced = self.tables.sliced.then(&self.post, page);
+        if self.is_sliced(page) {
+            self.count_sliced_at(placed, page);
             return None;
         }
-        Some(self.post.add(page, 1))
+        Some(self.count_plain_at(placed, page))
+    }
+
+    /// The same, of a page that is sliced.
+    #[inline(always)]
+    pub fn count_sliced_at(&mut self, placed: Placed, page: u32)
+        requires running { IsRunning self.old.post.state }
+        requires there { page < pages_of self.old.post }
+        requires split { slices self.old.post page ≡ true }
+        requires placed { IsPlaced self.old.last.share placed }
+        requires fits { likes_of self.old < self.old.post.limits.likes }
+        ensures counts { CountsLike self.old placed.user page None self.new }
+        ensures seat { IsStation self.new }
+    {
+        self.tables.slice.add(page);
+        self.tables.sliced = self.tables.sliced.then(&self.post, page);
+        self.tables.last.set_at(placed, page);
+        self.tables.likes += 1;
+    }
+
+    /// The same, of a page that is not sliced. The page's count before comes back.
+    #[inline(always)]
+    pub fn count_plain_at(&mut self, placed: Placed, page: u32) -> u64
+        requires running { IsRunning self.old.post.state }
+        requires there { page < pages_of self.old.post }
+        requires plain { slices self.old.post page ≡ false }
+        requires placed { IsPlaced self.old.last.share placed }
+        requires fits { likes_of self.old < self.old.post.limits.likes }
+        ensures counts { CountsLike self.old placed.user page (Some result) self.new }
+        ensures seat { IsStation self.new }
+    {
+        self.tables.last.set_at(placed, page);
+        self.tables.likes += 1;
+        self.post.add(page, 1)
     }
 
     /// Reads a page's count for a user's look.

@@ -1,5 +1,5 @@
-use Rattle.std.proofs.Common.{◌≡◌, ◌≢◌, ◌<◌, Some, None, sym, ap, subst, ◌∙◌, arith}
-use Rattle.like_core.specs.Post.{pages_of}
+use Rattle.std.proofs.Common.{◌≡◌, ◌≢◌, ◌<◌, true, false, Some, None, sym, ap, subst, ◌∙◌, arith}
+use Rattle.like_core.specs.Post.{pages_of, slices}
 use Rattle.like_requests.specs.declared.verdict.Verdict.TheVariants.{Accepted}
 use Rattle.like_tables.specs.Placed.{placed_in}
 use Rattle.like_tables.specs.UserTable.{UserTable}
@@ -39,3 +39,16 @@ returns-clause-accepted g c =
     let there : c.args.page < pages_of s.post = omega (arith, c.if-page-self.false, c.self.invariant.pages_are) in
     subst (λ (v : LiveView). IsAccepted v.seat user c.args.page placed) c.self.view_is
     (accepted-found s user c.args.page placed c.self.invariant.live.home some there)
+
+pub returns-then-is_sliced-clause-split : goal.returns-then-is_sliced-clause-split
+returns-then-is_sliced-clause-split g c =
+    let there = c.is_sliced.ensures.there c.if-is_sliced.true in
+    subst (λ (v : LiveView). true ≡ slices v.seat.post c.args.page) c.self.view_is
+    (sym c.if-is_sliced.true ∙ c.is_sliced.ensures.sliced there)
+
+pub returns-clause-split : goal.returns-clause-split
+returns-clause-split g c =
+    let s = c.self.inside.seat in
+    let there : c.args.page < pages_of s.post = omega (arith, c.if-page-self.false, c.self.invariant.pages_are) in
+    subst (λ (v : LiveView). false ≡ slices v.seat.post c.args.page) c.self.view_is
+    (sym c.if-is_sliced.false ∙ c.is_sliced.ensures.sliced there)

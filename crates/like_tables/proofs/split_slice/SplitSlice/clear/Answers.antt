@@ -6,7 +6,7 @@ use Rattle.like_tables.proofs.split_slice.SplitSlice.clear.Goals as goal
 pub returns : goal.returns
 returns c =
     let i = c.self.inside in
-    let old : SplitSlice = record { splits = i.splits; counts = i.likes } in
+    let old : SplitSlice = record { splits = i.splits; counts = i.counts } in
     let none = subst (λ (s : SplitSlice). (page : ℕ) → likes_in s page ≡ 0) (sym c.self.view_is) c.requires in
     let factor = ap (λ (s : SplitSlice). s.splits.factor) c.self.view_is in
     ◌∙◌ {b = no_slice i.splits.factor}

@@ -1,10 +1,11 @@
-use Rattle.std.proofs.Common.{subst, sym}
+use Rattle.std.proofs.Common.{replicate, subst, sym}
+use Rattle.like_limits.specs.Buckets.{buckets}
 use Rattle.like_tables.specs.SplitSlice.{IsSplitSlice}
 use Rattle.like_tables.proofs.Sliced.{IsSplitSlice-none}
 use Rattle.like_tables.proofs.split_slice.SplitSlice.new.Goals as goal
 
 pub returns-clause-slice : goal.returns-clause-slice
-returns-clause-slice c = λ i. record { splits = c.in_ok-new.ensures i; counts = c.in_ok-new-2.ensures i }
+returns-clause-slice c = λ i. record { splits = c.in_ok-new.ensures i; counts = replicate buckets 0 }
 
 pub returns-clause-lawful : goal.returns-clause-lawful
 returns-clause-lawful c =

@@ -8,8 +8,7 @@ use Rattle.like_seat.specs.Kept.{IsKept, view_of}
 use Rattle.like_seat.specs.StationView.{StationView, likes_of}
 use Rattle.like_seat.specs.Steps.{liked_last, sliced}
 use Rattle.like_seat.proofs.Keeping.{Kept-written, has_split-slices, sum-written}
-use Rattle.like_seat.proofs.MergedLikes.{all_added-push}
-use Rattle.like_seat.proofs.station.Station.count_like_at.Goals as goal
+use Rattle.like_seat.proofs.station.Station.count_sliced_at.Goals as goal
 
 pub invariant_of-self : goal.invariant_of-self
 invariant_of-self g c =
@@ -22,7 +21,11 @@ invariant_of-self g c =
     subst (λ (v : StationView g.row.W.Denot). page < pages_of v.post) (sym c.self.view_is) c.requires.there in
     let room : likes_of (view_of p t) < p.limits.likes =
     subst (λ (v : StationView g.row.W.Denot). likes_of v < v.post.limits.likes) (sym c.self.view_is) c.requires.fits in
-    let split : has_split t.slice page ≡ true = sym c.holds-sliced.ensures ∙ c.if-sliced.true in
+    let runs : IsRunning p.state =
+    subst (λ (v : StationView g.row.W.Denot). IsRunning v.post.state) (sym c.self.view_is) c.requires.running in
+    let split : has_split t.slice page ≡ true =
+    has_split-slices p t.slice page k.splits runs there
+    ∙ subst (λ (v : StationView g.row.W.Denot). slices v.post page ≡ true) (sym c.self.view_is) c.requires.split in
     let sums : sum (by_page c.add.new.self n) ≡ sum c.add.new.self.counts =
     ap (λ (s : SplitSlice). sum (by_page s n)) c.add.ensures.counted
     ∙ sum-written t.slice n page (likes_in t.slice page + 1) (sum c.add.new.self.counts) k.slice split there k.sums
@@ -31,8 +34,8 @@ invariant_of-self g c =
     (ap (λ (s : SplitSlice). s.splits) c.add.ensures.counted) c.add.ensures.slice sums
     (omega (arith, k.likes, k.sums, sums, c.add.ensures.total)) (omega (arith, k.likes, room))
 
-pub returns-then-sliced-clause-counts : goal.returns-then-sliced-clause-counts
-returns-then-sliced-clause-counts g c =
+pub returns-clause-counts : goal.returns-clause-counts
+returns-clause-counts g c =
     let p = g.P.Post.view c.self.inside.post in
     let t = c.self.inside.tables in
     let k = c.self.invariant in
@@ -42,15 +45,16 @@ returns-then-sliced-clause-counts g c =
     subst (λ (v : StationView g.row.W.Denot). page < pages_of v.post) (sym c.self.view_is) c.requires.there in
     let runs : IsRunning p.state =
     subst (λ (v : StationView g.row.W.Denot). IsRunning v.post.state) (sym c.self.view_is) c.requires.running in
-    let split : has_split t.slice page ≡ true = sym c.holds-sliced.ensures ∙ c.if-sliced.true in
+    let split : has_split t.slice page ≡ true =
+    has_split-slices p t.slice page k.splits runs there
+    ∙ subst (λ (v : StationView g.row.W.Denot). slices v.post page ≡ true) (sym c.self.view_is) c.requires.split in
     let had = get_or-by_page t.slice n page 0 there in
     let likes : by_page c.add.new.self n ≡ set (by_page t.slice n) page (get_or (by_page t.slice n) page 0 + 1) =
     ap (λ (s : SplitSlice). by_page s n) c.add.ensures.counted
     ∙ by_page-with_likes t.slice n page (likes_in t.slice page + 1) k.slice split there
     ∙ ap (λ (x : ℕ). set (by_page t.slice n) page (x + 1)) (sym had) in
     let counted = λ (v : StationView g.row.W.Denot). liked_last (sliced v page) c.args.placed.user page in (
-      subst (λ (v : StationView g.row.W.Denot). slices v.post page ≡ true) c.self.view_is
-          (sym (has_split-slices p t.slice page k.splits runs there) ∙ split),
+      c.requires.split,
       ◌∙◌ {b = counted (view_of p t)}
           (λ i. record (view_of p t) {
             slice = likes i;
@@ -60,20 +64,5 @@ returns-then-sliced-clause-counts g c =
           (ap counted c.self.view_is),
     )
 
-pub returns-then-sliced-clause-seat : goal.returns-then-sliced-clause-seat
-returns-then-sliced-clause-seat g c = (invariant_of-self g c).seat
-
-pub invariant_of-self-2 : goal.invariant_of-self-2
-invariant_of-self-2 g c =
-    let p = g.P.Post.view c.self.inside.post in
-    let t = c.self.inside.tables in
-    let k = c.self.invariant in
-    let page : ℕ = c.args.page in
-    let room : likes_of (view_of p t) < p.limits.likes =
-    subst (λ (v : StationView g.row.W.Denot). likes_of v < v.post.limits.likes) (sym c.self.view_is) c.requires.fits in
-    let one = addition (phase_of p.state) page c.add-2.result 1 in
-    let more = all_added-push p.additions one in
-    subst (λ (q : PostView). IsKept q (record t { likes = t.likes + 1; last = c.set_at.new.self }))
-    (sym c.add-2.ensures.view)
-    (Kept-written p (p.additions ++ one ∷ []) p.reads p.glances t (record t { likes = t.likes + 1; last = c.set_at.new.self })
-    k refl refl refl refl k.slice k.sums (omega (arith, k.likes, more)) (omega (arith, k.likes, room)))
+pub returns-clause-seat : goal.returns-clause-seat
+returns-clause-seat g c = (invariant_of-self g c).seat
