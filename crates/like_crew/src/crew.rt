@@ -73,10 +73,7 @@ impl<'a, I: Inbox> Crew<'a, I> {
             setup.hot,
             &site.counts,
         )?;
-        Ok(Crew {
-            coordinator,
-            servers,
-        })
+        Ok(Crew { coordinator, servers })
     }
 
     /// Takes apart a crew whose run has ended.
@@ -85,10 +82,7 @@ impl<'a, I: Inbox> Crew<'a, I> {
         requires gone { AreGone self.servers.items }
         ensures { IfOk result (HasEnded self.entry) }
     {
-        let Crew {
-            coordinator,
-            servers,
-        } = self;
+        let Crew { coordinator, servers } = self;
         let (logs, seats) = finish_all(alloc, servers)?;
         Ok(Ended::new(coordinator, logs, seats))
     }

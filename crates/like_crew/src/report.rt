@@ -12,8 +12,8 @@ use crate::ended::Ended;
 use crate::report::gathered::{last_likes, places_of, replies_of};
 use crate::site::Site;
 use like_board::{Board, CoordSeat, WorkerSeat};
-use like_promises::Report;
 use like_requests::{Request, Setup};
+use like_promises::Report;
 use std::alloc::{AllocError, Global};
 use std::snapshot::Snapshot;
 

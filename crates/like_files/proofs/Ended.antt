@@ -1,15 +1,14 @@
 -- Why a run or a replay ended without its report.
-use Rattle.std.proofs.Common.{◌≡◌, ◌∙◌, ◌+◌, ◌*◌, ◌<◌, ◌≤◌, ◌^◌, ℕ, false, true, List, [], ◌∷◌, Vec, Global, Option, All, ap, arith, length, map, refl, subst, sym}
+use Rattle.std.proofs.Common.{◌≡◌, ◌∙◌, ◌+◌, ◌*◌, ◌<◌, ◌≤◌, ◌^◌, ℕ, List, [], ◌∷◌, Vec, Global, Option, All, ap, arith, length, map, refl, sym}
 use Rattle.std.proofs.lemmas.List.{length-map}
 use Rattle.std.proofs.lemmas.List.Elements.{All-head, All-tail}
 use Rattle.std.specs.List.{fold}
-use Rattle.std.specs.Io.KnownBytes.{Appends}
 use Rattle.like_requests.specs.declared.setup.Setup.{Setup}
 use Rattle.like_promises.specs.declared.answer.Answer.{Answer}
 use Rattle.like_promises.specs.declared.place.Place.{Place}
 use Rattle.like_promises.specs.declared.report.Report.{Report}
 use Rattle.like_promises.specs.EndToEnd.{IsRightReport}
-use Rattle.like_promises.specs.places.Tiling.{HasNoPlaces, HasRightPlaces}
+use Rattle.like_promises.specs.places.Tiling.{HasRightPlaces}
 use Rattle.like_limits.specs.Limits.{max_requests}
 use Rattle.like_requests.specs.Pages.{Page}
 use Rattle.like_requests.proofs.Planned.{fits-run}
@@ -25,12 +24,9 @@ use Rattle.like_promises.specs.declared.run_fault.RunFault.{RunFault}
 use Rattle.like_promises.specs.declared.run_fault.RunFault.TheVariants as threads
 use Rattle.like_requests.specs.declared.script.Turned.{Turned}
 use Rattle.like_command.specs.declared.options.Options.{Options}
-use Rattle.like_replies.specs.PlaceRows.{text_of}
-use Rattle.like_replies.specs.Notices.{notice_of}
 use Rattle.like_replies.specs.Summary.{requests_in}
-use Rattle.like_replies.specs.declared.notice.Notice.{Notice}
-use Rattle.like_files.specs.Faults.{fault_of, fault_of_replay, fault_of_run}
-use Rattle.like_files.specs.Inputs.{GivesLists, GivesPages, Inputs, RefusesLists, RefusesPlans, WritesReport, extent_of, setup_of}
+use Rattle.like_files.specs.Faults.{IsBeforeOutput, fault_of, fault_of_replay, fault_of_run}
+use Rattle.like_files.specs.Inputs.{GivesLists, GivesPages, Inputs, RefusesLists, RefusesPlans, setup_of}
 use Rattle.like_files.specs.Replay.{GivesAll, IsReplayFilesFault, IsReplayListsFault}
 use Rattle.like_files.specs.Run.{IsRunFilesFault, IsRunListsFault}
 use Rattle.like_files.specs.declared.fault.DriverFault.{DriverFault}
@@ -42,19 +38,6 @@ pub one_list_a_page : (setup : Setup) (plans : List (List Request)) (report : Re
     → length report.places.items ≡ length setup.pages
 one_list_a_page setup plans report right =
     sym (length-map report.places.items (λ (row : Vec Place Global). row.items)) ∙ right.rows.sized
-
--- a report that is right for settings, which are those that were asked for, was written
-pub writes : (options : Options) (setup asked : Setup) (plans : List (List Request)) (report : Report)
-    (old new : Option (List ℕ)) {notice : Option Notice}
-    → setup ≡ asked
-    → IsRightReport setup plans report
-    → (options.places ≡ true → HasRightPlaces setup plans report)
-    → (options.places ≡ false → HasNoPlaces report)
-    → Appends old new (text_of (extent_of options) setup.pages report)
-    → notice ≡ notice_of options.summary report → WritesReport options asked plans old new notice
-writes options setup asked plans report old new {notice} same right placed none written noticed =
-    subst (λ (s : Setup). WritesReport options s plans old new notice) same
-    (record { report = report; right = right; placed = placed; none = none; written = written; noticed = noticed })
 
 -- numbers of at most so many sum up to at most that for each
 sum-≤ : (xs : List ℕ) (a : ℕ) → All (λ n. n ≤ max_requests) xs → fold (λ s n. s + n) a xs ≤ a + length xs * max_requests
@@ -98,6 +81,11 @@ lists-refused file files pages Start given refused = absurd refused
 lists-refused file files pages Unfinished given refused = absurd refused
 lists-refused file files pages Write given refused = absurd refused
 lists-refused file files pages Memory given refused = absurd refused
+
+-- a fault of writing is no fault before the output
+pub not-before : {P : Type 0} (fault : WriteFault) → IsBeforeOutput (fault_of fault) → P
+not-before write.Write before = absurd before
+not-before write.Memory before = absurd before
 
 module _ (setup : Setup) (plans : List (List Request)) where
   -- a replay gave no report, or its report was not written

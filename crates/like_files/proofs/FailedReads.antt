@@ -14,7 +14,7 @@ use Rattle.like_requests.specs.declared.setup.Setup.{Setup}
 use Rattle.like_requests.specs.declared.script.Turned.{Turned}
 use Rattle.like_files.proofs.Planned.{requests_of}
 use Rattle.like_files.specs.FailedReads.{TellsPlanRead, TellsRead}
-use Rattle.like_files.specs.Inputs.{GivesPlan, GivesPlans, RefusesLists, RefusesPlans}
+use Rattle.like_files.specs.Inputs.{GivesPlan, GivesPlans, RefusesPlans}
 use Rattle.like_files.specs.Plans.{Answer, IsFirstStop, Stops}
 use Rattle.like_files.specs.Replay.{IsReplayListsFault}
 use Rattle.like_files.specs.Run.{IsRunListsFault}
@@ -94,18 +94,6 @@ module _ {R : Type 0} (pages : R) (requests : List R) where
   plans-told script given sources driver.Unfinished refused told = tt
   plans-told script given sources driver.Write refused told = tt
   plans-told script given sources driver.Memory refused told = tt
-
-  -- pages and request files that were refused say nothing of a script
-  pub lists-told : (script : Option R) (file : Option (List ℕ)) (files : List (Option (List ℕ))) (fault : DriverFault)
-      → RefusesLists file files fault → TellsRead pages requests None fault → TellsRead pages requests script fault
-  lists-told script file files (driver.Pages fault) refused told = told
-  lists-told script file files (driver.Requests submitter fault) refused told = told
-  lists-told script file files (driver.Script fault) refused told = absurd refused
-  lists-told script file files (driver.Settings fault) refused told = tt
-  lists-told script file files driver.Start refused told = tt
-  lists-told script file files driver.Unfinished refused told = tt
-  lists-told script file files driver.Write refused told = tt
-  lists-told script file files driver.Memory refused told = tt
 
   -- what the files give is run or replayed with no fault of a file
   pub run-told : {A : Type 0} (setup : Setup) (plans : List (List Request)) (r : Result A DriverFault)

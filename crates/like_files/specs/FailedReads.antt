@@ -1,9 +1,13 @@
--- Which file the fault of a failed read names.
-use Rattle.std.specs.Prelude.{◌≡◌, ◌-◌, ◌^◌, ℕ, List, min, slice_get, Option, IsSomeAnd, ⊤}
+-- Which file the fault of a failed read names, and how request files are read.
+use Rattle.std.specs.Prelude.{◌≡◌, ◌-◌, ◌^◌, ℕ, List, map, min, slice_get, Option, IsSomeAnd, Result, IfErr, Vec, ⊤}
+use Rattle.std.specs.declared.alloc.Global.{Global}
 use Rattle.like_records.specs.Reading.{ReadFailed}
+use Rattle.like_requests.specs.Pages.{Page}
 use Rattle.like_requests.specs.declared.pages_file.PagesFault.TheVariants as pages_fault
+use Rattle.like_requests.specs.declared.request.Request.{Request}
 use Rattle.like_requests.specs.declared.requests_file.RequestsFault.TheVariants as requests_fault
 use Rattle.like_requests.specs.declared.script_file.ScriptFault.TheVariants as script_fault
+use Rattle.like_files.specs.Inputs.{ReadsPlans}
 use Rattle.like_files.specs.declared.fault.DriverFault.{DriverFault}
 use Rattle.like_files.specs.declared.fault.DriverFault.TheVariants.{Pages, Requests, Script}
 
@@ -24,3 +28,9 @@ TellsRead pages requests script (Pages fault) = fault ≡ pages_fault.Read → R
 TellsRead pages requests script (Script fault) =
     fault ≡ script_fault.Read → IsSomeAnd script (λ reader. ReadFailed reader)
 TellsRead pages requests script fault = TellsPlanRead requests fault
+
+-- the answer of a reading of request files: their plans, or why they give none; and if a read failed, the fault tells whose
+pub record ReadsRequests {R : Type 0} (left : R → Option (List ℕ)) (pages : List Page) (readers : List R)
+    (answer : Result (Vec (Vec Request Global) Global) DriverFault) : Type 0 where
+  pub plans : ReadsPlans pages (map left readers) answer
+  pub read : IfErr answer (TellsPlanRead readers)

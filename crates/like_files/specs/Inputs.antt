@@ -1,5 +1,5 @@
 -- What the files of a run or a replay give, as far as their bytes are known.
-use Rattle.std.specs.Prelude.{◌≡◌, ◌-◌, ◌^◌, ℕ, false, true, List, [], map, min, take, slice_get, Option, Some, None, IsSomeAnd, option_map, Result, MatchResult, Vec}
+use Rattle.std.specs.Prelude.{◌≡◌, ◌-◌, ◌^◌, ℕ, List, [], map, min, take, slice_get, Option, Some, None, IsSomeAnd, option_map, Result, MatchResult, Vec}
 use Rattle.std.specs.declared.alloc.Global.{Global}
 use Rattle.std.specs.Io.KnownBytes.{Appends}
 use Rattle.std.specs.List.{AllZip}
@@ -17,14 +17,14 @@ use Rattle.like_replies.specs.PlaceRows.{text_of}
 use Rattle.like_replies.specs.declared.extent.Extent.{Extent}
 use Rattle.like_replies.specs.Notices.{notice_of}
 use Rattle.like_replies.specs.declared.notice.Notice.{Notice}
-use Rattle.like_promises.specs.EndToEnd.{IsRightReport}
-use Rattle.like_promises.specs.places.Tiling.{HasNoPlaces, HasRightPlaces}
+use Rattle.like_run.specs.Report.{IsReportOf}
 use Rattle.like_requests.specs.ScriptFile.{IsScriptFault, IsScriptFile}
 use Rattle.like_requests.specs.declared.script_file.ScriptFault.{ScriptFault}
 use Rattle.like_requests.specs.declared.script.Turned.{Turned}
 use Rattle.like_command.specs.declared.options.Options.{Options}
 use Rattle.like_files.specs.declared.fault.DriverFault.{DriverFault}
 use Rattle.like_files.specs.declared.fault.DriverFault.TheVariants as driver
+use Rattle.like_files.specs.declared.opened.Opened.{Opened}
 
 -- the bytes of the pages file and of each request file, where they are known, and those of the script file where there is one
 pub record Inputs : Type 0 where
@@ -39,6 +39,10 @@ inputs_of left pages requests script = record {
   requests = map left requests;
   script = option_map left script;
 }
+
+-- what the readers of opened files have left to give
+abbrev pub inputs_in : {R : Type 0} → (R → Option (List ℕ)) → Opened R → Inputs
+inputs_in left files = inputs_of left files.pages files.requests.items files.script
 
 -- the settings that options ask for with these pages
 abbrev pub setup_of : Options → List Page → Setup
@@ -127,20 +131,11 @@ RefusesLists file files (driver.Pages fault) = RefusesPages file fault
 RefusesLists file files (driver.Requests submitter fault) = PlansRefused file files (driver.Requests submitter fault)
 RefusesLists file files fault = ⊥
 
--- the answer of a reading of a pages file and request files: their values, or why they give none
-abbrev pub ReadsLists : Option (List ℕ) → List (Option (List ℕ))
-    → Result (List Page × Vec (Vec Request Global) Global) DriverFault → Type 0
-ReadsLists file files answer =
-    MatchResult answer (λ lists. GivesLists file files lists.0 (map (λ plan. plan.items) lists.1.items))
-    (RefusesLists file files)
-
 -- the text of a right report was written, with right places if they are asked for, else with none; its notice is its
 -- summary if one is asked for, else its refused requests
 pub record WritesReport (options : Options) (setup : Setup) (plans : List (List Request))
     (old new : Option (List ℕ)) (notice : Option Notice) : Type 0 where
   pub report : Report
-  pub right : IsRightReport setup plans report
-  pub placed : options.places ≡ true → HasRightPlaces setup plans report
-  pub none : options.places ≡ false → HasNoPlaces report
+  pub right : IsReportOf setup plans options.places report
   pub written : Appends old new (text_of (extent_of options) setup.pages report)
   pub noticed : notice ≡ notice_of options.summary report

@@ -3,6 +3,7 @@ pub mod Faults
 pub mod Inputs
 pub mod Lines
 pub mod Opened
+pub mod Outcome
 pub mod Plans
 pub mod Replay
 pub mod Run

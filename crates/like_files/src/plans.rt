@@ -1,54 +1,24 @@
-ghost use Rattle.std.specs.Prelude.{◌≡◌, ◌-◌, ◌<◌, ◌^◌, IfErr, MatchResult, None, Ok, OnOk, length, map, min};
+ghost use Rattle.std.specs.Prelude.{◌≡◌, ◌-◌, ◌<◌, ◌^◌, IfErr, MatchResult, Ok, OnOk, length, map, min};
 ghost use Rattle.like_records.specs.Reading.{ReadFailed};
-ghost use Rattle.like_files.specs.FailedReads.{TellsPlanRead, TellsRead};
-ghost use Rattle.like_files.specs.Inputs.{GivesPlan, ReadsLists, ReadsPlans, RefusesPlan};
+ghost use Rattle.like_files.specs.FailedReads.{ReadsRequests};
+ghost use Rattle.like_files.specs.Inputs.{GivesPlan, RefusesPlan};
 ghost use Rattle.like_files.specs.Plans.{AddsPlan, IsFirstStop, Stops};
 
 use crate::fault::DriverFault;
-use like_requests::{MAX_SUBMITTERS, Pages, Request, RequestsFault, read_pages, read_requests};
+use like_requests::{MAX_SUBMITTERS, Pages, Request, RequestsFault, read_requests};
 use std::alloc::Global;
 use std::io::Read;
 use std::thread;
 use std::thread::Threads;
 
-/// The pages, and the plans of the submitters, each read from its file.
-pub fn read_lists<R: Read + Drop>(
-    alloc: Global,
-    pages: R,
-    requests: Vec<R>,
-) -> Result<(Pages, Vec<Vec<Request>>), DriverFault>
-    ensures lists { ReadsLists (R.remaining pages) (map R.remaining requests.items) result }
-    ensures read { IfErr result (TellsRead pages requests.items None) }
-{
-    let pages = read_pages(alloc, pages)?;
-    let plans = read_plans(alloc, &pages, requests)?;
-    Ok((pages, plans))
-}
-
-/// The same, with the request files read in parallel.
-pub fn read_lists_at_once<T: Threads + Sync, R: Read + Drop + Send>(
-    rt: &T,
-    alloc: Global,
-    pages: R,
-    requests: Vec<R>,
-) -> Result<(Pages, Vec<Vec<Request>>), DriverFault>
-    ensures lists { ReadsLists (R.remaining pages) (map R.remaining requests.items) result }
-    ensures read { IfErr result (TellsRead pages requests.items None) }
-{
-    let pages = read_pages(alloc, pages)?;
-    let plans = read_plans_at_once(rt, alloc, &pages, requests)?;
-    Ok((pages, plans))
-}
-
-// The plans of the submitters, each read from its file. If there is no memory for one more plan, the fault is its
-// file's `Memory`.
-fn read_plans<R: Read + Drop>(
+/// The plans of the submitters, each read from its file. If there is no memory for one more plan, the fault is its
+/// file's `Memory`.
+pub fn read_plans<R: Read + Drop>(
     alloc: Global,
     pages: &Pages,
     requests: Vec<R>,
 ) -> Result<Vec<Vec<Request>>, DriverFault>
-    ensures plans { ReadsPlans pages.now (map R.remaining requests.items) result }
-    ensures read { IfErr result (TellsPlanRead requests.items) }
+    ensures { ReadsRequests R.remaining pages.now requests.items result }
 {
     let mut plans = Vec::new(alloc);
     for reader in requests {
@@ -57,17 +27,16 @@ fn read_plans<R: Read + Drop>(
     Ok(plans)
 }
 
-// The same in parallel, with a thread for each file. The fault is still that of the first file at fault. A thread that
-// can't be started is no fault: the caller's thread does its work. More files than a run takes are read by the caller's
-// thread alone.
-fn read_plans_at_once<T: Threads + Sync, R: Read + Drop + Send>(
+/// The same in parallel, with a thread for each file. The fault is still that of the first file at fault. A thread that
+/// can't be started is no fault: the caller's thread does its work. More files than a run takes are read by the
+/// caller's thread alone.
+pub fn read_plans_at_once<T: Threads + Sync, R: Read + Drop + Send>(
     rt: &T,
     alloc: Global,
     pages: &Pages,
     requests: Vec<R>,
 ) -> Result<Vec<Vec<Request>>, DriverFault>
-    ensures plans { ReadsPlans pages.now (map R.remaining requests.items) result }
-    ensures read { IfErr result (TellsPlanRead requests.items) }
+    ensures { ReadsRequests R.remaining pages.now requests.items result }
 {
     if requests.len() < 2 || requests.len() > MAX_SUBMITTERS {
         return read_plans(alloc, pages, requests);

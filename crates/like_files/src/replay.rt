@@ -1,20 +1,21 @@
-ghost use Rattle.std.specs.Prelude.{◌≡◌, ◌≤◌, false, true, IfErr, IfOk, IsSomeAnd, MatchResult, OnOk, Option, is_some, length, option_map};
+ghost use Rattle.std.specs.Prelude.{◌≡◌, ◌≤◌, IfErr, IfOk, IsSomeAnd, MatchResult, Option, is_some, length, option_map};
 ghost use Rattle.like_promises.specs.WorkloadOf.{lists_of};
 ghost use Rattle.like_records.specs.Reading.{ReadFailed};
 ghost use Rattle.like_limits.specs.Limits.{max_entries};
 ghost use Rattle.like_files.specs.FailedReads.{TellsRead};
-ghost use Rattle.like_files.specs.Faults.{IsBeforeOutput};
-ghost use Rattle.like_files.specs.Inputs.{GivesScript, RefusesScript, inputs_of};
+ghost use Rattle.like_files.specs.Inputs.{GivesScript, RefusesScript, inputs_in, inputs_of};
+ghost use Rattle.like_files.specs.Outcome.{IsOutcome};
 ghost use Rattle.like_files.specs.Replay.{HasReplayed, HasReplayedLists, IsReplayFilesFault, IsReplayListsFault};
 ghost use Rattle.like_replies.specs.declared.notice.Notice.{Notice};
 
 use crate::asked::{extent_of, with_pages};
 use crate::fault::DriverFault;
-use crate::plans::read_lists;
+use crate::opened::Opened;
+use crate::plans::read_plans;
 use crate::progress::{NoProgress, Part, Progress};
 use like_command::Options;
-use like_replies::{Notice, write_text};
-use like_requests::{Request, Setup};
+use like_replies::{Notice, Text};
+use like_requests::{Request, Setup, read_pages};
 use like_run::{ScriptFault, Turned, read_script, replay_noting};
 use std::alloc::Global;
 use std::io::{Read, Write};
@@ -33,46 +34,37 @@ pub fn replay_files<R: Read + Drop, W: Write>(
     requires request_names { length requests.items ≡ length options.now.requests.items }
     requires script_name { is_some script ≡ is_some options.now.script }
     ensures replayed { let inputs = inputs_of R.remaining pages requests.items script in
-        OnOk result ((notice : Option Notice)
-        × HasReplayed options.now inputs (W.contents out.old) (W.contents out.new) notice) }
-    ensures fault { let inputs = inputs_of R.remaining pages requests.items script in
-        IfErr result (IsReplayFilesFault options.now inputs) }
+        IsOutcome (λ old new _. (notice : Option Notice) × HasReplayed options.now inputs old new notice)
+        (IsReplayFilesFault options.now inputs) W.contents out.old out.new result }
     ensures read { IfErr result (TellsRead pages requests.items script) }
-    ensures untouched { IfErr result (λ fault. IsBeforeOutput fault → out.new ≡ out.old) }
 {
-    replay_files_with_notice(
-        alloc,
-        options,
+    let files = Opened {
         pages,
         requests,
         script,
-        out,
-        &mut NoProgress,
-    )?;
+    };
+    replay_opened(alloc, options, files, out, &mut NoProgress)?;
     Ok(())
 }
 
-/// The same, with the notice on the report, while `progress` hears of each part.
-pub fn replay_files_with_notice<R: Read + Drop, W: Write, P: Progress>(
+/// The same for files that are open, with the notice on the report, while `progress` hears of each part.
+pub fn replay_opened<R: Read + Drop, W: Write, P: Progress>(
     alloc: Global,
     options: &Options,
-    pages: R,
-    requests: Vec<R>,
-    script: Option<R>,
+    files: Opened<R>,
     out: &mut W,
     progress: &mut P,
 ) -> Result<Option<Notice>, DriverFault>
-    requires request_names { length requests.items ≡ length options.now.requests.items }
-    requires script_name { is_some script ≡ is_some options.now.script }
-    ensures replayed { let inputs = inputs_of R.remaining pages requests.items script in
-        IfOk result (HasReplayed options.now inputs (W.contents out.old) (W.contents out.new)) }
-    ensures fault { let inputs = inputs_of R.remaining pages requests.items script in
-        IfErr result (IsReplayFilesFault options.now inputs) }
-    ensures read { IfErr result (TellsRead pages requests.items script) }
-    ensures untouched { IfErr result (λ fault. IsBeforeOutput fault → out.new ≡ out.old) }
+    requires request_names { length files.requests.items ≡ length options.now.requests.items }
+    requires script_name { is_some files.script ≡ is_some options.now.script }
+    ensures replayed { let inputs = inputs_in R.remaining files in
+        IsOutcome (HasReplayed options.now inputs) (IsReplayFilesFault options.now inputs)
+        W.contents out.old out.new result }
+    ensures read { IfErr result (TellsRead files.pages files.requests.items files.script) }
 {
-    let (pages, plans) = read_lists(alloc, pages, requests)?;
-    let script = read_turns(alloc, script)?;
+    let pages = read_pages(alloc, files.pages)?;
+    let plans = read_plans(alloc, &pages, files.requests)?;
+    let script = read_turns(alloc, files.script)?;
     progress.done(Part::Reading);
     let setup = with_pages(options, pages);
     replay_lists(alloc, options, &setup, plans, &script, out, progress)
@@ -89,14 +81,13 @@ fn replay_lists<W: Write, P: Progress>(
     progress: &mut P,
 ) -> Result<Option<Notice>, DriverFault>
     requires { length script.now ≤ max_entries }
-    ensures replayed { IfOk result (HasReplayedLists options.now setup.now
-        (lists_of plans.items) script.now (W.contents out.old) (W.contents out.new)) }
-    ensures fault { IfErr result (IsReplayListsFault setup.now (lists_of plans.items) script.now) }
-    ensures untouched { IfErr result (λ fault. IsBeforeOutput fault → out.new ≡ out.old) }
+    ensures { IsOutcome (HasReplayedLists options.now setup.now (lists_of plans.items) script.now)
+        (IsReplayListsFault setup.now (lists_of plans.items) script.now) W.contents out.old out.new result }
 {
     let report = replay_noting(alloc, setup, plans, script, options.places)?;
     progress.done(Part::Running);
-    write_text(alloc, extent_of(options), &report, &setup.pages, out)?;
+    let text = Text::new(alloc, extent_of(options), &report, &setup.pages)?;
+    text.write(alloc, out)?;
     progress.done(Part::Writing);
     Ok(Notice::of(&report, options.summary))
 }

@@ -1,18 +1,19 @@
-ghost use Rattle.std.specs.Prelude.{◌≡◌, IfErr, IfOk, None, OnOk, Option, length};
+ghost use Rattle.std.specs.Prelude.{◌≡◌, IfErr, None, Option, length};
 ghost use Rattle.like_promises.specs.WorkloadOf.{lists_of};
 ghost use Rattle.like_files.specs.FailedReads.{TellsRead};
-ghost use Rattle.like_files.specs.Faults.{IsBeforeOutput};
-ghost use Rattle.like_files.specs.Inputs.{inputs_of};
+ghost use Rattle.like_files.specs.Inputs.{inputs_in, inputs_of};
+ghost use Rattle.like_files.specs.Outcome.{IsOutcome};
 ghost use Rattle.like_files.specs.Run.{HasRun, HasRunLists, IsRunFilesFault, IsRunListsFault};
 ghost use Rattle.like_replies.specs.declared.notice.Notice.{Notice};
 
 use crate::asked::{extent_of, with_pages};
 use crate::fault::DriverFault;
-use crate::plans::read_lists_at_once;
+use crate::opened::Opened;
+use crate::plans::read_plans_at_once;
 use crate::progress::{NoProgress, Part, Progress};
 use like_command::Options;
-use like_replies::{Notice, write_text_at_once};
-use like_requests::{Request, Setup};
+use like_replies::{Notice, Text};
+use like_requests::{Request, Setup, read_pages};
 use like_roles::NoGate;
 use like_run::run_noting;
 use std::alloc::Global;
@@ -34,41 +35,36 @@ pub fn run_files<T: Threads + Wait + Sync, R: Read + Drop + Send, W: Write>(
 ) -> Result<(), DriverFault>
     requires { length requests.items ≡ length options.now.requests.items }
     ensures run { let inputs = inputs_of R.remaining pages requests.items None in
-        OnOk result ((notice : Option Notice)
-        × HasRun options.now inputs (W.contents out.old) (W.contents out.new) notice) }
-    ensures fault { let inputs = inputs_of R.remaining pages requests.items None in
-        IfErr result (IsRunFilesFault options.now inputs) }
+        IsOutcome (λ old new _. (notice : Option Notice) × HasRun options.now inputs old new notice)
+        (IsRunFilesFault options.now inputs) W.contents out.old out.new result }
     ensures read { IfErr result (TellsRead pages requests.items None) }
-    ensures untouched { IfErr result (λ fault. IsBeforeOutput fault → out.new ≡ out.old) }
 {
-    run_files_with_notice(rt, alloc, options, pages, requests, out, &mut NoProgress)?;
+    let files = Opened {
+        pages,
+        requests,
+        script: None,
+    };
+    run_opened(rt, alloc, options, files, out, &mut NoProgress)?;
     Ok(())
 }
 
-/// The same, with the notice on the report, while `progress` hears of each part.
-pub fn run_files_with_notice<
-    T: Threads + Wait + Sync,
-    R: Read + Drop + Send,
-    W: Write,
-    P: Progress,
->(
+/// The same for files that are open, with the notice on the report, while `progress` hears of each part. A script is
+/// left unread.
+pub fn run_opened<T: Threads + Wait + Sync, R: Read + Drop + Send, W: Write, P: Progress>(
     rt: &T,
     alloc: Global,
     options: &Options,
-    pages: R,
-    requests: Vec<R>,
+    files: Opened<R>,
     out: &mut W,
     progress: &mut P,
 ) -> Result<Option<Notice>, DriverFault>
-    requires { length requests.items ≡ length options.now.requests.items }
-    ensures run { let inputs = inputs_of R.remaining pages requests.items None in
-        IfOk result (HasRun options.now inputs (W.contents out.old) (W.contents out.new)) }
-    ensures fault { let inputs = inputs_of R.remaining pages requests.items None in
-        IfErr result (IsRunFilesFault options.now inputs) }
-    ensures read { IfErr result (TellsRead pages requests.items None) }
-    ensures untouched { IfErr result (λ fault. IsBeforeOutput fault → out.new ≡ out.old) }
+    requires { length files.requests.items ≡ length options.now.requests.items }
+    ensures run { let inputs = inputs_in R.remaining files in
+        IsOutcome (HasRun options.now inputs) (IsRunFilesFault options.now inputs) W.contents out.old out.new result }
+    ensures read { IfErr result (TellsRead files.pages files.requests.items None) }
 {
-    let (pages, plans) = read_lists_at_once(rt, alloc, pages, requests)?;
+    let pages = read_pages(alloc, files.pages)?;
+    let plans = read_plans_at_once(rt, alloc, &pages, files.requests)?;
     progress.done(Part::Reading);
     let setup = with_pages(options, pages);
     run_lists(rt, alloc, options, &setup, plans, out, progress)
@@ -84,14 +80,13 @@ fn run_lists<T: Threads + Wait + Sync, W: Write, P: Progress>(
     out: &mut W,
     progress: &mut P,
 ) -> Result<Option<Notice>, DriverFault>
-    ensures run { IfOk result (HasRunLists options.now setup.now (lists_of plans.items)
-        (W.contents out.old) (W.contents out.new)) }
-    ensures fault { IfErr result (IsRunListsFault setup.now (lists_of plans.items)) }
-    ensures untouched { IfErr result (λ fault. IsBeforeOutput fault → out.new ≡ out.old) }
+    ensures { IsOutcome (HasRunLists options.now setup.now (lists_of plans.items))
+        (IsRunListsFault setup.now (lists_of plans.items)) W.contents out.old out.new result }
 {
     let report = run_noting(rt, alloc, setup, plans, &NoGate, u32::MAX, options.places)?;
     progress.done(Part::Running);
-    write_text_at_once(rt, alloc, extent_of(options), &report, &setup.pages, out)?;
+    let text = Text::new(alloc, extent_of(options), &report, &setup.pages)?;
+    text.write_at_once(rt, alloc, out)?;
     progress.done(Part::Writing);
     Ok(Notice::of(&report, options.summary))
 }

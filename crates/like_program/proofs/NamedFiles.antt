@@ -7,7 +7,7 @@ use Rattle.std.proofs.lemmas.Slice.Zip.{AllZip-long}
 use Rattle.like_command.specs.declared.options.Options.{Options}
 use Rattle.like_replies.specs.declared.notice.Notice.{Notice}
 use Rattle.like_files.specs.FailedReads.{TellsRead}
-use Rattle.like_files.specs.Inputs.{inputs_of}
+use Rattle.like_files.specs.Inputs.{inputs_in}
 use Rattle.like_files.specs.Opened.{AreNamed, IsOpenedIf}
 use Rattle.like_files.specs.Replay.{HasReplayedSome, IsReplayFilesFault}
 use Rattle.like_files.specs.Run.{HasRunSome, IsRunFilesFault}
@@ -40,7 +40,7 @@ module _ {R : Type 0} (Opens : List ℕ → R → Type 0) (left : R → Option (
 
     -- what was opened was refused
     pub run-refused : (Refuses : List ℕ → Type 0) (r : Result (Option Notice) DriverFault)
-        → IfErr r (IsRunFilesFault options (inputs_of left opened.pages opened.requests.items None))
+        → IfErr r (IsRunFilesFault options (inputs_in left opened))
         → IfErr r (TellsRead opened.pages opened.requests.items None)
         → IfErr r (IsRunNamedFault Opens left Refuses options)
     run-refused Refuses (Ok notice) refused told = tt
@@ -48,7 +48,7 @@ module _ {R : Type 0} (Opens : List ℕ → R → Type 0) (left : R → Option (
         inr (record { opened = opened; named = named; refused = refused; told = told })
 
     pub replay-refused : (Refuses : List ℕ → Type 0) (r : Result (Option Notice) DriverFault)
-        → IfErr r (IsReplayFilesFault options (inputs_of left opened.pages opened.requests.items opened.script))
+        → IfErr r (IsReplayFilesFault options (inputs_in left opened))
         → IfErr r (TellsRead opened.pages opened.requests.items opened.script)
         → IfErr r (IsReplayNamedFault Opens left Refuses options)
     replay-refused Refuses (Ok notice) refused told = tt
@@ -59,7 +59,7 @@ module _ {R : Type 0} (Opens : List ℕ → R → Type 0) (left : R → Option (
   pub some-run : (old new : Option (List ℕ)) (notice : Option Notice) → HasRunNamed Opens left options old new notice
       → HasRunSome options old new notice
   some-run old new notice done = record {
-    inputs = inputs_of left done.opened.pages done.opened.requests.items None;
+    inputs = inputs_in left done.opened;
     all_requests = length-map done.opened.requests.items left ∙ all_named Opens options done.opened done.named;
     run = done.run;
   }
@@ -67,7 +67,7 @@ module _ {R : Type 0} (Opens : List ℕ → R → Type 0) (left : R → Option (
   pub some-replay : (old new : Option (List ℕ)) (notice : Option Notice)
       → HasReplayedNamed Opens left options old new notice → HasReplayedSome options old new notice
   some-replay old new notice done = record {
-    inputs = inputs_of left done.opened.pages done.opened.requests.items done.opened.script;
+    inputs = inputs_in left done.opened;
     all_requests = length-map done.opened.requests.items left ∙ all_named Opens options done.opened done.named;
     scripted = (opened_if Opens left options.script done.opened.script done.named.script).1;
     replayed = done.replayed;

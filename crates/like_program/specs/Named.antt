@@ -4,7 +4,7 @@ use Rattle.std.specs.Prelude.{◌⊎◌, ℕ, List, Option, None}
 use Rattle.like_command.specs.declared.options.Options.{Options}
 use Rattle.like_replies.specs.declared.notice.Notice.{Notice}
 use Rattle.like_files.specs.FailedReads.{TellsRead}
-use Rattle.like_files.specs.Inputs.{inputs_of}
+use Rattle.like_files.specs.Inputs.{inputs_in}
 use Rattle.like_files.specs.Opened.{AreNamed, IsUnopened}
 use Rattle.like_files.specs.Replay.{HasReplayed, IsReplayFilesFault}
 use Rattle.like_files.specs.Run.{HasRun, IsRunFilesFault}
@@ -16,26 +16,26 @@ module _ {R : Type 0} (Opens : List ℕ → R → Type 0) (left : R → Option (
   pub record HasRunNamed (options : Options) (old new : Option (List ℕ)) (notice : Option Notice) : Type 0 where
     pub opened : Opened R
     pub named : AreNamed Opens options opened
-    pub run : HasRun options (inputs_of left opened.pages opened.requests.items None) old new notice
+    pub run : HasRun options (inputs_in left opened) old new notice
 
   -- the files that the options name were replayed, each opened by its name
   pub record HasReplayedNamed (options : Options) (old new : Option (List ℕ)) (notice : Option Notice) : Type 0 where
     pub opened : Opened R
     pub named : AreNamed Opens options opened
-    pub replayed : HasReplayed options (inputs_of left opened.pages opened.requests.items opened.script) old new notice
+    pub replayed : HasReplayed options (inputs_in left opened) old new notice
 
   -- the files were opened, and their run was refused
   pub record NamedRunRefused (options : Options) (fault : DriverFault) : Type 0 where
     pub opened : Opened R
     pub named : AreNamed Opens options opened
-    pub refused : IsRunFilesFault options (inputs_of left opened.pages opened.requests.items None) fault
+    pub refused : IsRunFilesFault options (inputs_in left opened) fault
     pub told : TellsRead opened.pages opened.requests.items None fault
 
   -- the files were opened, and their replay was refused
   pub record NamedReplayRefused (options : Options) (fault : DriverFault) : Type 0 where
     pub opened : Opened R
     pub named : AreNamed Opens options opened
-    pub refused : IsReplayFilesFault options (inputs_of left opened.pages opened.requests.items opened.script) fault
+    pub refused : IsReplayFilesFault options (inputs_in left opened) fault
     pub told : TellsRead opened.pages opened.requests.items opened.script fault
 
   module _ (Refuses : List ℕ → Type 0) where

@@ -3,7 +3,7 @@ ghost use Rattle.like_program.specs.Program.{HasReplayedExample, IsExample, IsEx
 
 use crate::fault::{ProgramFault, with_options};
 use like_command::Options;
-use like_files::{NoProgress, replay_files_with_notice};
+use like_files::{NoProgress, Opened, replay_opened};
 use like_replies::Notice;
 use std::alloc::{AllocError, Global};
 use std::io::Write;
@@ -22,15 +22,12 @@ pub fn replay_example<W: Write>(alloc: Global, out: &mut W) -> Result<Option<Not
     let options = example_options(alloc)?;
     let requests = request_files(alloc)?;
     let pages = PAGES.as_bytes();
-    let done = replay_files_with_notice(
-        alloc,
-        &options,
+    let files = Opened {
         pages,
         requests,
-        None,
-        out,
-        &mut NoProgress,
-    );
+        script: None,
+    };
+    let done = replay_opened(alloc, &options, files, out, &mut NoProgress);
     with_options(done, options)
 }
 

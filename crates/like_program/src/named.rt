@@ -1,12 +1,8 @@
-ghost use Rattle.std.specs.Prelude.{◌≡◌, IfErr, IfOk};
-ghost use Rattle.like_files.specs.Faults.{IsBeforeOutput};
+ghost use Rattle.like_files.specs.Outcome.{IsOutcome};
 ghost use Rattle.like_program.specs.Named.{HasReplayedNamed, HasRunNamed, IsReplayNamedFault, IsRunNamedFault};
 
 use like_command::Options;
-use like_files::{
-    DriverFault, Opened, Opener, Progress, open_files, replay_files_with_notice,
-    run_files_with_notice,
-};
+use like_files::{DriverFault, Opener, Progress, open_files, replay_opened, run_opened};
 use like_replies::Notice;
 use std::alloc::Global;
 use std::io::{Read, Write};
@@ -25,18 +21,12 @@ pub fn run_named<T: Threads + Wait + Sync, O: Opener, W: Write, P: Progress>(
 ) -> Result<Option<Notice>, DriverFault>
 where
     O::Reader: Read + Drop + Send,
-    ensures run { IfOk result (HasRunNamed (O.opens opener.now) O.Reader.remaining options.now
-        (W.contents out.old) (W.contents out.new)) }
-    ensures fault { IfErr result (IsRunNamedFault (O.opens opener.now) O.Reader.remaining
-        (O.refuses opener.now) options.now) }
-    ensures untouched { IfErr result (λ fault. IsBeforeOutput fault → out.new ≡ out.old) }
+    ensures { IsOutcome (HasRunNamed (O.opens opener.now) O.Reader.remaining options.now)
+        (IsRunNamedFault (O.opens opener.now) O.Reader.remaining (O.refuses opener.now) options.now)
+        W.contents out.old out.new result }
 {
-    let Opened {
-        pages,
-        requests,
-        ..
-    } = open_files(opener, alloc, options)?;
-    run_files_with_notice(rt, alloc, options, pages, requests, out, progress)
+    let files = open_files(opener, alloc, options)?;
+    run_opened(rt, alloc, options, files, out, progress)
 }
 
 /// Opens the files that the options name, and replays them onto `out`. Gives the notice on the report, if there is one.
@@ -50,16 +40,10 @@ pub fn replay_named<O: Opener, W: Write, P: Progress>(
 ) -> Result<Option<Notice>, DriverFault>
 where
     O::Reader: Read + Drop,
-    ensures replayed { IfOk result (HasReplayedNamed (O.opens opener.now) O.Reader.remaining
-        options.now (W.contents out.old) (W.contents out.new)) }
-    ensures fault { IfErr result (IsReplayNamedFault (O.opens opener.now) O.Reader.remaining
-        (O.refuses opener.now) options.now) }
-    ensures untouched { IfErr result (λ fault. IsBeforeOutput fault → out.new ≡ out.old) }
+    ensures { IsOutcome (HasReplayedNamed (O.opens opener.now) O.Reader.remaining options.now)
+        (IsReplayNamedFault (O.opens opener.now) O.Reader.remaining (O.refuses opener.now) options.now)
+        W.contents out.old out.new result }
 {
-    let Opened {
-        pages,
-        requests,
-        script,
-    } = open_files(opener, alloc, options)?;
-    replay_files_with_notice(alloc, options, pages, requests, script, out, progress)
+    let files = open_files(opener, alloc, options)?;
+    replay_opened(alloc, options, files, out, progress)
 }

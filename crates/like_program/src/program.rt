@@ -1,9 +1,8 @@
-ghost use Rattle.std.specs.Prelude.{◌≡◌, IfErr, IfOk, OnOk, map, string_bytes};
+ghost use Rattle.std.specs.Prelude.{◌≡◌, true, IfErr, IfOk, OnOk, map, string_bytes};
 ghost use Rattle.std.specs.Io.KnownBytes.{Appends};
-ghost use Rattle.like_files.specs.Faults.{IsBeforeOutput};
+ghost use Rattle.like_files.specs.StandardInput.{names_of, names_twice};
 ghost use Rattle.like_program.specs.Fault.{program_status};
-ghost use Rattle.like_command.specs.declared.asked.Asked.TheVariants as asked;
-ghost use Rattle.like_program.specs.Program.{Ends, HasDone, HasServed, IsFilesFault, IsServeFault};
+ghost use Rattle.like_program.specs.Program.{Ends, HasServed, IsServeFault, NamesInputOnce};
 ghost use Rattle.like_program.specs.declared.fault.ProgramFault.TheVariants as program;
 
 use crate::example::replay_example;
@@ -89,8 +88,16 @@ where
         return replay_example(alloc, out);
     }
     match parse(alloc, words)? {
-        Asked::Run(options) => run_asked(rt, alloc, options, out, watch),
-        Asked::Replay(options) => replay_asked(rt, alloc, options, out, watch),
+        Asked::Run(options) => {
+            begin(&options, watch)?;
+            let done = run_named(rt, &Disk { files: rt }, alloc, &options, out, watch);
+            with_options(done, options)
+        }
+        Asked::Replay(options) => {
+            begin(&options, watch)?;
+            let done = replay_named(&Disk { files: rt }, alloc, &options, out, watch);
+            with_options(done, options)
+        }
         Asked::Help(text) => {
             show(&text, out)?;
             Ok(None)
@@ -98,47 +105,19 @@ where
     }
 }
 
-// Makes the run that is asked for.
-fn run_asked<R: Files + Input + Threads + Wait + Clock + Sync, W: Write, E: Write>(
-    rt: &R,
-    alloc: Global,
-    options: Options,
-    out: &mut W,
-    watch: &mut Stopwatch<'_, R, E>,
-) -> Result<Option<Notice>, ProgramFault>
-where
-    R::File: Send,
-    R::Reader: Send,
-    ensures run { IfOk result
-        (HasDone (asked.Run options) (W.contents out.old) (W.contents out.new)) }
-    ensures fault { IfErr result (IsFilesFault options (W.contents out.old) (W.contents out.new)) }
+// Refuses options that name standard input twice, and lets the watch tell of progress if they ask for it.
+fn begin<C: Clock, E: Write>(
+    options: &Options,
+    watch: &mut Stopwatch<'_, C, E>,
+) -> Result<(), ProgramFault>
+    ensures once { OnOk result (NamesInputOnce options.now) }
+    ensures twice { IfErr result (λ fault. (fault ≡ program.Inputs) × (names_twice (names_of options.now) ≡ true)) }
 {
-    if names_input_twice(&options) {
+    if names_input_twice(options) {
         return Err(ProgramFault::Inputs);
     }
     watch.follow(options.progress);
-    let done = run_named(rt, &Disk { files: rt }, alloc, &options, out, watch);
-    with_options(done, options)
-}
-
-// Makes the replay that is asked for.
-fn replay_asked<R: Files + Input + Clock, W: Write, E: Write>(
-    rt: &R,
-    alloc: Global,
-    options: Options,
-    out: &mut W,
-    watch: &mut Stopwatch<'_, R, E>,
-) -> Result<Option<Notice>, ProgramFault>
-    ensures replayed { IfOk result
-        (HasDone (asked.Replay options) (W.contents out.old) (W.contents out.new)) }
-    ensures fault { IfErr result (IsFilesFault options (W.contents out.old) (W.contents out.new)) }
-{
-    if names_input_twice(&options) {
-        return Err(ProgramFault::Inputs);
-    }
-    watch.follow(options.progress);
-    let done = replay_named(&Disk { files: rt }, alloc, &options, out, watch);
-    with_options(done, options)
+    Ok(())
 }
 
 // Prints help.

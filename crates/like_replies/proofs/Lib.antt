@@ -3,5 +3,4 @@ pub mod Examples
 pub mod rows
 pub mod Lists
 pub mod Sections
-pub mod Shown
 pub mod Summed

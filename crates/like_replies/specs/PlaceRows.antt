@@ -1,6 +1,5 @@
 -- The rows of places, and the text of a report with them.
-use Rattle.std.specs.Prelude.{ℕ, if◌then◌else◌, List, [], ◌∷◌, ◌++◌, map, codes, decimal, Option, Result, OnOk}
-use Rattle.std.specs.Io.KnownBytes.{Appends}
+use Rattle.std.specs.Prelude.{ℕ, if◌then◌else◌, List, [], ◌∷◌, ◌++◌, map, codes, decimal}
 use Rattle.std.specs.List.{enumerate_from, flat_map}
 use Rattle.like_requests.specs.Pages.{Page}
 use Rattle.like_promises.specs.declared.place.Place.{Place}
@@ -29,8 +28,3 @@ abbrev pub text_of : Extent → List Page → Report → List ℕ
 text_of extent pages report =
     report_text pages (shown_of extent.totals report)
     ++ (if extent.places then rows_text (place_rows pages (lists_in report.places.items)) else [])
-
--- the answer of a writing of that text: on Ok it was appended
-abbrev pub WritesText :
-    {A E : Type 0} → Extent → List Page → Report → Option (List ℕ) → Option (List ℕ) → Result A E → Type 0
-WritesText extent pages report old new answer = OnOk answer (Appends old new (text_of extent pages report))

@@ -14,6 +14,6 @@ pub use like_collection::{CollectFault, collect, places};
 pub use like_promises::{Answer, Place, Replies, Report};
 pub use notice::Notice;
 pub use refusals::Refusals;
-pub use report::text::{write_places, write_report, write_text, write_text_at_once};
+pub use report::text::{Text, write_places, write_report};
 pub use summary::Summary;
 pub use write_fault::WriteFault;

@@ -3,8 +3,8 @@ ghost use Rattle.std.specs.Io.KnownBytes.{Appends};
 ghost use Rattle.like_replies.specs.Rows.{answer_word};
 ghost use Rattle.like_replies.specs.Summary.{answered, answered_in, hot_pages, number_line, requests_in, summary_of, summary_text};
 
-use like_promises::{Answer, Chosen, Replies, Reply, Report};
 use like_requests::Verdict;
+use like_promises::{Answer, Chosen, Replies, Reply, Report};
 use std::io;
 use std::io::Write;
 

@@ -14,8 +14,8 @@ use self::choices::Choices;
 use crate::coord_turn::CoordTurn;
 use like_board::{Board, CoordSeat};
 use like_core::{CoordSight, LAST_PHASE};
-use like_promises::Chosen;
 use like_seat::{Lead, NoLead};
+use like_promises::Chosen;
 use std::alloc::Global;
 use std::marker::Model;
 

@@ -1,3 +1,4 @@
+pub mod Report
 pub mod Room
 pub mod Rounds
 pub mod Script

@@ -5,16 +5,15 @@ ghost use Rattle.like_requests.specs.Script.{IsInRun};
 ghost use Rattle.like_limits.specs.Limits.{max_entries};
 ghost use Rattle.like_promises.specs.WorkloadOf.{lists_of};
 ghost use Rattle.like_crew.specs.Crew.{AreGone, GoesOn};
-ghost use Rattle.like_promises.specs.EndToEnd.{IsRightReport};
 ghost use Rattle.like_crew.specs.Ended.{HasEnded};
-ghost use Rattle.like_promises.specs.places.Tiling.{HasNoPlaces, HasRightPlaces};
+ghost use Rattle.like_run.specs.Report.{IsReportOf};
 ghost use Rattle.like_run.specs.Rounds.{CanMake, CanReplayScript, IsReplayFaultUnderWay, IsReplayFault};
 ghost use Rattle.like_run.specs.Script.{FollowsScript, Makes, MakesAll, MakesRounds};
 
 use like_crew::{Crew, Ended, Site, report_of};
-use like_promises::Report;
 use like_queue::ListInbox;
 use like_requests::{Request, Setup, Turned, check_script, check_setup};
+use like_promises::Report;
 use std::alloc::Global;
 use std::snapshot::Snapshot;
 
@@ -36,8 +35,7 @@ pub fn replay(
     script: &[Turned],
 ) -> Result<Report, ReplayFault>
     requires { length script.now ≤ max_entries }
-    ensures report { IfOk result (IsRightReport setup.now (lists_of plans.items)) }
-    ensures places { IfOk result (HasRightPlaces setup.now (lists_of plans.items)) }
+    ensures report { IfOk result (IsReportOf setup.now (lists_of plans.items) true) }
     ensures fits { OnOk result (CanReplayScript setup.now (lists_of plans.items) script.now) }
     ensures fault { IfErr result (IsReplayFault setup.now (lists_of plans.items) script.now) }
 {
@@ -54,9 +52,7 @@ pub fn replay_noting(
     notes: bool,
 ) -> Result<Report, ReplayFault>
     requires { length script.now ≤ max_entries }
-    ensures report { IfOk result (IsRightReport setup.now (lists_of plans.items)) }
-    ensures places { notes ≡ true → IfOk result (HasRightPlaces setup.now (lists_of plans.items)) }
-    ensures none { notes ≡ false → IfOk result HasNoPlaces }
+    ensures report { IfOk result (IsReportOf setup.now (lists_of plans.items) notes) }
     ensures fits { OnOk result (CanReplayScript setup.now (lists_of plans.items) script.now) }
     ensures fault { IfErr result (IsReplayFault setup.now (lists_of plans.items) script.now) }
 {
@@ -75,9 +71,7 @@ fn replay_within(
 ) -> Result<Report, ReplayFault>
     requires within { FitsRun setup.now (lists_of plans.items) }
     requires script { All (IsInRun setup.now.workers (length plans.items)) script.now }
-    ensures report { IfOk result (IsRightReport setup.now (lists_of plans.items)) }
-    ensures places { notes ≡ true → IfOk result (HasRightPlaces setup.now (lists_of plans.items)) }
-    ensures none { notes ≡ false → IfOk result HasNoPlaces }
+    ensures report { IfOk result (IsReportOf setup.now (lists_of plans.items) notes) }
     ensures fault { IfErr result IsReplayFaultUnderWay }
 {
     let (site, seats) = Site::new(alloc, setup, &plans, notes)?;

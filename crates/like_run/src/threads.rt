@@ -1,10 +1,9 @@
 ghost use Rattle.std.specs.Prelude.{◌≡◌, ◌+◌, ◌≤◌, false, true, IfErr, IfOk, OnOk, length};
 ghost use Rattle.like_requests.specs.Setup.{FitsRun, IsWithinLimits};
 ghost use Rattle.like_promises.specs.WorkloadOf.{lists_of};
-ghost use Rattle.like_promises.specs.EndToEnd.{IsRightReport};
 ghost use Rattle.like_crew.specs.Ended.{IsEnded};
 ghost use Rattle.like_crew.specs.Site.{AreSeats, IsSite};
-ghost use Rattle.like_promises.specs.places.Tiling.{HasNoPlaces, HasRightPlaces};
+ghost use Rattle.like_run.specs.Report.{IsReportOf};
 ghost use Rattle.like_queue.specs.Lines.{AreNewEnds};
 ghost use Rattle.like_run.specs.Threads.{HasEndedOn, IsRunFaultUnderWay};
 ghost use Rattle.like_promises.specs.RunFault.{IsRunFault};
@@ -14,10 +13,10 @@ use crate::threads::room::Room;
 use crate::threads::submitters::start_submitters;
 use crate::threads::workers::start_workers;
 use like_crew::{Crew, Ended, Seats, Site, report_of};
-use like_promises::{Report, RunFault};
 use like_queue::{Lines, Parkers, SendEnd, TakeEnd, ends_of, tell};
 use like_requests::{Request, Setup, check_setup};
 use like_roles::Gate;
+use like_promises::{Report, RunFault};
 use std::alloc::Global;
 use std::snapshot::Snapshot;
 use std::sync::{OnceLock, Wait};
@@ -38,8 +37,7 @@ pub fn run<R: Threads + Wait + Sync, G: Gate>(
     plans: Vec<Vec<Request>>,
     gate: &G,
 ) -> Result<Report, RunFault>
-    ensures report { IfOk result (IsRightReport setup.now (lists_of plans.items)) }
-    ensures places { IfOk result (HasRightPlaces setup.now (lists_of plans.items)) }
+    ensures report { IfOk result (IsReportOf setup.now (lists_of plans.items) true) }
     ensures within { OnOk result (IsWithinLimits setup.now (lists_of plans.items)) }
     ensures fault { IfErr result (IsRunFault setup.now (lists_of plans.items)) }
 {
@@ -55,8 +53,7 @@ pub fn run_limited<R: Threads + Wait + Sync, G: Gate>(
     gate: &G,
     starts: u32,
 ) -> Result<Report, RunFault>
-    ensures report { IfOk result (IsRightReport setup.now (lists_of plans.items)) }
-    ensures places { IfOk result (HasRightPlaces setup.now (lists_of plans.items)) }
+    ensures report { IfOk result (IsReportOf setup.now (lists_of plans.items) true) }
     ensures within { OnOk result (IsWithinLimits setup.now (lists_of plans.items)) }
     ensures enough { OnOk result (setup.now.workers + length plans.items ≤ starts) }
     ensures fault { IfErr result (IsRunFault setup.now (lists_of plans.items)) }
@@ -77,9 +74,7 @@ pub fn run_noting<R: Threads + Wait + Sync, G: Gate>(
     starts: u32,
     notes: bool,
 ) -> Result<Report, RunFault>
-    ensures report { IfOk result (IsRightReport setup.now (lists_of plans.items)) }
-    ensures places { notes ≡ true → IfOk result (HasRightPlaces setup.now (lists_of plans.items)) }
-    ensures none { notes ≡ false → IfOk result HasNoPlaces }
+    ensures report { IfOk result (IsReportOf setup.now (lists_of plans.items) notes) }
     ensures within { OnOk result (IsWithinLimits setup.now (lists_of plans.items)) }
     ensures enough { OnOk result (setup.now.workers + length plans.items ≤ starts) }
     ensures fault { IfErr result (IsRunFault setup.now (lists_of plans.items)) }
@@ -99,9 +94,7 @@ fn run_within<R: Threads + Wait + Sync, G: Gate>(
     notes: bool,
 ) -> Result<Report, RunFault>
     requires { FitsRun setup.now (lists_of plans.items) }
-    ensures report { IfOk result (IsRightReport setup.now (lists_of plans.items)) }
-    ensures places { notes ≡ true → IfOk result (HasRightPlaces setup.now (lists_of plans.items)) }
-    ensures none { notes ≡ false → IfOk result HasNoPlaces }
+    ensures report { IfOk result (IsReportOf setup.now (lists_of plans.items) notes) }
     ensures enough { OnOk result (setup.now.workers + length plans.items ≤ starts) }
     ensures fault { IfErr result IsRunFaultUnderWay }
 {

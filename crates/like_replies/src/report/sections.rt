@@ -1,4 +1,4 @@
-ghost use Rattle.std.specs.Prelude.{◌≡◌, ◌<◌, ◌++◌, ℕ, All, IfOk, List, OnOk, length, map};
+ghost use Rattle.std.specs.Prelude.{◌≡◌, ◌<◌, ◌++◌, ℕ, if◌then◌else◌, true, [], All, IfOk, List, OnOk, length, map};
 ghost use Rattle.std.specs.Option.{ForSome};
 ghost use Rattle.like_requests.specs.Pages.{Page};
 ghost use Rattle.like_promises.specs.places.Places.{lists_in};
@@ -50,6 +50,23 @@ pub fn place_sections(
         push_places(&mut all, page, &places[page as usize])?;
     }
     Ok(all)
+}
+
+/// The sections of places, by page, where they are asked for, and else none.
+pub fn asked_sections(
+    alloc: Global,
+    asked: bool,
+    pages: u32,
+    places: &[Vec<Place>],
+) -> Result<Vec<Section<'_>>, AllocError>
+    requires { asked ≡ true → length places.now ≡ pages }
+    ensures { (named : List Page) → length named ≡ pages → IfOk result (λ all. AreSections named
+        (if asked then place_rows named (lists_in places.now) else []) all.items) }
+{
+    if asked {
+        return place_sections(alloc, pages, places);
+    }
+    Ok(Vec::new(alloc))
 }
 
 // Adds the sections of a submitter's requests.

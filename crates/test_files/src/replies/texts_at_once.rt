@@ -9,7 +9,7 @@ ghost use Rattle.like_replies.specs.Rows.{IsShowable, IsWritable};
 use super::places::place;
 use super::texts::{HEADER, answer, one_page};
 use crate::files::{assert_bytes, list};
-use like_replies::{Extent, Place, Replies, Report, write_text_at_once};
+use like_replies::{Extent, Place, Replies, Report, Text};
 use like_roles::Reply;
 use std::alloc::{AllocError, Global};
 use std::process::Abort;
@@ -110,7 +110,8 @@ fn assert_text(
 {
     let pages = one_page(rt, alloc, "name,count,split\na,0,no\n");
     let mut out = Vec::new(alloc);
-    write_text_at_once(rt, alloc, extent, report, &pages, &mut out).expect(rt, "memory");
+    let made = Text::new(alloc, extent, report, &pages).expect(rt, "memory");
+    made.write_at_once(rt, alloc, &mut out).expect(rt, "memory");
     assert_bytes(rt, out, text.as_bytes());
 }
 

@@ -28,8 +28,8 @@ loop-reader-preserved g c =
           turn.1,
     )
 
-pub returns-in_err-add_plan-clause-plans : goal.returns-in_err-add_plan-clause-plans
-returns-in_err-add_plan-clause-plans g c =
+pub returns-in_err-add_plan : goal.returns-in_err-add_plan
+returns-in_err-add_plan g c =
     let from = c.into_iter-reader-iterator.ensures.into_iter_gives in
     let all = YieldsList-from_vec {s = c.into_iter-reader-iterator.result} c.args.requests.items from.0
     (from.1 ∙ c.args.requests.ok.0) in
@@ -40,20 +40,12 @@ returns-in_err-add_plan-clause-plans g c =
     IsRequestsFault
     c.read_requests.result c.read_requests.ensures.file in
     let p = err_from_is_err_and c.from_residual.result c.from_residual.ensures.1 in
-    rw (p.1, p.2)
-    (RefusesPlans-next g.R.Read.remaining c.args.pages.now c.args.requests.items c.loop-reader.yielded c.in-Some.reader
-    c.read_requests.result c.loop-reader.plans.items c.in_err-add_plan.field-0.0
-    c.loop-reader.invariant.1 turn.0 turn.1 c.loop-reader.invariant.0 reads c.in_err-add_plan.ensures.stopped)
-
-pub returns-in_err-add_plan-clause-read : goal.returns-in_err-add_plan-clause-read
-returns-in_err-add_plan-clause-read g c =
-    let from = c.into_iter-reader-iterator.ensures.into_iter_gives in
-    let all = YieldsList-from_vec {s = c.into_iter-reader-iterator.result} c.args.requests.items from.0
-    (from.1 ∙ c.args.requests.ok.0) in
-    let turn = YieldsList-turn all c.loop-reader.yielded _ c.loop-reader.yielded_by _ c.next.new.self c.in-Some.reader
-    c.in-Some.is c.next.ensures.steps in
-    let p = err_from_is_err_and c.from_residual.result c.from_residual.ensures.1 in
-    rw (p.1, p.2)
-    (next-told g.R.Read.remaining c.args.pages.now c.args.requests.items c.loop-reader.yielded c.in-Some.reader
-    c.read_requests.result c.loop-reader.plans.items c.in_err-add_plan.field-0.0
-    turn.0 turn.1 c.loop-reader.invariant.0 c.read_requests.ensures.read c.in_err-add_plan.ensures.stopped)
+    rw (p.1, p.2) (record {
+      plans = RefusesPlans-next
+          g.R.Read.remaining c.args.pages.now c.args.requests.items c.loop-reader.yielded c.in-Some.reader
+          c.read_requests.result c.loop-reader.plans.items c.in_err-add_plan.field-0.0
+          c.loop-reader.invariant.1 turn.0 turn.1 c.loop-reader.invariant.0 reads c.in_err-add_plan.ensures.stopped;
+      read = next-told g.R.Read.remaining c.args.pages.now c.args.requests.items c.loop-reader.yielded c.in-Some.reader
+          c.read_requests.result c.loop-reader.plans.items c.in_err-add_plan.field-0.0
+          turn.0 turn.1 c.loop-reader.invariant.0 c.read_requests.ensures.read c.in_err-add_plan.ensures.stopped;
+    })

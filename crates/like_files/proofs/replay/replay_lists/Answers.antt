@@ -1,51 +1,68 @@
+use Rattle.std.proofs.Common.{refl}
 use Rattle.std.proofs.lemmas.Result.{err_from_is_err_and}
 use Rattle.like_requests.proofs.Planned.{fits-run, plans-within}
 use Rattle.like_promises.specs.WorkloadOf.{workload_of_run, lists_of}
 use Rattle.like_promises.specs.EndToEnd.{runs_of}
-use Rattle.like_files.proofs.Ended.{few_requests, one_list_a_page, replay-refused, replay-unwritten}
+use Rattle.like_files.proofs.Ended.{few_requests, not-before, one_list_a_page, replay-refused, replay-unwritten}
 use Rattle.like_files.proofs.Writable.{IsWritable-end_to_end}
 use Rattle.like_files.proofs.replay.replay_lists.Goals as goal
 
-pub write_text-requires-clause-writable : goal.write_text-requires-clause-writable
-write_text-requires-clause-writable g c =
-    IsWritable-end_to_end
-    (workload_of_run c.args.setup.now (lists_of c.args.plans.items) (runs_of c.in_ok-report.report.logs.items))
-    (plans-within _ _ (fits-run _ _ c.in_ok-report.ensures.fits.within))
-    c.args.setup.now.workers c.in_ok-report.report c.in_ok-report.ensures.report
-
-pub write_text-requires-clause-placed : goal.write_text-requires-clause-placed
-write_text-requires-clause-placed g c wanted =
-    one_list_a_page c.args.setup.now (lists_of c.args.plans.items) c.in_ok-report.report
-    (c.in_ok-report.ensures.places (rw c.extent_of.ensures at wanted))
+pub new-requires : goal.new-requires
+new-requires g c = record {
+  writable = IsWritable-end_to_end
+      (workload_of_run c.args.setup.now (lists_of c.args.plans.items) (runs_of c.in_ok-report.report.logs.items))
+      (plans-within _ _ (fits-run _ _ c.in_ok-report.ensures.fits.within))
+      c.args.setup.now.workers c.in_ok-report.report c.in_ok-report.ensures.report.right;
+  placed = λ wanted. one_list_a_page c.args.setup.now (lists_of c.args.plans.items) c.in_ok-report.report
+      (c.in_ok-report.ensures.report.places (rw c.extent_of.ensures at wanted));
+}
 
 pub of-requires : goal.of-requires
 of-requires g c =
     few_requests c.args.setup.now
-    (lists_of c.args.plans.items) c.in_ok-report.report c.in_ok-report.ensures.fits.within c.in_ok-report.ensures.report
+    (lists_of c.args.plans.items) c.in_ok-report.report c.in_ok-report.ensures.fits.within c.in_ok-report.ensures.report.right
 
-pub returns-in_err-report-clause-fault : goal.returns-in_err-report-clause-fault
-returns-in_err-report-clause-fault g c =
+pub returns-in_err-report : goal.returns-in_err-report
+returns-in_err-report g c =
     let p = err_from_is_err_and c.from_residual.result c.from_residual.ensures.1 in
-    rw (p.1, p.2)
-    (replay-refused c.args.setup.now
-    (lists_of c.args.plans.items) c.args.script.now c.in_err-report.field-0.0 c.in_err-report.ensures.fault)
+    rw (p.1, p.2) (record {
+      done = tt;
+      fault = replay-refused c.args.setup.now
+          (lists_of c.args.plans.items) c.args.script.now c.in_err-report.field-0.0 c.in_err-report.ensures.fault;
+      untouched = λ before. refl;
+    })
 
-pub returns-in_err-write_text-clause-fault : goal.returns-in_err-write_text-clause-fault
-returns-in_err-write_text-clause-fault g c =
-    let p = err_from_is_err_and c.from_residual-in_err-write_text.result c.from_residual-in_err-write_text.ensures.1 in
-    rw (p.1, p.2)
-    (replay-unwritten c.args.setup.now
-    (lists_of c.args.plans.items) c.args.script.now c.in_err-write_text.field-0.0 c.in_ok-report.ensures.fits)
+pub returns-in_err-text : goal.returns-in_err-text
+returns-in_err-text g c =
+    let p = err_from_is_err_and c.from_residual-in_err-text.result c.from_residual-in_err-text.ensures.1 in
+    rw (p.1, p.2) (record {
+      done = tt;
+      fault = replay-unwritten c.args.setup.now
+          (lists_of c.args.plans.items) c.args.script.now c.in_err-text.field-0.0 c.in_ok-report.ensures.fits;
+      untouched = λ before. refl;
+    })
 
-pub returns-clause-replayed : goal.returns-clause-replayed
-returns-clause-replayed g c = record {
-  fits = c.in_ok-report.ensures.fits;
-  reported = record {
-    report = c.in_ok-report.report;
-    right = c.in_ok-report.ensures.report;
-    placed = c.in_ok-report.ensures.places;
-    none = c.in_ok-report.ensures.none;
-    written = rw c.extent_of.ensures at c.in_ok-write_text.ensures;
-    noticed = c.of.ensures;
+pub returns-in_err-write : goal.returns-in_err-write
+returns-in_err-write g c =
+    let p = err_from_is_err_and c.from_residual-in_err-write.result c.from_residual-in_err-write.ensures.1 in
+    rw (p.1, p.2) (record {
+      done = tt;
+      fault = replay-unwritten c.args.setup.now
+          (lists_of c.args.plans.items) c.args.script.now c.in_err-write.field-0.0 c.in_ok-report.ensures.fits;
+      untouched = not-before c.in_err-write.field-0.0;
+    })
+
+pub returns : goal.returns
+returns g c = record {
+  done = record {
+    fits = c.in_ok-report.ensures.fits;
+    reported = record {
+      report = c.in_ok-report.report;
+      right = c.in_ok-report.ensures.report;
+      written = rw (c.in_ok-text.ensures, c.extent_of.ensures) at c.in_ok-write.ensures;
+      noticed = c.of.ensures;
+    };
   };
+  fault = tt;
+  untouched = tt;
 }

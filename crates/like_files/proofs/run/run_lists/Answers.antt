@@ -1,52 +1,68 @@
+use Rattle.std.proofs.Common.{refl}
 use Rattle.std.proofs.lemmas.Result.{err_from_is_err_and}
 use Rattle.like_requests.proofs.Planned.{fits-run, plans-within}
 use Rattle.like_promises.specs.WorkloadOf.{workload_of_run, lists_of}
 use Rattle.like_promises.specs.EndToEnd.{runs_of}
-use Rattle.like_files.proofs.Ended.{few_requests, one_list_a_page, run-refused, run-unwritten}
+use Rattle.like_files.proofs.Ended.{few_requests, not-before, one_list_a_page, run-refused, run-unwritten}
 use Rattle.like_files.proofs.Writable.{IsWritable-end_to_end}
 use Rattle.like_files.proofs.run.run_lists.Goals as goal
 
-pub write_text_at_once-requires-clause-writable : goal.write_text_at_once-requires-clause-writable
-write_text_at_once-requires-clause-writable g c κs lives =
-    IsWritable-end_to_end
-    (workload_of_run c.args.setup.now (lists_of c.args.plans.items) (runs_of c.in_ok-report.report.logs.items))
-    (plans-within _ _ (fits-run _ _ c.in_ok-report.ensures.within))
-    c.args.setup.now.workers c.in_ok-report.report c.in_ok-report.ensures.report
-
-pub write_text_at_once-requires-clause-placed : goal.write_text_at_once-requires-clause-placed
-write_text_at_once-requires-clause-placed g c κs lives wanted =
-    one_list_a_page c.args.setup.now (lists_of c.args.plans.items) c.in_ok-report.report
-    (c.in_ok-report.ensures.places (rw c.extent_of.ensures at wanted))
+pub new-requires : goal.new-requires
+new-requires g c = record {
+  writable = IsWritable-end_to_end
+      (workload_of_run c.args.setup.now (lists_of c.args.plans.items) (runs_of c.in_ok-report.report.logs.items))
+      (plans-within _ _ (fits-run _ _ c.in_ok-report.ensures.within))
+      c.args.setup.now.workers c.in_ok-report.report c.in_ok-report.ensures.report.right;
+  placed = λ wanted. one_list_a_page c.args.setup.now (lists_of c.args.plans.items) c.in_ok-report.report
+      (c.in_ok-report.ensures.report.places (rw c.extent_of.ensures at wanted));
+}
 
 pub of-requires : goal.of-requires
 of-requires g c =
     few_requests c.args.setup.now
-    (lists_of c.args.plans.items) c.in_ok-report.report c.in_ok-report.ensures.within c.in_ok-report.ensures.report
+    (lists_of c.args.plans.items) c.in_ok-report.report c.in_ok-report.ensures.within c.in_ok-report.ensures.report.right
 
-pub returns-in_err-report-clause-fault : goal.returns-in_err-report-clause-fault
-returns-in_err-report-clause-fault g c =
+pub returns-in_err-report : goal.returns-in_err-report
+returns-in_err-report g c =
     let p = err_from_is_err_and c.from_residual.result c.from_residual.ensures.1 in
-    rw (p.1, p.2)
-    (run-refused c.args.setup.now
-    (lists_of c.args.plans.items) c.in_err-report.field-0.0 c.in_err-report.ensures.fault)
+    rw (p.1, p.2) (record {
+      done = tt;
+      fault = run-refused c.args.setup.now
+          (lists_of c.args.plans.items) c.in_err-report.field-0.0 c.in_err-report.ensures.fault;
+      untouched = λ before. refl;
+    })
 
-pub returns-in_err-write_text_at_once-clause-fault : goal.returns-in_err-write_text_at_once-clause-fault
-returns-in_err-write_text_at_once-clause-fault g c =
-    let p = err_from_is_err_and c.from_residual-in_err-write_text_at_once.result
-    c.from_residual-in_err-write_text_at_once.ensures.1 in
-    rw (p.1, p.2)
-    (run-unwritten c.args.setup.now
-    (lists_of c.args.plans.items) c.in_err-write_text_at_once.field-0.0 c.in_ok-report.ensures.within)
+pub returns-in_err-text : goal.returns-in_err-text
+returns-in_err-text g c =
+    let p = err_from_is_err_and c.from_residual-in_err-text.result c.from_residual-in_err-text.ensures.1 in
+    rw (p.1, p.2) (record {
+      done = tt;
+      fault = run-unwritten c.args.setup.now
+          (lists_of c.args.plans.items) c.in_err-text.field-0.0 c.in_ok-report.ensures.within;
+      untouched = λ before. refl;
+    })
 
-pub returns-clause-run : goal.returns-clause-run
-returns-clause-run g c = record {
-  within = c.in_ok-report.ensures.within;
-  reported = record {
-    report = c.in_ok-report.report;
-    right = c.in_ok-report.ensures.report;
-    placed = c.in_ok-report.ensures.places;
-    none = c.in_ok-report.ensures.none;
-    written = rw c.extent_of.ensures at c.in_ok-write_text_at_once.ensures;
-    noticed = c.of.ensures;
+pub returns-in_err-write_at_once : goal.returns-in_err-write_at_once
+returns-in_err-write_at_once g c =
+    let p = err_from_is_err_and c.from_residual-in_err-write_at_once.result c.from_residual-in_err-write_at_once.ensures.1 in
+    rw (p.1, p.2) (record {
+      done = tt;
+      fault = run-unwritten c.args.setup.now
+          (lists_of c.args.plans.items) c.in_err-write_at_once.field-0.0 c.in_ok-report.ensures.within;
+      untouched = not-before c.in_err-write_at_once.field-0.0;
+    })
+
+pub returns : goal.returns
+returns g c = record {
+  done = record {
+    within = c.in_ok-report.ensures.within;
+    reported = record {
+      report = c.in_ok-report.report;
+      right = c.in_ok-report.ensures.report;
+      written = rw (c.in_ok-text.ensures, c.extent_of.ensures) at c.in_ok-write_at_once.ensures;
+      noticed = c.of.ensures;
+    };
   };
+  fault = tt;
+  untouched = tt;
 }

@@ -7,8 +7,8 @@ pub returns-clause-replayed : goal.returns-clause-replayed
 returns-clause-replayed g c =
     let numbers = c.in_ok-options.ensures.numbers in
     rw c.with_options.ensures
-    (of_files-ok (HasReplayedExample _ _) c.in_ok-options.options c.replay_files_with_notice-done.result
-    (IfOk-weaker c.replay_files_with_notice-done.result _ _
+    (of_files-ok (HasReplayedExample _ _) c.in_ok-options.options c.replay_opened-done.result
+    (IfOk-weaker c.replay_opened-done.result _ _
     (λ notice done. record {
       options =
           c.in_ok-options.options;
@@ -16,4 +16,4 @@ returns-clause-replayed g c =
           numbers;
       replayed = rw (c.as_bytes-pages.ensures.value, c.in_ok-requests.ensures) at done;
     })
-    c.replay_files_with_notice-done.ensures.replayed))
+    c.replay_opened-done.ensures.replayed.done))

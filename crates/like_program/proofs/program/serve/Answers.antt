@@ -3,7 +3,8 @@ use Rattle.std.proofs.lemmas.Result.{IfOk-weaker, err_from_is_err_and}
 use Rattle.like_command.specs.Asked.{Words}
 use Rattle.like_command.specs.declared.asked.Asked.TheVariants.{Run, Replay, Help}
 use Rattle.like_program.specs.declared.fault.ProgramFault.TheVariants as program
-use Rattle.like_program.proofs.Serving.{files-not_served, not_served, served, some-words}
+use Rattle.like_program.proofs.NamedFiles.{some-replay, some-run}
+use Rattle.like_program.proofs.Serving.{files-fault, files-not_served, not_served, of_files-ok, served, some-words}
 use Rattle.like_program.proofs.program.serve.Goals as goal
 
 pub returns-in_err-options-clause-fault : goal.returns-in_err-options-clause-fault
@@ -14,35 +15,65 @@ returns-in_err-options-clause-fault g c =
     rw (p.1, p.2)
     (not_served words _ _ (program.Words c.in_err-options.field-0.0) some (c.in_err-options.ensures.fault, refl))
 
-pub returns-in-Run-clause-served : goal.returns-in-Run-clause-served
-returns-in-Run-clause-served g c =
+pub returns-in_err-begin-in-Run-clause-fault : goal.returns-in_err-begin-in-Run-clause-fault
+returns-in_err-begin-in-Run-clause-fault g c =
     let words : Words = map string_bytes c.args.words.now in
     let some = some-words string_bytes c.args.words.now (sym c.is_empty.ensures ∙ c.if-is_empty.false) in
     let asks = rw c.in-Run.is at c.in_ok-options.ensures.asked in
-    IfOk-weaker c.run_asked.result _ _
-    (λ notice done. served words _ _ (Run c.in-Run.options) notice some asks done) c.run_asked.ensures.run
+    let p = err_from_is_err_and c.from_residual-in_err-begin-in-Run.result c.from_residual-in_err-begin-in-Run.ensures.1 in
+    let twice = c.in_err-begin-in-Run.ensures.twice in
+    rw (p.1, p.2, twice.0) (not_served words _ _ program.Inputs some (c.in-Run.options, inl asks, twice.1, refl))
 
-pub returns-in-Run-clause-fault : goal.returns-in-Run-clause-fault
-returns-in-Run-clause-fault g c =
+pub returns-in_ok-begin-in-Run-clause-served : goal.returns-in_ok-begin-in-Run-clause-served
+returns-in_ok-begin-in-Run-clause-served g c =
     let words : Words = map string_bytes c.args.words.now in
     let some = some-words string_bytes c.args.words.now (sym c.is_empty.ensures ∙ c.if-is_empty.false) in
     let asks = rw c.in-Run.is at c.in_ok-options.ensures.asked in
-    files-not_served words _ _ c.in-Run.options c.run_asked.result some (inl asks) c.run_asked.ensures.fault
+    rw c.with_options.ensures
+    (of_files-ok _ c.in-Run.options c.run_named-done.result
+    (IfOk-weaker c.run_named-done.result _ _
+    (λ notice done. served words _ _ (Run c.in-Run.options) notice some asks
+    (c.in_ok-begin-in-Run.ensures.once, some-run _ _ c.in-Run.options _ _ notice done)) c.run_named-done.ensures.done))
 
-pub returns-in-Replay-clause-served : goal.returns-in-Replay-clause-served
-returns-in-Replay-clause-served g c =
+pub returns-in_ok-begin-in-Run-clause-fault : goal.returns-in_ok-begin-in-Run-clause-fault
+returns-in_ok-begin-in-Run-clause-fault g c =
+    let words : Words = map string_bytes c.args.words.now in
+    let some = some-words string_bytes c.args.words.now (sym c.is_empty.ensures ∙ c.if-is_empty.false) in
+    let asks = rw c.in-Run.is at c.in_ok-options.ensures.asked in
+    rw c.with_options.ensures
+    (files-not_served words _ _ c.in-Run.options _ some (inl asks)
+    (files-fault g.W.Write.contents c.in-Run.options c.run_named-done.result c.args.out.now c.run_named-done.new.out
+    c.run_named-done.ensures.untouched))
+
+pub returns-in_err-begin-in-Replay-clause-fault : goal.returns-in_err-begin-in-Replay-clause-fault
+returns-in_err-begin-in-Replay-clause-fault g c =
     let words : Words = map string_bytes c.args.words.now in
     let some = some-words string_bytes c.args.words.now (sym c.is_empty.ensures ∙ c.if-is_empty.false) in
     let asks = rw c.in-Replay.is at c.in_ok-options.ensures.asked in
-    IfOk-weaker c.replay_asked.result _ _
-    (λ notice done. served words _ _ (Replay c.in-Replay.options) notice some asks done) c.replay_asked.ensures.replayed
+    let p = err_from_is_err_and c.from_residual-in_err-begin-in-Replay.result c.from_residual-in_err-begin-in-Replay.ensures.1 in
+    let twice = c.in_err-begin-in-Replay.ensures.twice in
+    rw (p.1, p.2, twice.0) (not_served words _ _ program.Inputs some (c.in-Replay.options, inr asks, twice.1, refl))
 
-pub returns-in-Replay-clause-fault : goal.returns-in-Replay-clause-fault
-returns-in-Replay-clause-fault g c =
+pub returns-in_ok-begin-in-Replay-clause-served : goal.returns-in_ok-begin-in-Replay-clause-served
+returns-in_ok-begin-in-Replay-clause-served g c =
     let words : Words = map string_bytes c.args.words.now in
     let some = some-words string_bytes c.args.words.now (sym c.is_empty.ensures ∙ c.if-is_empty.false) in
     let asks = rw c.in-Replay.is at c.in_ok-options.ensures.asked in
-    files-not_served words _ _ c.in-Replay.options c.replay_asked.result some (inr asks) c.replay_asked.ensures.fault
+    rw c.with_options-in-Replay.ensures
+    (of_files-ok _ c.in-Replay.options c.replay_named-done.result
+    (IfOk-weaker c.replay_named-done.result _ _
+    (λ notice done. served words _ _ (Replay c.in-Replay.options) notice some asks
+    (c.in_ok-begin-in-Replay.ensures.once, some-replay _ _ c.in-Replay.options _ _ notice done)) c.replay_named-done.ensures.done))
+
+pub returns-in_ok-begin-in-Replay-clause-fault : goal.returns-in_ok-begin-in-Replay-clause-fault
+returns-in_ok-begin-in-Replay-clause-fault g c =
+    let words : Words = map string_bytes c.args.words.now in
+    let some = some-words string_bytes c.args.words.now (sym c.is_empty.ensures ∙ c.if-is_empty.false) in
+    let asks = rw c.in-Replay.is at c.in_ok-options.ensures.asked in
+    rw c.with_options-in-Replay.ensures
+    (files-not_served words _ _ c.in-Replay.options _ some (inr asks)
+    (files-fault g.W.Write.contents c.in-Replay.options c.replay_named-done.result c.args.out.now c.replay_named-done.new.out
+    c.replay_named-done.ensures.untouched))
 
 pub returns-in_ok-show-in-Help-clause-served : goal.returns-in_ok-show-in-Help-clause-served
 returns-in_ok-show-in-Help-clause-served g c =

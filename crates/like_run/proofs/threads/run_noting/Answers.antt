@@ -59,6 +59,3 @@ returns-clause-fault g c =
     run-fault c.args.setup.now (map requests_of c.args.plans.items) c.run_within.result
     (subst (λ (xs : List (Vec Request Global)). IsWithinLimits c.args.setup.now (map requests_of xs))
     c.deref.ensures.value c.in_ok-check_setup.ensures) c.run_within.ensures.fault
-
-pub returns-clause-none : goal.returns-clause-none
-returns-clause-none g c = c.run_within.ensures.none
