@@ -39,7 +39,8 @@ fn write_counts(board: &Board, coord: &mut Seat<(), View>, counts: &mut [u64])
     requires sized { coord.old.table_id.words ≡ word_of (length counts.old) }
     requires few_pages { length counts.old < 2 ^ 32 }
     ensures len { length counts.new ≡ length counts.old }
-    ensures counts { (c : CoordSeatView) (seats : List WorkerSeat) → HasAllBack coord.old.me.0 c seats
+    ensures counts { (c : CoordSeatView) (seats : List WorkerSeat)
+        → HasAllBack coord.old.me.0 c seats
         → length c.opening.counts ≡ length counts.old → (page : ℕ) → page < length counts.old
         → slice_index counts.new page ≡ last_count c.opening seats page }
 {

@@ -56,7 +56,8 @@ impl CoordSeat {
 
     /// Whether the present phase is the last, whose end can't be announced.
     pub fn is_last(&self) -> bool
-        ensures { let c = coord_view self.now in IsTrue result ↔ (c.phase ≡ c.opening.limits.last_phase) }
+        ensures { let c = coord_view self.now in
+            IsTrue result ↔ (c.phase ≡ c.opening.limits.last_phase) }
     {
         self.phase == self.limits.last_phase
     }
@@ -65,12 +66,14 @@ impl CoordSeat {
     pub fn look(&mut self, board: &Board) -> CoordSight
         requires { coord_board self.old ≡ board_id board.now }
         ensures board { coord_board self.new ≡ coord_board self.old }
-        ensures view { coord_view self.new ≡ looked_coord (coord_view self.old) (coord_view self.new).word result }
+        ensures view { coord_view self.new
+            ≡ looked_coord (coord_view self.old) (coord_view self.new).word result }
         ensures number { let c = coord_view self.old in result.number ≡ c.phase }
         ensures within { let c = coord_view self.old in c.phase ≤ c.opening.limits.last_phase }
         ensures ending { result.ending ≡ (coord_view self.old).ending }
         ensures all_in { (coord_view self.old).all_in ≡ true → result.all_in ≡ true }
-        ensures all_gone { let c = coord_view self.old in IsSplit c.phase → result.all_gone ≡ true → c.gone ≡ true }
+        ensures all_gone { let c = coord_view self.old in
+            IsSplit c.phase → result.all_gone ≡ true → c.gone ≡ true }
         ensures known { IsKnown (coord_view self.old).opening (Coord (coord_view self.new)) }
         ensures event { Surveys (coord_view self.old) result (coord_view self.new) }
     {
@@ -143,7 +146,8 @@ impl CoordSeat {
         requires here { coord_board self.old ≡ board_id board.now }
         requires may { MayPublishSlots (coord_view self.old) bits }
         ensures board { coord_board self.new ≡ coord_board self.old }
-        ensures view { let c = coord_view self.old in coord_view self.new ≡ published_coord c (slots_put c bits) }
+        ensures view { let c = coord_view self.old in
+            coord_view self.new ≡ published_coord c (slots_put c bits) }
     {
         board
             .table

@@ -52,7 +52,8 @@ pub(crate) fn first_words(
     ensures len { IfOk result (λ words. length words.items ≡ word_of (length counts.now)) }
     ensures phase_word { IfOk result (λ words. slice_index words.items phase_place ≡ phase_word) }
     ensures mask_word { IfOk result (λ words. slice_index words.items mask_place ≡ 0) }
-    ensures slots { IfOk result (λ words. (slot : ℕ) → slot < hot_pages → slot_in words.items slot ≡ 0) }
+    ensures slots { IfOk result (λ words. (slot : ℕ) → slot < hot_pages
+        → slot_in words.items slot ≡ 0) }
     ensures counts { IfOk result (λ words. (page : ℕ) → page < length counts.now →
         slice_index words.items (word_of page) ≡ slice_index counts.now page) }
 {

@@ -19,7 +19,8 @@ use std::alloc::{AllocError, Global};
 fn make_seat(board: &Board, coord: &mut Seat<(), View>, number: u32, form: Form) -> WorkerSeat
     requires here { coord.old.table_id ≡ board_id board.now }
     requires coord { coord.old.me ≡ (Coord (coord_view_of coord.old.me.0), []) }
-    requires sized { coord.old.table_id.words ≡ word_of (length (coord_view_of coord.old.me.0).opening.marks) }
+    requires sized { coord.old.table_id.words
+        ≡ word_of (length (coord_view_of coord.old.me.0).opening.marks) }
     requires next { number ≡ (coord_view_of coord.old.me.0).made }
     requires room { number < (coord_view_of coord.old.me.0).opening.workers }
     requires form { form ≡ (coord_view_of coord.old.me.0).opening.limits.form }
@@ -49,7 +50,8 @@ pub(crate) fn make_seats(
 ) -> Result<Vec<WorkerSeat>, AllocError>
     requires here { coord.old.table_id ≡ board_id board.now }
     requires coord { coord.old.me ≡ (Coord (coord_view_of coord.old.me.0), []) }
-    requires sized { coord.old.table_id.words ≡ word_of (length (coord_view_of coord.old.me.0).opening.marks) }
+    requires sized { coord.old.table_id.words
+        ≡ word_of (length (coord_view_of coord.old.me.0).opening.marks) }
     requires none { (coord_view_of coord.old.me.0).made ≡ 0 }
     requires all { workers ≡ (coord_view_of coord.old.me.0).opening.workers }
     requires form { form ≡ (coord_view_of coord.old.me.0).opening.limits.form }

@@ -50,9 +50,11 @@ impl<B: HoldsBoard> Post for PostAt<B> {
     fn look(&mut self) -> Sight
         requires { (post_meaning self.old).state ≢ Gone }
         ensures sight { IsSightOf (post_meaning self.old).state result }
-        ensures within { let v = post_meaning self.old in phase_of (seen v.state result) ≤ v.limits.last_phase }
+        ensures within { let v = post_meaning self.old in
+            phase_of (seen v.state result) ≤ v.limits.last_phase }
         ensures view { post_meaning self.new ≡ looked_at (post_meaning self.old) result }
-        ensures ending { SeesEndingStill (post_meaning self.old).state (post_meaning self.old).last result }
+        ensures ending { SeesEndingStill (post_meaning self.old).state
+            (post_meaning self.old).last result }
         ensures board { post_board self.new ≡ post_board self.old }
         ensures known { post_view self.new ≡ looked_view (post_view self.old) result }
         ensures event { Looks (post_view self.old) result (post_view self.new) }
@@ -168,7 +170,8 @@ impl<B: HoldsBoard> SlotPost for PostAt<B> {
             (slice_index pages.new) result }
         ensures places { length pages.new ≡ hot_pages }
         ensures board { post_board self.new ≡ post_board self.old }
-        ensures known { post_view self.new ≡ masked_view (record (post_view self.old) { slots = pages.new })
+        ensures known { post_view self.new
+            ≡ masked_view (record (post_view self.old) { slots = pages.new })
             (mask_of_slots (slice_index pages.new) result hot_pages) }
         ensures event { ReadsMask (record (post_view self.old) { slots = pages.new })
             (mask_of_slots (slice_index pages.new) result hot_pages) (post_view self.new) }
@@ -190,11 +193,14 @@ impl<B: HoldsBoard> Returns for PostAt<B> {
     fn come_back(&mut self) -> Option<u64>
         requires gone { (post_meaning self.old).state ≡ Gone }
         requires lets { LetsReturn (post_meaning self.old).limits }
-        ensures back { IfSome result (λ phase. post_meaning self.new ≡ returned (post_meaning self.old) phase) }
-        ensures within { IfSome result (λ phase. phase ≤ (post_meaning self.old).limits.last_phase) }
+        ensures back { IfSome result
+            (λ phase. post_meaning self.new ≡ returned (post_meaning self.old) phase) }
+        ensures within { IfSome result
+            (λ phase. phase ≤ (post_meaning self.old).limits.last_phase) }
         ensures none { IfNone result (post_meaning self.new ≡ post_meaning self.old) }
         ensures board { post_board self.new ≡ post_board self.old }
-        ensures known { IfSome result (λ phase. post_view self.new ≡ returned_view (post_view self.old) phase) }
+        ensures known { IfSome result
+            (λ phase. post_view self.new ≡ returned_view (post_view self.old) phase) }
         ensures unknown { IfNone result (post_view self.new ≡ post_view self.old) }
         ensures event { IfSome result (λ _. ComesBack (post_view self.old) (post_view self.new)) }
     {

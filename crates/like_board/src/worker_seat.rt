@@ -80,8 +80,10 @@ impl WorkerSeat {
         ensures board { seat_board self.new ≡ seat_board self.old }
         ensures view { seat_view self.new ≡ looked_view (seat_view self.old) result }
         ensures sight { IsSightOf (seat_view self.old).state result }
-        ensures within { let v = seat_view self.old in phase_of (seen v.state result) ≤ v.opening.limits.last_phase }
-        ensures ending { SeesEndingStill (seat_view self.old).state (seat_view self.old).last result }
+        ensures within { let v = seat_view self.old in
+            phase_of (seen v.state result) ≤ v.opening.limits.last_phase }
+        ensures ending { SeesEndingStill (seat_view self.old).state
+            (seat_view self.old).last result }
         ensures event { Looks (seat_view self.old) result (seat_view self.new) }
     {
         let word = board
@@ -144,8 +146,10 @@ impl WorkerSeat {
         requires gone { (seat_view self.old).state ≡ Gone }
         requires lets { LetsReturn (seat_view self.old).opening.limits }
         ensures board { seat_board self.new ≡ seat_board self.old }
-        ensures view { IfSome result (λ phase. seat_view self.new ≡ returned_view (seat_view self.old) phase) }
-        ensures within { IfSome result (λ phase. phase ≤ (seat_view self.old).opening.limits.last_phase) }
+        ensures view { IfSome result
+            (λ phase. seat_view self.new ≡ returned_view (seat_view self.old) phase) }
+        ensures within { IfSome result
+            (λ phase. phase ≤ (seat_view self.old).opening.limits.last_phase) }
         ensures event { IfSome result (λ _. ComesBack (seat_view self.old) (seat_view self.new)) }
         ensures none { IfNone result (seat_view self.new ≡ seat_view self.old) }
     {
@@ -253,10 +257,12 @@ impl WorkerSeat {
         requires here { seat_board self.old ≡ board_id board.now }
         requires may { MayReadSlots (seat_view self.old) }
         ensures board { seat_board self.new ≡ seat_board self.old }
-        ensures view { let v = seat_view self.old in seat_view self.new ≡ masked_view v (slots_read v result) }
+        ensures view { let v = seat_view self.old in
+            seat_view self.new ≡ masked_view v (slots_read v result) }
         ensures choice { let v = seat_view self.old in
             IsChoice v.opening.factor (length v.opening.marks) (slice_index v.slots) result }
-        ensures event { let v = seat_view self.old in ReadsMask v (slots_read v result) (seat_view self.new) }
+        ensures event { let v = seat_view self.old in
+            ReadsMask v (slots_read v result) (seat_view self.new) }
     {
         board
             .table

@@ -31,7 +31,8 @@ impl DriverHandle {
     #[inline(always)]
     pub(crate) fn get(&mut self) -> Option<&mut Opened>
         ensures* lends { sem 𝓛 (LendsDriver self.entry result) }
-        ensures driver { MatchOption result (self.old.home ≡ None) (λ driver. self.old.home ≡ Some driver.now) }
+        ensures driver { MatchOption result (self.old.home ≡ None)
+            (λ driver. self.old.home ≡ Some driver.now) }
     {
         if self.at.is_null() {
             return None;
@@ -61,7 +62,8 @@ impl DriverHandle {
 
     /// Takes the driver out, if there is one.
     pub(crate) fn take(&mut self, alloc: Global) -> Option<Box<Opened, Global>>
-        ensures taken { MatchOption result (self.old.home ≡ None) (λ driver. self.old.home ≡ Some driver.value) }
+        ensures taken { MatchOption result (self.old.home ≡ None)
+            (λ driver. self.old.home ≡ Some driver.value) }
         ensures left { self.new.home ≡ None }
     {
         if !self.is_full() {

@@ -54,8 +54,10 @@ impl Opened {
         marks: &[u32],
         lasts: &[u32],
     ) -> Result<Box<Opened, Global>, OpenError>
-        ensures opened { IfOk result (λ b. IsOpenedAs (asked_of options.now counts.now marks.now lasts.now) b.value) }
-        ensures refused { IfErr result (IsRefusedFor (asked_of options.now counts.now marks.now lasts.now)) }
+        ensures opened { IfOk result
+            (λ b. IsOpenedAs (asked_of options.now counts.now marks.now lasts.now) b.value) }
+        ensures refused { IfErr result
+            (IsRefusedFor (asked_of options.now counts.now marks.now lasts.now)) }
     {
         check(options, counts, marks, lasts)?;
         let Ok(opening) = opening_of(alloc, options, counts, marks, lasts) else {
@@ -139,7 +141,8 @@ fn opening_of(
     marks: &[u32],
     lasts: &[u32],
 ) -> Result<Opening, AllocError>
-    ensures { IfOk result (λ opening. asking opening ≡ asked_of options.now counts.now marks.now lasts.now) }
+    ensures { IfOk result (λ opening. asking opening
+        ≡ asked_of options.now counts.now marks.now lasts.now) }
 {
     Ok(Opening {
         counts: Vec::from_slice(alloc, counts)?,

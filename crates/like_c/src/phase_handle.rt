@@ -31,7 +31,8 @@ impl PhaseHandle {
     #[inline(always)]
     pub(crate) fn get(&mut self) -> Option<&mut BoxedPhase>
         ensures* lends { sem 𝓛 (LendsPhase self.entry result) }
-        ensures phase { MatchOption result (self.old.home ≡ None) (λ phase. self.old.home ≡ Some phase.now) }
+        ensures phase { MatchOption result (self.old.home ≡ None)
+            (λ phase. self.old.home ≡ Some phase.now) }
     {
         if self.at.is_null() {
             return None;
@@ -61,7 +62,8 @@ impl PhaseHandle {
 
     /// Takes the phase out, if there is one.
     pub(crate) fn take(&mut self, alloc: Global) -> Option<Box<BoxedPhase, Global>>
-        ensures taken { MatchOption result (self.old.home ≡ None) (λ phase. self.old.home ≡ Some phase.value) }
+        ensures taken { MatchOption result (self.old.home ≡ None)
+            (λ phase. self.old.home ≡ Some phase.value) }
         ensures left { self.new.home ≡ None }
     {
         if !self.is_full() {

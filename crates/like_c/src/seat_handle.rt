@@ -31,7 +31,8 @@ impl SeatHandle {
     #[inline(always)]
     pub(crate) fn get(&mut self) -> Option<&mut BoxedSeat>
         ensures* lends { sem 𝓛 (LendsSeat self.entry result) }
-        ensures seat { MatchOption result (self.old.home ≡ None) (λ seat. self.old.home ≡ Some seat.now) }
+        ensures seat { MatchOption result (self.old.home ≡ None)
+            (λ seat. self.old.home ≡ Some seat.now) }
     {
         if self.at.is_null() {
             return None;
@@ -61,7 +62,8 @@ impl SeatHandle {
 
     /// Takes the seat out, if there is one.
     pub(crate) fn take(&mut self, alloc: Global) -> Option<Box<BoxedSeat, Global>>
-        ensures taken { MatchOption result (self.old.home ≡ None) (λ seat. self.old.home ≡ Some seat.value) }
+        ensures taken { MatchOption result (self.old.home ≡ None)
+            (λ seat. self.old.home ≡ Some seat.value) }
         ensures left { self.new.home ≡ None }
     {
         if !self.is_full() {

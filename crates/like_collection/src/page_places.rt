@@ -48,7 +48,8 @@ fn put(rows: &mut Vec<Vec<Place>>, page: usize, place: Place) -> Result<(), Allo
 // Appends the places of a worker's additions to their pages' places.
 fn put_adds(rows: &mut Vec<Vec<Place>>, worker: u32, adds: &[Added]) -> Result<(), AllocError>
     requires { All (λ a. a.page < length rows.old.items) adds.now }
-    ensures len { OnOk result (length (lists_in rows.new.items) ≡ length (lists_in rows.old.items)) }
+    ensures len { OnOk result (length (lists_in rows.new.items)
+        ≡ length (lists_in rows.old.items)) }
     ensures each { OnOk result ((page : ℕ) → page < length (lists_in rows.old.items) →
         slice_index_or (lists_in rows.new.items) page []
         ≡ slice_index_or (lists_in rows.old.items) page [] ++ places_of page worker adds.now) }
@@ -70,7 +71,8 @@ fn put_adds(rows: &mut Vec<Vec<Place>>, worker: u32, adds: &[Added]) -> Result<(
 
 // Sorts the places of each page by rising counts before.
 fn sort_all(rows: &mut Vec<Vec<Place>>) -> Result<(), AllocError>
-    ensures len { OnOk result (length (lists_in rows.new.items) ≡ length (lists_in rows.old.items)) }
+    ensures len { OnOk result (length (lists_in rows.new.items)
+        ≡ length (lists_in rows.old.items)) }
     ensures each { OnOk result ((page : ℕ) → page < length (lists_in rows.old.items) →
         AreByOld (slice_index_or (lists_in rows.old.items) page [])
         (slice_index_or (lists_in rows.new.items) page [])) }

@@ -45,7 +45,8 @@ impl PhaseWord {
         retired: u16,
         number: u32,
     ) -> Option<PhaseWord>
-        ensures lawful { IsSome result ↔ IsLawful (word_fields kind workers answered retired number) }
+        ensures lawful { IsSome result
+            ↔ IsLawful (word_fields kind workers answered retired number) }
         ensures fields { IfSome result (λ p.
             fields_of p ≡ word_fields kind workers answered retired number) }
     {

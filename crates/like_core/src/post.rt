@@ -19,7 +19,8 @@ pub trait Post {
     fn look(&mut self) -> Sight
         requires { (view self.old).state ≢ Gone }
         ensures sight { IsSightOf (view self.old).state result }
-        ensures within { phase_of (seen (view self.old).state result) ≤ (view self.old).limits.last_phase }
+        ensures within { phase_of (seen (view self.old).state result)
+            ≤ (view self.old).limits.last_phase }
         ensures view { view self.new ≡ looked_at (view self.old) result }
         ensures ending { SeesEndingStill (view self.old).state (view self.old).last result };
 

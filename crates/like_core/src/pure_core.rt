@@ -74,8 +74,10 @@ impl Core {
         requires same_pages { length split.now ≡ length counts.now }
         requires few_pages { length counts.now ≤ max_pages }
         requires counts { All (λ count. count < total_bound) counts.now }
-        ensures start { IfOk result (λ core. StandsForStart core (opening workers counts.now split.now)) }
-        ensures reachable { IfOk result (λ core. IsReachable core (opening workers counts.now split.now)) }
+        ensures start { IfOk result
+            (λ core. StandsForStart core (opening workers counts.now split.now)) }
+        ensures reachable { IfOk result
+            (λ core. IsReachable core (opening workers counts.now split.now)) }
         ensures exclusive { IfOk result IsCoreExclusive }
     {
         Core::with_limits(alloc, workers, counts, split, Limits::of_run())

@@ -12,7 +12,8 @@ pub trait Returns: Post {
     fn come_back(&mut self) -> Option<u64>
         requires gone { (Self.view self.old).state ≡ Gone }
         requires lets { LetsReturn (Self.view self.old).limits }
-        ensures back { IfSome result (λ phase. Self.view self.new ≡ returned (Self.view self.old) phase) }
+        ensures back { IfSome result
+            (λ phase. Self.view self.new ≡ returned (Self.view self.old) phase) }
         ensures within { IfSome result (λ phase. phase ≤ (Self.view self.old).limits.last_phase) }
         ensures none { IfNone result (Self.view self.new ≡ Self.view self.old) };
 }

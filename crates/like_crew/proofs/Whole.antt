@@ -398,28 +398,28 @@ last-likes-are workload workers logs last sized some each users told =
     let within : worker < length logs = omega (arith, mod-lt (home (submitters workload) user) some, sized) in
     get_or_from_slice_get last user _ None
     (by_log user there (slice_get logs worker) refl (cases_of logs worker within))) where
-  run-at : (xs : List WorkerLog) (k : ℕ) (x : WorkerLog) → slice_get xs k ≡ Some x
-      → get_or (runs_of xs) k [] ≡ x.ran.items
-  run-at [] k x at = absurd (cc at)
-  run-at (y ∷ ys) zero x at = let same : y ≡ x = cc at in ap (λ (log : WorkerLog). log.ran.items) same
-  run-at (y ∷ ys) (suc k) x at = run-at ys k x at
+      run-at : (xs : List WorkerLog) (k : ℕ) (x : WorkerLog) → slice_get xs k ≡ Some x
+          → get_or (runs_of xs) k [] ≡ x.ran.items
+      run-at [] k x at = absurd (cc at)
+      run-at (y ∷ ys) zero x at = let same : y ≡ x = cc at in ap (λ (log : WorkerLog). log.ran.items) same
+      run-at (y ∷ ys) (suc k) x at = run-at ys k x at
 
-  cases_of : (xs : List WorkerLog) (k : ℕ) → k < length xs → (x : WorkerLog) × (slice_get xs k ≡ Some x)
-  cases_of [] k h = absurd (omega (arith, h))
-  cases_of (x ∷ xs) zero h = (x, refl)
-  cases_of (x ∷ xs) (suc k) h = cases_of xs k (omega (arith, h))
+      cases_of : (xs : List WorkerLog) (k : ℕ) → k < length xs → (x : WorkerLog) × (slice_get xs k ≡ Some x)
+      cases_of [] k h = absurd (omega (arith, h))
+      cases_of (x ∷ xs) zero h = (x, refl)
+      cases_of (x ∷ xs) (suc k) h = cases_of xs k (omega (arith, h))
 
-  by_log : (user : ℕ) → user < workload.users → (o : Option WorkerLog)
-      → slice_get logs (worker_of workers (home (submitters workload) user)) ≡ o
-      → ((x : WorkerLog) × (slice_get logs (worker_of workers (home (submitters workload) user)) ≡ Some x))
-      → slice_get last user
-      ≡ Some (last_like workload user
-      (get_or (runs_of logs) (worker_of workers (home (submitters workload) user)) []))
-  by_log user there o e found =
-      told user found.0 there (ap (λ n. slice_get logs (worker_of n (home (submitters workload) user))) sized ∙ found.1)
-      ∙ ap Some ((each (worker_of workers (home (submitters workload) user)) found.0 found.1).last user
-      ∙ ap (last_like workload user)
-      (sym (run-at logs (worker_of workers (home (submitters workload) user)) found.0 found.1)))
+      by_log : (user : ℕ) → user < workload.users → (o : Option WorkerLog)
+          → slice_get logs (worker_of workers (home (submitters workload) user)) ≡ o
+          → ((x : WorkerLog) × (slice_get logs (worker_of workers (home (submitters workload) user)) ≡ Some x))
+          → slice_get last user
+          ≡ Some (last_like workload user
+          (get_or (runs_of logs) (worker_of workers (home (submitters workload) user)) []))
+      by_log user there o e found =
+          told user found.0 there (ap (λ n. slice_get logs (worker_of n (home (submitters workload) user))) sized ∙ found.1)
+          ∙ ap Some ((each (worker_of workers (home (submitters workload) user)) found.0 found.1).last user
+          ∙ ap (last_like workload user)
+          (sym (run-at logs (worker_of workers (home (submitters workload) user)) found.0 found.1)))
 
 -- each request has one entry
 range-in : (m k : ℕ) → 1 ≤ m → m ≤ k → in_range 1 (1 + k) m 1 ≡ 1

@@ -73,7 +73,10 @@ impl<'a, I: Inbox> Crew<'a, I> {
             setup.hot,
             &site.counts,
         )?;
-        Ok(Crew { coordinator, servers })
+        Ok(Crew {
+            coordinator,
+            servers,
+        })
     }
 
     /// Takes apart a crew whose run has ended.
@@ -82,7 +85,10 @@ impl<'a, I: Inbox> Crew<'a, I> {
         requires gone { AreGone self.servers.items }
         ensures { IfOk result (HasEnded self.entry) }
     {
-        let Crew { coordinator, servers } = self;
+        let Crew {
+            coordinator,
+            servers,
+        } = self;
         let (logs, seats) = finish_all(alloc, servers)?;
         Ok(Ended::new(coordinator, logs, seats))
     }
@@ -131,7 +137,8 @@ impl<'a> Crew<'a, ListInbox> {
     /// Makes one turn of a worker.
     pub fn turn_of(&mut self, worker: u32) -> Turn
         requires { worker < length self.old.servers.items }
-        ensures case { AtServer worker (ServerTurns result) self.old.servers.items self.new.servers.items }
+        ensures case { AtServer worker
+            (ServerTurns result) self.old.servers.items self.new.servers.items }
         ensures rest { self.new.coordinator ≡ self.old.coordinator }
         ensures goes_on { GoesOn self.old self.new }
     {
@@ -161,7 +168,8 @@ impl<'a> Crew<'a, ListInbox> {
 // The inboxes of plans, with nothing open.
 fn list_inboxes(alloc: Global, plans: Vec<Vec<Request>>) -> Result<Vec<ListInbox>, AllocError>
     requires { All (λ plan. length plan.items ≤ max_requests) plans.items }
-    ensures { IfOk result (λ inboxes. map view_of inboxes.items ≡ map untouched (lists_of plans.items)) }
+    ensures { IfOk result (λ inboxes. map view_of inboxes.items
+        ≡ map untouched (lists_of plans.items)) }
 {
     let mut inboxes = Vec::new(alloc);
     for plan in plans {

@@ -12,8 +12,8 @@ use crate::ended::Ended;
 use crate::report::gathered::{last_likes, places_of, replies_of};
 use crate::site::Site;
 use like_board::{Board, CoordSeat, WorkerSeat};
-use like_requests::{Request, Setup};
 use like_promises::Report;
+use like_requests::{Request, Setup};
 use std::alloc::{AllocError, Global};
 use std::snapshot::Snapshot;
 
@@ -31,7 +31,8 @@ pub fn report_of(
     requires site { IsSite setup.now (lists_of plans.now.value.items) site }
     requires ended { IsEnded setup.now (lists_of plans.now.value.items) site ended }
     ensures report { IfOk result (IsRightReport setup.now (lists_of plans.now.value.items)) }
-    ensures places { site.notes ≡ true → IfOk result (HasRightPlaces setup.now (lists_of plans.now.value.items)) }
+    ensures places { site.notes ≡ true
+        → IfOk result (HasRightPlaces setup.now (lists_of plans.now.value.items)) }
     ensures none { site.notes ≡ false → IfOk result HasNoPlaces }
 {
     let Site {

@@ -109,13 +109,13 @@ module _ (workload : Workload) (planned : All (IsPlan workload.pages) workload.p
       → IsThere (length workload.pages) r.page
   asked_there submitter number r at =
       by_plan (slice_get workload.plans submitter) refl (sym (request_at-plan workload submitter number) ∙ at) where
-    by_plan : (o : Option (List Request)) → slice_get workload.plans submitter ≡ o
-        → option_and_then (λ plan. nth plan number) o ≡ Some r → IsThere (length workload.pages) r.page
-    by_plan None is h = absurd (let no : None ≡ Some r = h in cc no)
-    by_plan (Some plan) is h =
-        in_plan plan number r
-        (subst (IsPlan workload.pages) (get_or_from_slice_get workload.plans submitter plan plan is)
-        (planned submitter plan (slice_get_within workload.plans submitter plan is))) h
+        by_plan : (o : Option (List Request)) → slice_get workload.plans submitter ≡ o
+            → option_and_then (λ plan. nth plan number) o ≡ Some r → IsThere (length workload.pages) r.page
+        by_plan None is h = absurd (let no : None ≡ Some r = h in cc no)
+        by_plan (Some plan) is h =
+            in_plan plan number r
+            (subst (IsPlan workload.pages) (get_or_from_slice_get workload.plans submitter plan plan is)
+            (planned submitter plan (slice_get_within workload.plans submitter plan is))) h
 
   -- so are the pages of all accepted likes
   ran_there : (entries : List Ran) → AllByRecursion (LikesThere workload.pages) (likes_ran workload entries)

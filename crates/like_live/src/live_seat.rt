@@ -216,7 +216,8 @@ impl<P: SlotPost> LiveSeat<P> {
     pub fn leave(self) -> P
         ensures post { P.view result ≡ self.seat.post }
         ensures live { IsLive self }
-        ensures slice { self.seat.post.state ≡ Gone → (page : ℕ) → tally self page ≡ additions_of self.seat.post page }
+        ensures slice { self.seat.post.state ≡ Gone → (page : ℕ)
+            → tally self page ≡ additions_of self.seat.post page }
     {
         self.seat.leave()
     }

@@ -41,7 +41,8 @@ pub struct Opening {
 impl Opening {
     /// Tests every number, in the order of `OpenError`. It never answers `Memory`.
     pub fn check(&self) -> Result<(), OpenError>
-        ensures { MatchResult result (λ _. IsWithinLimits self.now) (IsFirstWrong (asking self.now)) }
+        ensures { MatchResult result (λ _. IsWithinLimits self.now)
+            (IsFirstWrong (asking self.now)) }
     {
         Opening::check_numbers(
             &self.counts,

@@ -111,7 +111,8 @@ fn begin<C: Clock, E: Write>(
     watch: &mut Stopwatch<'_, C, E>,
 ) -> Result<(), ProgramFault>
     ensures once { OnOk result (NamesInputOnce options.now) }
-    ensures twice { IfErr result (λ fault. (fault ≡ program.Inputs) × (names_twice (names_of options.now) ≡ true)) }
+    ensures twice { IfErr result
+        (λ fault. (fault ≡ program.Inputs) × (names_twice (names_of options.now) ≡ true)) }
 {
     if names_input_twice(options) {
         return Err(ProgramFault::Inputs);

@@ -35,7 +35,8 @@ impl Notice {
 
     /// Writes its text.
     pub fn write<W: Write>(&self, out: &mut W) -> io::Result<()>
-        ensures { OnOk result (Appends (W.contents out.old) (W.contents out.new) (notice_text self.now)) }
+        ensures { OnOk result (Appends (W.contents out.old) (W.contents out.new)
+            (notice_text self.now)) }
     {
         match self {
             Notice::Summed(summary) => summary.write(out),

@@ -36,7 +36,8 @@ impl Refusals {
 
     /// Writes the line on them.
     pub fn write<W: Write>(&self, out: &mut W) -> io::Result<()>
-        ensures { OnOk result (Appends (W.contents out.old) (W.contents out.new) (refusals_line self.now)) }
+        ensures { OnOk result (Appends (W.contents out.old) (W.contents out.new)
+            (refusals_line self.now)) }
     {
         write_refused(out, self.refused, self.requests)?;
         write_kind(out, self.unknown_user, "unknown-user", ", ")?;
@@ -47,14 +48,16 @@ impl Refusals {
 
 // Writes how many of the requests were refused.
 fn write_refused<W: Write>(out: &mut W, refused: u64, requests: u64) -> io::Result<()>
-    ensures { OnOk result (Appends (W.contents out.old) (W.contents out.new) (refused_text refused requests)) }
+    ensures { OnOk result (Appends (W.contents out.old) (W.contents out.new)
+        (refused_text refused requests)) }
 {
     write!(out, "likes: refused {refused} of {requests} requests: ")
 }
 
 // Writes how many requests were answered with a word.
 fn write_kind<W: Write>(out: &mut W, number: u64, word: &str, end: &str) -> io::Result<()>
-    ensures { OnOk result (Appends (W.contents out.old) (W.contents out.new) (kind_text number word.now end.now)) }
+    ensures { OnOk result (Appends (W.contents out.old) (W.contents out.new)
+        (kind_text number word.now end.now)) }
 {
     write!(out, "{number} {word}{end}")
 }

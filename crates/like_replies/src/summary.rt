@@ -3,8 +3,8 @@ ghost use Rattle.std.specs.Io.KnownBytes.{Appends};
 ghost use Rattle.like_replies.specs.Rows.{answer_word};
 ghost use Rattle.like_replies.specs.Summary.{answered, answered_in, hot_pages, number_line, requests_in, summary_of, summary_text};
 
-use like_requests::Verdict;
 use like_promises::{Answer, Chosen, Replies, Reply, Report};
+use like_requests::Verdict;
 use std::io;
 use std::io::Write;
 
@@ -46,7 +46,8 @@ impl Summary {
 
     /// Writes the numbers, with a line for each.
     pub fn write<W: Write>(&self, out: &mut W) -> io::Result<()>
-        ensures { OnOk result (Appends (W.contents out.old) (W.contents out.new) (summary_text self.now)) }
+        ensures { OnOk result (Appends (W.contents out.old) (W.contents out.new)
+            (summary_text self.now)) }
     {
         write_line(out, "requests", self.requests)?;
         write_line(out, "liked", self.liked)?;
@@ -62,7 +63,8 @@ impl Summary {
 
 // Writes a line with a name and a number.
 fn write_line<W: Write>(out: &mut W, name: &str, number: u64) -> io::Result<()>
-    ensures { OnOk result (Appends (W.contents out.old) (W.contents out.new) (number_line name.now number)) }
+    ensures { OnOk result (Appends (W.contents out.old) (W.contents out.new)
+        (number_line name.now number)) }
 {
     writeln!(out, "{name}: {number}")
 }

@@ -14,8 +14,8 @@ use self::choices::Choices;
 use crate::coord_turn::CoordTurn;
 use like_board::{Board, CoordSeat};
 use like_core::{CoordSight, LAST_PHASE};
-use like_seat::{Lead, NoLead};
 use like_promises::Chosen;
+use like_seat::{Lead, NoLead};
 use std::alloc::Global;
 use std::marker::Model;
 
@@ -71,7 +71,8 @@ fn choose(lead: &mut Lead, choices: &mut Choices, board: &Board, phase: u32)
     requires phase { phase ≡ lead.old.seat.phase }
     requires within { phase ≤ last_phase }
     ensures board { lead.new.board ≡ lead.old.board }
-    ensures case { let v = choice_of lead.old choices.old in let w = choice_of lead.new choices.new in
+    ensures case { let v = choice_of lead.old choices.old in
+        let w = choice_of lead.new choices.new in
         Chooses lead.old.seat v lead.new.seat w }
 {
     let risen = lead.choose(board);
@@ -88,7 +89,8 @@ fn release(lead: &mut Lead, choices: &mut Choices, board: &Board, phase: u32)
     requires phase { phase ≡ lead.old.seat.phase }
     requires within { phase ≤ last_phase }
     ensures board { lead.new.board ≡ lead.old.board }
-    ensures releases { let v = choice_of lead.old choices.old in let w = choice_of lead.new choices.new in
+    ensures releases { let v = choice_of lead.old choices.old in
+        let w = choice_of lead.new choices.new in
         ReleasesNext lead.old.seat v lead.new.seat w }
 {
     if lead.is_joined() {
@@ -118,7 +120,8 @@ impl Coordinator {
           phase = 0;
           choice = first_choice hot counts.now;
         }) }
-        ensures chose { IfOk result (λ coordinator. (coord_view seat).phase ≡ 0 → (coord_view seat).masks ≡ []
+        ensures chose { IfOk result
+            (λ coordinator. (coord_view seat).phase ≡ 0 → (coord_view seat).masks ≡ []
             → ChoseByCounts coordinator) }
         ensures seat { IfErr result (λ refused. refused.seat ≡ seat) }
     {

@@ -12,7 +12,7 @@ mod worker;
 
 pub use coord_turn::CoordTurn;
 pub use coordinator::{Coordinator, NoCoordinator};
-pub use like_requests::{Gate, NoGate};
 pub use like_promises::{Added, Chosen, Ran, Reply, Took, WorkerLog};
+pub use like_requests::{Gate, NoGate};
 pub use turn::Turn;
 pub use worker::{NoWorker, Worker};

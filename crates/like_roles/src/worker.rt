@@ -18,9 +18,9 @@ mod places;
 use self::desk::Desk;
 use crate::turn::Turn;
 use like_core::Post;
+use like_promises::WorkerLog;
 use like_requests::{Gate, Setup, Taken};
 use like_seat::Station;
-use like_promises::WorkerLog;
 use like_tables::{Held, Users};
 use std::alloc::{AllocError, Global};
 use std::marker::Model;
@@ -74,7 +74,8 @@ impl Parts {
         ensures pages { IfOk result (λ parts. ArePages setup.now.pages) }
         ensures last { IfOk result (λ parts. parts.last
             ≡ table_without_likes (share_of setup.now.users (length sizes.now) setup.now.workers worker)) }
-        ensures desk { IfOk result (λ parts. IsNewDesk setup.now sizes.now worker notes parts.desk) }
+        ensures desk { IfOk result
+            (λ parts. IsNewDesk setup.now sizes.now worker notes parts.desk) }
     {
         Ok(Parts {
             marks: setup.pages.marks(alloc)?,

@@ -11,9 +11,9 @@ ghost use Rattle.like_run.specs.Rounds.{CanMake, CanReplayScript, IsReplayFaultU
 ghost use Rattle.like_run.specs.Script.{FollowsScript, Makes, MakesAll, MakesRounds};
 
 use like_crew::{Crew, Ended, Site, report_of};
+use like_promises::Report;
 use like_queue::ListInbox;
 use like_requests::{Request, Setup, Turned, check_script, check_setup};
-use like_promises::Report;
 use std::alloc::Global;
 use std::snapshot::Snapshot;
 

@@ -65,7 +65,8 @@ impl Lead {
         counts: &[u64],
     ) -> Result<Lead, NoLead>
         requires counts { counts.now ≡ (coord_view seat).opening.counts }
-        ensures new { IfOk result (λ lead. lead ≡ new_lead (coord_board seat) (coord_view seat) hot counts.now) }
+        ensures new { IfOk result
+            (λ lead. lead ≡ new_lead (coord_board seat) (coord_view seat) hot counts.now) }
         ensures seat { IfErr result (λ refused. refused.seat ≡ seat) }
     {
         let few = counts.len().min(HOT_PAGES as usize);

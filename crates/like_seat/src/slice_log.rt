@@ -32,7 +32,8 @@ impl SliceLog {
     // With one more, of a seat at this post.
     #[inline(always)]
     pub fn then<P: Post>(&self, _post: &P, _page: u32) -> SliceLog
-        ensures { result.likes ≡ self.now.likes ++ sliced_like _page (length (P.view _post.now).looks) ∷ [] }
+        ensures { result.likes ≡ self.now.likes
+            ++ sliced_like _page (length (P.view _post.now).looks) ∷ [] }
     {
         SliceLog {}
     }

@@ -128,7 +128,8 @@ fn walks(
     requires { AreOpened (board_id board.now) 1 marked run_limits coord seats.items }
     ensures coord { KeepsSeat coord result.0 }
     ensures first { IsWorkerAt (coord_board coord) 0 (seat_meaning result.1.seat) }
-    ensures second { IfSome result.2 (λ left. IsWorkerAt (coord_board coord) 1 (seat_meaning left.seat)) }
+    ensures second { IfSome result.2
+        (λ left. IsWorkerAt (coord_board coord) 1 (seat_meaning left.seat)) }
 {
     let mut party = party_at(rt, board, coord, seats, Limits::of_run(), marked);
     party.plays(rt, parts);
@@ -159,7 +160,8 @@ fn end_of_two(
     requires coord { IsCoordOf (board_id board) 2 coord }
     requires first { IsWorkerAt (coord_board coord) 0 (seat_meaning first.seat) }
     requires second { IsWorkerAt (coord_board coord) 1 (seat_meaning second.seat) }
-    ensures { IfOk result (λ r. r.0 ≡ slice_index (coord_view coord).opening.counts 0 + (r.1.0 + r.1.1)) }
+    ensures { IfOk result (λ r. r.0
+        ≡ slice_index (coord_view coord).opening.counts 0 + (r.1.0 + r.1.1)) }
 {
     let likes = (first.likes, second.likes);
     let mut seats = Vec::with_capacity(alloc, 2)?;
@@ -174,7 +176,8 @@ fn end_of_two(
 fn end_of_one(alloc: Global, board: Board, coord: CoordSeat, first: Left) -> Result<End, AllocError>
     requires coord { IsCoordOf (board_id board) 1 coord }
     requires first { IsWorkerAt (coord_board coord) 0 (seat_meaning first.seat) }
-    ensures { IfOk result (λ r. r.0 ≡ slice_index (coord_view coord).opening.counts 0 + (r.1.0 + r.1.1)) }
+    ensures { IfOk result (λ r. r.0
+        ≡ slice_index (coord_view coord).opening.counts 0 + (r.1.0 + r.1.1)) }
 {
     let mut counts = [0];
     let mut seats = Vec::with_capacity(alloc, 1)?;

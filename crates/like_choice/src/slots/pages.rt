@@ -35,7 +35,8 @@ pub(crate) fn write_used(slots: &[u32], bits: u64, pages: &mut [u32]) -> usize
     requires { length slots.now ≡ hot_pages }
     ensures len { length pages.new ≡ length pages.old }
     ensures few { result ≤ length pages.old }
-    ensures pages { take result pages.new ≡ take (length pages.old) (pages_below slots.now bits hot_pages) }
+    ensures pages { take result pages.new
+        ≡ take (length pages.old) (pages_below slots.now bits hot_pages) }
     ensures rest { drop result pages.new ≡ drop result pages.old }
 {
     let mut many = 0;

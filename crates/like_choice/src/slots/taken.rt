@@ -16,7 +16,8 @@ pub(crate) fn bucket_of(factor: u32, page: u32) -> u32
 // Whether the page of a slot in use has the same bucket.
 pub(crate) fn is_taken(slots: &[u32], bits: u64, factor: u32, page: u32) -> bool
     requires { length slots.now ≡ hot_pages }
-    ensures { MatchBool result (IsTaken factor slots.now bits page) (¬ (IsTaken factor slots.now bits page)) }
+    ensures { MatchBool result (IsTaken factor slots.now bits page)
+        (¬ (IsTaken factor slots.now bits page)) }
 {
     let bucket = bucket_of(factor, page);
     for slot in 0..64u32 {
@@ -31,7 +32,8 @@ pub(crate) fn is_taken(slots: &[u32], bits: u64, factor: u32, page: u32) -> bool
 fn has_bucket(slots: &[u32], bits: u64, factor: u32, slot: u32, wanted: u32) -> bool
     requires all { length slots.now ≡ hot_pages }
     requires there { slot < hot_pages }
-    ensures { result ≡ (has_bit bits slot && (bucket factor (slice_index slots.now slot) == wanted)) }
+    ensures { result ≡ (has_bit bits slot &&
+        (bucket factor (slice_index slots.now slot) == wanted)) }
 {
     let page = slots[slot as usize];
     is_set(bits, slot) && bucket_of(factor, page) == wanted

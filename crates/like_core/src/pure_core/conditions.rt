@@ -146,7 +146,8 @@ impl Core {
 
     /// The first reason for which the event may not happen now.
     pub(super) fn refusal(&self, event: Event) -> Option<NotNow>
-        ensures { MatchOption result (Permits (numbers_of self.now) event) (Refuses (numbers_of self.now) event) }
+        ensures { MatchOption result (Permits (numbers_of self.now) event)
+            (Refuses (numbers_of self.now) event) }
     {
         if !self.is_there(event) {
             Some(NotNow::NoSuch)

@@ -62,7 +62,8 @@ impl Core {
         requires page { page < (numbers_of self.old).pages }
         ensures likes { result ≡ (numbers_of self.old).unmerged worker page }
         ensures empty { numbers_of self.new ≡ with_unmerged (numbers_of self.old) worker page 0 }
-        ensures room { total (numbers_of self.new) page + result ≡ total (numbers_of self.old) page }
+        ensures room { total (numbers_of self.new) page + result
+            ≡ total (numbers_of self.old) page }
     {
         let row = &mut self.unmerged[worker as usize];
         let likes = row.get(page);

@@ -49,11 +49,11 @@ module _ (workload : Workload) (plans : All (AreThere workload.pages) workload.p
       → IsThere (length workload.pages) r.page
   asked-there submitter number r is =
       by_plan (slice_get workload.plans submitter) refl (sym (request_at-plan workload submitter number) ∙ is) where
-    by_plan : (o : Option (List Request)) → slice_get workload.plans submitter ≡ o
-        → option_and_then (λ plan. nth plan number) o ≡ Some r → IsThere (length workload.pages) r.page
-    by_plan None at same = cc same
-    by_plan (Some plan) at same =
-        numbered-there plan number r (got (AreThere workload.pages) workload.plans submitter plan plans at) same
+        by_plan : (o : Option (List Request)) → slice_get workload.plans submitter ≡ o
+            → option_and_then (λ plan. nth plan number) o ≡ Some r → IsThere (length workload.pages) r.page
+        by_plan None at same = cc same
+        by_plan (Some plan) at same =
+            numbered-there plan number r (got (AreThere workload.pages) workload.plans submitter plan plans at) same
 
   -- and so is that of an accepted like
   like-there : (e : Ran) (l : AcceptedRequest) → like_ran workload e ≡ Some l → l.page < length workload.pages

@@ -29,7 +29,7 @@ impl<'a> Model for CoordinatorAt<'a> {
         × ChoseByCounts l.coordinator };
 }
 
-    /// The coordinator at this board, which was made with these counts and the limits of a run; it counts `turns` turns
+/// The coordinator at this board, which was made with these counts and the limits of a run; it counts `turns` turns
 impl<'a> CoordinatorAt<'a> {
     /// in each phase, and `hot` likes make a page hot.
     pub(crate) fn new(

@@ -9,10 +9,10 @@ ghost use Rattle.like_crew.specs.Server.{AreInboxesFor, AreOwnPlans, IsLogOf, Se
 ghost use Rattle.like_crew.specs.ServerTurns.{OpensAll, OpensOne, OpensWhole, ServerTurns, place_at};
 
 use like_core::Post;
+use like_promises::WorkerLog;
 use like_queue::{Inbox, ListInbox, TakeWith};
 use like_requests::Setup;
 use like_roles::{Gate, NoWorker, Turn, Worker};
-use like_promises::WorkerLog;
 use std::alloc::Global;
 use std::marker::Model;
 

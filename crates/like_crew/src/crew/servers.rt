@@ -10,9 +10,9 @@ ghost use Rattle.like_crew.specs.Ended.{IsSeatOf};
 use crate::crew::server::Server;
 use like_board::{BoardPost, WorkerSeat};
 use like_core::Post;
+use like_promises::WorkerLog;
 use like_queue::{Inbox, ListInbox};
 use like_roles::{NoGate, Turn};
-use like_promises::WorkerLog;
 use std::alloc::{AllocError, Global};
 
 /// Makes one turn of each worker, in order, and says whether all are gone.

@@ -16,7 +16,8 @@ use std::alloc::{AllocError, Global};
 pub fn replies_of(alloc: Global, sizes: &[u32], logs: &[WorkerLog]) -> Result<Replies, AllocError>
     requires few { length sizes.now ≤ max_submitters }
     requires once { RunsOnce sizes.now (entries_in logs.now) }
-    ensures { IfOk result (λ replies. IsCollected sizes.now (entries_in logs.now) (rows_of replies)) }
+    ensures { IfOk result (λ replies. IsCollected sizes.now (entries_in logs.now)
+        (rows_of replies)) }
 {
     let fault = match collect(alloc, sizes, logs) {
         Ok(replies) => return Ok(replies),
@@ -59,7 +60,8 @@ pub fn places_of(
 ) -> Result<Vec<Vec<Place>>, AllocError>
     requires few { length logs.now ≤ max_workers }
     requires there { notes ≡ true → All (λ log. All (λ a. a.page < pages) log.adds.items) logs.now }
-    ensures noted { notes ≡ true → IfOk result (λ rows. ArePlaces pages logs.now (lists_in rows.items)) }
+    ensures noted { notes ≡ true
+        → IfOk result (λ rows. ArePlaces pages logs.now (lists_in rows.items)) }
     ensures none { notes ≡ false → IfOk result (λ rows. rows.items ≡ []) }
 {
     if notes {

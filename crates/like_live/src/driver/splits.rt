@@ -92,7 +92,8 @@ impl<C: Choice> Splits<C> {
     pub fn write_pages(&self, pages: &mut [u32]) -> usize
         ensures len { length pages.new ≡ length pages.old }
         ensures few { result ≤ length pages.old }
-        ensures pages { take result pages.new ≡ take (length pages.old) (pages_in_use self.now.slots) }
+        ensures pages { take result pages.new
+            ≡ take (length pages.old) (pages_in_use self.now.slots) }
         ensures rest { drop result pages.new ≡ drop result pages.old }
     {
         self.slots.write_pages(pages)

@@ -61,11 +61,14 @@ fn is_due<C: Choice>(
 ) -> bool
     requires running { SawRunning lead.now.seat }
     ensures proposes { MayPropose splits.old splits.new }
-    ensures asks { result ≡ true → MustPropose (drives lead.now splits.old) → Proposes splits.old splits.new }
+    ensures asks { result ≡ true → MustPropose (drives lead.now splits.old)
+        → Proposes splits.old splits.new }
     ensures goes_on { result ≡ true → lead.now.seat.phase < service_limits.last_phase }
     ensures left { result ≡ true → ¬ IsLeft lead.now sight }
-    ensures by { result ≡ true → (asks_end end (drives lead.now splits.new) ≡ true) ⊎ IsSplit lead.now.seat.phase }
-    ensures told { asks_end end (drives lead.now splits.new) ≡ true → lead.now.seat.phase < service_limits.last_phase
+    ensures by { result ≡ true → (asks_end end (drives lead.now splits.new) ≡ true)
+        ⊎ IsSplit lead.now.seat.phase }
+    ensures told { asks_end end (drives lead.now splits.new) ≡ true
+        → lead.now.seat.phase < service_limits.last_phase
         → ¬ IsLeft lead.now sight → result ≡ true }
 {
     if lead.phase() >= LAST_PHASE || is_left(lead, sight) {
@@ -87,8 +90,10 @@ pub(crate) fn is_left(lead: &Lead, sight: CoordSight) -> bool
 fn is_asked<C: Choice>(lead: &Lead, splits: &mut Splits<C>, hint: &Hint, end: End) -> bool
     requires running { SawRunning lead.now.seat }
     ensures proposes { MayPropose splits.old splits.new }
-    ensures asks { result ≡ true → MustPropose (drives lead.now splits.old) → Proposes splits.old splits.new }
-    ensures by { result ≡ true → (asks_end end (drives lead.now splits.new) ≡ true) ⊎ IsSplit lead.now.seat.phase }
+    ensures asks { result ≡ true → MustPropose (drives lead.now splits.old)
+        → Proposes splits.old splits.new }
+    ensures by { result ≡ true → (asks_end end (drives lead.now splits.new) ≡ true)
+        ⊎ IsSplit lead.now.seat.phase }
     ensures told { asks_end end (drives lead.now splits.new) ≡ true → result ≡ true }
 {
     let is_split = !lead.is_joined();

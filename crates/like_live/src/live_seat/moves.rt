@@ -64,7 +64,8 @@ pub(crate) fn work_or_retire<P: Post>(
 ) -> TurnAnswer
     requires looked { HasLooked seat.old found.old }
     requires ending { ending ≡ true → SawEnding seat.old.post.last }
-    ensures works { RetireWorks (live_of seat.old found.old) ending result (live_of seat.new found.new) }
+    ensures works { RetireWorks (live_of seat.old found.old) ending result
+        (live_of seat.new found.new) }
     ensures live { IsLive (live_of seat.new found.new) }
     ensures capacity { found.new.capacity ≡ found.old.capacity }
 {

@@ -64,7 +64,8 @@ fn new_seats<C: Choice>(
 ) -> Result<Vec<LiveSeat<SharedPost>>, AllocError>
     requires within { IsWithinLimits opening.now }
     requires least { 2 ^ 22 ≤ factor }
-    requires workers { AreFresh (board_id (arc_value board.now)) (board_opening opening.now factor) workers.items }
+    requires workers { AreFresh (board_id (arc_value board.now))
+        (board_opening opening.now factor) workers.items }
     requires len { length workers.items ≡ opening.now.seats }
     ensures { IfOk result (λ seats.
         AreOpenedSeats opening.now factor (board_id (arc_value board.now)) seats.items) }
@@ -95,7 +96,8 @@ fn new_seat(
     requires here { seat_board worker ≡ board_id (arc_value board.now) }
     requires view { seat_view worker ≡ fresh (board_opening opening.now factor) number }
     requires fresh { IsFresh (seat_meaning worker) }
-    ensures { IfOk result (IsOpenedSeat opening.now factor (board_id (arc_value board.now)) number) }
+    ensures { IfOk result (IsOpenedSeat opening.now factor
+        (board_id (arc_value board.now)) number) }
 {
     let post = worker.at_shared(Arc::try_clone(board)?);
     let pages = opening.counts.len() as u32;

@@ -10,8 +10,8 @@ use crate::report::head::Head;
 use crate::report::names::Names;
 use crate::report::phase_texts::PhaseTexts;
 use crate::report::sheet::Sheet;
-use like_requests::Verdict;
 use like_promises::{Answer, Place, Reply};
+use like_requests::Verdict;
 use std::alloc::{AllocError, Global};
 
 /// Adds the header row.

@@ -50,7 +50,8 @@ pub fn add_section(
     section: &Section,
 ) -> Result<(), AllocError>
     requires { HasRows names.now section.now }
-    ensures { OnOk result (sheet.new ≡ sheet.old ++ rows_text (section_rows names.now section.now)) }
+    ensures { OnOk result (sheet.new
+        ≡ sheet.old ++ rows_text (section_rows names.now section.now)) }
 {
     match *section {
         Section::Header => add_header(sheet),
@@ -92,7 +93,8 @@ fn add_answers(
 // The head of the first of these rows, whose requests count from 1.
 fn reply_head(alloc: Global, submitter: u64, before: u64) -> Result<Head, AllocError>
     requires { before + 1 < 2 ^ 64 }
-    ensures { IfOk result (λ head. head ≡ record { start = reply_start submitter; number = before + 1 }) }
+    ensures { IfOk result (λ head. head
+        ≡ record { start = reply_start submitter; number = before + 1 }) }
 {
     let start = start_reply(alloc, submitter)?;
     Head::new(alloc, start.text(), before + 1)

@@ -20,7 +20,8 @@ pub fn report_sections<'a>(
     replies: &'a [Vec<Answer>],
     report: &'a Report,
 ) -> Result<Vec<Section<'a>>, AllocError>
-    ensures { (pages : List Page) → IsWritable pages (shown_with (map (λ row. row.items) replies.now) report.now)
+    ensures { (pages : List Page)
+        → IsWritable pages (shown_with (map (λ row. row.items) replies.now) report.now)
         → IfOk result (λ all. AreSections pages
         (report_rows pages (shown_with (map (λ row. row.items) replies.now) report.now)) all.items) }
 {
@@ -75,7 +76,8 @@ fn push_answers<'a>(
     submitter: u64,
     answers: &'a [Answer],
 ) -> Result<(), AllocError>
-    ensures { (pages : List Page) (rows : List (List (List ℕ))) → AreSections pages rows all.old.items
+    ensures { (pages : List Page) (rows : List (List (List ℕ)))
+        → AreSections pages rows all.old.items
         → All (λ a. IsShowable pages a.reply) answers.now
         → OnOk result (AreSections pages (rows ++ submitter_rows pages submitter answers.now) all.new.items) }
 {
@@ -93,7 +95,8 @@ fn push_answers<'a>(
 
 // Adds the sections of the users.
 fn push_users<'a>(all: &mut Vec<Section<'a>>, users: &'a [Option<u32>]) -> Result<(), AllocError>
-    ensures { (pages : List Page) (rows : List (List (List ℕ))) → AreSections pages rows all.old.items
+    ensures { (pages : List Page) (rows : List (List (List ℕ)))
+        → AreSections pages rows all.old.items
         → All (λ last. ForSome last (λ page. page < length pages)) users.now
         → OnOk result (AreSections pages (rows ++ user_rows pages users.now) all.new.items) }
 {
@@ -111,7 +114,8 @@ fn push_places<'a>(
     page: u32,
     places: &'a [Place],
 ) -> Result<(), AllocError>
-    ensures { (pages : List Page) (rows : List (List (List ℕ))) → AreSections pages rows all.old.items
+    ensures { (pages : List Page) (rows : List (List (List ℕ)))
+        → AreSections pages rows all.old.items
         → page < length pages
         → OnOk result (AreSections pages (rows ++ page_place_rows pages page places.now) all.new.items) }
 {

@@ -73,7 +73,8 @@ fn write_group<T: Threads + Sync, W: Write>(
 {
     let made = |_at: usize, part: &[Section]| -> Result<Sheet, AllocError>
         requires { All (HasRows names.now) part.now }
-        ensures { IfOk result (λ sheet. sheet ≡ rows_text (rows_in names.entry.now part.entry.now)) }
+        ensures { IfOk result (λ sheet. sheet
+            ≡ rows_text (rows_in names.entry.now part.entry.now)) }
     { sheet_of(alloc, names, part) };
     hand_on_all(out, thread::map_chunks(rt, alloc, group, 1, &made)?)
 }

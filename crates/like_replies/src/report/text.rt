@@ -12,8 +12,8 @@ use crate::report::section::Section;
 use crate::report::sections::{asked_sections, place_sections, report_sections};
 use crate::report::sheets::{write_rows, write_rows_at_once};
 use crate::write_fault::WriteFault;
-use like_requests::Pages;
 use like_promises::{Answer, Report};
+use like_requests::Pages;
 use std::alloc::Global;
 use std::io::Write;
 use std::marker::Model;
@@ -88,7 +88,8 @@ impl<'a> Text<'a> {
 
 // The replies of a report, or none with totals alone.
 fn shown_replies(totals: bool, report: &Report) -> &[Vec<Answer>]
-    ensures { map (λ row. row.items) result.now ≡ (if totals then [] else rows_of report.now.replies) }
+    ensures { map (λ row. row.items) result.now
+        ≡ (if totals then [] else rows_of report.now.replies) }
 {
     if totals {
         return &[];

@@ -135,17 +135,17 @@ no-like : (workload : Workload) (e : Ran) (page : ℕ) → look_ran workload e �
 no-like workload e page look =
     like_ran-tests workload e
     ∙ by_request (request_of workload e) (sym (look_at-tests workload e.submitter e.number) ∙ look) where
-  by_op : (b : Bool) (o : Op) (user : ℕ) (p : PageRef) → cond b (page_looked_at o p) None ≡ Some page
-      → cond b (like_of o user p) None ≡ None
-  by_op false o user p is = refl
-  by_op true op.Look user p is = refl
-  by_op true op.Like user p is = absurd (cc is)
+      by_op : (b : Bool) (o : Op) (user : ℕ) (p : PageRef) → cond b (page_looked_at o p) None ≡ Some page
+          → cond b (like_of o user p) None ≡ None
+      by_op false o user p is = refl
+      by_op true op.Look user p is = refl
+      by_op true op.Like user p is = absurd (cc is)
 
-  by_request : (o : Option Request)
-      → option_and_then (accepted_look workload.users (submitters workload) e.submitter) o ≡ Some page
-      → option_and_then (accepted_like workload.users (submitters workload) e.submitter) o ≡ None
-  by_request None is = refl
-  by_request (Some r) is = by_op (is_accepted workload.users (submitters workload) e.submitter r) r.op r.user r.page is
+      by_request : (o : Option Request)
+          → option_and_then (accepted_look workload.users (submitters workload) e.submitter) o ≡ Some page
+          → option_and_then (accepted_like workload.users (submitters workload) e.submitter) o ≡ None
+      by_request None is = refl
+      by_request (Some r) is = by_op (is_accepted workload.users (submitters workload) e.submitter r) r.op r.user r.page is
 
 -- what an entry that ran a look at a page was shown after these
 abbrev shown_as : Workload → List Ran → Ran → ℕ → ShownCount

@@ -9,8 +9,8 @@ mod taken;
 mod turns;
 
 use like_core::Post;
-use like_seat::Station;
 use like_promises::{Added, Ran, Took};
+use like_seat::Station;
 use like_tables::Held;
 
 /// What a worker keeps beside its seat, of its submitters' plans and of what it has done.

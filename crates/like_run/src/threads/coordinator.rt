@@ -6,9 +6,9 @@ ghost use Rattle.like_crew.specs.Ended.{HaveLeft};
 use crate::threads::worker::{Owes, Served};
 use like_board::WorkerSeat;
 use like_crew::CoordinatorAt;
+use like_promises::WorkerLog;
 use like_queue::Parkers;
 use like_roles::CoordTurn;
-use like_promises::WorkerLog;
 use std::sync::{OnceToken, Wait};
 use std::thread::{PromisedHandle, Threads};
 

@@ -105,7 +105,8 @@ fn assert_text(
     extent: Extent,
     text: &str,
 )
-    requires written { (pages : List Page) → length pages ≡ 1 → IsWritable pages (reported report.now) }
+    requires written { (pages : List Page) → length pages ≡ 1
+        → IsWritable pages (reported report.now) }
     requires placed { length report.now.places.items ≡ 1 }
 {
     let pages = one_page(rt, alloc, "name,count,split\na,0,no\n");

@@ -43,7 +43,8 @@ pub fn board_of(
     requires some { 1 ≤ setup.now.workers }
     requires few { setup.now.workers ≤ max_workers }
     ensures coord { IfOk result (λ r. coord_board r.1 ≡ board_id r.0) }
-    ensures opened { IfOk result (λ r. (coord_view r.1).opening.counts ≡ counts_of setup.now.pages) }
+    ensures opened { IfOk result
+        (λ r. (coord_view r.1).opening.counts ≡ counts_of setup.now.pages) }
     ensures run { IfOk result (λ r. (coord_view r.1).opening.limits ≡ run_limits) }
     ensures seats { IfOk result (λ r. AreNewSeats (board_id r.0) setup.now.pages r.2.items) }
     ensures len { IfOk result (λ r. length r.2.items ≡ setup.now.workers) }

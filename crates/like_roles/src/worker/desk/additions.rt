@@ -7,8 +7,8 @@ ghost use Rattle.like_roles.specs.worker.Turns.{IsMerged};
 
 use crate::worker::desk::{Desk, phase_of_run};
 use like_core::Post;
-use like_seat::Station;
 use like_promises::Added;
+use like_seat::Station;
 use like_tables::Held;
 
 impl Desk {

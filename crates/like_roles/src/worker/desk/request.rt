@@ -9,9 +9,9 @@ ghost use Rattle.like_roles.specs.worker.Serve.{Likes, Runs, GivesReply};
 
 use crate::worker::desk::{Desk, phase_of_run};
 use like_core::Post;
+use like_promises::{Ran, Reply};
 use like_requests::{Gate, Op, PageRef, Verdict};
 use like_seat::Station;
-use like_promises::{Ran, Reply};
 use like_tables::Held;
 
 // Whether a request with this verdict has to wait for the next joined phase: an accepted look at a page that is split in

@@ -6,9 +6,9 @@ use crate::turn::Turn;
 use crate::worker::desk::request::waits;
 use crate::worker::desk::{Desk, phase_of_run};
 use like_core::Post;
+use like_promises::Took;
 use like_requests::{Gate, Numbered, Taken};
 use like_seat::Station;
-use like_promises::Took;
 use like_tables::Held;
 
 impl Desk {
