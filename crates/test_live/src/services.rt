@@ -227,7 +227,7 @@ fn opens_with_64_marks_at_most(rt: HostRuntime) -> Result<(), Fail> {
 }
 
 // The last of 100,000 pages gets a like.
-fn likes_the_last(rt: &impl Abort, mut service: Service<Guided>) {
+fn likes_the_last(rt: &impl Abort, service: &mut Service<Guided>) {
     assert!(rt; service.driver.pages() == 100_000);
     let seat = service.seats.first_mut().expect(rt, "a seat is there");
     assert!(rt; seat.like(0, 99_999) == LikeAnswer::Liked);
@@ -250,7 +250,7 @@ fn opens_a_hundred_thousand_pages(rt: HostRuntime) -> Result<(), Fail> {
         room: 1,
         hot: None,
     };
-    likes_the_last(&rt, open(rt.alloc(), &opening)?);
+    likes_the_last(&rt, &mut open(rt.alloc(), &opening)?);
     Ok(())
 }
 

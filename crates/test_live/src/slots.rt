@@ -87,13 +87,18 @@ fn likes_in_split(rt: &impl Abort, seats: &mut [LiveSeat<SharedPost>]) {
     assert!(rt; second.glance(1, 999_999) == shown(1));
 }
 
+// A joined phase with no request, and a split one.
+fn splits_the_last(rt: &impl Abort, service: &mut Service<NoProposal>) {
+    ends_phase(rt, service);
+    assert!(rt; is_split(&service.driver, 999_999));
+    likes_in_split(rt, &mut service.seats);
+    ends_phase(rt, service);
+}
+
 #[test]
 fn live_slots(rt: HostRuntime) -> Result<(), Fail> {
     let mut service = opened(rt.alloc(), 1_000_000, &[999_999], NoProposal)?;
-    ends_phase(&rt, &mut service);
-    assert!(rt; is_split(&service.driver, 999_999));
-    likes_in_split(&rt, &mut service.seats);
-    ends_phase(&rt, &mut service);
+    splits_the_last(&rt, &mut service);
     let mut counts = Vec::from_elem(rt.alloc(), 7, 1_000_000)?;
     ends(&rt, &mut service, &mut counts);
     assert!(rt; counts[999_999] == 3 && counts[5] == 2);
@@ -147,17 +152,22 @@ fn likes_eight(rt: &impl Abort, seats: &mut [LiveSeat<SharedPost>]) {
     assert!(rt; second.look(3, 8, 3) == LookAnswer::Waits);
 }
 
+// Phases 0 to 3.
+fn moves(rt: &impl Abort, service: &mut Service<Moving>) {
+    ends_phase(rt, service);
+    assert!(rt; is_split(&service.driver, 7));
+    likes_seven(rt, &mut service.seats);
+    ends_phase(rt, service);
+    ends_phase(rt, service);
+    assert!(rt; is_split(&service.driver, 8));
+    likes_eight(rt, &mut service.seats);
+    ends_phase(rt, service);
+}
+
 #[test]
 fn live_moves(rt: HostRuntime) -> Result<(), Fail> {
     let mut service = opened(rt.alloc(), 10, &[], Moving { is_asked: false })?;
-    ends_phase(&rt, &mut service);
-    assert!(rt; is_split(&service.driver, 7));
-    likes_seven(&rt, &mut service.seats);
-    ends_phase(&rt, &mut service);
-    ends_phase(&rt, &mut service);
-    assert!(rt; is_split(&service.driver, 8));
-    likes_eight(&rt, &mut service.seats);
-    ends_phase(&rt, &mut service);
+    moves(&rt, &mut service);
     let mut counts = [0; 10];
     ends(&rt, &mut service, &mut counts);
     assert!(rt; counts == [0, 0, 0, 0, 0, 0, 0, 4, 3, 0]);
@@ -174,28 +184,35 @@ fn opened_hot(alloc: Global, hot: Option<u32>) -> Result<Service<Guided>, Fail> 
     }
 }
 
-#[test]
-fn live_hot(rt: HostRuntime) -> Result<(), Fail> {
-    let mut service = opened_hot(rt.alloc(), Some(1))?;
+// Likes make page 500 hot.
+fn gets_hot(rt: &impl Abort, service: &mut Service<Guided>) {
     assert!(rt; service.driver.turn(End::IfItServes) == DriverAnswer::Running);
     if let Some(second) = service.seats.last_mut() {
-        likes(&rt, second, 1, 500, 2_000);
+        likes(rt, second, 1, 500, 2_000);
     }
-    ends_phase(&rt, &mut service);
+    ends_phase(rt, service);
     assert!(rt; is_split(&service.driver, 500));
+}
+
+#[test]
+fn live_hot(rt: HostRuntime) -> Result<(), Fail> {
+    gets_hot(&rt, &mut opened_hot(rt.alloc(), Some(1))?);
     Ok(())
+}
+
+// Likes make no page hot. A host can have pages split all the same.
+fn gets_none_hot(rt: &impl Abort, service: &mut Service<Guided>) {
+    if let Some(first) = service.seats.first_mut() {
+        likes(rt, first, 0, 500, 2_000);
+    }
+    assert!(rt; service.driver.turn(End::IfItServes) == DriverAnswer::Running);
+    service.driver.propose(&[999]);
+    ends_phase(rt, service);
+    assert!(rt; is_split(&service.driver, 999));
 }
 
 #[test]
 fn none_gets_hot(rt: HostRuntime) -> Result<(), Fail> {
-    let mut service = opened_hot(rt.alloc(), None)?;
-    if let Some(first) = service.seats.first_mut() {
-        likes(&rt, first, 0, 500, 2_000);
-    }
-    assert!(rt; service.driver.turn(End::IfItServes) == DriverAnswer::Running);
-    // A host can have pages split all the same.
-    service.driver.propose(&[999]);
-    ends_phase(&rt, &mut service);
-    assert!(rt; is_split(&service.driver, 999));
+    gets_none_hot(&rt, &mut opened_hot(rt.alloc(), None)?);
     Ok(())
 }
