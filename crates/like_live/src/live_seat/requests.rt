@@ -150,7 +150,7 @@ impl<P: Post> LiveSeat<P> {
     }
 
     // Puts a look at a split page by until the next joined phase.
-    #[inline(never)]
+    #[inline(always)]
     fn wait(&mut self, user: u32, page: u32, tag: u64)
         requires split { RunsSplit self.old.seat.post.state }
         requires own { IsOwn self.old.seat (asked_now self.old user page tag) }
