@@ -2,7 +2,7 @@
 ghost use Rattle.std.specs.Prelude.{◌≡◌, ◌<◌, ◌≤◌, ◌≢◌, ◌↔◌, ℕ, IsTrue, length, slice_get};
 ghost use Rattle.like_c.specs.Held.{AnswersRow, IsToWait, IsUnreserved, KeepsUnasked, RunsRows};
 ghost use Rattle.like_c.specs.Layout.{AreLaidOut};
-ghost use Rattle.like_c.specs.Rows.{found_row, glance_row, like_op, look_row, seen_row, status_row};
+ghost use Rattle.like_c.specs.Rows.{found_row, glance_op, glance_row, like_op, look_op, look_row, seen_row, status_row};
 ghost use Rattle.like_tables.specs.LastLike.{page_or_none};
 
 use crate::status;
@@ -168,18 +168,62 @@ impl FoundRow {
     }
 }
 
-// Answers a row that asks for no like. An unknown operation is answered `UNKNOWN_OP`.
+// Answers a look, and says whether it must wait. Most answers are known not to, and need no test.
 #[inline(always)]
-fn answer_other(seat: &mut LiveSeat<SharedPost>, request: &RequestRow, row: &mut AnswerRow)
+fn answer_look(seat: &mut LiveSeat<SharedPost>, request: &RequestRow, row: &mut AnswerRow) -> bool
+    requires { request.now.op ≡ look_op }
+    ensures row { AnswersRow seat.old request.now row.new seat.new }
+    ensures waits { IsTrue result ↔ IsToWait row.new }
+{
+    match seat.look(request.user, request.page, request.tag) {
+        LookAnswer::Waits => {
+            *row = AnswerRow::of(status::WAITS);
+            false
+        }
+        LookAnswer::Seen(seen) => {
+            *row = AnswerRow::of_seen(seen);
+            false
+        }
+        told => {
+            *row = AnswerRow::of_look(told);
+            row.is_to_wait()
+        }
+    }
+}
+
+// Answers a glance, and says whether it must wait.
+#[inline(always)]
+fn answer_glance(seat: &mut LiveSeat<SharedPost>, request: &RequestRow, row: &mut AnswerRow) -> bool
+    requires { request.now.op ≡ glance_op }
+    ensures row { AnswersRow seat.old request.now row.new seat.new }
+    ensures waits { IsTrue result ↔ IsToWait row.new }
+{
+    match seat.glance(request.user, request.page) {
+        GlanceAnswer::Seen(seen) => {
+            *row = AnswerRow::of_seen(seen);
+            false
+        }
+        told => {
+            *row = AnswerRow::of_glance(told);
+            row.is_to_wait()
+        }
+    }
+}
+
+// Answers a row that asks for no like, and says whether it must wait. An unknown operation is answered `UNKNOWN_OP`.
+#[inline(always)]
+fn answer_other(seat: &mut LiveSeat<SharedPost>, request: &RequestRow, row: &mut AnswerRow) -> bool
     requires { request.now.op ≢ like_op }
-    ensures { AnswersRow seat.old request.now row.new seat.new }
+    ensures row { AnswersRow seat.old request.now row.new seat.new }
+    ensures waits { IsTrue result ↔ IsToWait row.new }
 {
     match request.op {
-        LOOK => {
-            *row = AnswerRow::of_look(seat.look(request.user, request.page, request.tag));
+        LOOK => answer_look(seat, request, row),
+        GLANCE => answer_glance(seat, request, row),
+        _ => {
+            *row = AnswerRow::of(status::UNKNOWN_OP);
+            false
         }
-        GLANCE => *row = AnswerRow::of_glance(seat.glance(request.user, request.page)),
-        _ => *row = AnswerRow::of(status::UNKNOWN_OP),
     }
 }
 
@@ -190,8 +234,7 @@ fn answer(seat: &mut LiveSeat<SharedPost>, request: &RequestRow, row: &mut Answe
     ensures waits { IsTrue result ↔ IsToWait row.new }
 {
     if request.op != LIKE {
-        answer_other(seat, request, row);
-        return row.is_to_wait();
+        return answer_other(seat, request, row);
     }
     match seat.like(request.user, request.page) {
         LikeAnswer::Liked => {

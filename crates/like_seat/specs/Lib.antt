@@ -1,5 +1,6 @@
 pub mod Kept
 pub mod Lead
+pub mod LikeCount
 pub mod Merge
 pub mod StationView
 pub mod SlicedLike

@@ -1,5 +1,5 @@
 -- What each step of a seat does to it.
-use Rattle.std.specs.Prelude.{◌≡◌, ◌≢◌, ℕ, ◌+◌, ◌%◌, ◌<◌, ◌≤◌, ◌==◌, if◌then◌else◌, true, false, List, [], ◌∷◌, ◌++◌, drop, length, replicate, slice_index, slice_set, Option, MatchOption}
+use Rattle.std.specs.Prelude.{◌≡◌, ◌≢◌, ℕ, ◌+◌, ◌%◌, ◌<◌, ◌≤◌, ◌==◌, if◌then◌else◌, true, false, List, [], ◌∷◌, ◌++◌, drop, length, replicate, slice_index, slice_set, Option, Some, MatchOption}
 use Rattle.like_core.specs.declared.sight.Sight.{Sight}
 use Rattle.like_core.specs.declared.view.PhaseMask.{PhaseMask}
 use Rattle.like_core.specs.Post.{PostView, added, additions_of, has_glanced, has_read, looked_at, returned, slices}
@@ -88,6 +88,10 @@ CountsLike s user page old after =
     ((slices s.post page ≡ true) × (after ≡ liked_last (sliced s page) user page))
     (λ count. (slices s.post page ≡ false)
     × (after ≡ liked_last (with_addition s page count 1) user page))
+
+-- a like of a page that is not sliced is counted, whatever the page's count was
+abbrev pub CountsOnBoard : {W : Type 0} → StationView W → ℕ → ℕ → StationView W → Type 0
+CountsOnBoard s user page after = (old : ℕ) × CountsLike s user page (Some old) after
 
 -- a page is read for a user's look: the user's last like is shown, and the page's count
 pub record Reads {W : Type 0} (s : StationView W) (user page : ℕ) (shown : Seen) (after : StationView W)

@@ -7,6 +7,7 @@
 #![tactic(auto)]
 
 mod lead;
+mod like_count;
 mod merged;
 mod seen;
 mod slice_log;

@@ -97,7 +97,22 @@ impl<P: Post, W: Copy> Station<P, W> {
         ensures likes { result ≡ likes_of self.now }
         ensures seat { IsStation self.now }
     {
-        self.tables.likes
+        self.tables.likes.likes()
+    }
+
+    /// Takes away the room for one like that was given, and says whether there was any.
+    #[inline(always)]
+    pub fn spend_room(&mut self) -> bool
+        ensures same { self.new ≡ self.old }
+    {
+        self.tables.likes.spend()
+    }
+
+    /// Gives room for so many likes: calls that count only where there is room count so many, up to 2^56 likes in all.
+    pub fn give_room(&mut self, room: u64)
+        ensures same { self.new ≡ self.old }
+    {
+        self.tables.likes.give(room);
     }
 
     /// Its users, with their last likes.

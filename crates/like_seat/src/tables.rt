@@ -7,6 +7,7 @@ ghost use Rattle.like_limits.specs.Limits.{hot_pages, max_stash};
 ghost use Rattle.like_seat.specs.Kept.{AreSlotsApart, Enters, IsFilled, IsFilledBySlots, IsOfRun, IsOfService, IsUnsplit, MayEnter, is_split_in_run};
 ghost use Rattle.like_tables.specs.SplitSlice.{no_slice};
 
+use crate::like_count::LikeCount;
 use crate::slice_log::SliceLog;
 use like_core::{Post, SlotPost, WorkerState, is_hot};
 use like_tables::{SplitSlice, Stash, Users};
@@ -26,7 +27,7 @@ pub(crate) struct Tables<W: Copy> {
     /// The likes that went into the slice.
     pub sliced: SliceLog,
     /// How many likes it has counted: what was added on the board, and the slice.
-    pub likes: u64,
+    pub likes: LikeCount,
     /// The last likes of its users.
     pub last: Users,
 }
@@ -57,7 +58,7 @@ impl<W: Copy> Tables<W> {
             held: Stash::new(alloc, room)?,
             slice: SplitSlice::new(alloc, factor)?,
             sliced: SliceLog::new(),
-            likes: 0,
+            likes: LikeCount::none(),
             last,
         })
     }

@@ -40,7 +40,7 @@ impl<W: Copy> Stash<W> {
         requires { length self.old.held < self.old.capacity }
         ensures { self.new ≡ record self.old { held = self.old.held ++ held ∷ [] } }
     {
-        self.ring.push_back(held);
+        let _ = self.ring.try_push_back(held);
     }
 
     /// Takes out the first, if it holds one.

@@ -1,17 +1,19 @@
 ghost use Rattle.std.specs.Prelude.{◌≡◌, ◌≢◌, ◌+◌, ◌<◌, IfNone, IfSome, IsTrue, length};
 ghost use Rattle.like_core.specs.Post.{pages_of, slices};
 ghost use Rattle.like_core.specs.WorkerState.{IsRunning, RunsSplit};
-ghost use Rattle.like_seat.specs.StationView.{phase_at};
 ghost use Rattle.like_seat.specs.Steps.{holding};
 ghost use Rattle.like_tables.specs.Share.{owns};
 ghost use Rattle.like_live.specs.LiveView.{IsLive, IsOwn, room_of, waiting, with_seat};
-ghost use Rattle.like_live.specs.Calls.{GlancesNow, IsAccepted, LikesNow, LooksNow, verdict_at};
+ghost use Rattle.like_live.specs.Calls.{GlancesNow, IsAccepted, LikesNow, LooksNow, asked_now, verdict_at};
 
 use crate::answer::{GlanceAnswer, LikeAnswer, LookAnswer};
 use crate::asked::Asked;
 use crate::live_seat::LiveSeat;
+use crate::signals::{MAX_LIKES, Signals};
+use like_choice::Kind;
 use like_core::Post;
 use like_requests::{Op, PageRef, Request, Verdict};
+use like_seat::Station;
 use like_tables::Placed;
 
 // A request that is accepted.
@@ -21,6 +23,26 @@ struct Accepted {
     placed: Placed,
     // Whether its page is split now.
     split: bool,
+}
+
+// Counts a look, and stores it if it is a sample.
+#[inline(always)]
+fn count_look<P: Post>(seat: &mut Station<P, Asked>, signals: &mut Signals, page: u32)
+    ensures { seat.new ≡ seat.old }
+{
+    if !seat.spend_room() {
+        store(seat, signals, page, Kind::Look);
+    }
+}
+
+// Stores a sample, and gives room for likes up to the next one.
+#[cold]
+#[inline(never)]
+fn store<P: Post>(seat: &mut Station<P, Asked>, signals: &mut Signals, page: u32, kind: Kind)
+    ensures { seat.new ≡ seat.old }
+{
+    let room = signals.store(page, kind);
+    seat.give_room(room);
 }
 
 impl<P: Post> LiveSeat<P> {
@@ -78,12 +100,12 @@ impl<P: Post> LiveSeat<P> {
             return LikeAnswer::Refused(self.refusal(user, page));
         };
         if accepted.split {
-            if self.signals.allows(self.seat.likes()) {
-                self.seat.count_sliced_at(accepted.placed, page);
+            if self.seat.try_sliced_at(accepted.placed, page) {
                 return LikeAnswer::Liked;
             }
-        } else if self.signals.allows(self.seat.likes()) {
-            self.seat.count_plain_at(accepted.placed, page);
+            return self.like_late(accepted.placed, page);
+        }
+        if self.seat.try_plain_at(accepted.placed, page) {
             return LikeAnswer::Liked;
         }
         self.like_late(accepted.placed, page)
@@ -98,10 +120,11 @@ impl<P: Post> LiveSeat<P> {
         ensures case { LikesNow self.old placed.user page result self.new }
         ensures keeps { IsLive self.new }
     {
-        if !self.signals.admits(self.seat.likes(), page) {
+        if self.seat.likes() >= MAX_LIKES {
             return LikeAnswer::Full;
         }
         self.seat.count_like_at(placed, page);
+        store(&mut self.seat, &mut self.signals, page, Kind::Like);
         LikeAnswer::Liked
     }
 
@@ -116,35 +139,35 @@ impl<P: Post> LiveSeat<P> {
             return LookAnswer::Refused(self.refusal(user, page));
         };
         if !accepted.split {
-            self.signals.count_look(self.seat.likes(), page);
+            count_look(&mut self.seat, &mut self.signals, page);
             return LookAnswer::Seen(self.seat.read_at(accepted.placed, page));
         }
         if self.room == 0 {
             return LookAnswer::NoRoom;
         }
+        self.wait(user, page, tag);
+        LookAnswer::Waits
+    }
+
+    // Puts a look at a split page by until the next joined phase.
+    #[inline(always)]
+    fn wait(&mut self, user: u32, page: u32, tag: u64)
+        requires split { RunsSplit self.old.seat.post.state }
+        requires own { IsOwn self.old.seat (asked_now self.old user page tag) }
+        requires room { length (waiting self.old) + length self.old.found < room_of self.old }
+        ensures waits { self.new
+            ≡ with_seat self.old (holding self.old.seat (asked_now self.old user page tag)) }
+        ensures keeps { IsLive self.new }
+    {
+        self.room -= 1;
+        count_look(&mut self.seat, &mut self.signals, page);
         let phase = self.seat.phase();
-        self.wait(Asked {
+        self.seat.put_by(Asked {
             tag,
             user,
             page,
             phase,
         });
-        LookAnswer::Waits
-    }
-
-    // Stashes a look at a split page until the next joined phase.
-    #[inline(never)]
-    fn wait(&mut self, asked: Asked)
-        requires split { RunsSplit self.old.seat.post.state }
-        requires own { IsOwn self.old.seat asked }
-        requires phase { asked.phase ≡ phase_at self.old.seat }
-        requires room { length (waiting self.old) + length self.old.found < room_of self.old }
-        ensures waits { self.new ≡ with_seat self.old (holding self.old.seat asked) }
-        ensures keeps { IsLive self.new }
-    {
-        self.room -= 1;
-        self.signals.count_look(self.seat.likes(), asked.page);
-        self.seat.put_by(asked);
         if self.room + self.found.len() <= self.half {
             self.signals.ask();
         }

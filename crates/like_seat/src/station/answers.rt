@@ -1,10 +1,10 @@
-ghost use Rattle.std.specs.Prelude.{◌≡◌, ◌<◌, false, true, IsTrue, None, Some};
+ghost use Rattle.std.specs.Prelude.{◌≡◌, ◌^◌, ◌<◌, ◌≤◌, false, true, IsTrue, None, Some};
 ghost use Rattle.like_core.specs.Post.{pages_of, slices};
 ghost use Rattle.like_core.specs.WorkerState.{IsRunning};
 ghost use Rattle.like_tables.specs.Placed.{IsPlaced};
 ghost use Rattle.like_tables.specs.Share.{owns};
 ghost use Rattle.like_seat.specs.StationView.{IsStation, likes_of};
-ghost use Rattle.like_seat.specs.Steps.{CountsLike, Glances, Reads};
+ghost use Rattle.like_seat.specs.Steps.{CountsLike, CountsOnBoard, Glances, Reads};
 
 use crate::seen::Seen;
 use crate::station::Station;
@@ -54,9 +54,9 @@ impl<P: Post, W: Copy> Station<P, W> {
         Some(self.count_plain_at(placed, page))
     }
 
-    /// The same, of a page that is sliced.
+    // The same, of a page that is sliced.
     #[inline(always)]
-    pub fn count_sliced_at(&mut self, placed: Placed, page: u32)
+    fn count_sliced_at(&mut self, placed: Placed, page: u32)
         requires running { IsRunning self.old.post.state }
         requires there { page < pages_of self.old.post }
         requires split { slices self.old.post page ≡ true }
@@ -68,12 +68,12 @@ impl<P: Post, W: Copy> Station<P, W> {
         self.tables.slice.add(page);
         self.tables.sliced = self.tables.sliced.then(&self.post, page);
         self.tables.last.set_at(placed, page);
-        self.tables.likes += 1;
+        self.tables.likes.count();
     }
 
-    /// The same, of a page that is not sliced. The page's count before comes back.
+    // The same, of a page that is not sliced. The page's count before comes back.
     #[inline(always)]
-    pub fn count_plain_at(&mut self, placed: Placed, page: u32) -> u64
+    fn count_plain_at(&mut self, placed: Placed, page: u32) -> u64
         requires running { IsRunning self.old.post.state }
         requires there { page < pages_of self.old.post }
         requires plain { slices self.old.post page ≡ false }
@@ -83,8 +83,51 @@ impl<P: Post, W: Copy> Station<P, W> {
         ensures seat { IsStation self.new }
     {
         self.tables.last.set_at(placed, page);
-        self.tables.likes += 1;
+        self.tables.likes.count();
         self.post.add(page, 1)
+    }
+
+    /// Counts a like of a sliced page where there is room for it, which was given. Says whether it did.
+    #[inline(always)]
+    pub fn try_sliced_at(&mut self, placed: Placed, page: u32) -> bool
+        requires running { IsRunning self.old.post.state }
+        requires there { page < pages_of self.old.post }
+        requires split { slices self.old.post page ≡ true }
+        requires placed { IsPlaced self.old.last.share placed }
+        requires most { 2 ^ 56 ≤ self.old.post.limits.likes }
+        ensures counts { IsTrue result → CountsLike self.old placed.user page None self.new }
+        ensures few { IsTrue result → likes_of self.old < 2 ^ 56 }
+        ensures full { result ≡ false → self.new ≡ self.old }
+        ensures seat { IsStation self.new }
+    {
+        if !self.tables.likes.try_count() {
+            return false;
+        }
+        self.tables.slice.add(page);
+        self.tables.sliced = self.tables.sliced.then(&self.post, page);
+        self.tables.last.set_at(placed, page);
+        true
+    }
+
+    /// The same, of a page that is not sliced.
+    #[inline(always)]
+    pub fn try_plain_at(&mut self, placed: Placed, page: u32) -> bool
+        requires running { IsRunning self.old.post.state }
+        requires there { page < pages_of self.old.post }
+        requires plain { slices self.old.post page ≡ false }
+        requires placed { IsPlaced self.old.last.share placed }
+        requires most { 2 ^ 56 ≤ self.old.post.limits.likes }
+        ensures counts { IsTrue result → CountsOnBoard self.old placed.user page self.new }
+        ensures few { IsTrue result → likes_of self.old < 2 ^ 56 }
+        ensures full { result ≡ false → self.new ≡ self.old }
+        ensures seat { IsStation self.new }
+    {
+        if !self.tables.likes.try_count() {
+            return false;
+        }
+        self.tables.last.set_at(placed, page);
+        self.post.add(page, 1);
+        true
     }
 
     /// Reads a page's count for a user's look.

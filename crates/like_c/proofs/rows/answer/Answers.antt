@@ -11,5 +11,5 @@ pub returns-in_default : goal.returns-in_default
 returns-in_default c = record {
   row = row_like c.like.result c.if-request-ne-LIKE.false c.like.ensures.case
       (c.of-in_default.ensures ∙ ap status_row c.of_like.ensures);
-  waits = c.is_to_wait-in_default.ensures;
+  waits = c.is_to_wait.ensures;
 }

@@ -1,5 +1,4 @@
-use Rattle.std.proofs.Common.{◌≡◌, ℕ, false, true, refl, ap, sym, subst, ◌∙◌}
-use Rattle.like_core.specs.Post.{slices}
+use Rattle.std.proofs.Common.{◌≡◌, ℕ, refl, ap, sym, subst, ◌∙◌}
 use Rattle.like_seat.specs.StationView.{StationView}
 use Rattle.like_seat.specs.Steps.{Glances, Reads}
 use Rattle.like_live.specs.declared.asked.Asked.{Asked}

@@ -1,4 +1,4 @@
-use Rattle.std.proofs.Common.{◌≡◌, ◌<◌, ℕ, false, refl, ap, sym, subst, ◌∙◌}
+use Rattle.std.proofs.Common.{◌≡◌, ℕ, refl, ap, sym, subst, ◌∙◌}
 use Rattle.std.proofs.lemmas.Bool.{not-true}
 use Rattle.like_seat.specs.StationView.{StationView}
 use Rattle.like_seat.specs.Steps.{Reads}
@@ -16,5 +16,6 @@ returns-then-not-accepted-clause-case g c =
     refl
     (subst (λ (t : StationView Asked). Reads t c.args.user c.args.page c.read_at.result c.read_at.new.self) same
     (subst (λ (u : ℕ). Reads s u c.args.page c.read_at.result c.read_at.new.self) c.in-Some.ensures.accepted.user_is
-    c.read_at.ensures.reads))
+    (subst (λ (t : StationView Asked). Reads t c.in-Some.accepted.placed.user c.args.page c.read_at.result c.read_at.new.self)
+    c.count_look.ensures c.read_at.ensures.reads)))
     (ap (λ (w : LiveView). with_seat w c.read_at.new.self) c.self.view_is)

@@ -1,13 +1,10 @@
-use Rattle.std.proofs.Common.{◌≡◌, ℕ, ◌+◌, ◌<◌, ◌∷◌, ◌++◌, [], true, get_or, set, sum, refl, sym, ap, subst, ◌∙◌, arith}
+use Rattle.std.proofs.Common.{ℕ, ◌<◌, ◌∷◌, ◌++◌, [], refl, sym, subst, arith}
 use Rattle.like_core.specs.Additions.{addition}
-use Rattle.like_core.specs.Post.{PostView, pages_of, slices}
-use Rattle.like_core.specs.WorkerState.{IsRunning, phase_of}
-use Rattle.like_tables.specs.SplitSlice.{SplitSlice, by_page, has_split, likes_in}
-use Rattle.like_tables.proofs.ByPage.{by_page-with_likes, get_or-by_page}
+use Rattle.like_core.specs.Post.{PostView}
+use Rattle.like_core.specs.WorkerState.{phase_of}
 use Rattle.like_seat.specs.Kept.{IsKept, view_of}
 use Rattle.like_seat.specs.StationView.{StationView, likes_of}
-use Rattle.like_seat.specs.Steps.{liked_last, sliced}
-use Rattle.like_seat.proofs.Keeping.{Kept-written, has_split-slices, sum-written}
+use Rattle.like_seat.proofs.Keeping.{Kept-written}
 use Rattle.like_seat.proofs.MergedLikes.{all_added-push}
 use Rattle.like_seat.proofs.station.Station.count_plain_at.Goals as goal
 
@@ -21,7 +18,7 @@ invariant_of-self g c =
     subst (λ (v : StationView g.row.W.Denot). likes_of v < v.post.limits.likes) (sym c.self.view_is) c.requires.fits in
     let one = addition (phase_of p.state) page c.add.result 1 in
     let more = all_added-push p.additions one in
-    subst (λ (q : PostView). IsKept q (record t { likes = t.likes + 1; last = c.set_at.new.self }))
+    subst (λ (q : PostView). IsKept q (record t { likes = c.count.new.self; last = c.set_at.new.self }))
     (sym c.add.ensures.view)
-    (Kept-written p (p.additions ++ one ∷ []) p.reads p.glances t (record t { likes = t.likes + 1; last = c.set_at.new.self })
-    k refl refl refl refl k.slice k.sums (omega (arith, k.likes, more)) (omega (arith, k.likes, room)))
+    (Kept-written p (p.additions ++ one ∷ []) p.reads p.glances t (record t { likes = c.count.new.self; last = c.set_at.new.self })
+    k refl refl refl refl k.slice k.sums (omega (arith, k.likes, more, c.count.ensures)) (omega (arith, k.likes, room, c.count.ensures)))

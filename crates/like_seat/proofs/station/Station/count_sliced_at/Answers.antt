@@ -1,10 +1,9 @@
-use Rattle.std.proofs.Common.{◌≡◌, ℕ, ◌+◌, ◌<◌, ◌∷◌, ◌++◌, [], true, get_or, set, sum, refl, sym, ap, subst, ◌∙◌, arith}
-use Rattle.like_core.specs.Additions.{addition}
-use Rattle.like_core.specs.Post.{PostView, pages_of, slices}
-use Rattle.like_core.specs.WorkerState.{IsRunning, phase_of}
+use Rattle.std.proofs.Common.{◌≡◌, ℕ, ◌+◌, ◌<◌, true, get_or, set, sum, refl, sym, ap, subst, ◌∙◌, arith}
+use Rattle.like_core.specs.Post.{pages_of, slices}
+use Rattle.like_core.specs.WorkerState.{IsRunning}
 use Rattle.like_tables.specs.SplitSlice.{SplitSlice, by_page, has_split, likes_in}
 use Rattle.like_tables.proofs.ByPage.{by_page-with_likes, get_or-by_page}
-use Rattle.like_seat.specs.Kept.{IsKept, view_of}
+use Rattle.like_seat.specs.Kept.{view_of}
 use Rattle.like_seat.specs.StationView.{StationView, likes_of}
 use Rattle.like_seat.specs.Steps.{liked_last, sliced}
 use Rattle.like_seat.proofs.Keeping.{Kept-written, has_split-slices, sum-written}
@@ -32,7 +31,7 @@ invariant_of-self g c =
     (omega (arith, c.add.ensures.total)) in
     Kept-written p p.additions p.reads p.glances t _ k refl refl refl
     (ap (λ (s : SplitSlice). s.splits) c.add.ensures.counted) c.add.ensures.slice sums
-    (omega (arith, k.likes, k.sums, sums, c.add.ensures.total)) (omega (arith, k.likes, room))
+    (omega (arith, k.likes, k.sums, sums, c.add.ensures.total, c.count.ensures)) (omega (arith, k.likes, room, c.count.ensures))
 
 pub returns-clause-counts : goal.returns-clause-counts
 returns-clause-counts g c =

@@ -1,0 +1,35 @@
+use Rattle.std.proofs.Common.{◌≡◌, ℕ, ◌+◌, ◌^◌, ◌<◌, ◌≤◌, ◌∷◌, ◌++◌, [], refl, sym, subst, arith}
+use Rattle.like_core.specs.Additions.{addition}
+use Rattle.like_core.specs.Post.{PostView}
+use Rattle.like_core.specs.WorkerState.{phase_of}
+use Rattle.like_seat.specs.Kept.{IsKept}
+use Rattle.like_seat.specs.StationView.{StationView}
+use Rattle.like_seat.proofs.Keeping.{Kept-written}
+use Rattle.like_seat.proofs.MergedLikes.{all_added-push}
+use Rattle.like_seat.proofs.station.Station.try_plain_at.Goals as goal
+
+pub invariant_of-self-2 : goal.invariant_of-self-2
+invariant_of-self-2 g c =
+    let p = g.P.Post.view c.self.inside.post in
+    let t = c.self.inside.tables in
+    let k = c.self.invariant in
+    let page : ℕ = c.args.page in
+    let most : 2 ^ 56 ≤ p.limits.likes =
+    subst (λ (v : StationView g.row.W.Denot). 2 ^ 56 ≤ v.post.limits.likes) (sym c.self.view_is) c.requires.most in
+    let few : t.likes < 2 ^ 56 = c.try_count.ensures.room c.if-not-try_count.false in
+    let one_more : c.try_count.new.self ≡ t.likes + 1 = c.try_count.ensures.added c.if-not-try_count.false in
+    let one = addition (phase_of p.state) page c.add.result 1 in
+    let more = all_added-push p.additions one in
+    subst (λ (q : PostView). IsKept q (record t { likes = c.try_count.new.self; last = c.set_at.new.self }))
+    (sym c.add.ensures.view)
+    (Kept-written p (p.additions ++ one ∷ []) p.reads p.glances t (record t { likes = c.try_count.new.self; last = c.set_at.new.self })
+    k refl refl refl refl k.slice k.sums (omega (arith, k.likes, more, one_more)) (omega (arith, few, most, one_more)))
+
+pub invariant_of-self : goal.invariant_of-self
+invariant_of-self g c =
+    let t = c.self.inside.tables in
+    subst (λ (n : ℕ). IsKept (g.P.Post.view c.self.inside.post) (record t { likes = n }))
+    (sym (c.try_count.ensures.none c.if-not-try_count.true)) c.self.invariant
+
+pub returns-clause-seat : goal.returns-clause-seat
+returns-clause-seat g c = (invariant_of-self-2 g c).seat

@@ -1,0 +1,7 @@
+-- How the number of a seat's likes is kept.
+use Rattle.std.specs.Prelude.{ℕ, ◌^◌, ◌<◌, ◌≤◌}
+
+-- so much room is left up to an end, and that end is at most 2^56 where any is left
+pub record HasRoom (end left : ℕ) : Type 0 where
+  pub within : left ≤ end
+  pub most : 0 < left → end ≤ 2 ^ 56

@@ -1,0 +1,103 @@
+//! How many likes a seat has counted, and how many it may count before it is asked again.
+ghost use Rattle.std.specs.Prelude.{◌≡◌, ◌+◌, ◌^◌, ◌<◌, false, IsTrue};
+
+use std::marker::Model;
+
+// The most likes that a seat may count by the room that it was given.
+const MOST: u64 = 1 << 56;
+
+// Where numbers are that were taken below 0.
+const BELOW_ZERO: u64 = 1 << 63;
+
+/// Counts likes. It keeps at which number its room ends, and how much room is left: so one subtraction counts a like, and
+/// tells whether there was room for it.
+#[derive(Drop)]
+pub(crate) struct LikeCount {
+    end: u64,
+    left: u64,
+}
+
+impl Model for LikeCount {
+    ghost use Rattle.std.specs.Prelude.{◌-◌, ℕ};
+    ghost use Rattle.like_seat.specs.LikeCount.{HasRoom};
+
+    ghost Value = { ℕ };
+
+    ghost view = { λ c. c.end - c.left };
+
+    ghost invariant = { λ c. HasRoom c.end c.left };
+}
+
+// It stands apart, so that the compiler doesn't make it a part of each count.
+#[cold]
+#[inline(never)]
+fn set_to_zero(number: &mut u64)
+    ensures { number.new ≡ 0 }
+{
+    *number = 0;
+}
+
+impl LikeCount {
+    /// No like, and no room.
+    pub fn none() -> LikeCount
+        ensures { result ≡ 0 }
+    {
+        LikeCount { end: 0, left: 0 }
+    }
+
+    /// How many likes.
+    #[inline(always)]
+    pub fn likes(&self) -> u64
+        ensures { result ≡ self.now }
+    {
+        self.end - self.left
+    }
+
+    /// Counts one, whether there is room or not. No room is left.
+    #[inline(always)]
+    pub fn count(&mut self)
+        requires { self.old < 2 ^ 63 }
+        ensures { self.new ≡ self.old + 1 }
+    {
+        self.end = self.likes() + 1;
+        self.left = 0;
+    }
+
+    /// Counts one if there is room, and says whether.
+    #[inline(always)]
+    pub fn try_count(&mut self) -> bool
+        ensures added { IsTrue result → self.new ≡ self.old + 1 }
+        ensures room { IsTrue result → self.old < 2 ^ 56 }
+        ensures none { result ≡ false → self.new ≡ self.old }
+    {
+        self.left = self.left.wrapping_sub(1);
+        if self.left < BELOW_ZERO {
+            return true;
+        }
+        set_to_zero(&mut self.left);
+        false
+    }
+
+    /// Takes away the room for one, and says whether there was any.
+    #[inline(always)]
+    pub fn spend(&mut self) -> bool
+        ensures { self.new ≡ self.old }
+    {
+        if self.left == 0 {
+            return false;
+        }
+        self.left -= 1;
+        self.end -= 1;
+        true
+    }
+
+    /// Has room for so many more, as far as there are no more than 2^56 likes then.
+    pub fn give(&mut self, room: u64)
+        ensures { self.new ≡ self.old }
+    {
+        let likes = self.likes();
+        let room = MOST.saturating_sub(likes).min(room);
+        self.end = likes + room;
+        self.left = room;
+    }
+}
