@@ -201,8 +201,7 @@ impl<C: Choice> Driver<C> {
     pub fn split_pages(&self, pages: &mut [u32]) -> usize
         ensures len { length pages.new ≡ length pages.old }
         ensures few { result ≤ length pages.old }
-        ensures pages { take result pages.new
-            ≡ take (length pages.old) (pages_in_use self.now.splits.slots) }
+        ensures pages { take result pages.new ≡ take (length pages.old) (pages_in_use self.now.splits.slots) }
         ensures rest { drop result pages.new ≡ drop result pages.old }
         ensures service { IsService self.now }
     {
