@@ -67,6 +67,21 @@ macro_rules! wrong_phase {
     };
 }
 
+// Of two workers, the first likes the page in phase 1. Then come these events.
+macro_rules! after_a_like {
+    ($($event:expr),*) => {
+        &[
+            Event::Announce,
+            Event::Acknowledge(0),
+            Event::Acknowledge(1),
+            Event::Release(0),
+            Event::Look(0),
+            Event::Like(0, 0),
+            $($event),*
+        ]
+    };
+}
+
 // A worker and a page that begins at 0 and is marked; a case names what else it has.
 const LONE: Case = Case {
     name: "",
@@ -79,22 +94,16 @@ const LONE: Case = Case {
 };
 
 const CASES: &[Case] = &[
-    // Phase 1 is released, and the first worker likes the page in it; at the release of phase 2 it has not answered.
+    // At the release of phase 2 the first worker has not answered.
     Case {
         name: "refuses_early_release",
         workers: 2,
-        events: &[
-            Event::Announce,
-            Event::Acknowledge(0),
-            Event::Acknowledge(1),
-            Event::Release(0),
-            Event::Look(0),
-            Event::Like(0, 0),
+        events: after_a_like!(
             Event::Announce,
             Event::Look(1),
             Event::Report(1),
-            Event::Release(0),
-        ],
+            Event::Release(0)
+        ),
         checked: wrong_phase!(9),
         steps: &[
             (Event::Merge(0, 0), Ok(Shown::Old(0))),
@@ -106,15 +115,7 @@ const CASES: &[Case] = &[
     Case {
         name: "refuses_retirement_in_split_phase",
         workers: 2,
-        events: &[
-            Event::Announce,
-            Event::Acknowledge(0),
-            Event::Acknowledge(1),
-            Event::Release(0),
-            Event::Look(0),
-            Event::Like(0, 0),
-            Event::Retire(0),
-        ],
+        events: after_a_like!(Event::Retire(0)),
         checked: wrong_phase!(6),
         steps: &[(Event::Look(2), Err(NotNow::NoSuch))],
         ..LONE

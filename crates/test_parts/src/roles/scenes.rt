@@ -108,6 +108,13 @@ macro_rules! added {
     };
 }
 
+// The calls of the gate by worker 0: its phases, and the numbers of submitter 0's requests that it runs in each.
+macro_rules! calls {
+    ($($phase:literal: [$($number:literal),*]),*) => {
+        &[$(Phase(0, $phase), $(Run(0, 0, $number),)*)*]
+    };
+}
+
 // The end of a joined phase, where worker 0 is the only one.
 const TO_SPLIT: &[Step] = &[
     Coord(CoordTurn::Announced),
@@ -173,15 +180,7 @@ const STASH_SCENES: &[Scene] = &[
             &[Worker(0, Turn::Ran)],
             ROUNDS,
         ],
-        calls: &[
-            Phase(0, 0),
-            Phase(0, 1),
-            Run(0, 0, 1),
-            Phase(0, 2),
-            Run(0, 0, 2),
-            Phase(0, 3),
-            Phase(0, 4),
-        ],
+        calls: calls!(0: [], 1: [1], 2: [2], 3: [], 4: []),
         phase: 4,
         taken: &[took!(1, 1), took!(1, 2)],
         ran: &[liked!(1, 1), seen!(2, 2, true, Some(0), 11)],
@@ -200,15 +199,7 @@ const STASH_SCENES: &[Scene] = &[
             &[Worker(0, Turn::Ran)],
             ROUNDS,
         ],
-        calls: &[
-            Phase(0, 0),
-            Phase(0, 1),
-            Run(0, 0, 2),
-            Phase(0, 2),
-            Run(0, 0, 1),
-            Phase(0, 3),
-            Phase(0, 4),
-        ],
+        calls: calls!(0: [], 1: [2], 2: [1], 3: [], 4: []),
         phase: 4,
         taken: &[took!(1, 1), took!(1, 2)],
         ran: &[liked!(1, 2), seen!(2, 1, true, Some(1), 5)],
@@ -228,15 +219,7 @@ const STASH_SCENES: &[Scene] = &[
             &[Worker(0, Turn::Ran), Worker(0, Turn::Ran)],
             ROUNDS,
         ],
-        calls: &[
-            Phase(0, 0),
-            Phase(0, 1),
-            Phase(0, 2),
-            Run(0, 0, 1),
-            Run(0, 0, 2),
-            Phase(0, 3),
-            Phase(0, 4),
-        ],
+        calls: calls!(0: [], 1: [], 2: [1, 2], 3: [], 4: []),
         phase: 4,
         taken: &[took!(1, 1), took!(2, 2)],
         ran: &[seen!(2, 1, true, None, 0), seen!(2, 2, false, None, 0)],
@@ -256,13 +239,7 @@ const PHASE_SCENES: &[Scene] = &[
             TO_JOINED,
             LAST_PHASE,
         ],
-        calls: &[
-            Phase(0, 0),
-            Phase(0, 1),
-            Run(0, 0, 1),
-            Run(0, 0, 2),
-            Phase(0, 2),
-        ],
+        calls: calls!(0: [], 1: [1, 2], 2: []),
         phase: 2,
         taken: &[took!(1, 1), took!(1, 2)],
         ran: &[liked!(1, 1), seen!(1, 2, false, Some(0), 8)],
@@ -325,7 +302,7 @@ const PHASE_SCENES: &[Scene] = &[
             Worker(0, Turn::Retired),
             Coord(CoordTurn::Ended),
         ]],
-        calls: &[Phase(0, 0), Phase(0, 1), Run(0, 0, 1), Phase(0, 2)],
+        calls: calls!(0: [], 1: [1], 2: []),
         phase: 2,
         taken: &[took!(1, 1)],
         ran: &[liked!(1, 1)],
@@ -347,7 +324,7 @@ const ADDITION_SCENES: &[Scene] = &[
             Worker(0, Turn::Retired),
             Coord(CoordTurn::Ended),
         ]],
-        calls: &[Phase(0, 0), Run(0, 0, 1), Run(0, 0, 2), Run(0, 0, 3)],
+        calls: calls!(0: [1, 2, 3]),
         taken: &[took!(0, 1), took!(0, 2), took!(0, 3)],
         ran: &[liked!(0, 1), liked!(0, 2), liked!(0, 3)],
         adds: &[
@@ -371,16 +348,7 @@ const ADDITION_SCENES: &[Scene] = &[
             TO_JOINED,
             ROUNDS,
         ],
-        calls: &[
-            Phase(0, 0),
-            Phase(0, 1),
-            Run(0, 0, 1),
-            Run(0, 0, 2),
-            Run(0, 0, 3),
-            Phase(0, 2),
-            Phase(0, 3),
-            Phase(0, 4),
-        ],
+        calls: calls!(0: [], 1: [1, 2, 3], 2: [], 3: [], 4: []),
         phase: 4,
         taken: &[took!(1, 1), took!(1, 2), took!(1, 3)],
         ran: &[liked!(1, 1), liked!(1, 2), liked!(1, 3)],
@@ -399,7 +367,7 @@ const ADDITION_SCENES: &[Scene] = &[
             Worker(0, Turn::TookEnd),
             Worker(0, Turn::Retired),
         ]],
-        calls: &[Phase(0, 0), Run(0, 0, 1), Run(0, 0, 2)],
+        calls: calls!(0: [1, 2]),
         taken: &[took!(0, 1), took!(0, 2)],
         ran: &[liked!(0, 1), liked!(0, 2)],
         ..LONE
