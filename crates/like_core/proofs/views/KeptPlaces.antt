@@ -19,7 +19,7 @@ use Rattle.like_core.specs.Additions.{addition, added_to, page_read}
 use Rattle.like_core.specs.views.Tallies.{paged}
 use Rattle.like_core.specs.WorkerState.{phase_of}
 use Rattle.like_core.specs.views.Views.{added_view, read_view, glanced_view, gathered_coord}
-use Rattle.like_core.specs.views.Places.{end_of, has_number, ends_at, is_empty, Counting, AreTiles, IsEnd, IsInPlace, AreInOrder, ArePlaced, HavePlaced, HasPlaces, passing, all_passing, count_after, PlacesTile, AdditionKeepsPlaces, ReadKeepsPlaces, GlanceKeepsPlaces, JoinKeepsPlaces}
+use Rattle.like_core.specs.views.Places.{end_of, covers, ends_at, is_empty, Counting, AreTiles, IsEnd, IsInPlace, AreInOrder, ArePlaced, HavePlaced, HasPlaces, passing, all_passing, count_after, PlacesTile, AdditionKeepsPlaces, ReadKeepsPlaces, GlanceKeepsPlaces, JoinKeepsPlaces}
 use Rattle.like_core.proofs.core.Labels.{added_to-push}
 use Rattle.like_core.proofs.views.ViewLists.{sum_part, sum_swap, sum_gathered, replaced, kept}
 
@@ -50,7 +50,7 @@ at_most_one false = omega arith
 
 -- a stretch that ends at a count has the number before, or none at all
 one_number : (page k : ℕ) (a : Addition)
-    → cond {A = ℕ} (ends_at page (suc k) a) 1 0 ≤ cond (has_number page k a) 1 0 + cond (is_empty a) 1 0
+    → cond {A = ℕ} (ends_at page (suc k) a) 1 0 ≤ cond (covers page k a) 1 0 + cond (is_empty a) 1 0
 one_number page k a = elim (cases_eq a.likes 0) [
   | inl none ↦
       let empty : cond {A = ℕ} (is_empty a) 1 0 ≡ 1 = cond-true (is_empty a) 1 0 (eq-eqb a.likes 0 none) in
@@ -63,7 +63,7 @@ one_number page k a = elim (cases_eq a.likes 0) [
         let end : (end_of a == suc k) ≡ true = eq-eqb (end_of a) (suc k) ends in
         let left : cond {A = ℕ} (ends_at page (suc k) a) 1 0 ≡ cond ((a.page == page) && true) 1 0 =
         ap (λ (b : Bool). cond {A = ℕ} ((a.page == page) && b) 1 0) end in
-        let right : cond {A = ℕ} (has_number page k a) 1 0 ≡ cond ((a.page == page) && true && true) 1 0 =
+        let right : cond {A = ℕ} (covers page k a) 1 0 ≡ cond ((a.page == page) && true && true) 1 0 =
         λ m. cond {A = ℕ} ((a.page == page) && from m && to m) 1 0 in
         let both = same_test (a.page == page) in
         omega arith
@@ -126,7 +126,7 @@ ends_within : (views : List View) (first last : ℕ → ℕ) (page count : ℕ)
 ends_within views first last page zero tiles ends = omega arith
 ends_within views first last page (suc k) tiles ends =
     let either =
-    sum_either (passing (ends_at page (suc k))) (passing (has_number page k)) (passing is_empty) views
+    sum_either (passing (ends_at page (suc k))) (passing (covers page k)) (passing is_empty) views
     (λ u. view_either u)
     in
     let tiled = tiles.tiled page k in
@@ -144,15 +144,15 @@ ends_within views first last page (suc k) tiles ends =
     never false b is = refl
 
     own_either : (own : List Addition)
-        → count_by (ends_at page (suc k)) own ≤ count_by (has_number page k) own + count_by is_empty own
+        → count_by (ends_at page (suc k)) own ≤ count_by (covers page k) own + count_by is_empty own
     own_either own =
-        sum_either (λ a. cond {A = ℕ} (ends_at page (suc k) a) 1 0) (λ a. cond {A = ℕ} (has_number page k a) 1 0)
+        sum_either (λ a. cond {A = ℕ} (ends_at page (suc k) a) 1 0) (λ a. cond {A = ℕ} (covers page k a) 1 0)
         (λ a. cond {A = ℕ} (is_empty a) 1 0) own
         (λ a. one_number page k a)
 
-    view_either : (u : View) → passing (ends_at page (suc k)) u ≤ passing (has_number page k) u + passing is_empty u
+    view_either : (u : View) → passing (ends_at page (suc k)) u ≤ passing (covers page k) u + passing is_empty u
     view_either (Coord c) =
-        sum_either (λ v. count_by (ends_at page (suc k)) v.additions) (λ v. count_by (has_number page k) v.additions)
+        sum_either (λ v. count_by (ends_at page (suc k)) v.additions) (λ v. count_by (covers page k) v.additions)
         (λ v. count_by is_empty v.additions) c.joined
         (λ v. own_either v.additions)
     view_either (Worker v) = own_either v.additions
@@ -244,7 +244,7 @@ pub tiles_on : (first f_last g_last : ℕ → ℕ) (f g : Counting)
     → AreTiles first f_last f
     → AreTiles first g_last g
 tiles_on first f_last g_last f g same_last same t = record {
-  tiled = λ page n. same (has_number page n)
+  tiled = λ page n. same (covers page n)
       ∙ (t.tiled page n ∙ sym (ap (λ (last : ℕ). from_to (first page) last n) (same_last page)));
   some = same is_empty ∙ t.some;
 }
@@ -400,26 +400,26 @@ addition_keeps_places counts views place v page old n at is some_likes p =
     ]
     in
     let no_less : (test : Addition → Bool) → f test ≤ g test = λ test. (let e = more test in omega arith) in
-    let tiled_now : (q m : ℕ) → g (has_number q m) ≡ from_to (first q) (count_after counts later q) m =
+    let tiled_now : (q m : ℕ) → g (covers q m) ≡ from_to (first q) (count_after counts later q) m =
     λ q m.
     elim (same_or q) [
       | inl here ↦
-          let e = more (has_number q m) in
+          let e = more (covers q m) in
           let t = p.tiles.tiled q m in
           let count = is ∙ ap (count_after counts views) here.0 in
           let before : from_to (first q) (count_after counts views q) m ≡ from_to (first q) old m =
           ap (λ (last : ℕ). from_to (first q) last m) (sym count) in
-          let own : cond {A = ℕ} (has_number q m new) 1 0 ≡ from_to old (old + n) m =
+          let own : cond {A = ℕ} (covers q m new) 1 0 ≡ from_to old (old + n) m =
           ap (λ (b : Bool). cond {A = ℕ} (b && nat_le old m && nat_lt m (old + n)) 1 0) (eq-eqb page q here.0) in
           let next = from_to-more (first q) old n m (omega arith) in
-          let all : g (has_number q m) ≡ from_to (first q) (old + n) m = omega arith in
+          let all : g (covers q m) ≡ from_to (first q) (old + n) m = omega arith in
           all ∙ ap (λ (last : ℕ). from_to (first q) last m) (sym here.1)
       | inr else ↦
-          let e = more (has_number q m) in
+          let e = more (covers q m) in
           let t = p.tiles.tiled q m in
-          let none : cond {A = ℕ} (has_number q m new) 1 0 ≡ 0 =
+          let none : cond {A = ℕ} (covers q m new) 1 0 ≡ 0 =
           ap (λ (b : Bool). cond {A = ℕ} (b && nat_le old m && nat_lt m (old + n)) 1 0) (ne_eqb page q else.0) in
-          let all : g (has_number q m) ≡ from_to (first q) (count_after counts views q) m = omega arith in
+          let all : g (covers q m) ≡ from_to (first q) (count_after counts views q) m = omega arith in
           all ∙ ap (λ (last : ℕ). from_to (first q) last m) (sym else.1)
     ]
     in
@@ -610,7 +610,7 @@ places_open counts c none =
     in
     record {
       tiles = record {
-        tiled = λ page n. all (has_number page n)
+        tiled = λ page n. all (covers page n)
             ∙ sym (from_to-none (slice_index counts page) (count_after counts views page) n (last page));
         some = all is_empty;
       };

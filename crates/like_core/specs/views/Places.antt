@@ -18,8 +18,8 @@ abbrev pub end_of : Addition → ℕ
 end_of a = a.old + a.likes
 
 -- whether a number is in the stretch of an addition to the page
-abbrev pub has_number : ℕ → ℕ → Addition → Bool
-has_number page n a = (a.page == page) && nat_le a.old n && nat_lt n (end_of a)
+abbrev pub covers : ℕ → ℕ → Addition → Bool
+covers page n a = (a.page == page) && nat_le a.old n && nat_lt n (end_of a)
 
 -- whether the stretch of an addition to the page ends at a count
 abbrev pub ends_at : ℕ → ℕ → Addition → Bool
@@ -37,7 +37,7 @@ Counting = (Addition → Bool) → ℕ
 -- them, each other number is in none, and no stretch is empty
 pub record AreTiles (first last : ℕ → ℕ) (counting : Counting) : Type 0 where
   pub tiled : (page n : ℕ)
-      → counting (has_number page n)
+      → counting (covers page n)
       ≡ (if nat_le (first page) n && nat_lt n (last page) then 1 else 0)
   pub some : counting is_empty ≡ 0
 

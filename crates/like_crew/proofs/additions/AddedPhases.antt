@@ -9,7 +9,7 @@ use Rattle.like_core.proofs.views.KeptPlaces.{counts_one}
 use Rattle.like_promises.specs.declared.log.Added.{Added}
 use Rattle.like_promises.specs.declared.log.Ran.{Ran}
 use Rattle.like_promises.specs.declared.log.Took.{Took}
-use Rattle.like_promises.specs.places.Adds.{AreOfLikes, IsOfLikes, is_add_to}
+use Rattle.like_promises.specs.places.Adds.{AddsItsLikes, IsOfLikes, is_add_to}
 use Rattle.like_roles.specs.worker.Follows.{likes_at}
 use Rattle.like_promises.specs.Likes.{likes_among, likes_within}
 use Rattle.like_promises.specs.Order.{entry_of, order}
@@ -59,7 +59,7 @@ module _ (workload : Workload) (hot other : ℕ → ℕ) (last : ℕ) (same : (k
       ∙ none-later ran phase page (All-tail (λ (x : Ran). x.phase ≤ last) e ran all) past
 
   module _ (ran : List Ran) (adds : List Added) (all : All (λ e. e.phase ≤ last) ran)
-      (of : AreOfLikes before ran adds) where
+      (of : AddsItsLikes before ran adds) where
     none-at : (phase page at : ℕ) → last < phase → likes_at before phase page at ran ≡ 0
     none-at phase page at past = by_entry (slice_get ran at) refl where
       by_entry : (o : Option Ran) → slice_get ran at ≡ o → likes_within before page (option_to_list o) phase ≡ 0
@@ -107,7 +107,7 @@ module _ (workload : Workload) (hot other : ℕ → ℕ) (last : ℕ) (same : (k
         let low = adds-within k d inside in
         ap (λ b. b && (a.page == page)) (ne_eqb a.phase phase (λ is. absurd (omega arith)))
 
-    pub of-likes-same : AreOfLikes now ran adds
+    pub of-likes-same : AddsItsLikes now ran adds
     of-likes-same = record {
       each = λ k d inside.
           let a : Added = get_or adds k d in

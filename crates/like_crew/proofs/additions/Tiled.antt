@@ -13,14 +13,14 @@ use Rattle.like_core.specs.declared.opening.Opening.{Opening}
 use Rattle.like_core.specs.declared.view.Addition.{Addition}
 use Rattle.like_core.specs.declared.view.PageRead.{PageRead}
 use Rattle.like_core.specs.views.Reads.{StandBetween, StandsBetween}
-use Rattle.like_core.specs.views.Places.{ArePlaced, AreTiles, Counting, has_number}
+use Rattle.like_core.specs.views.Places.{ArePlaced, AreTiles, Counting, covers}
 use Rattle.like_core.specs.Post.{PostView}
 use Rattle.like_board.specs.declared.worker_seat.WorkerSeat.{WorkerSeat}
 use Rattle.like_board.specs.Seats.{AreCounted, HaveAddedBetween, HavePlaces, HaveReadMasks, coord_view, last_count, seat_meaning, seats_before, seats_passing}
 use Rattle.like_promises.specs.declared.log.Added.{Added}
 use Rattle.like_promises.specs.declared.log.Ran.{Ran}
 use Rattle.like_promises.specs.declared.log.WorkerLog.{WorkerLog}
-use Rattle.like_promises.specs.places.Adds.{AreOfLikes, addition_of}
+use Rattle.like_promises.specs.places.Adds.{AddsItsLikes, addition_of}
 use Rattle.like_roles.specs.worker.Shown.{adds_before_looks}
 use Rattle.like_roles.specs.worker.Follows.{AreNoted}
 use Rattle.like_promises.specs.Likes.{Between, initial_count}
@@ -60,7 +60,7 @@ pub record HasNoted (setup : Setup) (plans : List (List Request)) (site : Site) 
   pub of_log : IsLogOf s log
   pub worked : HasWorkedFor (known setup plans site e h) s
   pub additions : s.worker.post.additions ≡ additions_noted log
-  pub adds : AreOfLikes (known setup plans site e h) log.ran.items log.adds.items
+  pub adds : AddsItsLikes (known setup plans site e h) log.ran.items log.adds.items
   pub reads : map (λ r. r.after) s.worker.post.reads
       ≡ adds_before_looks (known setup plans site e h) log.adds.items log.ran.items
 
@@ -96,8 +96,8 @@ module _ (setup : Setup) (plans : List (List Request)) (site : Site) (e : Ended)
         of_log = of_log;
         worked = worked;
         additions = noted.additions ∙ ap (map addition_of) (sym of_log.adds);
-        adds = subst (λ (ran : List Ran). AreOfLikes (known setup plans site e h) ran log.adds.items) (sym of_log.ran)
-            (subst (AreOfLikes (known setup plans site e h) s.worker.ran) (sym of_log.adds) noted.adds);
+        adds = subst (λ (ran : List Ran). AddsItsLikes (known setup plans site e h) ran log.adds.items) (sym of_log.ran)
+            (subst (AddsItsLikes (known setup plans site e h) s.worker.ran) (sym of_log.adds) noted.adds);
         reads = noted.reads
             ∙ (λ i. adds_before_looks (known setup plans site e h) (sym of_log.adds i) (sym of_log.ran i));
       }
@@ -111,7 +111,7 @@ module _ (setup : Setup) (plans : List (List Request)) (site : Site) (e : Ended)
   -- of its accepted likes
   pub of-likes : All
       (λ seat. IfSome (seat_meaning seat).last (λ sight. sight.number ≤ (coord_view e.coord).phase)) e.seats.items
-      → All (λ log. AreOfLikes (served setup plans site e h) log.ran.items log.adds.items) e.logs.items
+      → All (λ log. AddsItsLikes (served setup plans site e h) log.ran.items log.adds.items) e.logs.items
   of-likes phases worker d within =
       let log : WorkerLog = get_or e.logs.items worker d in
       let at : slice_get e.logs.items worker ≡ Some log = slice_get-get_or e.logs.items worker d within in
@@ -182,14 +182,14 @@ module _ (setup : Setup) (plans : List (List Request)) (site : Site) (e : Ended)
 
     -- each number of a page is in the stretch of one addition
     pub tiles-are : HavePlaces (coord_view e.coord).opening e.seats.items → (page n : ℕ)
-        → count_by (has_number page n) (all_noted e.logs.items)
+        → count_by (covers page n) (all_noted e.logs.items)
         ≡ cond (nat_le (initial_count setup.pages page) n && nat_lt n (get_or counts page 0)) 1 0
     tiles-are places page n =
         let first : (λ page. get_or (coord_view e.coord).opening.counts page 0) ≡ initial_count setup.pages =
         λ i page. first-same page i in
         let last : last_count (coord_view e.coord).opening e.seats.items ≡ (λ page. get_or counts page 0) =
         λ i page. last-same page i in
-        sym (passing-same (has_number page n))
+        sym (passing-same (covers page n))
         ∙ (subst (λ (f : ℕ → ℕ). AreTiles (initial_count setup.pages) f (seats_passing e.seats.items)) last
         (subst (λ (f : ℕ → ℕ). AreTiles f (last_count (coord_view e.coord).opening e.seats.items)
         (seats_passing e.seats.items)) first places.tiles)).tiled page n

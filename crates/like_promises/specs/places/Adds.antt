@@ -26,7 +26,7 @@ pub record IsOfLikes (workload : Workload) (ran : List Ran) (a : Added) : Type 0
       × (a.at ≡ count_by (λ e. nat_le e.phase a.phase) ran)
 
 -- additions are the likes, in order: one at each like of a page that is not split, one a phase for all of a split page
-pub record AreOfLikes (workload : Workload) (ran : List Ran) (adds : List Added) : Type 0 where
+pub record AddsItsLikes (workload : Workload) (ran : List Ran) (adds : List Added) : Type 0 where
   pub each : All (IsOfLikes workload ran) adds
   pub rising : AllPairs (λ a b. a.at ≤ b.at) adds
   pub plain : (phase page at : ℕ) → is_split_in workload phase page ≡ false

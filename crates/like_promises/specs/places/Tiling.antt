@@ -5,10 +5,10 @@ use Rattle.like_requests.specs.declared.request.Request.{Request}
 use Rattle.like_requests.specs.declared.setup.Setup.{Setup}
 use Rattle.like_core.specs.declared.view.Addition.{Addition}
 use Rattle.like_core.specs.declared.view.PageRead.{PageRead}
-use Rattle.like_core.specs.views.Places.{AreInOrder, ends_at, has_number}
+use Rattle.like_core.specs.views.Places.{AreInOrder, ends_at, covers}
 use Rattle.like_promises.specs.declared.log.Ran.{Ran}
 use Rattle.like_promises.specs.declared.log.WorkerLog.{WorkerLog}
-use Rattle.like_promises.specs.places.Adds.{AreOfLikes, addition_of, adds_before}
+use Rattle.like_promises.specs.places.Adds.{AddsItsLikes, addition_of, adds_before}
 use Rattle.like_promises.specs.Likes.{Between, initial_count}
 use Rattle.like_promises.specs.Looks.{count_in, look_at}
 use Rattle.like_promises.specs.Workload.{Workload}
@@ -44,8 +44,8 @@ IsAtEnd first adds r =
 
 -- places tile: additions are the likes, their stretches tile the counts, and looks show the first or where one ends
 pub record ArePlacesTiled (workload : Workload) (r : Report) : Type 0 where
-  pub likes : All (λ log. AreOfLikes workload log.ran.items log.adds.items) r.logs.items
-  pub tiles : (page n : ℕ) → count_by (has_number page n) (all_noted r.logs.items)
+  pub likes : All (λ log. AddsItsLikes workload log.ran.items log.adds.items) r.logs.items
+  pub tiles : (page n : ℕ) → count_by (covers page n) (all_noted r.logs.items)
       ≡ (if nat_le (initial_count workload.pages page) n && nat_lt n (slice_index r.counts.items page) then 1 else 0)
   pub ends : All (λ log. All (IsAtEnd (initial_count workload.pages) (all_noted r.logs.items))
       (reads_of workload log)) r.logs.items

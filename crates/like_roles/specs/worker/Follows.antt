@@ -20,7 +20,7 @@ use Rattle.like_tables.specs.declared.held.Held.{Held}
 use Rattle.like_promises.specs.declared.log.Added.{Added}
 use Rattle.like_promises.specs.declared.log.Ran.{Ran}
 use Rattle.like_promises.specs.declared.log.Took.{Took}
-use Rattle.like_promises.specs.places.Adds.{IsOfLikes, AreOfLikes, addition_of, is_add_to}
+use Rattle.like_promises.specs.places.Adds.{IsOfLikes, AddsItsLikes, addition_of, is_add_to}
 use Rattle.like_promises.specs.Likes.{last_like, likes_among, likes_within}
 use Rattle.like_roles.specs.worker.Shown.{adds_before_looks, shown_by, shown_in}
 use Rattle.like_promises.specs.Order.{Entry, entry_of, is_due, order}
@@ -162,7 +162,7 @@ pub record IsWorkloadOf (s : Setup) (sizes : List ℕ) (workload : Workload) : T
 -- before each look as its post had made before the read
 pub record AreNoted (workload : Workload) (v : WorkerView) : Type 0 where
   pub additions : v.post.additions ≡ map addition_of v.adds
-  pub adds : AreOfLikes workload v.ran v.adds
+  pub adds : AddsItsLikes workload v.ran v.adds
   pub reads : map (λ r. r.after) v.post.reads ≡ adds_before_looks workload v.adds v.ran
 
 -- what a worker that is gone has done: it ran what it took in run order, and in no phase more out of its stash than
