@@ -26,7 +26,8 @@ pub struct Options<'a> {
     pub users: u32,
     /// How many looks a seat keeps, waiting and found ones together: 1 to [`MAX_ROOM`].
     pub room: u32,
-    /// A page is split from about this many likes of late on: 1 to [`MAX_HOT`]. 0: only marked and proposed pages are.
+    /// About how many likes between two choices make a page hot: 1 to [`MAX_HOT`]. Earlier likes count too, but less.
+    /// 0: only marked and proposed pages are split.
     pub hot: u32,
     /// The pages that are split in every split phase, at most [`MAX_MARKS`], no two alike.
     pub marks: &'a [u32],

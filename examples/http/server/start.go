@@ -12,7 +12,8 @@ import (
 	"likeserver/saved"
 )
 
-// room is how many looks a seat keeps, hot from how many likes of late a page is split, and period how often phases end.
+// room is how many looks a seat keeps, hot about how many likes between two choices make a page hot, and period how
+// often phases end.
 const room, hot, period = 1024, 512, time.Millisecond
 
 // start starts a counter where a moment was, with the pages of the options beside those that it has.
