@@ -1,6 +1,6 @@
 ghost use Rattle.std.specs.Prelude.{◌≡◌, ◌⊎◌, ◌<◌, ◌≤◌, None, Some, length, true, false};
 ghost use Rattle.like_limits.specs.Limits.{max_requests};
-ghost use Rattle.like_queue.specs.Line.{SendsEnd, HasSentEnd, Pushes, next_of};
+ghost use Rattle.like_queue.specs.Line.{SendsEnd, HasSentEnd, Pushes, line_capacity, next_of, one_sent};
 
 use crate::line::Line;
 use crate::refused::{EndRefused, PushRefused};
@@ -46,10 +46,7 @@ impl SendEnd<'_> {
             return Err(PushRefused::Ended(request));
         }
         let number = self.pass.sent() as u32 + 1;
-        if self
-            .pass
-            .push(rt, self.line, Some(Numbered { number, request }))
-        {
+        if self.push_next(rt) {
             Ok(number)
         } else {
             Err(PushRefused::Full(request))
@@ -64,11 +61,35 @@ impl SendEnd<'_> {
         if self.has_ended() {
             return Err(EndRefused::Ended);
         }
-        if self.pass.push(rt, self.line, None) {
+        if self.push_next(rt) {
             Ok(())
         } else {
             Err(EndRefused::Full)
         }
+    }
+
+    /// Pushes the next item of the plan, its end mark after all requests, if the line is not full.
+    pub(crate) fn push_next<R: Wait>(&mut self, rt: &R) -> bool
+        requires { self.old.sent ≤ length self.old.line.plan }
+        ensures sent { result ≡ true → self.new ≡ one_sent self.old }
+        ensures full { result ≡ false → (line_capacity ≤ self.old.sent) × (self.new ≡ self.old) }
+    {
+        let item = match self.next() {
+            Some(request) => Some(Numbered {
+                number: self.pass.sent() as u32 + 1,
+                request,
+            }),
+            None => None,
+        };
+        self.pass.push(rt, self.line, item)
+    }
+
+    /// How many requests its plan has.
+    pub(crate) fn requests(&self) -> u32
+        ensures { result ≡ length self.now.line.plan }
+    {
+        let line = self.line;
+        line.plan.len() as u32
     }
 
     /// Waits after the line was full, until a batch of items is taken or a millisecond has passed. It may return early.

@@ -10,8 +10,6 @@ use Rattle.std.specs.Option.{option_map_or}
 use Rattle.like_requests.specs.Verdict.{is_accepted}
 use Rattle.like_requests.specs.declared.request.Numbered.{Numbered}
 use Rattle.like_requests.specs.declared.request.Request.{Request}
-use Rattle.like_requests.specs.declared.verdict.Verdict.{Verdict}
-use Rattle.like_requests.specs.declared.verdict.Verdict.TheVariants.{Accepted}
 use Rattle.like_requests.specs.Setup.{IsThere}
 use Rattle.like_core.specs.Phase.{IsSplit, is_marked}
 use Rattle.like_core.specs.PhaseMasks.{mask_of}
@@ -25,7 +23,9 @@ use Rattle.like_seat.specs.Steps.{holding, without_first}
 use Rattle.like_roles.specs.declared.worker.desk.Desk.{Desk}
 use Rattle.like_roles.specs.worker.WorkerView.{is_look_at_sliced}
 use Rattle.like_promises.specs.Looks.{page_looked_at}
-use Rattle.like_roles.specs.worker.Desk.{CanServe, HasRoom, HasRoomForOne, HasSubmitters, IsJudged, IsOwn, IsSettled, IsSound, view_of}
+use Rattle.like_roles.specs.declared.worker.desk.judged.Judged.{Judged}
+use Rattle.like_roles.specs.worker.Judged.{IsJudged}
+use Rattle.like_roles.specs.worker.Desk.{CanServe, HasRoom, HasRoomForOne, HasSubmitters, IsOwn, IsSettled, IsSound, view_of}
 use Rattle.like_roles.specs.worker.Turns.{trying}
 
 -- a list whose first element is known
@@ -47,7 +47,6 @@ pub AreOwn-moved : (s t : StationView Held) (hs : List Held)
 AreOwn-moved s t hs share marks own = λ i y k. let o = own i y k in record {
   served = rw share o.served;
   there = rw marks o.there;
-  judged = rw share o.judged;
 }
 
 -- a worker stays settled where its seat made a step in the same share and at the same board, it holds only what it may,
@@ -227,26 +226,25 @@ pub IsOwn-taken : (s : StationView Held) (place submitter : ℕ) (ask : Numbered
     → s.last.share.worker < s.last.share.workers
     → submitter ≡ submitter_of s.last.share.workers s.last.share.worker place
     → IsThere (pages_of s.post) ask.request.page
-    → IsJudged s.last.share (record { submitter = submitter; ask = ask }) Accepted
     → IsOwn s (record { submitter = submitter; ask = ask })
-IsOwn-taken s place submitter ask is_worker at there judged =
+IsOwn-taken s place submitter ask is_worker at there =
     let t = s.last.share in
     record {
       served = ap (λ y. y % t.workers) at ∙ place-served t.worker t.workers place is_worker;
       there = there;
-      judged = judged;
     }
 
 -- and may be answered now, where it need not wait
-pub CanServe-taken : (s : StationView Held) (d : Desk) (place : ℕ) (h : Held) (verdict : Verdict) (waits : Bool)
+pub CanServe-taken : (s : StationView Held) (d : Desk) (place : ℕ) (h : Held) (j : Judged) (waits : Bool)
     → s.last.share.worker < s.last.share.workers
     → h.submitter ≡ submitter_of s.last.share.workers s.last.share.worker place
     → IsThere (pages_of s.post) h.ask.request.page
-    → IsJudged s.last.share h verdict → IsRunning s.post.state
+    → IsJudged s.last.share h j
+    → IsRunning s.post.state
     → waits ≡ is_look_at_sliced s.last.share.users s.last.share.submitters (slices s.post) h.submitter h.ask.request
     → waits ≡ false
-    → CanServe s d h verdict
-CanServe-taken s d place h verdict waits is_worker at there judged run is prompt =
+    → CanServe s d h j
+CanServe-taken s d place h j waits is_worker at there judged run is prompt =
     let t = s.last.share in
     record {
       running = run;

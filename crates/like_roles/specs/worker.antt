@@ -6,5 +6,6 @@ pub mod Merges
 pub mod Turns
 pub mod Places
 pub mod New
+pub mod Judged
 pub mod Desk
 pub mod Follows

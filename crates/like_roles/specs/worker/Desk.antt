@@ -1,9 +1,6 @@
 -- What a worker keeps, beside its seat.
-use Rattle.std.specs.Prelude.{◌≡◌, ◌↔◌, IsTrue, ℕ, ◌+◌, ◌<◌, ◌≤◌, Bool, true, false, List, [], length, sum, All, Some, None, is_some, replicate, vec_len, vec_capacity, if◌then◌else◌}
-use Rattle.like_requests.specs.Verdict.{is_accepted, verdict_of}
+use Rattle.std.specs.Prelude.{◌≡◌, ℕ, ◌+◌, ◌<◌, ◌≤◌, Bool, true, false, List, [], length, sum, All, Some, None, is_some, replicate, vec_len, vec_capacity, if◌then◌else◌}
 use Rattle.like_requests.specs.declared.setup.Setup.{Setup}
-use Rattle.like_requests.specs.declared.verdict.Verdict.{Verdict}
-use Rattle.like_requests.specs.declared.verdict.Verdict.TheVariants.{Accepted}
 use Rattle.like_requests.specs.Setup.{IsThere}
 use Rattle.like_core.specs.OpeningLimits.{run_limits}
 use Rattle.like_core.specs.Phase.{IsJoined, IsSplit}
@@ -15,6 +12,8 @@ use Rattle.like_tables.specs.Share.{Share, dealt, submitter_of, worker_of}
 use Rattle.like_seat.specs.StationView.{IsStation, StationView, likes_of, phase_at}
 use Rattle.like_roles.specs.declared.turn.Turn.{Turn}
 use Rattle.like_roles.specs.declared.worker.desk.Desk.{Desk}
+use Rattle.like_roles.specs.declared.worker.desk.judged.Judged.{Judged}
+use Rattle.like_roles.specs.worker.Judged.{IsJudged}
 use Rattle.like_roles.specs.worker.Turns.{Works}
 use Rattle.like_roles.specs.worker.WorkerView.{WorkerView, has_to_wait}
 
@@ -36,17 +35,10 @@ view_of s d = record {
   adds = d.adds.items;
 }
 
--- the verdict is that on the request
-pub record IsJudged (s : Share) (h : Held) (verdict : Verdict) : Type 0 where
-  pub is : verdict ≡ verdict_of s.users s.submitters h.submitter h.ask.request
-  pub accepted : (verdict ≡ Accepted)
-      ↔ IsTrue (is_accepted s.users s.submitters h.submitter h.ask.request)
-
--- a request that the worker may hold: of one of its submitters, of a page that is there, and accepted
+-- a request that the worker may hold: of one of its submitters, and of a page that is there
 pub record IsOwn (s : StationView Held) (h : Held) : Type 0 where
   pub served : worker_of s.last.share.workers h.submitter ≡ s.last.share.worker
   pub there : IsThere (pages_of s.post) h.ask.request.page
-  pub judged : IsJudged s.last.share h Accepted
 
 -- the submitter at a place is tried: it has not ended, and there is room for a look that waits
 pub record IsTried (s : StationView Held) (d : Desk) (place : ℕ) : Type 0 where
@@ -103,12 +95,12 @@ pub record IsSettled (s : StationView Held) (d : Desk) : Type 0 where
 abbrev pub WorksAt : StationView Held → Desk → Bool → Turn → StationView Held → Desk → Type 0
 WorksAt s d ending answer t e = Works (view_of s d) ending answer (view_of t e)
 
--- a request of the worker, with its verdict, that may be answered now
-pub record CanServe (s : StationView Held) (d : Desk) (h : Held) (verdict : Verdict) : Type 0 where
+-- a judged request of the worker that may be answered now
+pub record CanServe (s : StationView Held) (d : Desk) (h : Held) (j : Judged) : Type 0 where
   pub running : IsRunning s.post.state
   pub served : worker_of s.last.share.workers h.submitter ≡ s.last.share.worker
   pub there : IsThere (pages_of s.post) h.ask.request.page
-  pub judged : IsJudged s.last.share h verdict
+  pub judged : IsJudged s.last.share h j
   pub prompt : has_to_wait (view_of s d) h.submitter h.ask.request ≡ false
 
 -- what a worker keeps at first; it has room for additions only if it notes them

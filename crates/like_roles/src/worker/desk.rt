@@ -3,6 +3,7 @@ ghost use Rattle.like_core.specs.OpeningLimits.{run_limits};
 ghost use Rattle.like_seat.specs.StationView.{phase_at};
 
 mod additions;
+mod judged;
 mod new_desk;
 mod request;
 mod taken;

@@ -1,38 +1,17 @@
-ghost use Rattle.std.specs.Prelude.{◌≡◌, ◌<◌, true, IsTrue};
-ghost use Rattle.like_core.specs.Post.{pages_of, slices};
+ghost use Rattle.std.specs.Prelude.{◌<◌, IsTrue};
+ghost use Rattle.like_core.specs.Post.{pages_of};
 ghost use Rattle.like_core.specs.WorkerState.{IsRunning};
-ghost use Rattle.like_requests.specs.Setup.{IsThere};
 ghost use Rattle.like_tables.specs.Share.{owns};
-ghost use Rattle.like_roles.specs.worker.Desk.{view_of, CanServe, HasRoomForOne, HasRoomToNote, IsJudged, IsSettled};
-ghost use Rattle.like_roles.specs.worker.WorkerView.{is_look_at_sliced};
+ghost use Rattle.like_roles.specs.worker.Desk.{view_of, CanServe, HasRoomForOne, HasRoomToNote, IsSettled};
 ghost use Rattle.like_roles.specs.worker.Serve.{Likes, Runs, GivesReply};
 
+use crate::worker::desk::judged::Judged;
 use crate::worker::desk::{Desk, phase_of_run};
 use like_core::Post;
 use like_promises::{Ran, Reply};
-use like_requests::{Gate, Op, PageRef, Verdict};
+use like_requests::Gate;
 use like_seat::Station;
 use like_tables::Held;
-
-// Whether a request with this verdict has to wait for the next joined phase: an accepted look at a page that is split in
-// the phase that the worker runs.
-pub(crate) fn waits<P: Post>(seat: &Station<P, Held>, held: &Held, verdict: Verdict) -> bool
-    requires running { IsRunning seat.now.post.state }
-    requires judged { IsJudged seat.now.last.share held.now verdict }
-    requires there { IsThere (pages_of seat.now.post) held.now.ask.request.page }
-    ensures waits { let share = seat.now.last.share in
-        result ≡ is_look_at_sliced share.users share.submitters (slices seat.now.post)
-        held.now.submitter held.now.ask.request }
-    ensures accepted { result ≡ true → verdict ≡ Verdict.Accepted }
-{
-    if verdict != Verdict::Accepted {
-        return false;
-    }
-    match (held.ask.request.op, held.ask.request.page) {
-        (Op::Look, PageRef::Known(page)) => seat.is_sliced(page),
-        _ => false,
-    }
-}
 
 impl Desk {
     // Counts an accepted like of a page, which is then the user's last, and notes its addition, if it makes one.
@@ -52,62 +31,50 @@ impl Desk {
         }
     }
 
-    // Answers a request with this verdict.
-    fn serve<P: Post>(
-        &mut self,
-        seat: &mut Station<P, Held>,
-        held: &Held,
-        verdict: Verdict,
-    ) -> Reply
+    // Answers a judged request.
+    fn serve<P: Post>(&mut self, seat: &mut Station<P, Held>, held: &Held, judged: Judged) -> Reply
         requires settled { IsSettled seat.old self.old }
         requires room { HasRoomForOne seat.old self.old }
-        requires can { CanServe seat.old self.old held.now verdict }
+        requires can { CanServe seat.old self.old held.now judged }
         ensures settled { IsSettled seat.new self.new }
         ensures room { HasRoomToNote seat.new self.new }
         ensures serves { let v = view_of seat.old self.old in let h = held.now in
             GivesReply v h.submitter h.ask.request result (view_of seat.new self.new) }
     {
-        match verdict {
-            Verdict::Accepted => {}
-            refused => return Reply::Refused(refused),
-        }
-        let request = &held.ask.request;
-        let PageRef::Known(page) = request.page else {
-            unreachable!();
-        };
-        match request.op {
-            Op::Like => {
-                self.like(seat, request.user, page);
+        match judged {
+            Judged::Like { user, page } => {
+                self.like(seat, user, page);
                 Reply::Liked
             }
-            Op::Look => {
-                let seen = seat.read_for(request.user, page);
+            Judged::Look { user, page } => {
+                let seen = seat.read_for(user, page);
                 Reply::Seen {
                     last: seen.last,
                     count: seen.count,
                 }
             }
+            Judged::Refused(verdict) => Reply::Refused(verdict),
         }
     }
 
-    // Runs a request with this verdict, and notes it.
+    // Runs a judged request, and notes it.
     pub fn run<P: Post, G: Gate>(
         &mut self,
         seat: &mut Station<P, Held>,
         gate: &G,
         held: Held,
-        verdict: Verdict,
+        judged: Judged,
         stashed: bool,
     )
         requires settled { IsSettled seat.old self.old }
         requires room { HasRoomForOne seat.old self.old }
-        requires can { CanServe seat.old self.old held verdict }
+        requires can { CanServe seat.old self.old held judged }
         ensures settled { IsSettled seat.new self.new }
         ensures ran { let v = view_of seat.old self.old in
             Runs v held stashed (view_of seat.new self.new) }
     {
         gate.run(seat.users().worker(), held.submitter, held.ask.number);
-        let reply = self.serve(seat, &held, verdict);
+        let reply = self.serve(seat, &held, judged);
         self.ran.push_reserved(Ran {
             phase: phase_of_run(seat),
             submitter: held.submitter,

@@ -3,7 +3,7 @@ ghost use Rattle.like_roles.specs.worker.Desk.{view_of, IsSound, IsTried};
 ghost use Rattle.like_roles.specs.worker.Turns.{CanGive, Gives, IsNext, TakesAsk};
 
 use crate::turn::Turn;
-use crate::worker::desk::request::waits;
+use crate::worker::desk::judged::Judged;
 use crate::worker::desk::{Desk, phase_of_run};
 use like_core::Post;
 use like_promises::Took;
@@ -61,14 +61,14 @@ impl Desk {
             submitter: seat.users().submitter_at(place),
             ask,
         };
-        let verdict = seat.users().judge(held.submitter, &ask.request);
-        let waits = waits(seat, &held, verdict);
+        let judged = Judged::of(seat.users(), &held);
+        let waits = judged.waits(seat, &held);
         self.note_taken(phase_of_run(seat), place, held);
         if waits {
             seat.put_by(held);
             return Turn::Stashed;
         }
-        self.run(seat, gate, held, verdict, false);
+        self.run(seat, gate, held, judged, false);
         Turn::Ran
     }
 

@@ -7,10 +7,11 @@ ghost use Rattle.like_roles.specs.worker.Desk.{view_of, HasSubmitters, IsSettled
 ghost use Rattle.like_roles.specs.worker.Turns.{Turns};
 
 use crate::turn::Turn;
+use crate::worker::desk::judged::Judged;
 use crate::worker::desk::{Desk, phase_of_run};
 use crate::worker::places::next_place;
 use like_core::{Post, Sight};
-use like_requests::{Gate, Verdict};
+use like_requests::Gate;
 use like_seat::Station;
 use like_tables::Held;
 
@@ -68,7 +69,8 @@ impl Desk {
         ensures works { WorksAt seat.old self.old ending result seat.new self.new }
     {
         if let Some(first) = seat.next_held() {
-            self.run(seat, gate, first, Verdict::Accepted, true);
+            let judged = Judged::of(seat.users(), &first);
+            self.run(seat, gate, first, judged, true);
             return Turn::Ran;
         }
         let Some(place) = next_place(&self.ended, self.cursor) else {

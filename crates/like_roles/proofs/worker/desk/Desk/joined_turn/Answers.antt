@@ -1,7 +1,9 @@
 use Rattle.std.proofs.Common.{◌≡◌, true, drop, refl, ap, rules, sym, ◌∙◌, subst}
+use Rattle.like_tables.specs.UserTable.{UserTable}
 use Rattle.like_tables.specs.declared.held.Held.{Held}
 use Rattle.like_seat.specs.StationView.{StationView}
 use Rattle.like_roles.specs.worker.Desk.{view_of}
+use Rattle.like_roles.specs.worker.Judged.{IsJudged}
 use Rattle.like_roles.specs.worker.Serve.{Runs}
 use Rattle.like_roles.specs.worker.Turns.{runs_held, tries_joined}
 use Rattle.like_roles.specs.worker.WorkerView.{IsNextPlace}
@@ -48,6 +50,6 @@ run-requires-clause-can g c κs within =
       running = search rules;
       served = own.served;
       there = own.there;
-      judged = own.judged;
+      judged = subst (λ (t : UserTable). IsJudged t.share c.in-Some.first c.of-judged.result) c.users.ensures c.of-judged.ensures;
       prompt = search rules;
     }
