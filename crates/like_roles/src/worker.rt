@@ -1,4 +1,4 @@
-ghost use Rattle.std.specs.Prelude.{◌≡◌, ◌<◌, true, IfOk, IfErr, IsSome, None, length};
+ghost use Rattle.std.specs.Prelude.{◌≡◌, ◌<◌, true, IfOk, IfErr, IsSome, None, Some, length};
 ghost use Rattle.like_core.specs.declared.worker_state.WorkerState.TheVariants.{Gone};
 ghost use Rattle.like_core.specs.PhaseMasks.{AreMasksOf};
 ghost use Rattle.like_requests.specs.Pages.{ArePages, marks_of};
@@ -155,6 +155,14 @@ impl<P: Post> Worker<P> {
         ensures slice { IsSliceInSplit self.new.post self.new.slice }
     {
         self.desk.turn(&mut self.seat, gate)
+    }
+
+    /// After `Try`, the place of the submitter that it tries.
+    pub fn tried(&self) -> usize
+        requires { IsSome self.now.pending }
+        ensures { self.now.pending ≡ Some result }
+    {
+        self.desk.tried()
     }
 
     /// Completes a turn that answered `Try`, by what was taken from that submitter.

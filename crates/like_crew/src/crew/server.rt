@@ -88,8 +88,8 @@ impl<P: Post, I: Inbox> Server<P, I> {
         ensures retired { result ≡ Turn.Retired → self.new.worker.post.state ≡ Gone }
     {
         match self.worker.turn(gate) {
-            Turn::Try { submitter } => {
-                let place = (submitter / self.workers) as usize;
+            Turn::Try { .. } => {
+                let place = self.worker.tried();
                 let taken = self.inboxes[place].take_with(rt);
                 self.worker.give(gate, taken)
             }

@@ -1,4 +1,4 @@
-ghost use Rattle.std.specs.Prelude.{◌≡◌, ◌<◌, ◌≤◌, ◌+◌, ◌-◌, [], ◌∷◌, ◌++◌, length, slice_index, slice_set, vec_len, vec_capacity, None, IsSome};
+ghost use Rattle.std.specs.Prelude.{◌≡◌, ◌<◌, ◌≤◌, ◌+◌, ◌-◌, [], ◌∷◌, ◌++◌, length, slice_index, slice_set, vec_len, vec_capacity, None, Some, IsSome};
 ghost use Rattle.like_roles.specs.worker.Desk.{view_of, IsSound, IsTried};
 ghost use Rattle.like_roles.specs.worker.Turns.{CanGive, Gives, IsNext, TakesAsk};
 
@@ -27,9 +27,7 @@ impl Desk {
         ensures case { let v = view_of seat.old self.old in
             Gives v taken result (view_of seat.new self.new) }
     {
-        let Some(place) = self.pending else {
-            unreachable!();
-        };
+        let place = self.tried();
         self.pending = None;
         match taken {
             Taken::Nothing => Turn::Nothing,
@@ -38,6 +36,17 @@ impl Desk {
                 Turn::TookEnd
             }
             Taken::Ask(ask) => self.take(seat, gate, place, ask),
+        }
+    }
+
+    /// The place of the submitter that is tried.
+    pub fn tried(&self) -> usize
+        requires { IsSome self.now.pending }
+        ensures { self.now.pending ≡ Some result }
+    {
+        match self.pending {
+            Some(place) => place,
+            None => unreachable!(),
         }
     }
 

@@ -1,5 +1,5 @@
 use Rattle.std.proofs.Common.{◌≡◌, ℕ, ◌/◌, ◌<◌, List, length, get_or, map, option_map, set, slice_get, Some, refl, sym, ap, ◌∙◌, subst, arith}
-use Rattle.std.proofs.lemmas.Option.{slice_get-map, slice_get_read}
+use Rattle.std.proofs.lemmas.Option.{same_Some, slice_get-map, slice_get_read}
 use Rattle.std.proofs.Math.Seq.{map-set_same}
 use Rattle.like_requests.specs.declared.request.Taken.{Taken}
 use Rattle.like_queue.specs.Inbox.{HandsOver, InboxView}
@@ -17,19 +17,17 @@ use Rattle.like_crew.proofs.servers.Sights.{turns-tries}
 use Rattle.std.proofs.lemmas.List.{length-map, length-set, map-set}
 use Rattle.like_crew.proofs.crew.server.Server.turn.Goals as goal
 
--- the submitter that is tried has its inbox at the place that the code reads
-inbox-at : {J : Type 0} (view : J → InboxView) (v : WorkerView) (inboxes : List J) (submitter workers place : ℕ) (i : J)
+-- the submitter that is tried has its inbox at the place that the worker tells
+inbox-at : {J : Type 0} (view : J → InboxView) (v : WorkerView) (inboxes : List J) (place tried : ℕ) (i : J)
     → Agree v (map view inboxes)
-    → workers ≡ v.last.share.workers
-    → submitter_at v place ≡ submitter
+    → v.pending ≡ Some place
+    → v.pending ≡ Some tried
     → place < length v.ended
-    → i ≡ get_or inboxes (submitter / workers) i
-    → (submitter / workers ≡ place) × (slice_get (map view inboxes) place ≡ Some (view i))
-inbox-at view v inboxes submitter workers place i a same it there value =
-    let at : submitter / workers ≡ place =
-    ap (λ s. s / workers) (sym it) ∙ ap (λ n. submitter_at v place / n) same
-    ∙ place-own v.last.share a.is_worker place in
-    let found = slice_get_read inboxes (length inboxes) (submitter / workers) i refl
+    → i ≡ get_or inboxes tried i
+    → (tried ≡ place) × (slice_get (map view inboxes) place ≡ Some (view i))
+inbox-at view v inboxes place tried i a pends told there value =
+    let at : tried ≡ place = same_Some _ _ (sym told ∙ pends) in
+    let found = slice_get_read inboxes (length inboxes) tried i refl
     (omega (arith, at, there, a.places, length-map inboxes view)) value in
     (at, slice_get-map view inboxes place ∙ ap (option_map view) (ap (slice_get inboxes) (sym at) ∙ found))
 
@@ -42,10 +40,8 @@ give-requires-clause-next g c κs within =
     agree-turn c.self.inside.worker v inboxes c.turn.result c.turn.ensures.case c.turn.ensures.takes
     c.self.invariant.2 in
     let p = c.in-Try.ensures.pending in
-    let same : c.self.inside.workers ≡ v.last.share.workers =
-    c.self.invariant.1 ∙ sym (ap (λ (s : Share). s.workers) c.turn.ensures.takes.share) in
-    let here = inbox-at view v c.self.inside.inboxes.items c.in-Try.submitter c.self.inside.workers p.0
-    c.index_mut.result.now a same p.1.1 p.1.2 c.index_mut.ensures.value in
+    let here = inbox-at view v c.self.inside.inboxes.items p.0 c.tried-place.result c.index_mut.result.now a p.1.0
+    c.tried-place.ensures p.1.2 c.index_mut.ensures.value in
     can-give v inboxes p.0 (view c.index_mut.result.now)
     (view c.take_with-taken.new.self) a p.1.0 here.1 p.1.3 c.take_with-taken.result c.take_with-taken.ensures.handed
 
@@ -59,17 +55,15 @@ invariant_of-self g c =
     agree-turn c.self.inside.worker v inboxes c.turn.result c.turn.ensures.case c.turn.ensures.takes
     c.self.invariant.2 in
     let p = c.in-Try.ensures.pending in
-    let same : c.self.inside.workers ≡ v.last.share.workers =
-    c.self.invariant.1 ∙ sym (ap (λ (s : Share). s.workers) c.turn.ensures.takes.share) in
-    let here = inbox-at view v c.self.inside.inboxes.items c.in-Try.submitter c.self.inside.workers p.0
-    c.index_mut.result.now a same p.1.1 p.1.2 c.index_mut.ensures.value in
+    let here = inbox-at view v c.self.inside.inboxes.items p.0 c.tried-place.result c.index_mut.result.now a p.1.0
+    c.tried-place.ensures p.1.2 c.index_mut.ensures.value in
     let looked = turns-tries c.self.inside.worker c.turn.result v c.in-Try.submitter c.turn.ensures.case c.in-Try.is in
     let share = share-given v w p.0 c.take_with-taken.result p.1.0 c.give.ensures.takes in (
       c.give.ensures.settled,
-      same ∙ sym (ap (λ (s : Share). s.workers) share),
+      c.self.invariant.1 ∙ sym (ap (λ (s : Share). s.workers) (share ∙ c.turn.ensures.takes.share)),
       subst (Agree w)
           (sym (map-set view c.self.inside.inboxes.items
-          (c.in-Try.submitter / c.self.inside.workers) c.take_with-taken.new.self))
+          c.tried-place.result c.take_with-taken.new.self))
           (subst (λ q. Agree w (set inboxes q (view c.take_with-taken.new.self))) (sym here.0)
           (agree-give v inboxes p.0 (view c.index_mut.result.now)
           (view c.take_with-taken.new.self) a p.1.0 here.1 p.1.3 w looked c.give.result c.take_with-taken.result
@@ -85,13 +79,24 @@ invariant_of-self-in_default g c = (
       c.self.invariant.2,
 )
 
--- a whole turn that tries a submitter
+-- the place that is tried is that of the submitter's inbox
+place-tried : (u v : WorkerView) (place tried submitter : ℕ)
+    → tried ≡ place
+    → submitter_at v place ≡ submitter
+    → v.last.share.worker < v.last.share.workers
+    → v.last.share ≡ u.last.share
+    → tried ≡ submitter / u.last.share.workers
+place-tried u v place tried submitter at is own same =
+    at ∙ sym (place-own v.last.share own place) ∙ ap (λ s. s / v.last.share.workers) is
+    ∙ ap (λ (t : Share). submitter / t.workers) same
+
+-- a whole turn that tries a submitter, whose inbox is at this place
 turns-tried : {J : Type 0} (view : J → InboxView) (opened : J → ℕ) (u v w : WorkerView) (lists : List J)
-    (workers submitter : ℕ) (i j : J) (took : Taken) (answer : Turn)
-    → workers ≡ u.last.share.workers
+    (place submitter : ℕ) (i j : J) (took : Taken) (answer : Turn)
+    → place ≡ submitter / u.last.share.workers
     → Turns u (Try submitter) v
-    → slice_get (map view lists) (submitter / workers) ≡ Some (view i)
-    → i ≡ get_or lists (submitter / workers) i
+    → slice_get (map view lists) place ≡ Some (view i)
+    → i ≡ get_or lists place i
     → HandsOver (view i) took (view j)
     → opened j ≡ opened i
     → Gives v took answer w
@@ -99,14 +104,12 @@ turns-tried : {J : Type 0} (view : J → InboxView) (opened : J → ℕ) (u v w 
     (record {
       worker =
           w;
-      inboxes = map view (set lists (submitter / workers) j);
+      inboxes = map view (set lists place j);
       opened =
-          map opened (set lists (submitter / workers) j);
+          map opened (set lists place j);
     })
-turns-tried view opened u v w lists workers submitter i j took answer same turns here is hands opens gives =
+turns-tried view opened u v w lists place submitter i j took answer at turns here is hands opens gives =
     let before : ServerView = record { worker = u; inboxes = map view lists; opened = map opened lists } in
-    let place : ℕ = submitter / workers in
-    let at : place ≡ place_at before submitter = ap (λ n. submitter / n) same in
     let inboxes : map view (set lists place j) ≡ set (map view lists) (place_at before submitter) (view j) =
     map-set view lists place j ∙ ap (λ p. set (map view lists) p (view j)) at in
     let all : map opened (set lists place j) ≡ map opened lists =
@@ -121,14 +124,12 @@ returns-in-Try-clause-case g c =
     let w : WorkerView = c.give.new.self in
     let view = g.I.Inbox.view in
     let lists = c.self.inside.inboxes.items in
-    let place : ℕ = c.in-Try.submitter / c.self.inside.workers in
+    let place = c.tried-place.result in
     let a : Agree v (map view lists) =
     agree-turn u v (map view lists) c.turn.result c.turn.ensures.case c.turn.ensures.takes c.self.invariant.2 in
     let p = c.in-Try.ensures.pending in
-    let same : c.self.inside.workers ≡ v.last.share.workers =
-    c.self.invariant.1 ∙ sym (ap (λ (s : Share). s.workers) c.turn.ensures.takes.share) in
-    let here = inbox-at view v lists c.in-Try.submitter c.self.inside.workers p.0 c.index_mut.result.now a same p.1.1
-    p.1.2 c.index_mut.ensures.value in
+    let here = inbox-at view v lists p.0 c.tried-place.result c.index_mut.result.now a p.1.0 c.tried-place.ensures p.1.2
+    c.index_mut.ensures.value in
     let after : ServerView =
     record {
       worker =
@@ -138,8 +139,9 @@ returns-in-Try-clause-case g c =
           map g.I.Inbox.opened (set lists place c.take_with-taken.new.self);
     } in
     subst (λ s. ServerTurns c.give.result s after) c.self.view_is
-    (turns-tried view g.I.Inbox.opened u v w lists c.self.inside.workers c.in-Try.submitter c.index_mut.result.now
-    c.take_with-taken.new.self c.take_with-taken.result c.give.result c.self.invariant.1
+    (turns-tried view g.I.Inbox.opened u v w lists place c.in-Try.submitter c.index_mut.result.now
+    c.take_with-taken.new.self c.take_with-taken.result c.give.result
+    (place-tried u v p.0 place c.in-Try.submitter here.0 p.1.1 a.is_worker c.turn.ensures.takes.share)
     (subst (λ answer. Turns u answer v) c.in-Try.is c.turn.ensures.case)
     (ap (slice_get (map view lists)) here.0 ∙ here.1) c.index_mut.ensures.value c.take_with-taken.ensures.handed
     c.take_with-taken.ensures.opened c.give.ensures.case)
@@ -160,14 +162,12 @@ returns-in-Try-clause-goes_on g c =
     let w : WorkerView = c.give.new.self in
     let view = g.I.Inbox.view in
     let inboxes : List InboxView = map view c.self.inside.inboxes.items in
-    let place : ℕ = c.in-Try.submitter / c.self.inside.workers in
+    let place : ℕ = c.tried-place.result in
     let a : Agree v inboxes =
     agree-turn u v inboxes c.turn.result c.turn.ensures.case c.turn.ensures.takes c.self.invariant.2 in
     let p = c.in-Try.ensures.pending in
-    let same : c.self.inside.workers ≡ v.last.share.workers =
-    c.self.invariant.1 ∙ sym (ap (λ (s : Share). s.workers) c.turn.ensures.takes.share) in
-    let here = inbox-at view v c.self.inside.inboxes.items c.in-Try.submitter c.self.inside.workers p.0
-    c.index_mut.result.now a same p.1.1 p.1.2 c.index_mut.ensures.value in
+    let here = inbox-at view v c.self.inside.inboxes.items p.0 c.tried-place.result c.index_mut.result.now a p.1.0
+    c.tried-place.ensures p.1.2 c.index_mut.ensures.value in
     let whose_is : whose w ≡ whose u =
     gives-whose v c.take_with-taken.result c.give.result w c.give.ensures.case
     ∙ turns-whose u c.turn.result v c.turn.ensures.case in

@@ -1,4 +1,5 @@
 use Rattle.std.proofs.Common.{refl, ap, sym, subst, ◌∙◌}
+use Rattle.like_core.specs.Post.{has_read}
 use Rattle.like_seat.specs.StationView.{StationView}
 use Rattle.like_tables.specs.UserTable.{last_of}
 use Rattle.like_tables.specs.declared.held.Held.{Held}
@@ -27,7 +28,9 @@ pub returns-in-Look-clause-serves : goal.returns-in-Look-clause-serves
 returns-in-Look-clause-serves g c =
     let is = subst (IsJudged c.args.seat.now.last.share c.args.held.now) c.in-Look.is c.requires.can.judged in
     let reads = c.read_for-seen.ensures.reads in
+    let s = c.args.seat.now in
+    let after = record s { post = has_read s.post c.in-Look.page c.read_for-seen.result.count } in
     let last = reads.last ∙ ap (last_of c.args.seat.now.last) (sym (ap (λ (r : Request). r.user) is.1)) in
     looks c.in-Look.page c.read_for-seen.result.count is.0 (ap (λ (r : Request). r.op) is.1)
     (ap (λ (r : Request). r.page) is.1) (ap (λ x. Seen x c.read_for-seen.result.count) last) reads.own
-    (ap (λ (s : StationView Held). view_of s c.args.self.now) reads.read)
+    (ap (λ (s : StationView Held). view_of s c.args.self.now) {y = after} reads.read)
