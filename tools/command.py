@@ -39,7 +39,7 @@ def version():
         with open(VERSION, encoding="ascii") as file:
             return file.read().strip()
     except OSError:
-        return "of the repository, and of no release"
+        return "of the repository, not of a release"
 
 
 def options(text):
