@@ -1,4 +1,4 @@
-"""What the pictures of bench/ share: the systems' colours and names, and words in a picture."""
+"""What the pictures of bench/ share: the systems' colours and names, and text."""
 
 COLOURS = {
     "atomic": "#a6a6a6",

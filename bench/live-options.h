@@ -1,4 +1,4 @@
-/* What bench/live.c is asked for, by words as `--pages 1000 --threads '1 2 4'`. */
+/* The options of bench/live.c, such as `--pages 1000 --threads '1 2 4'`. */
 #ifndef LIVE_OPTIONS_H
 #define LIVE_OPTIONS_H
 
@@ -50,7 +50,7 @@ static list words_in(const char *text) {
     return made;
 }
 
-/* Takes an option with a value. Whether there is such a one. */
+/* Takes an option with a value, and returns whether there is one of this name. */
 static bool takes(options *to, const char *name, const char *value) {
     if (strcmp(name, "--pages") == 0)
         to->pages = (uint32_t)number_in(value, 1, MOST_PAGES, "how many pages? 1 to 1000000");
@@ -77,7 +77,7 @@ static bool takes(options *to, const char *name, const char *value) {
     return true;
 }
 
-/* Reads the options. Those that are left out are as in docs/PERFORMANCE.md. */
+/* Reads the options. The defaults are those of docs/PERFORMANCE.md. */
 static options options_in(int count, char **words, const char *kinds) {
     options made = {.pages = 1000, .users = 1000000, .times = 5, .milliseconds = 200};
     made.threads = words_in("1 2 4");
@@ -90,7 +90,7 @@ static options options_in(int count, char **words, const char *kinds) {
         else if (strcmp(words[at], "--scattered") == 0)
             made.is_scattered = true;
         else if (at + 1 == count || !takes(&made, words[at], words[at + 1]))
-            fail("no such option, or one without a value: see bench/live --help");
+            fail("an unknown option, or one without a value: see bench/live --help");
         else
             at++;
     }

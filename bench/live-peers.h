@@ -1,5 +1,5 @@
-/* What bench/live.c measures the live core beside: plain ways to count likes, with a table of last likes. Each goes
- * through rows of requests as the live core does. */
+/* The plain ways to count likes that bench/live.c compares the live core with, each with a table of last likes. Each
+ * runs rows of requests as the live core does. */
 #ifndef LIVE_PEERS_H
 #define LIVE_PEERS_H
 

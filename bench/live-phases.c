@@ -1,8 +1,8 @@
-/* Measures what it costs to open a service and to change its phases. bench/live-phases builds and runs it, and says
+/* Measures the cost of opening a service and of changing its phases. bench/live-phases builds and runs it, and says
  * what it measures.
  *
- * It stands in for malloc and its kin, to count the memory that is taken, by way of the names under which the GNU C
- * library has them too. */
+ * It replaces malloc and its kin to count the memory in use, and calls those of the GNU C library by their other names.
+ */
 #include <likes_helpers.h>
 
 #include <errno.h>

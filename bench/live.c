@@ -4,12 +4,12 @@
  * usage: live [OPTION...]
  *        live rows SYSTEM EXPONENT LOOKS ROWS
  *
- * bench/live tells the options. Every thread has users of its own, with a table of their last likes, and goes through a
- * ring of requests that were drawn beforehand. The systems take turns. After each measurement the pages' counts have to
- * be exact. In one measurement more, five times as long, each look that waits is timed.
+ * bench/live explains the options. Every thread has its own users, with a table of their last likes, and cycles through
+ * a ring of requests drawn beforehand. The systems take turns. After each measurement the pages' counts must be exact.
+ * In one more measurement, five times as long, each look that waits is timed.
  *
- * In the second form, the first of four threads goes through so many rows by itself, in `counted_rows`, so that a tool
- * can count what they cost. A live service is then in a split phase, and no page's count is compared. */
+ * In the second form, the first of four threads runs ROWS rows by itself, in `counted_rows`, so that a tool can count
+ * what they cost. A live service is then in a split phase, and counts aren't compared. */
 #include "live-peers.h"
 
 #include <math.h>

@@ -1,9 +1,9 @@
 //! The service as a plain Rust program, to measure `likes` against: a thread for each request file, which reads the
-//! file and runs its requests, and then the report as `likes` prints it of a run in phase 0. Nothing of it is proved.
+//! file and runs its requests, and then the report that `likes` prints of a run in phase 0. None of it is proved.
 //!
 //! usage: peer atomics|mutex USERS PAGES REQUESTS...
-//!   atomics   a page's count is an atomic number of its own
-//!   mutex     one lock stands round the counts of all pages
+//!   atomics   an atomic number for each page's count
+//!   mutex     one lock around the counts of all pages
 //!
 //! It reads files as bench/workload writes them: a file with a double quote or a carriage return is refused.
 

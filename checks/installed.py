@@ -9,14 +9,14 @@ import languages
 import pages
 import runs
 
-# What is typed in new spaces of mounts and networks: it makes a root over this machine's, whose changes are in memory.
+# Commands in new mount and network namespaces: they make an overlay of this machine's root, with its changes in memory.
 ENTERED = """\
 mount -t tmpfs tmpfs memory
 mkdir memory/upper memory/work memory/whole
 mount -t overlay overlay -o lowerdir=/,upperdir=memory/upper,workdir=memory/work memory/whole
 """
 
-# What makes that root ready, where AWAY stands for what isn't to be there, and goes into it.
+# Commands that prepare that root and enter it. AWAY stands for what to remove.
 PREPARED = """\
 rm -rf AWAY memory/whole/usr/local/include/likes* memory/whole/usr/local/lib/liblikes*
 mount --rbind /dev memory/whole/dev
@@ -27,7 +27,7 @@ cp package.deb typed.sh memory/whole/try
 env -i HOME=/try PATH="$PATH" GOPROXY=off chroot memory/whole sh -e /try/typed.sh
 """
 
-# What is typed in the root before the lines of the examples, and after them.
+# The commands in that root before those of the examples, and after them.
 BEFORE = """\
 exec 2>&1
 cd /try
@@ -44,7 +44,7 @@ grep likes listed | while read -r name; do if [ -e "$name" ]; then echo "$name i
 ldconfig -p | grep likes || echo nothing is left
 """
 
-# The tool that an example needs, and what the lines of its README have to print.
+# The tool that an example needs, and what the commands of its README must print.
 SERVED = r"""(?s:.*) all counts are exact
 {.*,"count":1,"last":"news .*
 stopped: 9 pages, \d+ likes
@@ -64,7 +64,7 @@ def typed():
     lines, printed = "", ""
     for name, (tool, told) in EXAMPLES.items():
         if not shutil.which(tool):
-            print(f"{tool} is not there: examples/{name} was not tried")
+            print(f"{tool} is not installed: examples/{name} is skipped")
             continue
         commands = "".join(block for block, _ in pages.blocks_of(pages.text_of(f"examples/{name}/README.md")))
         lines += f"echo == {name}\ncd /try/copy/examples/{name}\nsh -e -c {shlex.quote(commands)}\n"
@@ -77,7 +77,7 @@ def tried(package, folder):
     os.makedirs(f"{folder}/memory")
     enters = ["unshare", "--mount", "--net", "sh", "-e", "-c"]
     if os.getuid() != 0 or runs.run([*enters, ENTERED], folder).status != 0:
-        print("not root, or no overlays: the library's package was not installed")
+        print("not root, or no overlays: the library's package is skipped")
         return []
     lines, printed = typed()
     shutil.copy(package, f"{folder}/package.deb")

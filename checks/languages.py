@@ -1,4 +1,4 @@
-"""The bindings and the examples in languages beside C: what checks/live runs of them."""
+"""The bindings and the examples in languages other than C: what checks/live runs of them."""
 
 import contextlib
 import itertools
@@ -134,7 +134,7 @@ def difference(out, right):
     """The first line in which two texts differ."""
     lines = itertools.zip_longest(out.decode().splitlines(), right.decode().splitlines(), fillvalue="no line")
     number, (line, other) = next((n, pair) for n, pair in enumerate(lines, 1) if pair[0] != pair[1])
-    return f"line {number} is {line!r}, and in C {other!r}"
+    return f"line {number} is {line!r}, but in C {other!r}"
 
 
 def of_same(live):
@@ -166,5 +166,5 @@ def of_all(live):
         if shutil.which(command):
             check(live)
         else:
-            print(f"{command} is not there: left out")
+            print(f"{command} is not installed: skipped")
     of_same(live)

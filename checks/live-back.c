@@ -1,9 +1,9 @@
-/* Seats that retire and come back, 10,000,000 times on one thread: each answer is that of a model.
+/* Seats that retire and come back, 10,000,000 times on one thread: each answer must be that of a model.
  *
  * usage: live-back SEED RETURNS
  *
- * Services of 1 to 64 seats and one page, which is marked. On one thread each call has one right answer. It ends with
- * status 1 at the first that is another. */
+ * The services have 1 to 64 seats and one page, which is marked. On one thread each call has one right answer. It exits
+ * with status 1 at the first wrong one. */
 #include <inttypes.h>
 #include <likes.h>
 #include <stdbool.h>
@@ -40,7 +40,7 @@ static void hold(uint64_t got, uint64_t right, const char *what) {
     calls++;
     if (got == right)
         return;
-    printf("call %" PRIu64 ", phase %" PRIu64 ": %s is %" PRIu64 " and not %" PRIu64 "\n", calls, it.phase, what, got,
+    printf("call %" PRIu64 ", phase %" PRIu64 ": %s is %" PRIu64 ", not %" PRIu64 "\n", calls, it.phase, what, got,
            right);
     exit(1);
 }

@@ -1,8 +1,8 @@
-/* Makes every call of likes.h on one thread, with right and wrong numbers, and compares what each answers. No call may
- * write a handle, but for those that fill it or free it.
+/* Makes every call of likes.h on one thread, with right and wrong numbers, and compares each answer. No call may write
+ * a handle, except those that fill or free it.
  *
- * It prints a line for each answer that is wrong, and ends with status 1 where there was one. checks/live builds and
- * runs it. With a number as its word it also makes so many millions of calls, and asks that memory stays as it was. */
+ * It prints a line for each wrong answer, and then exits with status 1. checks/live builds and runs it. With a number
+ * as its argument it also makes that many million calls, and requires that memory stays as it was. */
 #include "likes_helpers.h"
 
 #include <malloc.h>
@@ -16,7 +16,7 @@ static int wrong;
     do {                                                                                               \
         uint64_t is = (uint64_t)(call), should = (uint64_t)(expected);                                 \
         if (is != should) {                                                                            \
-            printf("line %d: %s is %llu (%s), and not %llu\n", __LINE__, #call, (unsigned long long)is, \
+            printf("line %d: %s is %llu (%s), not %llu\n", __LINE__, #call, (unsigned long long)is,     \
                    likes_status_text((uint32_t)is), (unsigned long long)should);                       \
             wrong++;                                                                                   \
         }                                                                                              \

@@ -1,9 +1,9 @@
 /* Simulates how a live service finds its popular pages, without threads and clocks. It has 1,000,000 pages, and four
  * seats run 120,000 drawn requests between two choices, as many as four threads make in about a millisecond.
  *
- * It ends with status 0 only if
- *   - at Zipf 1, 1.4 and 2, over 100 placements of the pages, 95 % of the likes that the best 64 pages get are sliced, and
- *     in each split phase one page at most has a new slot, on the average;
+ * It exits with status 0 only if
+ *   - at Zipf 1, 1.4 and 2, over 100 placements of the pages, 95 % of the likes that the best 64 pages get are sliced,
+ *     and on average at most one page has a new slot in each split phase;
  *   - a page that suddenly gets a tenth of all likes has a slot after two choices in the median, and one that gets a
  *     fiftieth after ten;
  *   - popular pages that become others each 100 choices are followed to 90 %;

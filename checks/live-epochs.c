@@ -1,5 +1,5 @@
 /* Four busy threads at their own seats, over phases of 1 ms: at the end each page's total, each user's last like and
- * the tag of each look that waited are right.
+ * the tag of each look that waited must be right.
  *
  * usage: live-epochs SECONDS */
 #include "likes_helpers.h"

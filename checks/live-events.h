@@ -1,5 +1,5 @@
-/* What the calls of a round did, and the checks of the counts that they were shown. live-hosts.c plays the rounds. The
- * pages may be a million, so likes are tallied by sorted lists and not by page. */
+/* What the calls of a round did, and the checks of the counts that they were shown. live-hosts.c plays the rounds.
+ * There may be a million pages, so likes are tallied by sorted lists and not by page. */
 #ifndef LIVE_EVENTS_H
 #define LIVE_EVENTS_H
 
@@ -224,7 +224,7 @@ static void check_count(const record *it, const tallies *of, uint32_t number, co
     if (done > least && (look->kind != GLANCED || !is_split(it, look->page, phase)))
         least = done;
     if (look->count < first + least || look->count > first + most)
-        fail(it, "seat %u, phase %llu: a look (%d) at page %u showed %llu, and not from %llu to %llu", number,
+        fail(it, "seat %u, phase %llu: a look (%d) at page %u showed %llu, not from %llu to %llu", number,
              (unsigned long long)phase, (int)look->kind, look->page, (unsigned long long)look->count,
              (unsigned long long)(first + least), (unsigned long long)(first + most));
 }
@@ -282,7 +282,7 @@ static void check_moment(const record *it, const tally *by_phase, const moment *
             next = place_of(by_phase, (uint64_t)page + 1, 0);
         }
         if (at->counts[i] != right)
-            fail(it, "after phase %llu page %u had %llu, and not %llu", (unsigned long long)at->phase, page,
+            fail(it, "after phase %llu page %u had %llu, not %llu", (unsigned long long)at->phase, page,
                  (unsigned long long)at->counts[i], (unsigned long long)right);
     }
 }

@@ -1,6 +1,6 @@
-/* Takes services with 1, 3 and 64 seats through many phases, two of them past phase 16,777,214, the last of a program:
- * in the first phases, each millionth and the last ones all phases, answers and counts are right, also while one seat
- * after the other retires. The totals are right.
+/* Takes services with 1, 3 and 64 seats through many phases, two of them past phase 16,777,214, the last one of a run:
+ * in the first phases, each millionth and the last ones all answers and counts must be right, also while one seat after
+ * the other retires. The totals must be right.
  *
  * usage: live-far */
 #include "likes.h"
@@ -38,7 +38,7 @@ static void change(void) {
         hold(likes_seat_turn(&seats[i]) == LIKES_BETWEEN, "a seat did not answer");
     hold(likes_driver_turn(&driver, LIKES_NO_END) == LIKES_RELEASED, "the next phase was not released");
     phase++;
-    hold(likes_driver_phase(&driver) == phase, "the driver tells another phase");
+    hold(likes_driver_phase(&driver) == phase, "the driver reports another phase");
 }
 
 /* The same, where the driver waits for each seat. */
@@ -56,7 +56,7 @@ static void change_slowly(void) {
 /* A like of a seat's only user. */
 static void like(uint32_t seat, uint32_t page) {
     hold(likes_seat_like(&seats[seat], seat, page) == LIKES_LIKED, "a like was not counted");
-    hold(likes_seat_phase(&seats[seat]) == phase, "a seat tells another phase");
+    hold(likes_seat_phase(&seats[seat]) == phase, "a seat reports another phase");
     liked[page]++;
 }
 
@@ -136,7 +136,7 @@ static void travel(const journey *at) {
     hold(likes_driver_last_counts(&driver, 0, totals, 2) == LIKES_COUNTED, "there are no last counts");
     hold(totals[0] == 10 + liked[0] && totals[1] == 20 + liked[1], "a total is wrong");
     hold(likes_driver_turn(&driver, LIKES_END_IF_IT_SERVES) == LIKES_ENDED, "the service went on");
-    hold(likes_driver_phase(&driver) == phase, "the driver tells another phase at the end");
+    hold(likes_driver_phase(&driver) == phase, "the driver reports another phase at the end");
     for (uint32_t i = 0; i < at->seats; i++)
         likes_seat_free(&seats[i]);
     likes_driver_free(&driver);

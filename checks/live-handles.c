@@ -1,8 +1,8 @@
 /* Two threads like by single calls, each at its own seat, in a split phase. Their handles are side by side, and then
- * 256 bytes apart. It prints how long a like took on a processor, the median of nine times, and the ratio. If a call
- * wrote its handle, likes with handles side by side would take longer.
+ * 256 bytes apart. It prints the processor time of a like, the median of nine, and the ratio. If a call wrote its
+ * handle, likes with handles side by side would take longer.
  *
- * It ends with status 1 if a count is wrong. */
+ * It exits with status 1 if a count is wrong. */
 #include "likes_helpers.h"
 
 enum { LIKES = 4000000, TIMES = 9 };

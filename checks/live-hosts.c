@@ -4,10 +4,10 @@
  *
  * usage: live-hosts SEED SECONDS
  *
- * Of each call, the model knows what it may answer: the first refusal that applies, NO_ROOM exactly where the room is
- * full, each user's last like, also of the opening, and each look that waited once, with its tag, in the order of
+ * The model knows what each call may answer: the first refusal that applies, NO_ROOM exactly if the room is full,
+ * each user's last like, also of the opening, and each look that waited once, with its tag, in the order of
  * asking, in the next phase. A call writes nothing beside its answers. When a split phase begins, the driver is asked
- * which pages are split: at most 64, no two alike, the marked ones among them, and the others proposed before by the
+ * which pages are split: at most 64, each once, the marked ones among them, and the others proposed before by the
  * round. Where it proposes none, the library may find pages that were liked. After the round:
  *   - looks at split pages waited, and no others did
  *   - each page's final count is its initial count and its likes, and a snapshot's the likes of the phases up to it
@@ -15,7 +15,7 @@
  *     seat's own after it. In half of the rounds calls are timed: a count has no like that began after it and, where
  *     the page isn't split, each like that was done before it
  *   - a request ran after its phase was released and before the end was announced
- * It ends with status 1 where something else was seen, and says what, with the seed of the round. */
+ * Otherwise it exits with status 1, and says what it saw, with the seed of the round. */
 #include "live-model.h"
 
 /* A round in numbers. */
@@ -108,7 +108,7 @@ static void check_phase(game *it, uint32_t number) {
         return;
     uint64_t now = likes_phase_now(&it->phase);
     if (now + 1 < seat_phase || now > seat_phase + 1)
-        fail(&it->record, "seat %u: the phase is told as %llu in phase %llu", number, (unsigned long long)now,
+        fail(&it->record, "seat %u: the phase is reported as %llu in phase %llu", number, (unsigned long long)now,
              (unsigned long long)seat_phase);
 }
 
@@ -378,7 +378,7 @@ static void drive(game *it, const schedule *plan, uint64_t *random) {
 static void finish(game *it, uint64_t *random) {
     check_all_lasts(it);
     if (likes_phase_now(&it->phase) != it->record.phases_len - 1)
-        fail(&it->record, "the phase is told as %llu at the end", (unsigned long long)likes_phase_now(&it->phase));
+        fail(&it->record, "the phase is reported as %llu at the end", (unsigned long long)likes_phase_now(&it->phase));
     if (it->driver.at == NULL || load(&it->gone) < it->record.options.seats)
         return;
     while (turn_driver(it, LIKES_END_IF_IT_SERVES) != LIKES_ENDED)
@@ -504,7 +504,7 @@ static void open_game(game *it, const schedule *plan, uint64_t *random) {
     it->asked.is_sampled = of->options.hot > 0;
     note_told(it);
     if (it->told_len != of->marks_len)
-        fail(of, "%zu pages are told as split, of which %zu are marked", it->told_len, of->marks_len);
+        fail(of, "%zu pages are reported as split, of which %zu are marked", it->told_len, of->marks_len);
     if (one_in(random, 2))
         propose_some(it, random);
 }

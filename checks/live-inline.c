@@ -1,7 +1,7 @@
-/* The inline functions of likes.h, without the library: the calls that the library has in their place stand here, and
- * see what they are passed. An array of no entries comes as a pointer that isn't NULL, and all else as it was.
+/* The inline functions of likes.h, without the library: the calls that the library has are defined here, and see what
+ * they are passed. An array of no entries must come as a pointer that isn't NULL, and everything else as it was.
  *
- * It ends with status 1 and a line where something else is passed. */
+ * If something else is passed, it prints a line and exits with status 1. */
 #include "likes.h"
 
 #include <stdio.h>

@@ -1,7 +1,7 @@
 /* A service that lasts: one ends, and another is opened with its counts and last likes. What an opening refuses of last
  * likes, what is told of them and when, and phases that end in any case.
  *
- * It ends with status 1 and a line where something is answered otherwise. checks/live builds and runs it. */
+ * If an answer is wrong, it prints a line and exits with status 1. checks/live builds and runs it. */
 #include "likes.h"
 
 #include <stdio.h>
@@ -10,7 +10,7 @@
 
 static void is(int line, const char *what, uint64_t is, uint64_t should) {
     if (is != should) {
-        printf("line %d: %s is %llu, and not %llu\n", line, what, (unsigned long long)is, (unsigned long long)should);
+        printf("line %d: %s is %llu, not %llu\n", line, what, (unsigned long long)is, (unsigned long long)should);
         exit(1);
     }
 }

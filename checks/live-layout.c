@@ -1,8 +1,8 @@
 /* Compares the layouts of likes.h with the library at work. The bytes of options, requests, answers and found looks are
- * put and read at places that stand here as numbers, and no field of likes.h is named but to compare its place with
- * these. Each value differs from every other, so that no two can be mixed up unseen.
+ * written and read at offsets that are numbers here, and a field of likes.h is named only to compare its offset with
+ * these. Each value differs from every other, so that no mix-up goes unseen.
  *
- * It ends with status 1 and a line where something is elsewhere. */
+ * If something is elsewhere, it prints a line and exits with status 1. */
 #include "likes.h"
 
 #include <inttypes.h>
@@ -25,7 +25,7 @@ typedef union {
 
 static void is(int line, const char *what, uint64_t is, uint64_t should) {
     if (is != should) {
-        printf("line %d: %s is %" PRIu64 ", and not %" PRIu64 "\n", line, what, is, should);
+        printf("line %d: %s is %" PRIu64 ", not %" PRIu64 "\n", line, what, is, should);
         exit(1);
     }
 }

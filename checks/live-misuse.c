@@ -1,9 +1,9 @@
-/* Wrong uses of likes_helpers.h, each of which has to be answered by a status: calls of a service that isn't started,
- * was stopped or is a copy; wrong seats and periods; seats that have all left; looks with tags of the host's at a seat
- * of which likes_service_look is asked too; and arrays of no entries. Threads read the phase while it changes, and a
+/* Wrong uses of likes_helpers.h, each of which must be answered by a status: calls of a service that isn't started, was
+ * stopped or is a copy; wrong seats and periods; seats that have all left; looks with the host's own tags at a seat
+ * that also answers likes_service_look; and arrays of no entries. Threads read the phase while it changes, and a
  * service can't start its thread. Pages are proposed and split.
  *
- * It ends with status 1 and a line where a call is answered otherwise, and by a signal after 30 seconds. */
+ * If a call is answered otherwise, it prints a line and exits with status 1. After 30 seconds a signal ends it. */
 #define _POSIX_C_SOURCE 200809L
 #include <errno.h>
 #include <pthread.h>
@@ -30,7 +30,7 @@ static bool is_over;
     do {                                                                                                        \
         uint64_t is = (uint64_t)(call), should = (uint64_t)(expected);                                          \
         if (is != should) {                                                                                     \
-            printf("line %d: %s is %llu (%s), and not %llu\n", __LINE__, #call, (unsigned long long)is,          \
+            printf("line %d: %s is %llu (%s), not %llu\n", __LINE__, #call, (unsigned long long)is,              \
                    likes_status_text((uint32_t)is), (unsigned long long)should);                                \
             exit(1);                                                                                            \
         }                                                                                                       \

@@ -1,5 +1,5 @@
 /* What a seat and a driver may answer, by likes.h alone. Each call of live-hosts.c goes through this model, which makes
- * it, compares the answer with what it knows, and notes it. What the call doesn't write has to stay as it was. */
+ * it, compares the answer with what it knows, and notes it. What the call doesn't write must stay as it was. */
 #ifndef LIVE_MODEL_H
 #define LIVE_MODEL_H
 
@@ -182,7 +182,7 @@ static void note_answer(game *it, uint32_t number, const likes_request *request,
     } else if (answer->status == LIKES_SEEN) {
         made.kind = request->op == LIKES_LOOK ? LOOKED : GLANCED;
         if (answer->last != *last)
-            fail(&it->record, "seat %u: the last like of user %u was told as %u, and not %u", number, request->user,
+            fail(&it->record, "seat %u: the last like of user %u was reported as %u, not %u", number, request->user,
                  answer->last, *last);
     } else if (answer->status == LIKES_WAITS) {
         made.kind = WAITED;
@@ -331,7 +331,7 @@ static void check_last(const game *it, uint32_t number, uint32_t user) {
     if (status != right)
         fail(&it->record, "seat %u: the last like of user %u is answered %s", number, user, likes_status_text(status));
     if (status == LIKES_OK ? pages.at != it->record.last[user] : !is_spoilt(&pages.at, sizeof pages.at))
-        fail(&it->record, "seat %u: the last like of user %u is told as %u", number, user, pages.at);
+        fail(&it->record, "seat %u: the last like of user %u is reported as %u", number, user, pages.at);
     if (!is_spoilt(&pages.before, sizeof pages.before) || !is_spoilt(&pages.behind, sizeof pages.behind))
         fail(&it->record, "seat %u: a last like was written beside its place", number);
 }
@@ -355,7 +355,7 @@ static void check_lasts(const game *it, uint32_t number, uint32_t from, size_t l
         fail(&it->record, "seat %u: last likes were written beside their places", number);
     for (size_t i = 0; i < written; i++)
         if (pages[1 + i] != it->record.last[number + seats * (from + i)])
-            fail(&it->record, "seat %u: the last like of its user number %zu is told as %u", number, from + i,
+            fail(&it->record, "seat %u: the last like of its user number %zu is reported as %u", number, from + i,
                  pages[1 + i]);
     free(pages);
 }
@@ -495,7 +495,7 @@ static void check_told(game *it, size_t room) {
     size_t right = room < it->told_len ? room : it->told_len;
     size_t told = likes_driver_split_pages(&it->driver, room == 0 ? NULL : pages + 1, room);
     if (told != right || memcmp(pages + 1, it->told, right * sizeof *pages) != 0)
-        fail(&it->record, "phase %zu: %zu pages are told as split, with room for %zu, and not %zu",
+        fail(&it->record, "phase %zu: %zu pages are reported as split, with room for %zu, not %zu",
              it->record.phases_len - 1, told, room, right);
     size_t beside = (LIKES_MAX_SPLIT + 3 - right) * sizeof *pages;
     if (!is_spoilt(pages, sizeof *pages) || !is_spoilt(pages + 1 + right, beside))
@@ -510,10 +510,10 @@ static void note_told(game *it) {
         fail(of, "phase %zu: %zu pages are split", of->phases_len - 1, it->told_len);
     for (size_t n = 0; n < it->told_len; n++)
         if (it->told[n] >= of->pages || is_among(it->told[n], it->told, n))
-            fail(of, "phase %zu: page %u is told as split, or twice so", of->phases_len - 1, it->told[n]);
+            fail(of, "phase %zu: page %u is reported as split, or twice so", of->phases_len - 1, it->told[n]);
     for (size_t n = 0; n < of->marks_len; n++)
         if (!is_among(of->marks[n], it->told, it->told_len))
-            fail(of, "phase %zu: the marked page %u is not told as split", of->phases_len - 1, of->marks[n]);
+            fail(of, "phase %zu: the marked page %u is not reported as split", of->phases_len - 1, of->marks[n]);
     check_told(it, LIKES_MAX_SPLIT + 2);
 }
 
@@ -595,7 +595,7 @@ static uint32_t turn_driver(game *it, uint32_t end) {
             note_split(it);
     }
     if (likes_driver_phase(&it->driver) != of->phases_len - 1)
-        fail(of, "the driver tells phase %llu in phase %zu", (unsigned long long)likes_driver_phase(&it->driver),
+        fail(of, "the driver reports phase %llu in phase %zu", (unsigned long long)likes_driver_phase(&it->driver),
              of->phases_len - 1);
     return status;
 }

@@ -1,5 +1,5 @@
-"""Calls liblikes_service as a language does that can't include a header, and compares the names of the library with
-those of likes_service.h.
+"""Calls liblikes_service from a language that can't include a header, and compares the library's names with those of
+likes_service.h.
 
 usage: checks/live-opaque.py PREFIX
 """

@@ -1,11 +1,11 @@
 /* Counts what the library allocates.
  *
  *   - No call but likes_open may allocate, and none but those that free may give memory back. Each free of a seat or of
- *     a driver has to give some back, and once all of a service and its phase are freed, in any order, all of it.
- *   - Each allocation of an opening is refused in turn, alone and with all that follow it. Each such opening has to
- *     answer that there is no memory, to leave the driver empty, and to give back what it took.
+ *     a driver must give some back, and once all of a service and its phase are freed, in any order, all of it.
+ *   - Each allocation of an opening is refused in turn, alone and with all that follow it. Each such opening must
+ *     answer that it is out of memory, leave the driver empty, and give back what it took.
  *
- * It stands in for malloc and its kin, by way of the names under which the GNU C library has them too. */
+ * It replaces malloc and its kin, and calls those of the GNU C library by their other names. */
 #include "likes.h"
 
 #include <errno.h>
@@ -100,7 +100,7 @@ static void fail(int line, const char *call, const char *text) {
         uint64_t is;                                                \
         STILL(is = (call));                                         \
         if (is != (expected))                                       \
-            fail(__LINE__, #call, "is answered otherwise");         \
+            fail(__LINE__, #call, "has the wrong answer");          \
     } while (0)
 
 /* Makes a call that frees: it allocates nothing, and gives something back. */
@@ -179,7 +179,7 @@ static void play(uint64_t phase) {
     size_t split;
     STILL(split = likes_driver_split_pages(&driver, pages, PAGES));
     if (split < 1 || split > LIKES_MAX_SPLIT)
-        fail(__LINE__, "likes_driver_split_pages", "is answered otherwise");
+        fail(__LINE__, "likes_driver_split_pages", "has the wrong answer");
     IS(likes_driver_split_pages(&driver, NULL, 0), 0);
     IS(likes_driver_turn(&driver, phase % 4 < 2 ? LIKES_END_IF_IT_SERVES : LIKES_END), LIKES_ANNOUNCED);
     IS(likes_driver_snapshot(&driver, 0, counts, PAGES), LIKES_NO_MOMENT);
@@ -235,7 +235,7 @@ static void refused(void) {
     size_t held = blocks;
     uint32_t status = likes_open(&options, counts, 1, NULL, 0, NULL, 0, &none);
     if (status != LIKES_WRONG_COUNT || none.at != NULL || blocks != held)
-        fail(__LINE__, "an opening with wrong numbers", "is answered otherwise, or leaves blocks behind");
+        fail(__LINE__, "an opening with wrong numbers", "has the wrong answer, or leaves blocks behind");
 }
 
 /* How far a service has come when it is freed. */

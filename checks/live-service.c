@@ -1,10 +1,10 @@
 /* Many threads at one service of likes_helpers.h: single calls by user, rows at seats that are awake, counts of one
- * moment, pages that are proposed, and threads that sleep meanwhile. Each thread has users of its own, so it knows
- * their last likes.
+ * moment, proposed pages, and threads that sleep meanwhile. Each thread has its own users, so it knows their last
+ * likes.
  *
  * usage: live-service SEED SECONDS
  *
- * It ends with status 1 and a line where an answer or a total is wrong. */
+ * If an answer or a total is wrong, it prints a line and exits with status 1. */
 #include "likes_helpers.h"
 
 enum { SEATS = 3, USERS = 240, PAGES = 5, SINGLES = 6, BATCHES = 2, THREADS = SINGLES + BATCHES, ROW = 16 };

@@ -1,7 +1,7 @@
 /* The calls of likes_service.h: snapshots of one moment with last likes, looks with a deadline, statistics, the phase
  * and split pages. It is built twice: with the inline calls of likes_helpers.h, and with -DOPAQUE for liblikes_service.
  *
- * It ends with status 1 and a line where a call is answered otherwise, and by a signal after 60 seconds. */
+ * If a call is answered otherwise, it prints a line and exits with status 1. After 60 seconds a signal ends it. */
 #define _POSIX_C_SOURCE 200809L
 #ifdef OPAQUE
 #include "likes_service.h"
@@ -26,7 +26,7 @@ static bool is_over;
     do {                                                                                                        \
         uint64_t is = (uint64_t)(call), should = (uint64_t)(expected);                                          \
         if (is != should) {                                                                                     \
-            printf("line %d: %s is %llu (%s), and not %llu\n", __LINE__, #call, (unsigned long long)is,          \
+            printf("line %d: %s is %llu (%s), not %llu\n", __LINE__, #call, (unsigned long long)is,              \
                    likes_status_text((uint32_t)is), (unsigned long long)should);                                \
             exit(1);                                                                                            \
         }                                                                                                       \

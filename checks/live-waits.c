@@ -1,22 +1,22 @@
-/* How long threads wait at a service of likes_helpers.h, and what processor they use meanwhile.
+/* How long threads wait at a service of likes_helpers.h, and the processor time that they use meanwhile.
  *
  * usage: live-waits WHAT PROCESSORS [MICROSECONDS]
  *
- * It runs on the first so many of the processors that it may use, with phases of so many microseconds (1000). WHAT is
- *   early  how long a look takes by which those that wait at its seat take half of the room: an eighth of a phase in
+ * It runs on the first PROCESSORS of those that it may use, with phases of MICROSECONDS (1000). WHAT is
+ *   early  how long a look takes with which the waiting ones at its seat fill half of the room: an eighth of a phase in
  *          the median of 100, and a quarter in the 99th
- *   rows   the same of looks in a row, until they are found
- *   ticks  the same as `early`, while another thread runs rows and ticks. On one processor it is only told
+ *   rows   the same for looks in a row, until they are found
+ *   ticks  the same as `early`, while another thread runs rows and ticks. On one processor it is only printed
  *   counts the longest of 1,000 looks in three seconds, while three threads ask for counts as fast as they can: 20 ms.
  *          On one processor a thread waits for the turns of all others: there it is 100 looks, and 100 ms
  *   turns  the same, while three threads make turns of the driver and of the seats as fast as they can
- *   held   what processor a like, a look, a row and a thread that asks for counts take, each by a thread of its own,
- *          while another thread holds a seat for half a second: 5 ms each, and all 25 ms
- *   idle   how often the threads of an idle service wake up in two seconds, and what processor they use: never, 1 ms
+ *   held   the processor time of a like, a look, a row and a thread that asks for counts, each on its own thread, while
+ *          another thread holds a seat for half a second: 5 ms each, and 25 ms together
+ *   idle   how often the threads of an idle service wake up in two seconds, and their processor time: never, 1 ms
  *   first  how long the first like takes after the service was idle: 20 microseconds in the median of 100
  *
- * It prints a line of times, and ends with status 1 if one is too long. On a busy machine it only says so: where other
- * programs use more than a tenth of a processor, or get one in its place. */
+ * It prints a line of times, and exits with status 1 if one is too long. On a busy machine, where other programs use
+ * more than a tenth of a processor or get one instead of it, it only says so. */
 #define _GNU_SOURCE
 #include "likes_helpers.h"
 
@@ -360,7 +360,7 @@ int main(int count, char **words) {
     uint32_t microseconds = count > 3 ? (uint32_t)strtoul(words[3], NULL, 10) : 1000;
     int processors = atoi(words[2]);
     if (!keep_to(processors)) {
-        printf("left out: there are fewer processors\n");
+        printf("skipped: there are fewer processors\n");
         return 0;
     }
     uint64_t began = likes_clock(), others = all_worked(), own = clock_of(CLOCK_PROCESS_CPUTIME_ID);

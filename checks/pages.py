@@ -1,5 +1,6 @@
-"""The pages: the blocks of shell commands that they show, run in a folder in which the repository stands; what they
-name, and how long they are."""
+"""The pages: their blocks of shell commands, run in a folder that holds the repository; what they name, and how long
+they are.
+"""
 
 import glob
 import os
@@ -7,7 +8,7 @@ import re
 
 import runs
 
-# A block, its language, and the text in front of it.
+# The text before a block, its language, and the block.
 BLOCK = re.compile(r"(.*?)^```(\w*)\n(.*?)^```$", re.M | re.S)
 
 # The pages that are made, and how many words these and all others have at most.
@@ -16,7 +17,7 @@ MADE, MADE_WORDS, WRITTEN_WORDS = ["docs/LIVE.md", "docs/MODEL.md", "docs/STATEM
 # How many lines README.md has at most.
 README_LINES = 120
 
-# The folders whose files pages name, and those whose words are names.
+# The folders whose files pages name, and whose words count as names.
 FOLDERS = ("bench", "bindings", "checks", "completions", "crates", "docs", "examples", "include", "pictures", "tools")
 
 # A page's section, as another page names it, and a file of a crate.
@@ -42,11 +43,11 @@ def too_long():
     words = {page: len(text_of(page).split()) for page in every_page()}
     made = sum(words[page] for page in MADE)
     written = sum(words.values()) - made
-    print(f"words: {written} of at most {WRITTEN_WORDS} that are written, {made} of at most {MADE_WORDS} that are made")
+    print(f"words: {written} of at most {WRITTEN_WORDS} in written pages, {made} of at most {MADE_WORDS} in made ones")
     if written > WRITTEN_WORDS:
-        yield f"the written pages have {written} words"
+        yield f"the written pages have {written} words, more than {WRITTEN_WORDS}"
     if made > MADE_WORDS:
-        yield f"the made pages have {made} words"
+        yield f"the made pages have {made} words, more than {MADE_WORDS}"
     if text_of("README.md").count("\n") > README_LINES:
         yield f"README.md has more than {README_LINES} lines"
 

@@ -1,11 +1,9 @@
-/* Refuses calls of the program that it is loaded before (LD_PRELOAD), as a machine does that has no more to give.
+/* Refuses calls of the program that it is loaded before (LD_PRELOAD), like a machine that has no more to give.
  *
- * REFUSE_COUNTS names a file of numbers of 64 bits, a struct of counts. In it the calls of each kind are counted, and of
- * each thread the growths that it makes. REFUSE is "KIND FIRST LAST": of that kind the calls from FIRST to LAST are
- * refused, counted from 1; without it none is.
- * With REFUSE_AGAIN the program does what it does once more in the same process, with nothing refused. Between the two
- * it writes AGAIN on both outputs, and the status of the first to the file of REFUSE_COUNTS.
- */
+ * REFUSE_COUNTS names a file of 64-bit numbers, a struct of counts, with the calls of each kind and the growths of each
+ * thread. REFUSE is "KIND FIRST LAST": the calls of that kind from FIRST to LAST are refused, counted from 1; without
+ * it none is. With REFUSE_AGAIN the program does the same once more in the same process, with nothing refused. Between
+ * the two it writes AGAIN on both outputs, and the status of the first to the file of REFUSE_COUNTS. */
 #define _GNU_SOURCE
 #include <dlfcn.h>
 #include <errno.h>

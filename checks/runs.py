@@ -1,4 +1,4 @@
-"""What the checks share: the built program, runs of it that end by themselves, and how what they did is told."""
+"""What the checks share: the built program, runs of it with a time limit, and their results in a line."""
 
 import argparse
 import collections
@@ -17,15 +17,15 @@ import time
 
 ROOT = os.path.dirname(os.path.dirname(os.path.realpath(__file__)))
 
-# The lines of the faults that come of too little memory and too few threads.
+# The fault lines of too little memory and too few threads.
 MEMORY = b"likes: out of memory\n"
 START = b"likes: a thread could not be started\n"
 
 # What examples/c/first.c prints.
 FIRST = "page 1 has 1 like, and user 7 last liked page 0\na like of page 2: unknown page\ntotals: 11 and 1\n"
 
-# How a run ended: its status, below 0 where a signal ended it; what it wrote; how many seconds of a processor it took;
-# whether it was stopped since it took too long; and the most memory that it held, in bytes, or this program before it.
+# How a run ended: its status, below 0 if a signal ended it; what it wrote; its processor time in seconds; whether it
+# was killed for taking too long; and the peak memory in bytes, of it or of this program before it.
 Ended = collections.namedtuple("Ended", "status out errors seconds hung memory")
 
 
@@ -34,7 +34,7 @@ class Wrong(Exception):
 
 
 def options(text):
-    """The options of a check, whose first text is its help."""
+    """The options of a check, with its docstring as help."""
     return argparse.ArgumentParser(description=text, formatter_class=argparse.RawDescriptionHelpFormatter)
 
 
@@ -45,7 +45,7 @@ def not_root():
 
 @contextlib.contextmanager
 def work_folder():
-    """A folder that every user may read, and which is gone at the end."""
+    """A temporary folder that every user may read."""
     signal.signal(signal.SIGTERM, lambda *_: sys.exit(143))
     os.umask(0o022)
     with tempfile.TemporaryDirectory(prefix="likes-checks.") as folder:
@@ -55,15 +55,15 @@ def work_folder():
 
 @contextlib.contextmanager
 def program_folder():
-    """Such a folder with the program in it, as `likes`, which is built first where it has to be.
+    """Such a folder with the program in it, as `likes`, built first if need be, which takes minutes.
 
-    That takes minutes. After `rt ci` it has to be, since that takes away what was built; and while `rt ci` works in
-    this clone, the build waits for its end."""
+    After `rt ci` it must be, since that removes what was built. While `rt ci` works in this clone, the build waits for
+    its end."""
     with subprocess.Popen([f"{ROOT}/likes"], stdout=subprocess.DEVNULL) as child:
         try:
             child.wait(5)
         except subprocess.TimeoutExpired:
-            print("the program is built first: standard error tells how far that is, or what it waits for", flush=True)
+            print("building the program first: standard error has its progress, or what it waits for", flush=True)
     if child.returncode != 0:
         sys.exit(child.returncode)
     with work_folder() as folder:
@@ -129,7 +129,7 @@ def agreed(report):
 def shown(ended):
     """How a run ended, in a line."""
     if ended.hung:
-        return "not ended in time"
+        return "did not end in time"
     ending = f"signal {-ended.status}" if ended.status < 0 else f"status {ended.status}"
     return f"{ending}, {len(ended.out)} bytes of output, and the line {ended.errors[:200]!r}"
 

@@ -1,4 +1,4 @@
-"""A web server's log in the combined format, drawn with a fixed seed, and what is right to say of it."""
+"""A web server's log in the combined format, drawn with a fixed seed, and the right counts of it."""
 
 import collections
 import itertools

@@ -1,4 +1,4 @@
-"""The requests of a log in batches, which a process of its own reads ahead."""
+"""The requests of a log in batches, which a second process reads ahead."""
 
 import collections
 import contextlib
@@ -55,7 +55,7 @@ def take(file, log):
     length = int.from_bytes(file.read(LENGTH), "little")
     data = file.read(length)
     if len(data) < max(length, 1):
-        raise Fault(f"{rows.called(log.name)}: what reads it was stopped")
+        raise Fault(f"{rows.called(log.name)}: the process that reads it was stopped")
     value = marshal.loads(data)
     if isinstance(value, str):
         raise Fault(value)
@@ -67,13 +67,13 @@ def take(file, log):
 
 @contextlib.contextmanager
 def reading(log):
-    """The batches of a log, while a process of its own reads them."""
+    """The batches of a log, which a second process reads meanwhile."""
     ours, theirs = os.pipe()
     with contextlib.suppress(AttributeError, OSError):  # an old Python, or a limit of the system
         fcntl.fcntl(theirs, fcntl.F_SETPIPE_SZ, ROOM)
     child = os.fork()
     if child == 0:
-        # It ends when all is read, at a signal, or when nobody takes the next batch.
+        # It ends when all is read, at a signal, or when the pipe is closed.
         with contextlib.suppress(BaseException), open(theirs, "wb") as out:
             os.close(ours)
             send(log, out)

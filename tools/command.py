@@ -1,4 +1,4 @@
-"""What the tools share as commands: their words, the line at a fault or a signal, output by rename, and progress."""
+"""What the tools share as commands: options, the line on a fault or signal, output by rename, and progress."""
 
 import argparse
 import contextlib
@@ -12,11 +12,11 @@ import threading
 # The version of the release that the tools are of, which tools/release writes beside them.
 VERSION = f"{os.path.dirname(os.path.realpath(__file__))}/version"
 
-# The signals at which a tool tidies up before it ends, and the status at a pipe that nobody reads, as of that signal.
+# The signals at which a tool cleans up before it ends, and the exit status at a closed pipe, as for that signal.
 SIGNALS = (signal.SIGHUP, signal.SIGINT, signal.SIGTERM)
 PIPE = 128 + signal.SIGPIPE
 
-# The seconds before a line of progress comes, and between two of them.
+# The seconds before the first line of progress, and between two of them.
 FIRST, NEXT = 2, 0.5
 
 
@@ -29,21 +29,21 @@ class Stopped(BaseException):
 
 
 def shown(text):
-    """A value as a line shows it: in quotes, with escapes, and not all of it if it is long."""
+    """A value as a line shows it: in quotes, with escapes, and cut if it is long."""
     return repr(text) if len(text) <= 60 else f"{text[:60]!r}.."
 
 
 def version():
-    """The version of the release, where the tool is of one."""
+    """The version of the release, if the tool is of one."""
     try:
         with open(VERSION, encoding="ascii") as file:
             return file.read().strip()
     except OSError:
-        return "of the repository, and of no release"
+        return "of the repository, not of a release"
 
 
 def options(text):
-    """The options of a tool, whose first text is its help. The commands of a release have other names there."""
+    """The options of a tool, with its docstring as help. A release has the tools under other names."""
     if os.path.basename(sys.argv[0]).startswith("likes-"):
         text = re.sub(r"\btools/(?=[a-z])", "likes-", text)
     parser = argparse.ArgumentParser(description=text, formatter_class=argparse.RawDescriptionHelpFormatter)
@@ -52,12 +52,12 @@ def options(text):
 
 
 def add_output(parser):
-    """Adds the word for a file in place of standard output."""
-    parser.add_argument("-o", metavar="FILE", help="write into FILE, which gets its name when all is written")
+    """Adds the option for a file instead of standard output."""
+    parser.add_argument("-o", metavar="FILE", help="write to FILE, which gets its name once it is complete")
 
 
 def whole(low, high):
-    """What reads a whole number from a word, from the one to the other."""
+    """A type for argparse: a whole number from `low` to `high`."""
 
     def read(text):
         if text.isascii() and text.isdigit() and low <= int(text) <= high:
@@ -74,7 +74,7 @@ def write(name):
 
 @contextlib.contextmanager
 def output(name):
-    """Standard output, or a file that gets its name when all is written into it."""
+    """Standard output, or a file that gets its name once it is complete."""
     if name is None:
         sys.stdout.reconfigure(encoding="utf-8", errors="surrogateescape", newline="\n")
         yield sys.stdout
@@ -96,9 +96,9 @@ def output(name):
 
 @contextlib.contextmanager
 def new_folder(name):
-    """A folder that gets its name when all is written into it."""
+    """A folder that gets its name once it is complete."""
     if os.path.lexists(name):
-        raise Fault(f"{name} is already there: take it away, or name another folder by --into")
+        raise Fault(f"{name} already exists: remove it, or name another folder with --into")
     part = f"{name}.part-{os.getpid()}"
     try:
         os.mkdir(part)
@@ -114,7 +114,7 @@ def new_folder(name):
 
 @contextlib.contextmanager
 def progress(say, out=None):
-    """Shows on a terminal how far a tool is, from its third second on, unless its output goes there all the while."""
+    """Shows on a terminal how far a tool is, after two seconds, unless its output goes there too."""
     if not (sys.stderr and sys.stderr.isatty()) or out and out.isatty():
         yield
         return
@@ -137,7 +137,7 @@ def progress(say, out=None):
 
 
 def stop(number, _):
-    """Ends what runs, once: what tidies up is not stopped."""
+    """Stops the tool once: a second signal doesn't stop the cleanup."""
     for other in SIGNALS:
         signal.signal(other, signal.SIG_IGN)
     raise Stopped(number)
@@ -149,7 +149,7 @@ def let_go():
 
 
 def run(main):
-    """Runs a tool, and ends with a line and status 1 where it meets a fault; at a signal, with the signal's status."""
+    """Runs a tool. On a fault it prints a line and exits with status 1, and at a signal with the signal's status."""
     if sys.argv[1:] == ["help"]:
         sys.argv[1] = "--help"
     for number in SIGNALS:

@@ -1,4 +1,4 @@
-"""The requests of a log dealt to files for runs: pages, users, and the parts of a log, which are a run each."""
+"""The requests of a log dealt to files for runs: pages, users, and the parts of a log, each of which is a run."""
 
 import array
 import collections
@@ -20,7 +20,7 @@ WRITTEN = 16
 # What files say which part has a user's last like, and which page has which name in the files.
 LAST, NAMES = "number,part", "name,page"
 
-# A name for a page whose own can't stand in a pages file.
+# A name for a page whose own isn't allowed in a pages file.
 STAND_IN = "page {} of names.csv"
 
 
@@ -33,8 +33,8 @@ def is_name(text):
 
 
 class Page:
-    """A page: its name as CSV, its count at the start, its mark, and its likes in the log. Its requests go into the
-    lists of its part."""
+    """A page: its name as CSV, its initial count, its mark, and its likes in the log. Its requests go into the lists of
+    its part."""
 
     __slots__ = "text", "count", "split", "likes", "part", "texts"
 
@@ -44,7 +44,7 @@ class Page:
 
 
 class Part:
-    """A part of a log, which is a run: its pages, and the requests for each file."""
+    """A part of a log, which is one run: its pages, and the requests for each file."""
 
     def __init__(self, number, folder, files):
         self.number, self.pages = number, []
@@ -59,7 +59,7 @@ class Part:
         self.pages.append(page)
 
     def write(self):
-        """Writes the requests so far, and gives the number of a file that has too many."""
+        """Writes the requests so far, and returns the number of a file that has too many, if any."""
         for place, texts in enumerate(self.texts):
             if texts:
                 with open(self.files[place], "ab") as file:
@@ -75,17 +75,17 @@ class Part:
 
 
 class Dealt:
-    """A log dealt into a folder: to one part, or to as many as its pages take."""
+    """A log dealt into a folder: to one part, or to as many as its pages need."""
 
     def __init__(self, log, folder, files, has_parts=False):
         self.log, self.folder, self.files, self.has_parts = log, folder, files, has_parts
         self.pages = {}  # by the name that the log has
         self.parts, self.stand_ins = [], {}
-        self.kept = self.rest = None  # where some pages keep their names, which, and the page of all others
+        self.kept = self.rest = None  # with --rest: the pages that keep their names, and the page of all others
         self.others = 0
         self.users = collections.defaultdict(itertools.count().__next__)
         self.last_part = array.array("H", bytes(2 * USERS))  # by the user's number: the part, from 1, or 0
-        self.read = log.read()  # how much of the log was read, in words
+        self.read = log.read()  # how much of the log was read, as text
         self.add_part()
 
     def add_part(self):
@@ -94,7 +94,7 @@ class Dealt:
         self.parts.append(Part(number, folder, self.files))
 
     def keep(self, earlier, rest):
-        """Takes the pages of a run before, by name, and the name for all pages that have no room of their own."""
+        """Takes the pages of a run before, by name, and the name for all pages without room."""
         for name, page in earlier.items():
             self.pages[name] = page
             self.parts[0].add(page)
@@ -103,7 +103,7 @@ class Dealt:
             self.rest = self.pages.get(rest) or Page(rest)
 
     def add(self, name, line):
-        """The page of a name that wasn't there yet."""
+        """The page of a new name."""
         if self.kept is not None and name not in self.kept:
             if not self.others and self.rest not in self.parts[0].pages:
                 self.parts[0].add(self.rest)
@@ -112,7 +112,7 @@ class Dealt:
             return self.rest
         if len(self.parts[-1].pages) == PAGES:
             if not self.has_parts:
-                why = f"more than {PAGES} pages: deal to parts (--parts), or name the less liked ones alike (--rest)"
+                why = f"more than {PAGES} pages: use --parts, or one name for the less liked ones (--rest)"
                 raise self.log.fault(line, why)
             self.add_part()
         page = self.pages[name] = Page(self.name_of(name, line))
@@ -131,7 +131,7 @@ class Dealt:
 
     def deal(self):
         """Gives each request to the file of its user, and writes it."""
-        gc.disable()  # nothing here is a circle
+        gc.disable()  # there are no cycles here
         users, last_part, files = self.users, self.last_part, self.files
         whats = []  # op and page, by number
         with ahead.reading(self.log) as batches:
@@ -151,7 +151,7 @@ class Dealt:
         self.write_requests()
 
     def new_of(self, batch, first):
-        """Op and page of what is new in a batch, from the number that is the first."""
+        """Op and page of what is new in a batch, whose numbers begin with the first."""
         for number, (op, name) in enumerate(batch.new, first):
             page = self.pages.get(name) or self.add(name, batch.lines[batch.numbers.index(number)])
             yield op, page
@@ -168,7 +168,7 @@ class Dealt:
                 raise Fault(f"{rows.called(self.log.name)}: more than {REQUESTS} requests for file {place}: {advice}")
 
     def rank(self, marked):
-        """Sorts the pages of each part, the most liked first and that of all others last, and marks so many."""
+        """Sorts the pages of each part, the most liked first and the page of all others last, and marks some."""
         if not self.pages:
             raise Fault(f"{rows.called(self.log.name)}: no page")
         for part in self.parts:
@@ -210,13 +210,13 @@ class Dealt:
 
 
 def kept_names(log, earlier, rest):
-    """The new pages of a log that keep their names where the others are named `rest`: all, or else the most liked."""
+    """The new pages of a log that keep their names, while the others are named `rest`: all, or else the most liked."""
     likes = collections.Counter()
     for _, whats, _ in log.batches():
         for op, page in whats:
             likes[page] += op == "like"
     if rest in likes and rest not in earlier:
-        raise Fault(f"{log.name}: a page is named {shown(rest)}: take another name for --rest")
+        raise Fault(f"{log.name}: a page is named {shown(rest)}: choose another name for --rest")
     new = [page for page in likes if page not in earlier]
     names = [page for page in new if is_name(page)]
     if len(names) == len(new) and len(earlier) + len(new) <= PAGES:
@@ -228,18 +228,18 @@ def kept_names(log, earlier, rest):
 
 
 def add_rest(parser):
-    """Adds the word for a name of many pages."""
+    """Adds the option for a name that many pages share."""
     rest = f"""one name for all but the {PAGES - 1} most liked pages, if LOG has more than {PAGES} or one whose name is
-        too long. It is the last page, and has no mark and no rank. LOG is then read twice, so it has to be a file"""
+        too long. It is the last page, without mark or rank. LOG is then read twice, so it must be a file"""
     parser.add_argument("--rest", metavar="NAME", help=rest)
 
 
 def judge_rest(words, parser):
-    """Refuses a name for many pages that can't be one."""
+    """Refuses a wrong --rest, or one with a log that can't be read twice."""
     if words.rest is not None and not is_name(words.rest):
-        parser.error(f"--rest takes a name of 1 to {NAME} bytes of UTF-8, and not {shown(words.rest)}")
+        parser.error(f"--rest takes a name of 1 to {NAME} bytes of UTF-8, not {shown(words.rest)}")
     if words.rest is not None and not os.path.isfile(words.log):
-        parser.error(f"with --rest, LOG is read twice, and has to be a file: {words.log}")
+        parser.error(f"with --rest, LOG is read twice and must be a file: {words.log}")
 
 
 def earlier_pages(name):

@@ -1,4 +1,4 @@
-"""The requests of a log: of a CSV file, or of what a web server logs."""
+"""The requests of a log: a CSV file, or a web server's log."""
 
 import argparse
 import contextlib
@@ -11,29 +11,29 @@ from urllib.parse import unquote
 import rows
 from command import Fault, shown
 
-# A line of the combined format, or of the common one, up to the status: who sent what, and how it was answered. A line
-# of another form has nothing of these.
+# A line of the combined or the common format up to the status: who sent what, and how it was answered. In a line of
+# another format these groups are empty.
 LINE = re.compile(r'(?:([^ \n]+) [^ \n]+ ([^ \n]+) \[[^]\n]*\] "([^"\\\n]*(?:\\.[^"\\\n]*)*)" ([0-9]{3}) .*|.*)\n')
 
-# How a server logs characters that it doesn't log as they are.
+# How a server escapes characters.
 ESCAPE = re.compile(rb"\\(?:x([0-9a-fA-F]{2})|(.))", re.S)
 LETTERS = {b"b": b"\b", b"n": b"\n", b"r": b"\r", b"t": b"\t", b"v": b"\v"}
 
-# The least status of an answer that refuses a request.
+# The lowest status that refuses a request.
 REFUSED = "400"
 
-# How much of a log is read at a time, how many rows are a batch, and the most bytes in a line.
+# How many bytes of a log are read at a time, how many rows are a batch, and the most bytes in a line.
 BLOCK, BATCH, LONGEST = 1 << 18, 4096, 1 << 20
 
-# How many requests the meaning of which is kept.
+# How many requests are cached with their meaning.
 KEPT = 1 << 17
 
-# What lines are left out for.
+# Why lines are left out.
 JUNK, FAILED, OTHER = "not of the combined format", "status of 400 or more", "no pattern matches"
 
 
 class Log:
-    """A log, which is read anew each time."""
+    """A log, which is read again each time."""
 
     def __init__(self, name):
         self.name, self.file, self.left_out = name, None, {}
@@ -42,16 +42,16 @@ class Log:
         return rows.fault(self.name, line, why)
 
     def user(self, text):
-        """A user, of what the log calls the user."""
+        """A user, from what the log calls it."""
         return text
 
     def told(self):
-        """How many lines are left out, for what, and the first of them."""
+        """How many lines are left out, why, and the first of them."""
         for why, (count, line, text) in self.left_out.items():
             yield f"left out {count}, {why}: the first is line {line}, {shown(text)}"
 
     def read(self):
-        """How much of the log was read, in words."""
+        """How much of the log was read, as text."""
         with contextlib.suppress(AttributeError, OSError, ValueError):  # not open, a pipe, or closed
             at, size = self.file.tell(), os.fstat(self.file.fileno()).st_size
             return f"{rows.called(self.name)}: {100 * at // max(size, 1)} % read"
@@ -77,10 +77,10 @@ class Table(Log):
             pick = operator.itemgetter(*map(header.index, self.columns))
             for line, row in records:
                 if len(row) != len(header):
-                    raise self.fault(line, f"{len(row)} fields, and not {len(header)}: {shown(','.join(row))}")
+                    raise self.fault(line, f"{len(row)} fields, not {len(header)}: {shown(','.join(row))}")
                 op, user, page = pick(row)
                 if op not in ("like", "look"):
-                    raise self.fault(line, f"{self.columns[0]} is {shown(op)}, and not like or look")
+                    raise self.fault(line, f"{self.columns[0]} is {shown(op)}, not like or look")
                 yield line, (op, page), user
 
     def batches(self):
@@ -91,7 +91,7 @@ class Table(Log):
 
 
 def without_escapes(text):
-    """A request as it was sent, of what a server logged."""
+    """A request as it was sent, from what a server logged."""
     letters = ESCAPE.sub(
         lambda found: bytes.fromhex(found[1].decode()) if found[1] else LETTERS.get(found[2], found[2]),
         text.encode(errors="surrogateescape"),
@@ -100,7 +100,7 @@ def without_escapes(text):
 
 
 class Meanings(dict):
-    """What requests of a web server are, by their text: op and page, or nothing; and their users, if they tell them."""
+    """What a web server's requests mean, by their text: op and page, or nothing; and the users that they name."""
 
     def __init__(self, patterns):
         super().__init__()
@@ -128,7 +128,7 @@ class Meanings(dict):
 
 
 class Combined(Log):
-    """The requests in what a web server logs in the combined format."""
+    """The requests of a web server's log in the combined format."""
 
     def __init__(self, name, patterns):
         super().__init__(name)
@@ -162,10 +162,10 @@ class Combined(Log):
                     has_requests = True
                     yield batch
         if not has_requests:
-            raise Fault(f"{rows.called(self.name)}: no request: {'; '.join(self.told()) or 'it has no line'}")
+            raise Fault(f"{rows.called(self.name)}: no request: {'; '.join(self.told()) or 'the log is empty'}")
 
     def batch_of(self, found, text, first, meanings):
-        """The requests of a piece of the log, from the line that is the first."""
+        """The requests of a piece of the log, whose lines begin with the first."""
         addresses, users, requests, statuses = zip(*found)
         whats = list(map(meanings.__getitem__, requests))
         for at, (what, status) in enumerate(zip(whats, statuses)):
@@ -186,38 +186,39 @@ class Combined(Log):
 
 
 def pattern(text):
-    """A pattern of a word, with a group for the page."""
+    """A type for argparse: a regular expression with a group for the page."""
     try:
         found = re.compile(text)
     except re.error as error:
-        raise argparse.ArgumentTypeError(f"{shown(text)} is not a pattern: {error}") from None
+        raise argparse.ArgumentTypeError(f"{shown(text)} is not a regular expression: {error}") from None
     if not found.groups:
         raise argparse.ArgumentTypeError(f"{shown(text)} has no group for the page, as in 'POST /like(/\\S*)'")
     return found
 
 
 def add_options(parser):
-    """Adds the words for a log."""
-    parser.add_argument("log", metavar="LOG", help="the log, as it is or packed by gzip; - is standard input")
-    columns = "what the CSV file LOG names the three columns (op,user,page)"
+    """Adds the options for a log."""
+    parser.add_argument("log", metavar="LOG", help="the log, plain or gzipped; - is standard input")
+    columns = "the names of the three columns in the CSV file LOG (default op,user,page)"
     parser.add_argument("--columns", metavar="OP,USER,PAGE", help=columns)
-    parser.add_argument("--combined", action="store_true", help="LOG is of a web server, in the combined format")
-    like = """with --combined, what a like is: a regular expression that matches the front of a request, as in
-        'POST /like(/\\S*)'. The first group, or one named page, is the page; a group named user, if any, is the user"""
+    combined = "LOG is a web server's log in the combined or the common format"
+    parser.add_argument("--combined", action="store_true", help=combined)
+    like = """with --combined, which requests are likes: a regular expression for the front of a request, such as
+        'POST /like(/\\S*)'. The group named page, or else the first, is the page; a group named user is the user"""
     parser.add_argument("--like", metavar="PATTERN", type=pattern, help=like)
-    parser.add_argument("--look", metavar="PATTERN", type=pattern, help="with --combined, what a look is")
+    parser.add_argument("--look", metavar="PATTERN", type=pattern, help="with --combined, which requests are looks")
 
 
 def log_of(words, parser):
-    """The log of a tool's words."""
+    """The log that a tool's options name."""
     patterns = {op: found for op, found in (("like", words.like), ("look", words.look)) if found}
     if words.combined:
         if words.columns or not words.like:
-            parser.error("--combined takes --like and --look, and no --columns" if words.columns else "no --like")
+            parser.error("--columns is for CSV, not --combined" if words.columns else "--combined needs --like")
         return Combined(words.log, patterns)
     if patterns:
-        parser.error("--like and --look go with --combined")
+        parser.error("--like and --look need --combined")
     columns = (words.columns or rows.REQUESTS).split(",")
     if len(columns) != 3:
-        parser.error(f"--columns takes three names, and not {shown(words.columns)}")
+        parser.error(f"--columns takes three names, not {shown(words.columns)}")
     return Table(words.log, columns)

@@ -15,38 +15,38 @@ REQUESTS = "op,user,page"
 REPORT = "row,id,number,phase,answer,page,count"
 USERS = "number,user"
 
-# The most characters in a field of a file whose quotes are judged: what is longer was hardly meant to be one.
+# The most characters in a field of a file whose quotes are judged: a longer one is hardly meant.
 LONGEST = 131072
 
-# What the csv module says of a quote that is out of place, in the words of a fault.
+# The csv module's messages for a misplaced quote, and ours.
 QUOTES = {
     "unexpected end of data": "a quote is not closed",
-    "',' expected after '\"'": "text behind a closing quote: is a quote before it not closed?",
+    "',' expected after '\"'": "text after a closing quote: is an earlier quote not closed?",
     f"field larger than field limit ({LONGEST})": f"more than {LONGEST} characters in a field: is a quote not closed?",
 }
 
-# What a field has in it that has to be in quotes.
+# A field with one of these must be in quotes.
 MARKS = re.compile('[",\r\n]')
 
-# How a file begins that gzip packed.
+# How a gzipped file begins.
 GZIP = b"\x1f\x8b"
 
 
 def called(name):
-    """What a file is called in a line."""
+    """How a line names a file."""
     return "standard input" if name == "-" else name
 
 
 @contextlib.contextmanager
 def opened(name):
-    """The bytes of a file, or of standard input if its name is -, unpacked if gzip packed them; and the file below
-    them, whose place says how much of it was read."""
+    """The bytes of a file, or of standard input if its name is -, unzipped if need be; and the file below them, whose
+    position tells how much of it was read."""
     try:
         with open(0, "rb", closefd=False) if name == "-" else open(name, "rb") as file:
             is_packed = file.peek(2)[:2] == GZIP
             yield gzip.open(file) if is_packed else file, file.raw
     except (EOFError, zlib.error, gzip.BadGzipFile):
-        raise Fault(f"{called(name)}: what gzip packed is damaged, or not all of it is there") from None
+        raise Fault(f"{called(name)}: the gzip data is damaged or incomplete") from None
     except OSError as error:
         raise Fault(f"{called(name)}: {error.strerror}") from None
 
@@ -54,7 +54,7 @@ def opened(name):
 def records_in(file, name, strict=False):
     """The records of an open CSV file, each with the line on which it begins, read as the program reads them.
 
-    Strictly, a quote that is not closed, and text behind a closing quote, are faults."""
+    With `strict`, an unclosed quote, and text after a closing quote, are faults."""
     csv.field_size_limit(LONGEST if strict else sys.maxsize)
     line = 1
     try:
@@ -81,7 +81,7 @@ def fault(name, line, why):
 
 
 def lines_of(name, header):
-    """The records of a CSV file behind its header, each with the line on which it begins."""
+    """The records of a CSV file after its header, each with the line on which it begins."""
     wanted = header.split(",")
     found = records(name)
     line, first = next(found, (1, []))
@@ -89,23 +89,23 @@ def lines_of(name, header):
         raise fault(name, line, f"the header is not {header}: {shown(','.join(first))}")
     for line, row in found:
         if len(row) != len(wanted):
-            raise fault(name, line, f"{len(row)} fields, and not {len(wanted)}: {shown(','.join(row))}")
+            raise fault(name, line, f"{len(row)} fields, not {len(wanted)}: {shown(','.join(row))}")
         yield line, row
 
 
 def rows_of(name, header):
-    """The records of a CSV file behind its header, one by one."""
+    """The records of a CSV file after its header, one by one."""
     for _, row in lines_of(name, header):
         yield row
 
 
 def number(text, what, name, line):
-    """The whole number that a field has, in a line of a file."""
+    """The whole number in a field of a file's line."""
     if text.isascii() and text.isdigit():
         return int(text)
-    raise fault(name, line, f"{what} is {shown(text)}, and not a whole number")
+    raise fault(name, line, f"{what} is {shown(text)}, not a whole number")
 
 
 def field(text):
-    """A field of a CSV file, in quotes where it has to be."""
+    """A field of a CSV file, in quotes if it must be."""
     return '"' + text.replace('"', '""') + '"' if MARKS.search(text) else text

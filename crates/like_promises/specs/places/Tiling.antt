@@ -1,6 +1,6 @@
 -- What a report says of the places of the additions to each page.
-use Rattle.std.specs.Prelude.{◌≡◌, ◌⊎◌, ◌≤◌, ℕ, ◌&&◌, nat_le, nat_lt, if◌then◌else◌, All, List, [], count_by, length, map, slice_get, slice_index, Option, option_and_then, option_map}
-use Rattle.std.specs.List.{filter_map, flat_map, range_with_len}
+use Rattle.std.specs.Prelude.{◌≡◌, ◌⊎◌, ◌≤◌, ℕ, ◌&&◌, nat_le, nat_lt, if◌then◌else◌, All, List, [], count_by, length, map, slice_index, Option, option_map}
+use Rattle.std.specs.List.{enumerate_from, filter_map, flat_map}
 use Rattle.like_requests.specs.declared.request.Request.{Request}
 use Rattle.like_requests.specs.declared.setup.Setup.{Setup}
 use Rattle.like_core.specs.declared.view.Addition.{Addition}
@@ -27,15 +27,10 @@ read_of workload after e =
     option_map (λ page. record { phase = e.phase; page = page; count = count_in e.reply; after = after })
     (look_at workload e.submitter e.number)
 
--- the read of the entry at a place of a log, after the additions before it
-abbrev pub read_at : Workload → WorkerLog → ℕ → Option PageRead
-read_at workload log at =
-    option_and_then (read_of workload (adds_before at log.adds.items)) (slice_get log.ran.items at)
-
--- the reads of the accepted looks of a log, in order
+-- the reads of the accepted looks of a log, in order, each after the additions before its entry
 abbrev pub reads_of : Workload → WorkerLog → List PageRead
 reads_of workload log =
-    filter_map (read_at workload log) (range_with_len 0 (length log.ran.items))
+    filter_map (λ p. read_of workload (adds_before p.0 log.adds.items) p.1) (enumerate_from 0 log.ran.items)
 
 -- a read found the count at the start, or the end of a stretch
 abbrev pub IsAtEnd : (ℕ → ℕ) → List Addition → PageRead → Type 0
