@@ -69,6 +69,11 @@ abbrev pub asked_now : LiveView → ℕ → ℕ → ℕ → Asked
 asked_now v user page tag =
     record { tag = tag; user = user; page = page; phase = phase_at v.seat }
 
+-- a look is put by: there was room for one more, and it waits behind all others
+pub record PutsBy (v : LiveView) (asked : Asked) (after : LiveView) : Type 0 where
+  pub room : length (waiting v) + length v.found < room_of v
+  pub is : after ≡ with_seat v (holding v.seat asked)
+
 -- what a look does at a seat that runs a phase
 pub data LooksNow (v : LiveView) (user page tag : ℕ) (answer : LookAnswer) (after : LiveView) : Type 0 where
   refused : verdict_at v.seat user page ≢ Accepted

@@ -83,12 +83,13 @@ impl LikeCount {
     pub fn spend(&mut self) -> bool
         ensures { self.new ≡ self.old }
     {
-        if self.left == 0 {
-            return false;
+        self.left = self.left.wrapping_sub(1);
+        if self.left < BELOW_ZERO {
+            self.end -= 1;
+            return true;
         }
-        self.left -= 1;
-        self.end -= 1;
-        true
+        set_to_zero(&mut self.left);
+        false
     }
 
     /// Has room for so many more, as far as there are no more than 2^56 likes then.
