@@ -64,10 +64,13 @@ pub data LikeCase (v : LiveView) (user page : ℕ) (answer : LikeAnswer) (after 
   runs : (now : LiveView) → Moves v turn.Runs now → LikesNow now user page answer after
       → LikeCase v user page answer after
 
+-- a look that is asked in a phase
+abbrev pub asked_in : ℕ → ℕ → ℕ → ℕ → Asked
+asked_in phase user page tag = record { tag = tag; user = user; page = page; phase = phase }
+
 -- a look that is asked now
 abbrev pub asked_now : LiveView → ℕ → ℕ → ℕ → Asked
-asked_now v user page tag =
-    record { tag = tag; user = user; page = page; phase = phase_at v.seat }
+asked_now v user page tag = asked_in (phase_at v.seat) user page tag
 
 -- a look is put by: there was room for one more, and it waits behind all others
 pub record PutsBy (v : LiveView) (asked : Asked) (after : LiveView) : Type 0 where

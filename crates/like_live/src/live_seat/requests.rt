@@ -4,7 +4,7 @@ ghost use Rattle.like_core.specs.WorkerState.{IsRunning, RunsSplit};
 ghost use Rattle.like_seat.specs.StationView.{phase_at};
 ghost use Rattle.like_tables.specs.Share.{owns};
 ghost use Rattle.like_live.specs.LiveView.{IsLive, IsOwn, room_of, waiting};
-ghost use Rattle.like_live.specs.Calls.{GlancesNow, IsAccepted, LikesNow, LooksNow, PutsBy, verdict_at};
+ghost use Rattle.like_live.specs.Calls.{GlancesNow, IsAccepted, LikesNow, LooksNow, PutsBy, asked_in, verdict_at};
 
 use crate::answer::{GlanceAnswer, LikeAnswer, LookAnswer};
 use crate::asked::Asked;
@@ -143,13 +143,7 @@ impl<P: Post> LiveSeat<P> {
             count_look(&mut self.seat, &mut self.signals, page);
             return LookAnswer::Seen(self.seat.read_at(accepted.placed, page));
         }
-        let asked = Asked {
-            tag,
-            user,
-            page,
-            phase,
-        };
-        if self.wait(asked) || self.wait_late(asked) {
+        if self.wait(user, page, tag, phase) || self.wait_late(user, page, tag, phase) {
             return LookAnswer::Waits;
         }
         LookAnswer::NoRoom
@@ -157,19 +151,24 @@ impl<P: Post> LiveSeat<P> {
 
     // Puts a look at a split page by until the next joined phase, if it is free to wait. Says whether it did.
     #[inline(always)]
-    fn wait(&mut self, asked: Asked) -> bool
+    fn wait(&mut self, user: u32, page: u32, tag: u64, phase: u64) -> bool
         requires split { RunsSplit self.old.seat.post.state }
-        requires own { IsOwn self.old.seat asked }
-        requires phase { asked.phase ≡ phase_at self.old.seat }
-        ensures waits { IsTrue result → PutsBy self.old asked self.new }
+        requires own { IsOwn self.old.seat (asked_in phase user page tag) }
+        requires phase { phase ≡ phase_at self.old.seat }
+        ensures waits { IsTrue result → PutsBy self.old (asked_in phase user page tag) self.new }
         ensures none { result ≡ false → self.new ≡ self.old }
         ensures keeps { IsLive self.new }
     {
         if !self.room.take_free() {
             return false;
         }
-        count_look(&mut self.seat, &mut self.signals, asked.page);
-        self.seat.put_by(asked);
+        count_look(&mut self.seat, &mut self.signals, page);
+        self.seat.put_by(Asked {
+            tag,
+            user,
+            page,
+            phase,
+        });
         true
     }
 
@@ -177,11 +176,11 @@ impl<P: Post> LiveSeat<P> {
     // free to wait. Kept out of line, so that those make no call.
     #[cold]
     #[inline(never)]
-    fn wait_late(&mut self, asked: Asked) -> bool
+    fn wait_late(&mut self, user: u32, page: u32, tag: u64, phase: u64) -> bool
         requires split { RunsSplit self.old.seat.post.state }
-        requires own { IsOwn self.old.seat asked }
-        requires phase { asked.phase ≡ phase_at self.old.seat }
-        ensures waits { IsTrue result → PutsBy self.old asked self.new }
+        requires own { IsOwn self.old.seat (asked_in phase user page tag) }
+        requires phase { phase ≡ phase_at self.old.seat }
+        ensures waits { IsTrue result → PutsBy self.old (asked_in phase user page tag) self.new }
         ensures full { result ≡ false
             → length (waiting self.old) + length self.old.found ≡ room_of self.old }
         ensures none { result ≡ false → self.new ≡ self.old }
@@ -191,8 +190,13 @@ impl<P: Post> LiveSeat<P> {
             return false;
         }
         self.room.take();
-        count_look(&mut self.seat, &mut self.signals, asked.page);
-        self.seat.put_by(asked);
+        count_look(&mut self.seat, &mut self.signals, page);
+        self.seat.put_by(Asked {
+            tag,
+            user,
+            page,
+            phase,
+        });
         let clear = self.room.left() + self.found.len();
         if clear <= self.half {
             self.signals.ask();
