@@ -162,7 +162,6 @@ impl<P: Post> LiveSeat<P> {
         if !self.room.take_free() {
             return false;
         }
-        count_look(&mut self.seat, &mut self.signals, page);
         self.seat.put_by(Asked {
             tag,
             user,
@@ -172,8 +171,8 @@ impl<P: Post> LiveSeat<P> {
         true
     }
 
-    // The same where there is room, and asks for the end of the phase once half of it is taken. Up to there looks are
-    // free to wait. Kept out of line, so that those make no call.
+    // The same where there is room, and asks for the end of the phase once half of it is taken. Up to there, and up to
+    // the next sample, looks are free to wait. Kept out of line, so that those make no call.
     #[cold]
     #[inline(never)]
     fn wait_late(&mut self, user: u32, page: u32, tag: u64, phase: u64) -> bool
@@ -190,7 +189,7 @@ impl<P: Post> LiveSeat<P> {
             return false;
         }
         self.room.take();
-        count_look(&mut self.seat, &mut self.signals, page);
+        self.signals.count_waiting(page);
         self.seat.put_by(Asked {
             tag,
             user,
@@ -201,7 +200,8 @@ impl<P: Post> LiveSeat<P> {
         if clear <= self.half {
             self.signals.ask();
         } else {
-            self.room.set_free(clear - self.half - 1);
+            let free = self.signals.count_ahead(clear - self.half - 1);
+            self.room.set_free(free);
         }
         true
     }
