@@ -200,8 +200,8 @@ impl<P: Post> LiveSeat<P> {
         if clear <= self.half {
             self.signals.ask();
         } else {
-            let free = self.signals.count_ahead(clear - self.half - 1);
-            self.room.set_free(free);
+            let most = self.room.left().min(clear - self.half - 1);
+            self.room.set_free(self.signals.count_ahead(most));
         }
         true
     }
