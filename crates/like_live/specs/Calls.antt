@@ -64,10 +64,18 @@ pub data LikeCase (v : LiveView) (user page : ℕ) (answer : LikeAnswer) (after 
   runs : (now : LiveView) → Moves v turn.Runs now → LikesNow now user page answer after
       → LikeCase v user page answer after
 
+-- a look that is asked in a phase
+abbrev pub asked_in : ℕ → ℕ → ℕ → ℕ → Asked
+asked_in phase user page tag = record { tag = tag; user = user; page = page; phase = phase }
+
 -- a look that is asked now
 abbrev pub asked_now : LiveView → ℕ → ℕ → ℕ → Asked
-asked_now v user page tag =
-    record { tag = tag; user = user; page = page; phase = phase_at v.seat }
+asked_now v user page tag = asked_in (phase_at v.seat) user page tag
+
+-- a look is put by: there was room for one more, and it waits behind all others
+pub record PutsBy (v : LiveView) (asked : Asked) (after : LiveView) : Type 0 where
+  pub room : length (waiting v) + length v.found < room_of v
+  pub is : after ≡ with_seat v (holding v.seat asked)
 
 -- what a look does at a seat that runs a phase
 pub data LooksNow (v : LiveView) (user page tag : ℕ) (answer : LookAnswer) (after : LiveView) : Type 0 where

@@ -13,6 +13,7 @@ mod driver_end;
 mod hint;
 mod laws;
 mod live_seat;
+mod look_room;
 mod open_error;
 mod opening;
 mod phase_now;

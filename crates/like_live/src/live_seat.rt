@@ -16,6 +16,7 @@ mod requests;
 
 use crate::answer::{GlanceAnswer, LikeAnswer, LookAnswer, TurnAnswer};
 use crate::asked::{Asked, Found};
+use crate::look_room::LookRoom;
 use crate::signals::Signals;
 use like_core::{Post, Returns, SlotPost};
 use like_seat::Station;
@@ -37,7 +38,7 @@ pub struct LiveSeat<P: Post> {
     /// How many pages there are.
     pages: u32,
     /// How many more looks may wait.
-    room: u32,
+    room: LookRoom,
     /// Half of the room.
     half: u32,
     signals: Signals,
@@ -88,7 +89,7 @@ impl<P: Post + Drop> LiveSeat<P> {
                 found,
                 home,
                 pages,
-                room,
+                room: LookRoom::new(room),
                 half: room / 2,
                 signals,
             }),
@@ -107,6 +108,20 @@ impl<P: SlotPost> LiveSeat<P> {
         ensures same { IsSameSeat self.old self.new }
         ensures tallies { KeepsTallies self.old self.new }
         ensures last { self.new.seat.last ≡ self.old.seat.last }
+    {
+        self.turn_in().0
+    }
+
+    // The same, with the phase that it then runs or has answered.
+    #[inline(always)]
+    fn turn_in(&mut self) -> (TurnAnswer, u64)
+        ensures case { Moves self.old result.0 self.new }
+        ensures keeps { IsLive self.new }
+        ensures runs { result.0 ≡ TurnAnswer.Runs → IsRunning self.new.seat.post.state }
+        ensures same { IsSameSeat self.old self.new }
+        ensures tallies { KeepsTallies self.old self.new }
+        ensures last { self.new.seat.last ≡ self.old.seat.last }
+        ensures phase { result.1 ≡ phase_at self.new.seat }
     {
         self.advance()
     }
@@ -136,8 +151,9 @@ impl<P: SlotPost> LiveSeat<P> {
         ensures tallies { KeepsTallies self.old self.new }
         ensures last { self.new.seat.last ≡ self.old.seat.last }
     {
-        match self.turn() {
-            TurnAnswer::Runs => self.look_now(user, page, tag),
+        let (answer, phase) = self.turn_in();
+        match answer {
+            TurnAnswer::Runs => self.look_now(user, page, tag, phase),
             TurnAnswer::Between => LookAnswer::Between,
             TurnAnswer::Gone => LookAnswer::Gone,
         }
@@ -187,7 +203,7 @@ impl<P: SlotPost> LiveSeat<P> {
         ensures same { IsSameSeat self.old self.new }
     {
         let found = self.found.pop_front()?;
-        self.room += 1;
+        self.room.give();
         Some(found)
     }
 

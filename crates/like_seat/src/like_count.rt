@@ -37,6 +37,21 @@ fn set_to_zero(number: &mut u64)
     *number = 0;
 }
 
+// Takes one away, if it isn't 0, and says whether: by one subtraction, whose sign tells that.
+#[inline(always)]
+fn take_one(number: &mut u64) -> bool
+    requires { number.old < 2 ^ 63 }
+    ensures taken { IsTrue result → number.old ≡ number.new + 1 }
+    ensures none { result ≡ false → number.new ≡ number.old }
+{
+    *number = number.wrapping_sub(1);
+    if *number < BELOW_ZERO {
+        return true;
+    }
+    set_to_zero(number);
+    false
+}
+
 impl LikeCount {
     /// No like, and no room.
     pub fn none() -> LikeCount
@@ -70,12 +85,7 @@ impl LikeCount {
         ensures room { IsTrue result → self.old < 2 ^ 56 }
         ensures none { result ≡ false → self.new ≡ self.old }
     {
-        self.left = self.left.wrapping_sub(1);
-        if self.left < BELOW_ZERO {
-            return true;
-        }
-        set_to_zero(&mut self.left);
-        false
+        take_one(&mut self.left)
     }
 
     /// Takes away the room for one, and says whether there was any.
@@ -83,12 +93,11 @@ impl LikeCount {
     pub fn spend(&mut self) -> bool
         ensures { self.new ≡ self.old }
     {
-        if self.left == 0 {
-            return false;
+        if take_one(&mut self.left) {
+            self.end -= 1;
+            return true;
         }
-        self.left -= 1;
-        self.end -= 1;
-        true
+        false
     }
 
     /// Has room for so many more, as far as there are no more than 2^56 likes then.

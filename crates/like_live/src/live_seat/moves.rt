@@ -2,7 +2,7 @@ ghost use Rattle.std.specs.Prelude.{◌≡◌, All, IsTrue, false, true};
 ghost use Rattle.like_core.specs.declared.worker_state.WorkerState.TheVariants.{Gone};
 ghost use Rattle.like_core.specs.OpeningLimits.{service_limits};
 ghost use Rattle.like_core.specs.WorkerState.{IsRunning, RunsJoined, SawEnding};
-ghost use Rattle.like_seat.specs.StationView.{IsStation};
+ghost use Rattle.like_seat.specs.StationView.{IsStation, phase_at};
 ghost use Rattle.like_seat.specs.Steps.{ComesBack};
 ghost use Rattle.like_live.specs.LiveView.{IsLive, RanNext, live_of};
 ghost use Rattle.like_live.specs.Kept.{HasLooked};
@@ -18,22 +18,27 @@ use like_tables::Stash;
 
 impl<P: SlotPost> LiveSeat<P> {
     // Looks at the phase word, and does the phase work that it asks for. Mostly the seat runs a phase that goes on, and
-    // there is none: what waited was found when it entered the phase.
+    // there is none: what waited was found when it entered the phase. The phase that it then runs or has answered comes
+    // with the answer.
     #[inline(always)]
-    pub(crate) fn advance(&mut self) -> TurnAnswer
-        ensures moves { Moves self.old result self.new }
+    pub(crate) fn advance(&mut self) -> (TurnAnswer, u64)
+        ensures moves { Moves self.old result.0 self.new }
         ensures keeps { IsLive self.new }
-        ensures runs { result ≡ TurnAnswer.Runs → IsRunning self.new.seat.post.state }
+        ensures runs { result.0 ≡ TurnAnswer.Runs → IsRunning self.new.seat.post.state }
         ensures was { IsLive self.old }
+        ensures phase { result.1 ≡ phase_at self.new.seat }
     {
+        let phase = self.seat.phase();
         if !self.seat.runs() {
-            return self.advance_late();
+            let answer = self.advance_late();
+            return (answer, self.seat.phase());
         }
         let sight = self.seat.look_on();
         if !sight.ending {
-            return TurnAnswer::Runs;
+            return (TurnAnswer::Runs, phase);
         }
-        work(&mut self.seat, &mut self.found, true)
+        let answer = work(&mut self.seat, &mut self.found, true);
+        (answer, self.seat.phase())
     }
 
     // The same, of a seat that has answered its phase or is gone.

@@ -1,10 +1,10 @@
-ghost use Rattle.std.specs.Prelude.{◌≡◌, ◌≢◌, ◌+◌, ◌<◌, IfNone, IfSome, IsTrue, length};
+ghost use Rattle.std.specs.Prelude.{◌≡◌, ◌≢◌, ◌+◌, false, IfNone, IfSome, IsTrue, length};
 ghost use Rattle.like_core.specs.Post.{pages_of, slices};
 ghost use Rattle.like_core.specs.WorkerState.{IsRunning, RunsSplit};
-ghost use Rattle.like_seat.specs.Steps.{holding};
+ghost use Rattle.like_seat.specs.StationView.{phase_at};
 ghost use Rattle.like_tables.specs.Share.{owns};
-ghost use Rattle.like_live.specs.LiveView.{IsLive, IsOwn, room_of, waiting, with_seat};
-ghost use Rattle.like_live.specs.Calls.{GlancesNow, IsAccepted, LikesNow, LooksNow, asked_now, verdict_at};
+ghost use Rattle.like_live.specs.LiveView.{IsLive, IsOwn, room_of, waiting};
+ghost use Rattle.like_live.specs.Calls.{GlancesNow, IsAccepted, LikesNow, LooksNow, PutsBy, asked_in, verdict_at};
 
 use crate::answer::{GlanceAnswer, LikeAnswer, LookAnswer};
 use crate::asked::Asked;
@@ -128,10 +128,11 @@ impl<P: Post> LiveSeat<P> {
         LikeAnswer::Liked
     }
 
-    // A look, of a seat that runs a phase.
+    // A look, of a seat that runs this phase.
     #[inline(always)]
-    pub(crate) fn look_now(&mut self, user: u32, page: u32, tag: u64) -> LookAnswer
-        requires { IsRunning self.old.seat.post.state }
+    pub(crate) fn look_now(&mut self, user: u32, page: u32, tag: u64, phase: u64) -> LookAnswer
+        requires runs { IsRunning self.old.seat.post.state }
+        requires phase { phase ≡ phase_at self.old.seat }
         ensures case { LooksNow self.old user page tag result self.new }
         ensures keeps { IsLive self.new }
     {
@@ -142,35 +143,67 @@ impl<P: Post> LiveSeat<P> {
             count_look(&mut self.seat, &mut self.signals, page);
             return LookAnswer::Seen(self.seat.read_at(accepted.placed, page));
         }
-        if self.room == 0 {
-            return LookAnswer::NoRoom;
+        if self.wait(user, page, tag, phase) || self.wait_late(user, page, tag, phase) {
+            return LookAnswer::Waits;
         }
-        self.wait(user, page, tag);
-        LookAnswer::Waits
+        LookAnswer::NoRoom
     }
 
-    // Puts a look at a split page by until the next joined phase.
+    // Puts a look at a split page by until the next joined phase, if it is free to wait. Says whether it did.
     #[inline(always)]
-    fn wait(&mut self, user: u32, page: u32, tag: u64)
+    fn wait(&mut self, user: u32, page: u32, tag: u64, phase: u64) -> bool
         requires split { RunsSplit self.old.seat.post.state }
-        requires own { IsOwn self.old.seat (asked_now self.old user page tag) }
-        requires room { length (waiting self.old) + length self.old.found < room_of self.old }
-        ensures waits { self.new
-            ≡ with_seat self.old (holding self.old.seat (asked_now self.old user page tag)) }
+        requires own { IsOwn self.old.seat (asked_in phase user page tag) }
+        requires phase { phase ≡ phase_at self.old.seat }
+        ensures waits { IsTrue result → PutsBy self.old (asked_in phase user page tag) self.new }
+        ensures none { result ≡ false → self.new ≡ self.old }
         ensures keeps { IsLive self.new }
     {
-        self.room -= 1;
-        count_look(&mut self.seat, &mut self.signals, page);
-        let phase = self.seat.phase();
+        if !self.room.take_free() {
+            return false;
+        }
         self.seat.put_by(Asked {
             tag,
             user,
             page,
             phase,
         });
-        if self.room + self.found.len() <= self.half {
-            self.signals.ask();
+        true
+    }
+
+    // The same where there is room, and asks for the end of the phase once half of it is taken. Up to there, and up to
+    // the next sample, looks are free to wait. Kept out of line, so that those make no call.
+    #[cold]
+    #[inline(never)]
+    fn wait_late(&mut self, user: u32, page: u32, tag: u64, phase: u64) -> bool
+        requires split { RunsSplit self.old.seat.post.state }
+        requires own { IsOwn self.old.seat (asked_in phase user page tag) }
+        requires phase { phase ≡ phase_at self.old.seat }
+        ensures waits { IsTrue result → PutsBy self.old (asked_in phase user page tag) self.new }
+        ensures full { result ≡ false
+            → length (waiting self.old) + length self.old.found ≡ room_of self.old }
+        ensures none { result ≡ false → self.new ≡ self.old }
+        ensures keeps { IsLive self.new }
+    {
+        if self.room.left() == 0 {
+            return false;
         }
+        self.room.take();
+        self.signals.count_waiting(page);
+        self.seat.put_by(Asked {
+            tag,
+            user,
+            page,
+            phase,
+        });
+        let clear = self.room.left() + self.found.len();
+        if clear <= self.half {
+            self.signals.ask();
+        } else {
+            let most = self.room.left().min(clear - self.half - 1);
+            self.room.set_free(self.signals.count_ahead(most));
+        }
+        true
     }
 
     // A glance, of a seat that runs a phase.

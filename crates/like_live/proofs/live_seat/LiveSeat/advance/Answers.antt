@@ -29,12 +29,12 @@ returns-then-not-sight-clause-moves g c =
 
 pub returns-clause-moves : goal.returns-clause-moves
 returns-clause-moves g c =
-    let after = live_of c.work.new.seat c.work.new.found in
+    let after = live_of c.work-answer.new.seat c.work-answer.new.found in
     let sight = c.look_on-sight.result in
     let looks = c.look_on-sight.ensures.looks.looks in
-    subst (λ (u : LiveView). Moves u c.work.result after) c.self.view_is
+    subst (λ (u : LiveView). Moves u c.work-answer.result after) c.self.view_is
     (works sight looks.0 c.look_on-sight.ensures.looks.sight c.look_on-sight.ensures.goes_on
-    (subst (λ (u : LiveView). Works u sight.ending c.work.result after)
+    (subst (λ (u : LiveView). Works u sight.ending c.work-answer.result after)
     (λ m. live_of (looks.1 m) c.self.inside.found)
-    (subst (λ (e : Bool). Works (live_of c.look_on-sight.new.self c.self.inside.found) e c.work.result after)
-    (sym (not-false _ c.if-not-sight.false)) c.work.ensures.works)))
+    (subst (λ (e : Bool). Works (live_of c.look_on-sight.new.self c.self.inside.found) e c.work-answer.result after)
+    (sym (not-false _ c.if-not-sight.false)) c.work-answer.ensures.works)))

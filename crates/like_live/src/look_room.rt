@@ -1,0 +1,94 @@
+//! How many more looks may wait at a seat.
+ghost use Rattle.std.specs.Prelude.{◌≡◌, ◌+◌, ◌^◌, ◌<◌, false, IsTrue};
+
+use std::marker::Model;
+
+// Where numbers are that were taken below 0.
+const BELOW_ZERO: u32 = 1 << 31;
+
+/// How many more looks may wait. For so many of them as are free the seat has no other test to make: so one subtraction
+/// counts a look, and tells whether it was free.
+#[derive(Drop)]
+pub(crate) struct LookRoom {
+    free: u32,
+    rest: u32,
+}
+
+impl Model for LookRoom {
+    ghost use Rattle.std.specs.Prelude.{◌+◌, ◌<◌, ◌^◌, ℕ};
+
+    ghost Value = { ℕ };
+
+    ghost view = { λ r. r.free + r.rest };
+
+    ghost invariant = { λ r. r.free + r.rest < 2 ^ 31 };
+}
+
+// It stands apart, so that the compiler doesn't make it a part of each count.
+#[cold]
+#[inline(never)]
+fn set_to_zero(number: &mut u32)
+    ensures { number.new ≡ 0 }
+{
+    *number = 0;
+}
+
+impl LookRoom {
+    /// Room for so many, none of which is free.
+    pub fn new(room: u32) -> LookRoom
+        requires { room < 2 ^ 31 }
+        ensures { result ≡ room }
+    {
+        LookRoom {
+            free: 0,
+            rest: room,
+        }
+    }
+
+    /// For how many.
+    pub fn left(&self) -> u32
+        ensures { result ≡ self.now }
+    {
+        self.free + self.rest
+    }
+
+    /// Takes a free one if there is one, and says whether.
+    #[inline(always)]
+    pub fn take_free(&mut self) -> bool
+        ensures taken { IsTrue result → self.old ≡ self.new + 1 }
+        ensures none { result ≡ false → self.new ≡ self.old }
+    {
+        self.free = self.free.wrapping_sub(1);
+        if self.free < BELOW_ZERO {
+            return true;
+        }
+        set_to_zero(&mut self.free);
+        false
+    }
+
+    /// Takes one. None is free then.
+    pub fn take(&mut self)
+        requires { 0 < self.old }
+        ensures { self.old ≡ self.new + 1 }
+    {
+        self.rest = self.left() - 1;
+        self.free = 0;
+    }
+
+    /// Gives one back, which isn't free.
+    pub fn give(&mut self)
+        requires { self.old + 1 < 2 ^ 31 }
+        ensures { self.new ≡ self.old + 1 }
+    {
+        self.rest += 1;
+    }
+
+    /// So many are free then, or as many as there are.
+    pub fn set_free(&mut self, most: u32)
+        ensures { self.new ≡ self.old }
+    {
+        let left = self.left();
+        self.free = left.min(most);
+        self.rest = left - self.free;
+    }
+}
