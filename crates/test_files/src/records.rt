@@ -151,8 +151,7 @@ fn a_failed_read_stays_failed(rt: HostRuntime) {
 // Reads this many records.
 fn skip<R: Read>(rt: &impl Abort, records: &mut Records<R>, number: u32) {
     for _ in 0..number {
-        let is_there = records.read_next().expect(rt, "a record");
-        assert_that(rt, is_there, "no record");
+        assert_that(rt, records.read_next() == Ok(true), "no record");
     }
 }
 

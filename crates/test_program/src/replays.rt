@@ -48,13 +48,12 @@ fn case_of(text: &str) -> Case<'_> {
 
 // The number at an index of the settings, or 0.
 fn number(settings: &str, index: usize) -> u32 {
-    setting(settings, index).unwrap_or(0)
+    number_at(settings, ' ', index).unwrap_or(0)
 }
 
-// The number at an index of the settings, if one is there.
-fn setting(settings: &str, index: usize) -> Option<u32> {
-    let word = settings.split(' ').nth(index);
-    word.and_then(|word| word.parse().ok())
+/// The number at an index of a text with this mark between its parts, if one is there.
+pub fn number_at(text: &str, mark: char, index: usize) -> Option<u32> {
+    text.split(mark).nth(index)?.parse().ok()
 }
 
 /// The options with these settings, which name this many request files, and a script where there is one.
@@ -70,7 +69,7 @@ pub fn options_of(
         users: number(settings, 1),
         stash: number(settings, 2),
         turns: number(settings, 3),
-        hot: setting(settings, 4),
+        hot: number_at(settings, ' ', 4),
         places: settings.contains("places"),
         totals: settings.contains("totals"),
         summary: false,

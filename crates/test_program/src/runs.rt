@@ -1,5 +1,5 @@
 //! Runs on threads, by `run_files`.
-use super::replays::{assert_done, assert_that, options_of};
+use super::replays::{assert_done, assert_that, number_at, options_of};
 use like_files::{DriverFault, run_files};
 use std::alloc::{AllocError, Global};
 use std::io::Write;
@@ -156,8 +156,7 @@ fn tells_a_write_that_fails(rt: HostRuntime) {
 
 // The phase of a row of a reply.
 fn phase(row: &str) -> u32 {
-    let phase = row.split(',').nth(3).and_then(|field| field.parse().ok());
-    phase.unwrap_or(0)
+    number_at(row, ',', 3).unwrap_or(0)
 }
 
 // The phase of each reply, by number.

@@ -32,12 +32,17 @@ fn has_length<T: Drop>(list: &Result<Vec<T>, AllocError>, length: usize) -> bool
     }
 }
 
+// Stops the test unless these are 1,024 pages, with as many counts and marks.
+fn assert_all(rt: &impl Abort, alloc: Global, pages: &Pages) {
+    assert_that(rt, pages.len() == 1_024, "not 1,024");
+    assert_that(rt, has_length(&pages.counts(alloc), 1_024), "memory");
+    assert_that(rt, has_length(&pages.marks(alloc), 1_024), "memory");
+}
+
 #[test]
 fn of_pages(rt: HostRuntime) {
     let pages = pages(&rt, rt.alloc(), 1_024).expect(&rt, "pages");
-    assert_that(&rt, pages.len() == 1_024, "not 1,024");
-    assert_that(&rt, has_length(&pages.counts(rt.alloc()), 1_024), "memory");
-    assert_that(&rt, has_length(&pages.marks(rt.alloc()), 1_024), "memory");
+    assert_all(&rt, rt.alloc(), &pages);
 }
 
 #[test]

@@ -61,7 +61,8 @@ fn report_of_likes(rt: &impl Abort, alloc: Global, count: usize) -> Report
 
 // The rows of this many requests.
 fn push_requests(text: &mut String, count: usize) -> Result<(), AllocError> {
-    for number in 1..=count {
+    for before in 0..count {
+        let number = before + 1;
         write!(text, "reply,0,{number},0,liked,,\n")?;
     }
     Ok(())
