@@ -1,10 +1,13 @@
-//! Tests of the live core: the worked examples of a live service, and a host with several threads.
+//! Tests of the live core: the worked examples of a live service, a host with several threads, and the choice of hot
+//! pages.
 #![tactic(auto)]
 
 #[cfg(test)]
 mod again;
 #[cfg(test)]
 mod batches;
+#[cfg(test)]
+mod choice;
 #[cfg(test)]
 mod ends;
 #[cfg(test)]

@@ -1,5 +1,0 @@
-//! Tests of which pages get slots in the split phases of a service.
-#![tactic(auto)]
-
-#[cfg(test)]
-mod choice;
