@@ -186,6 +186,14 @@ Kept-written {W} post a r gl t after k marks state_is held splits is sums likes 
       };
     }
 
+-- the tables of a post that read or glanced
+pub Kept-read : {W : Type 0} (post now : PostView) (r gl : List PageRead) (t : Tables W) → IsKept post t
+    → now ≡ record post { reads = r; glances = gl } → IsKept now t
+Kept-read {W} post now r gl t k is =
+    subst (λ (p : PostView). IsKept p t) (sym is)
+    (Kept-written post post.additions r gl t t k refl refl refl refl k.slice k.sums k.likes
+    (omega (arith, k.likes, k.seat.few)))
+
 -- the tables of a post that never looked, or answered: no page is split
 pub Kept-unsplit : {W : Type 0} (post : PostView) (t : Tables W) (factor : ℕ)
     → (RunsSplit post.state → ⊥) → t.slice ≡ no_slice factor → factor ≡ post.factor → factor < 2 ^ 32

@@ -1,11 +1,14 @@
-use Rattle.std.proofs.Common.{◌≡◌, ℕ, ◌+◌, ◌<◌, get_or, sym, ap, subst, ◌∙◌, arith}
+use Rattle.std.proofs.Common.{◌≡◌, ℕ, ◌+◌, ◌<◌, ◌++◌, ◌∷◌, [], get_or, length, sym, ap, subst, ◌∙◌, arith}
+use Rattle.like_core.specs.Additions.{page_read}
 use Rattle.like_core.specs.Post.{PostView, pages_of}
+use Rattle.like_core.specs.WorkerState.{phase_of}
 use Rattle.like_tables.specs.SplitSlice.{by_page}
 use Rattle.like_tables.proofs.ByPage.{get_or-by_page}
 use Rattle.like_seat.specs.declared.seen.Seen.{Seen}
 use Rattle.like_seat.specs.Kept.{view_of}
 use Rattle.like_seat.specs.StationView.{StationView}
 use Rattle.like_seat.specs.Steps.{Glances}
+use Rattle.like_seat.proofs.Keeping.{Kept-read}
 use Rattle.like_seat.proofs.station.Station.glance.Goals as goal
 
 pub returns-clause-glances : goal.returns-clause-glances
@@ -27,3 +30,13 @@ returns-clause-glances g c =
       own = omega (arith, own, c.glance.ensures.own);
       glanced = ap (λ (q : PostView). view_of q t) c.glance.ensures.view;
     })
+
+pub invariant_of-self : goal.invariant_of-self
+invariant_of-self g c =
+    let p = g.P.Post.view c.self.inside.post in
+    Kept-read p (g.P.Post.view c.glance.new.self) p.reads
+    (p.glances ++ page_read (phase_of p.state) c.args.page c.glance.result (length p.additions) ∷ [])
+    c.self.inside.tables c.self.invariant c.glance.ensures.view
+
+pub returns-clause-seat : goal.returns-clause-seat
+returns-clause-seat g c = (invariant_of-self g c).seat
