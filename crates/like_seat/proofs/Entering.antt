@@ -16,7 +16,7 @@ use Rattle.like_core.specs.Slots.{IsChoice, mask_of_slots}
 use Rattle.like_core.proofs.Slots.{slots_tell}
 use Rattle.like_limits.specs.Limits.{hot_pages}
 use Rattle.like_core.specs.Post.{PostView, looked_at, pages_of, returned}
-use Rattle.like_core.specs.WorkerState.{RunsSplit, seen}
+use Rattle.like_core.specs.WorkerState.{IsRunning, RunsSplit, seen}
 use Rattle.like_tables.specs.SplitSlice.{IsSplitSlice, SplitSlice, by_page, has_split, likes_in}
 use Rattle.like_tables.proofs.ByPage.{by_page-none, length-by_page, likes_in-none, likes_in-other}
 use Rattle.like_tables.proofs.Sliced.{counts-none}
@@ -288,3 +288,7 @@ IsKept-looked {W} post now t sight k look same =
         waiting = k.seat.waiting;
       };
     } in subst (λ (p : PostView). IsKept p t) (sym is) keeps
+
+-- a look of who runs a phase leaves the phase
+pub running-stays : (s : WorkerState) (sight : Sight) → IsRunning s → seen s sight ≡ s
+running-stays s sight runs = stays s sight (λ k is. subst IsRunning is runs)

@@ -11,8 +11,8 @@ use Rattle.like_core.specs.declared.view.Addition.{Addition}
 use Rattle.like_core.specs.declared.view.PageRead.{PageRead}
 use Rattle.like_core.specs.OpeningLimits.{AreLimits, has_slots}
 use Rattle.like_core.specs.PhaseMasks.{mask_of}
-use Rattle.like_core.specs.Post.{PostView, pages_of, slices}
-use Rattle.like_core.specs.WorkerState.{IsRunning, RunsSplit, phase_of}
+use Rattle.like_core.specs.Post.{PostView, answered, pages_of, slices}
+use Rattle.like_core.specs.WorkerState.{IsRunning, RunsJoined, RunsSplit, phase_of}
 use Rattle.like_limits.specs.Buckets.{bucket, buckets}
 use Rattle.like_tables.specs.Liked.{AreUnliked}
 use Rattle.like_tables.specs.SplitPages.{SplitPages, is_split}
@@ -193,6 +193,50 @@ Kept-read {W} post now r gl t k is =
     subst (λ (p : PostView). IsKept p t) (sym is)
     (Kept-written post post.additions r gl t t k refl refl refl refl k.slice k.sums k.likes
     (omega (arith, k.likes, k.seat.few)))
+
+-- who runs a joined phase runs no split one
+joined-unsplit : (s : WorkerState) → RunsJoined s → RunsSplit s → ⊥
+joined-unsplit (state.Runs k) joined split = omega (arith, joined, split)
+joined-unsplit (state.Answered k) joined split = split
+joined-unsplit state.Gone joined split = split
+
+-- the tables of a post that left a joined phase: it is in this state, in which it runs none
+pub Kept-left : {W : Type 0} (post now : PostView) (t : Tables W) (s : WorkerState) → IsKept post t
+    → RunsJoined post.state → (RunsSplit s → ⊥) → phase_of s ≤ phase_of post.state → now ≡ record post { state = s }
+    → IsKept now (record t { state = s })
+Kept-left {W} post now t s k joined idle within is =
+    let at : PostView = record post { state = s } in
+    let left : Tables W = record t { state = s } in
+    let unsplit = joined-unsplit post.state joined in
+    let keeps : IsKept at left = record {
+      run = of-run post at t.marks.items t.marks.items refl refl refl refl k.run;
+      service = of-service post at refl refl k.service;
+      state = refl;
+      slice = k.slice;
+      factor = k.factor;
+      splits = λ page. (λ has. absurd (unsplit ((k.splits page).0 has).0), λ runs. absurd (idle runs.0));
+      sums = k.sums;
+      likes = k.likes;
+      seat = record {
+        few_pages = k.seat.few_pages;
+        limits = k.seat.limits;
+        factor = k.seat.factor;
+        within = omega (arith, within, k.seat.within);
+        sized = k.seat.sized;
+        masked = λ runs. absurd (idle runs);
+        split = λ page some. absurd (unsplit (k.seat.split page some).0);
+        few = k.seat.few;
+        waiting = k.seat.waiting;
+      };
+    } in subst (λ (p : PostView). IsKept p left) (sym is) keeps
+
+-- and those of one that stopped at the end of it
+pub Kept-answered : {W : Type 0} (post now : PostView) (t : Tables W) (n : ℕ) → IsKept post t → RunsJoined post.state
+    → n ≡ phase_of t.state → now ≡ answered post → IsKept now (record t { state = state.Answered n })
+Kept-answered {W} post now t n k joined is answer =
+    let same : phase_of post.state ≡ n = ap phase_of k.state ∙ sym is in
+    Kept-left post now t (state.Answered n) k joined (λ runs. runs) (omega (arith, same))
+    (answer ∙ (λ i. record post { state = state.Answered (same i) }))
 
 -- the tables of a post that never looked, or answered: no page is split
 pub Kept-unsplit : {W : Type 0} (post : PostView) (t : Tables W) (factor : ℕ)
