@@ -35,7 +35,8 @@ returns-clause-back g c = λ _.
       phase,
       (
         mask,
-        ◌∙◌ {b = came_back (view_of p t) phase mask}
+        ◌∙◌ {a = view_of (g.P.Post.view c.enter_slots.new.post) c.enter_slots.new.self}
+            {b = came_back (view_of p t) phase mask}
             (λ m. record (view_of p t) {
               post = after m;
               held = (e.rest m).held;

@@ -77,7 +77,7 @@ returns-then-not-sight g c =
       ending = search rules;
       looks = (
         hot,
-        ◌∙◌ {b = saw (view_of p t) sight hot}
+        ◌∙◌ {a = view_of (g.P.Post.view c.enter_slots.new.post) c.enter_slots.new.self} {b = saw (view_of p t) sight hot}
             (λ m. record (view_of p t) {
               post = after m;
               held = (e.rest m).held;

@@ -4,6 +4,7 @@ use Rattle.like_core.specs.declared.view.PhaseMask.{PhaseMask}
 use Rattle.like_core.specs.Phase.{IsSplit}
 use Rattle.like_core.specs.Slots.{mask_of_slots}
 use Rattle.like_core.specs.WorkerState.{phase_of}
+use Rattle.like_core.specs.declared.worker_state.WorkerState.TheVariants.{Runs}
 use Rattle.like_limits.specs.Limits.{hot_pages}
 use Rattle.like_seat.specs.Steps.{masks_entered}
 use Rattle.like_seat.proofs.Entering.{filled-service}
@@ -26,7 +27,7 @@ returns g c =
         mask,
         record {
           at_post = c.slots-used.ensures.view ∙ (λ i. record p { masks = masks i });
-          rest = refl;
+          rest = refl {a = record c.args.self.now { state = Runs phase; slice = c.split_slots.new.slice }};
           split = λ _. filled-service p slots c.slots-used.result c.args.self.now.slice c.split_slots.new.slice
               c.requires.service c.requires.may.limits c.requires.may.few_pages c.slots-used.ensures.choice
               c.split_slots.ensures;
