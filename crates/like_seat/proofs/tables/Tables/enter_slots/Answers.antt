@@ -1,4 +1,4 @@
-use Rattle.std.proofs.Common.{◌≡◌, ℕ, ◌%◌, ◌==◌, ◌∷◌, List, slice_index, refl, sym, ap, ◌∙◌, eq-eqb, arith}
+use Rattle.std.proofs.Common.{◌≡◌, ℕ, ◌%◌, ◌==◌, ◌∷◌, List, slice_index, refl, sym, ap, subst, ◌∙◌, eq-eqb, arith}
 use Rattle.std.proofs.lemmas.Bool.{cond-true}
 use Rattle.like_core.specs.declared.view.PhaseMask.{PhaseMask}
 use Rattle.like_core.specs.Phase.{IsSplit}
@@ -6,6 +6,7 @@ use Rattle.like_core.specs.Slots.{mask_of_slots}
 use Rattle.like_core.specs.WorkerState.{phase_of}
 use Rattle.like_core.specs.declared.worker_state.WorkerState.TheVariants.{Runs}
 use Rattle.like_limits.specs.Limits.{hot_pages}
+use Rattle.like_seat.specs.Kept.{AreSlotsApart}
 use Rattle.like_seat.specs.Steps.{masks_entered}
 use Rattle.like_seat.proofs.Entering.{filled-service}
 use Rattle.like_seat.proofs.tables.Tables.enter_slots.Goals as goal
@@ -35,3 +36,14 @@ returns g c =
         },
       );
     }
+
+pub split_slots-requires-clause-unsplit : goal.split_slots-requires-clause-unsplit
+split_slots-requires-clause-unsplit g c =
+    let unsplit = c.requires.may.unsplit in
+    record { slice = unsplit.slice; factor = refl; none = unsplit.none }
+
+pub split_slots-requires-clause-apart : goal.split_slots-requires-clause-apart
+split_slots-requires-clause-apart g c =
+    let slots : ℕ → ℕ = slice_index c.slots-used.new.pages in
+    subst (λ (f : ℕ). AreSlotsApart f slots c.slots-used.result) (sym c.requires.may.unsplit.factor)
+    c.slots-used.ensures.choice.apart
