@@ -17,7 +17,7 @@ use Rattle.like_limits.specs.Buckets.{bucket, buckets}
 use Rattle.like_tables.specs.Liked.{AreUnliked}
 use Rattle.like_tables.specs.SplitPages.{SplitPages, is_split}
 use Rattle.like_tables.specs.SplitSlice.{AreUnsliced, IsNextSliced, IsSplitSlice, SplitSlice, bucket_in, by_page, has_split, likes_in, no_slice, with_likes}
-use Rattle.like_tables.specs.Waiting.{IsWaiting}
+use Rattle.like_tables.specs.Waiting.{IsWaiting, Waiting}
 use Rattle.like_tables.proofs.ByPage.{by_page-none, by_page-with_likes, get_or-by_page, is_split-one, length-by_page, liked-split, likes_in-other}
 use Rattle.like_tables.proofs.Sliced.{IsSplitSlice-none, has_split-none}
 use Rattle.like_tables.proofs.Tagged.{bucket-lt}
@@ -193,6 +193,31 @@ Kept-read {W} post now r gl t k is =
     subst (λ (p : PostView). IsKept p t) (sym is)
     (Kept-written post post.additions r gl t t k refl refl refl refl k.slice k.sums k.likes
     (omega (arith, k.likes, k.seat.few)))
+
+-- the tables hold other requests that wait
+pub Kept-holding : {W : Type 0} (post : PostView) (t : Tables W) (held : Waiting W) → IsKept post t → IsWaiting held
+    → IsKept post (record t { held = held })
+Kept-holding {W} post t held k waits = record {
+  run = k.run;
+  service = k.service;
+  state = k.state;
+  slice = k.slice;
+  factor = k.factor;
+  splits = k.splits;
+  sums = k.sums;
+  likes = k.likes;
+  seat = record {
+    few_pages = k.seat.few_pages;
+    limits = k.seat.limits;
+    factor = k.seat.factor;
+    within = k.seat.within;
+    sized = k.seat.sized;
+    masked = k.seat.masked;
+    split = k.seat.split;
+    few = k.seat.few;
+    waiting = waits;
+  };
+}
 
 -- who runs a joined phase runs no split one
 joined-unsplit : (s : WorkerState) → RunsJoined s → RunsSplit s → ⊥
