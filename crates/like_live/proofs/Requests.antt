@@ -1,22 +1,30 @@
 -- What is known of a request that is accepted.
-use Rattle.std.proofs.Common.{◌≡◌, ◌%◌, ◌<◌, ◌^◌, ℕ, List, Option, Some, None, true, nat_lt, ap, sym, subst, ◌∙◌, arith}
+use Rattle.std.proofs.Common.{◌≡◌, ◌+◌, ◌%◌, ◌<◌, ◌^◌, ℕ, List, [], ◌∷◌, ◌++◌, Option, Some, None, true, nat_lt, ap, sym, subst, ◌∙◌, arith}
 use Rattle.std.proofs.Math.Nat.{mod-mod}
 use Rattle.std.proofs.lemmas.Bool.{and_from, and_parts, eq-eqb, eqb-true}
+use Rattle.std.proofs.lemmas.List.{length_push}
+use Rattle.std.proofs.lemmas.List.Elements.{All-push}
 use Rattle.like_core.specs.OpeningLimits.{service_limits}
+use Rattle.like_core.specs.Phase.{IsJoined}
+use Rattle.like_core.specs.WorkerState.{RunsSplit, phase_of}
+use Rattle.like_core.specs.declared.worker_state.WorkerState.{WorkerState}
+use Rattle.like_core.specs.declared.worker_state.WorkerState.TheVariants as state
 use Rattle.like_core.specs.declared.view.Addition.{Addition}
 use Rattle.like_requests.specs.Verdict.{is_accepted}
 use Rattle.like_requests.specs.declared.request.Request.{Request}
-use Rattle.like_seat.specs.StationView.{IsStation, StationView}
+use Rattle.like_seat.specs.StationView.{IsStation, StationView, phase_at}
 use Rattle.like_tables.specs.Home.{Home}
 use Rattle.like_tables.specs.Share.{Share, owns}
 use Rattle.like_seat.specs.StationView.{likes_of}
 use Rattle.like_seat.specs.SlicedLike.{SlicedLike}
-use Rattle.like_seat.specs.Steps.{CountsLike, liked_last, sliced, with_addition}
+use Rattle.like_seat.specs.Steps.{CountsLike, holding, liked_last, sliced, with_addition}
 use Rattle.like_tables.specs.UserTable.{with_last}
 use Rattle.like_tables.specs.Waiting.{Waiting}
 use Rattle.like_live.specs.declared.asked.Asked.{Asked}
 use Rattle.like_live.specs.declared.asked.Found.{Found}
+use Rattle.like_live.specs.Calls.{PutsBy}
 use Rattle.like_live.specs.Kept.{AreLiveSeatParts}
+use Rattle.like_live.specs.LiveView.{IsOwn, LiveView, live_of}
 
 -- the user of a request that is accepted is the seat's
 pub owned_since : (s : Share) (r : Request)
@@ -96,3 +104,49 @@ after-counted s t found home pages room half user page (Some count) parts c kept
     subst (λ x. AreLiveSeatParts x found home pages room half) (sym c.1)
     (after-like s found home pages room half new.post.additions s.slice s.sliced lasts parts
     (subst (λ x. IsStation x) c.1 kept))
+
+-- who runs a split phase does not run a joined one
+not-joined : (s : WorkerState) → RunsSplit s → IsJoined (phase_of s) → ⊥
+not-joined (state.Runs k) odd even = omega arith
+not-joined (state.Answered k) h even = absurd h
+not-joined state.Gone h even = absurd h
+
+-- a live seat's parts agree after one look more was put by, for which there was room
+pub after-held : (s t : StationView Asked) (found : Waiting Found) (home : Home) (pages room left half : ℕ) (a : Asked)
+    → AreLiveSeatParts s found home pages room half
+    → RunsSplit s.post.state → IsOwn s a → a.phase ≡ phase_at s
+    → room ≡ left + 1 → t ≡ holding s a → IsStation t
+    → AreLiveSeatParts t found home pages left half
+after-held s t found home pages room left half a parts split own asked one is kept =
+    let live = parts.live in
+    let more = length_push s.held.held a in
+    subst (λ x. AreLiveSeatParts x found home pages left half) (sym is) (record {
+      live = record {
+        seat = subst (λ x. IsStation x) is kept;
+        limits = live.limits;
+        home = live.home;
+        split = λ joined. absurd (not-joined s.post.state split joined);
+        own = All-push (IsOwn (holding s a)) s.held.held a
+            (λ k d below. (let o = live.own k d below in record { there = o.there; owned = o.owned }))
+            (record { there = own.there; owned = own.owned });
+        asked = All-push (λ (x : Asked). x.phase ≡ phase_at s) s.held.held a live.asked asked;
+        next = live.next;
+        room = omega (arith, parts.room_is, more, one);
+      };
+      capacity = parts.capacity;
+      home_is = parts.home_is;
+      pages_are = parts.pages_are;
+      room_is = omega (arith, parts.room_is, more, one);
+      half_is = parts.half_is;
+    })
+
+-- and the look is put by
+pub puts-by : (v : LiveView) (s t : StationView Asked) (found : Waiting Found) (home : Home) (pages room half : ℕ) (a : Asked)
+    → AreLiveSeatParts s found home pages room half
+    → live_of s found ≡ v → 0 < room → t ≡ holding s a
+    → PutsBy v a (live_of t found)
+puts-by v s t found home pages room half a parts same some is =
+    subst (λ (w : LiveView). PutsBy w a (live_of t found)) same (record {
+      room = omega (arith, parts.room_is, some);
+      is = ap (λ (x : StationView Asked). live_of x found) is;
+    })
