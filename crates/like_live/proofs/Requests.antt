@@ -6,6 +6,9 @@ use Rattle.std.proofs.lemmas.List.{length_push}
 use Rattle.std.proofs.lemmas.List.Elements.{All-push}
 use Rattle.like_core.specs.OpeningLimits.{service_limits}
 use Rattle.like_core.specs.Phase.{IsJoined}
+use Rattle.like_core.specs.Post.{has_glanced, has_read}
+use Rattle.like_core.specs.declared.view.PageRead.{PageRead}
+use Rattle.like_seat.specs.declared.seen.Seen.{Seen}
 use Rattle.like_core.specs.WorkerState.{RunsSplit, phase_of}
 use Rattle.like_core.specs.declared.worker_state.WorkerState.{WorkerState}
 use Rattle.like_core.specs.declared.worker_state.WorkerState.TheVariants as state
@@ -17,7 +20,7 @@ use Rattle.like_tables.specs.Home.{Home}
 use Rattle.like_tables.specs.Share.{Share, owns}
 use Rattle.like_seat.specs.StationView.{likes_of}
 use Rattle.like_seat.specs.SlicedLike.{SlicedLike}
-use Rattle.like_seat.specs.Steps.{CountsLike, holding, liked_last, sliced, with_addition}
+use Rattle.like_seat.specs.Steps.{CountsLike, Glances, Reads, holding, liked_last, sliced, with_addition}
 use Rattle.like_tables.specs.UserTable.{with_last}
 use Rattle.like_tables.specs.Waiting.{Waiting}
 use Rattle.like_live.specs.declared.asked.Asked.{Asked}
@@ -104,6 +107,52 @@ after-counted s t found home pages room half user page (Some count) parts c kept
     subst (λ x. AreLiveSeatParts x found home pages room half) (sym c.1)
     (after-like s found home pages room half new.post.additions s.slice s.sliced lasts parts
     (subst (λ x. IsStation x) c.1 kept))
+
+-- so they do after a page was read or glanced at
+after-shown : (s t : StationView Asked) (found : Waiting Found) (home : Home) (pages room half : ℕ)
+    (reads glances : List PageRead)
+    → AreLiveSeatParts s found home pages room half
+    → t ≡ record s { post = record s.post { reads = reads; glances = glances } }
+    → IsStation t
+    → AreLiveSeatParts t found home pages room half
+after-shown s t found home pages room half reads glances parts is kept =
+    let live = parts.live in
+    subst (λ x. AreLiveSeatParts x found home pages room half) (sym is) (record {
+      live = record {
+        seat = subst (λ x. IsStation x) is kept;
+        limits = live.limits;
+        home = live.home;
+        split = live.split;
+        own = λ k d below. (let o = live.own k d below in record { there = o.there; owned = o.owned });
+        asked = live.asked;
+        next = live.next;
+        room = live.room;
+      };
+      capacity = parts.capacity;
+      home_is = parts.home_is;
+      pages_are = parts.pages_are;
+      room_is = parts.room_is;
+      half_is = parts.half_is;
+    })
+
+pub after-read : (s t : StationView Asked) (found : Waiting Found) (home : Home) (pages room half user page : ℕ)
+    (shown : Seen)
+    → AreLiveSeatParts s found home pages room half
+    → Reads s user page shown t
+    → IsStation t
+    → AreLiveSeatParts t found home pages room half
+after-read s t found home pages room half user page shown parts r kept =
+    after-shown s t found home pages room half (has_read s.post page shown.count).reads s.post.glances parts r.read kept
+
+pub after-glanced : (s t : StationView Asked) (found : Waiting Found) (home : Home) (pages room half user page : ℕ)
+    (shown : Seen)
+    → AreLiveSeatParts s found home pages room half
+    → Glances s user page shown t
+    → IsStation t
+    → AreLiveSeatParts t found home pages room half
+after-glanced s t found home pages room half user page shown parts r kept =
+    after-shown s t found home pages room half s.post.reads (has_glanced s.post page r.count).glances parts r.glanced
+    kept
 
 -- who runs a split phase does not run a joined one
 not-joined : (s : WorkerState) → RunsSplit s → IsJoined (phase_of s) → ⊥
