@@ -1,9 +1,9 @@
 -- What is known of a request that is accepted.
-use Rattle.std.proofs.Common.{◌≡◌, ◌+◌, ◌%◌, ◌<◌, ◌^◌, ℕ, List, [], ◌∷◌, ◌++◌, Option, Some, None, true, nat_lt, ap, sym, subst, ◌∙◌, arith}
+use Rattle.std.proofs.Common.{◌≡◌, ◌+◌, ◌%◌, ◌<◌, ◌^◌, ℕ, List, [], ◌∷◌, ◌++◌, drop, length, Option, Some, None, true, nat_lt, ap, sym, subst, ◌∙◌, arith, length-drop}
 use Rattle.std.proofs.Math.Nat.{mod-mod}
 use Rattle.std.proofs.lemmas.Bool.{and_from, and_parts, eq-eqb, eqb-true}
 use Rattle.std.proofs.lemmas.List.{length_push}
-use Rattle.std.proofs.lemmas.List.Elements.{All-push}
+use Rattle.std.proofs.lemmas.List.Elements.{All-drop, All-push}
 use Rattle.like_core.specs.OpeningLimits.{service_limits}
 use Rattle.like_core.specs.Phase.{IsJoined}
 use Rattle.like_core.specs.Post.{has_glanced, has_read}
@@ -27,7 +27,7 @@ use Rattle.like_live.specs.declared.asked.Asked.{Asked}
 use Rattle.like_live.specs.declared.asked.Found.{Found}
 use Rattle.like_live.specs.Calls.{PutsBy}
 use Rattle.like_live.specs.Kept.{AreLiveSeatParts}
-use Rattle.like_live.specs.LiveView.{IsOwn, LiveView, live_of}
+use Rattle.like_live.specs.LiveView.{IsOwn, LiveView, RanNext, live_of}
 
 -- the user of a request that is accepted is the seat's
 pub owned_since : (s : Share) (r : Request)
@@ -198,4 +198,30 @@ puts-by v s t found home pages room half a parts same some is =
     subst (λ (w : LiveView). PutsBy w a (live_of t found)) same (record {
       room = omega (arith, parts.room_is, some);
       is = ap (λ (x : StationView Asked). live_of x found) is;
+    })
+
+-- a live seat's parts agree after the first of the found looks was taken, which leaves room for one more if there was one
+pub after-taken : (s : StationView Asked) (found now : Waiting Found) (home : Home) (pages room left half : ℕ)
+    → AreLiveSeatParts s found home pages room half
+    → now ≡ record found { held = drop 1 found.held }
+    → left + length (drop 1 found.held) ≡ room + length found.held
+    → AreLiveSeatParts s now home pages left half
+after-taken s found now home pages room left half parts is more =
+    let live = parts.live in
+    subst (λ x. AreLiveSeatParts s x home pages left half) (sym is) (record {
+      live = record {
+        seat = live.seat;
+        limits = live.limits;
+        home = live.home;
+        split = live.split;
+        own = live.own;
+        asked = live.asked;
+        next = All-drop RanNext 1 found.held live.next;
+        room = omega (arith, live.room, length-drop 1 found.held);
+      };
+      capacity = parts.capacity;
+      home_is = parts.home_is;
+      pages_are = parts.pages_are;
+      room_is = omega (arith, parts.room_is, more);
+      half_is = parts.half_is;
     })
