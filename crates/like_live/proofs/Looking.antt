@@ -8,7 +8,7 @@ use Rattle.like_core.specs.declared.worker_state.WorkerState.TheVariants as stat
 use Rattle.like_core.specs.Phase.{IsJoined}
 use Rattle.like_core.specs.WorkerState.{IsRunning, IsSightOf, phase_of, seen}
 use Rattle.like_seat.specs.StationView.{IsStation, StationView, phase_at}
-use Rattle.like_seat.specs.Steps.{LooksAndEnters}
+use Rattle.like_seat.specs.Steps.{ComesBack, LooksAndEnters}
 use Rattle.like_tables.specs.Home.{Home}
 use Rattle.like_tables.specs.Waiting.{Waiting}
 use Rattle.like_live.specs.declared.asked.Asked.{Asked}
@@ -34,7 +34,7 @@ on-phase (state.Answered k) sight is on =
 on-phase state.Gone sight is on = absurd is
 
 -- all is true of the elements of a list that has none
-all-none : {X : Type 0} (P : X → Type 0) (xs : List X) → xs ≡ [] → All P xs
+pub all-none : {X : Type 0} (P : X → Type 0) (xs : List X) → xs ≡ [] → All P xs
 all-none P xs none = subst (All P) (sym none) (All-nil P)
 
 -- a live seat's parts agree after a look by which it stays in its phase
@@ -118,3 +118,30 @@ after-works s u t found now home pages room half sight parts looks leaves live c
     (Leaves-both v (live_of u found) (live_of t now)
     (subst (λ x. Leaves v (live_of x found)) (sym looks.looks.1) (Leaves-looked v sight looks.looks.0)) leaves)
     live capacity
+
+-- a live seat's parts agree after it came back
+pub after-back : (s u : StationView Asked) (found : Waiting Found) (home : Home) (pages room half : ℕ)
+    → AreLiveSeatParts s found home pages room half
+    → s.post.state ≡ state.Gone → ComesBack s u → IsStation u
+    → AreLiveSeatParts u found home pages room half
+after-back s u found home pages room half parts gone back kept =
+    let live = parts.live in
+    let is = back.1.1 in
+    let none = live.split (subst (λ (w : WorkerState). IsJoined (phase_of w)) (sym gone) refl) in
+    subst (λ x. AreLiveSeatParts x found home pages room half) (sym is) (record {
+      live = record {
+        seat = subst (λ x. IsStation x) is kept;
+        limits = live.limits;
+        home = live.home;
+        split = λ joined. none;
+        own = λ k d below. (let o = live.own k d below in record { there = o.there; owned = o.owned });
+        asked = all-none (λ (a : Asked). a.phase ≡ back.0) s.held.held none;
+        next = live.next;
+        room = live.room;
+      };
+      capacity = parts.capacity;
+      home_is = parts.home_is;
+      pages_are = parts.pages_are;
+      room_is = parts.room_is;
+      half_is = parts.half_is;
+    })

@@ -31,7 +31,7 @@ pub record Leaves (v after : LiveView) : Type 0 where
   pub room : room_of after ≡ room_of v
   pub looks : length (waiting after) + length after.found ≡ length (waiting v) + length v.found
 
-same_seat : (v : LiveView) → IsSameSeat v v
+pub same_seat : (v : LiveView) → IsSameSeat v v
 same_seat v = record { board = refl; worker = refl; marks = refl; share = refl }
 
 pub same_seat_both : (v now after : LiveView) → IsSameSeat v now → IsSameSeat now after → IsSameSeat v after
