@@ -73,11 +73,16 @@ fn new_seats<C: Choice>(
     let mut seats = Vec::new(alloc);
     for worker in workers {
         let number = seats.len() as u32;
-        let signals = Signals::new(hint.share()?, choice.sampler(number)?);
+        let signals = new_signals(choice, hint, number)?;
         let seat = new_seat(alloc, opening, factor, board, signals, worker, number)?;
         seats.push(seat)?;
     }
     Ok(seats)
+}
+
+// What the seat with this number tells its driver.
+fn new_signals<C: Choice>(choice: &C, hint: &Hint, number: u32) -> Result<Signals, AllocError> {
+    Ok(Signals::new(hint.share()?, choice.sampler(number)?))
 }
 
 // The seat of one worker.
