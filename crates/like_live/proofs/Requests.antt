@@ -15,10 +15,9 @@ use Rattle.like_core.specs.declared.worker_state.WorkerState.TheVariants as stat
 use Rattle.like_core.specs.declared.view.Addition.{Addition}
 use Rattle.like_requests.specs.Verdict.{is_accepted}
 use Rattle.like_requests.specs.declared.request.Request.{Request}
-use Rattle.like_seat.specs.StationView.{IsStation, StationView, phase_at}
+use Rattle.like_seat.specs.StationView.{IsStation, StationView, phase_at, likes_of}
 use Rattle.like_tables.specs.Home.{Home}
 use Rattle.like_tables.specs.Share.{Share, owns}
-use Rattle.like_seat.specs.StationView.{likes_of}
 use Rattle.like_seat.specs.SlicedLike.{SlicedLike}
 use Rattle.like_seat.specs.Steps.{CountsLike, Glances, Reads, holding, liked_last, sliced, with_addition}
 use Rattle.like_tables.specs.UserTable.{with_last}

@@ -1,12 +1,10 @@
 use Rattle.std.proofs.Common.{◌≡◌, ap, refl, sym, subst}
 use Rattle.like_core.specs.declared.worker_state.WorkerState.TheVariants.{Gone}
-use Rattle.like_live.specs.declared.answer.TurnAnswer.TheVariants.{Runs}
+use Rattle.like_live.specs.declared.answer.TurnAnswer.TheVariants.{Runs, Between}
 use Rattle.like_live.specs.LiveView.{LiveView, live_of}
-use Rattle.like_live.specs.Calls.{ComeBackCase, runs, there}
+use Rattle.like_live.specs.Calls.{ComeBackCase, runs, there, between}
 use Rattle.like_seat.specs.StationView.{StationView}
-use Rattle.like_live.specs.declared.answer.TurnAnswer.TheVariants.{Between}
 use Rattle.like_live.specs.declared.asked.Asked.{Asked}
-use Rattle.like_live.specs.Calls.{between}
 use Rattle.like_live.specs.Kept.{AreLiveSeatParts}
 use Rattle.like_live.proofs.Looking.{after-back}
 use Rattle.like_live.proofs.Moving.{IsSized, Leaves-come_back}

@@ -1,8 +1,7 @@
 use Rattle.std.proofs.Common.{ap, ◌∙◌, refl, arith}
-use Rattle.like_live.specs.Calls.{between, gone, runs}
+use Rattle.like_live.specs.Calls.{between, gone, runs, last_after}
 use Rattle.like_live.proofs.Calling.{LikesNow-last, LikesNow-same, LikesNow-tallies}
 use Rattle.like_tables.specs.UserTable.{UserTable}
-use Rattle.like_live.specs.Calls.{last_after}
 use Rattle.like_live.proofs.Moving.{same_seat_both}
 use Rattle.like_live.proofs.live_seat.LiveSeat.like.Goals as goal
 

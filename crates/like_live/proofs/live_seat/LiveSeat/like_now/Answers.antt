@@ -4,9 +4,8 @@ use Rattle.like_seat.specs.Steps.{CountsLike}
 use Rattle.like_live.specs.declared.asked.Asked.{Asked}
 use Rattle.like_live.specs.Calls.{LikesNow, liked}
 use Rattle.like_live.specs.LiveView.{LiveView, live_of, with_seat}
-use Rattle.like_live.proofs.Requests.{not-full}
+use Rattle.like_live.proofs.Requests.{not-full, after-counted}
 use Rattle.like_live.specs.Kept.{AreLiveSeatParts}
-use Rattle.like_live.proofs.Requests.{after-counted}
 use Rattle.like_live.proofs.live_seat.LiveSeat.like_now.Goals as goal
 
 pub returns-then-try_sliced_at-clause-case : goal.returns-then-try_sliced_at-clause-case

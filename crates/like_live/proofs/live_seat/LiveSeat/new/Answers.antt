@@ -1,8 +1,7 @@
 use Rattle.std.proofs.Common.{◌≡◌, ℕ, zero, suc, ◌/◌, Bool, false, List, [], length, replicate, get_or, ap, sym, subst, ◌∙◌, refl, arith}
 use Rattle.std.proofs.lemmas.List.{length-replicate}
-use Rattle.like_core.specs.OpeningLimits.{has_slots}
+use Rattle.like_core.specs.OpeningLimits.{has_slots, service_limits}
 use Rattle.like_core.specs.declared.limits.Limits.{Limits}
-use Rattle.like_core.specs.OpeningLimits.{service_limits}
 use Rattle.like_core.specs.Post.{PostView}
 use Rattle.like_seat.specs.StationView.{StationView, phase_at}
 use Rattle.like_seat.specs.Steps.{IsNewStation}

@@ -3,9 +3,8 @@ use Rattle.like_live.specs.declared.answer.TurnAnswer.TheVariants.{Between}
 use Rattle.like_live.specs.LiveView.{LiveView, live_of}
 use Rattle.like_live.specs.Moves.{waits, works}
 use Rattle.like_live.specs.Calls.{RetireCase, RetireWorks}
-use Rattle.like_live.proofs.Moving.{IsSized, Leaves-retires}
+use Rattle.like_live.proofs.Moving.{IsSized, Leaves-retires, Leaves-retire_works}
 use Rattle.like_live.proofs.Looking.{after-waits, after-works, has-looked}
-use Rattle.like_live.proofs.Moving.{Leaves-retire_works}
 use Rattle.like_live.proofs.live_seat.LiveSeat.retire.Goals as goal
 
 pub returns-then-sight-clause-case : goal.returns-then-sight-clause-case

@@ -2,11 +2,10 @@ use Rattle.std.proofs.Common.{◌≡◌, List, drop, length, ap, refl, sym, subs
 use Rattle.like_tables.specs.Waiting.{Waiting}
 use Rattle.like_live.specs.declared.asked.Found.{Found}
 use Rattle.like_live.specs.LiveView.{live_of}
-use Rattle.like_live.proofs.Finding.{Finding-first, Finding-next, Finding-ran, Finding-start, joined_phase}
+use Rattle.like_live.proofs.Finding.{Finding-first, Finding-next, Finding-ran, Finding-start, joined_phase, Finding-end, Finding-joined, Finding-room, first_of, none_first, plain, running}
 use Rattle.like_seat.specs.StationView.{StationView}
 use Rattle.like_live.specs.declared.asked.Asked.{Asked}
 use Rattle.like_live.specs.Moves.{FindsAll}
-use Rattle.like_live.proofs.Finding.{Finding-end, Finding-joined, Finding-room, first_of, none_first, plain, running}
 use Rattle.like_live.proofs.live_seat.moves.find_all.Goals as goal
 
 pub read_for-seen-requires-clause-there : goal.read_for-seen-requires-clause-there

@@ -1,12 +1,14 @@
 use Rattle.std.proofs.Common.{◌≡◌, ◌<◌, false, replicate, ap, sym, subst, ◌∙◌, arith}
-use Rattle.like_core.specs.Post.{PostView}
+use Rattle.like_core.specs.Post.{PostView, IsFresh}
 use Rattle.like_core.specs.declared.view.WorkerSeatView.{WorkerSeatView}
-use Rattle.like_board.specs.Seats.{board_numbers, post_meaning}
-use Rattle.like_core.specs.Post.{IsFresh}
+use Rattle.like_board.specs.Seats.{board_id, board_numbers, post_meaning}
 use Rattle.like_tables.specs.Share.{share_of}
 use Rattle.like_tables.specs.UserTable.{UserTable, table_with_lasts}
 use Rattle.like_live.specs.LiveView.{IsNewLive}
 use Rattle.like_live.proofs.service.parts.new_seat.Goals as goal
+
+pub at_shared-post-requires : goal.at_shared-post-requires
+at_shared-post-requires c = c.requires.here ∙ ap board_id (sym c.in_ok-board.ensures.here)
 
 pub new-requires-clause-marks : goal.new-requires-clause-marks
 new-requires-clause-marks c =
@@ -33,7 +35,7 @@ new-requires-clause-limits c =
 
 pub new-requires-clause-there : goal.new-requires-clause-there
 new-requires-clause-there c =
-    subst (λ (t : UserTable). t.share.worker < t.share.workers) (sym c.in_ok-last.ensures) c.requires.there
+    subst (λ (t : UserTable). t.share.worker < t.share.workers) (sym c.in_ok-board.ensures.users) c.requires.there
 
 pub returns-in-Ok : goal.returns-in-Ok
 returns-in-Ok c =
@@ -41,9 +43,6 @@ returns-in-Ok c =
     let new = c.in-Ok.ensures.new in
     let post = new.at_post ∙ c.at_shared-post.ensures.meaning in
     let table : UserTable = table_with_lasts (share_of o.users o.seats o.seats c.args.number) o.lasts.items in
-    let users : c.in_ok-last.last ≡ table =
-    c.in_ok-last.ensures
-    ∙ ap (λ xs. table_with_lasts (share_of o.users o.seats o.seats c.args.number) xs) c.deref.ensures.value in
     record {
       here = ap (λ (p : PostView). p.board) post ∙ ap board_numbers c.requires.here;
       worker = ap (λ (p : PostView). p.worker) post ∙ ap (λ (v : WorkerSeatView). v.worker) c.requires.view;
@@ -52,5 +51,6 @@ returns-in-Ok c =
       factor_is = ap (λ (p : PostView). p.factor) post ∙ ap (λ (v : WorkerSeatView). v.opening.factor) c.requires.view;
       limits = ap (λ (p : PostView). p.limits) post ∙ ap (λ (v : WorkerSeatView). v.opening.limits) c.requires.view;
       new = subst (λ (p : PostView). IsNewLive p o.room table c.in-Ok.seat) (sym new.at_post)
-          (subst (λ (t : UserTable). IsNewLive (post_meaning c.at_shared-post.result) o.room t c.in-Ok.seat) users new);
+          (subst (λ (t : UserTable). IsNewLive (post_meaning c.at_shared-post.result) o.room t c.in-Ok.seat)
+          c.in_ok-board.ensures.users new);
     }

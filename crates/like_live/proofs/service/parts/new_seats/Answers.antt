@@ -1,16 +1,13 @@
-use Rattle.std.proofs.Common.{◌≡◌, ◌+◌, ◌≤◌, ℕ, List, Some, slice_get, length, sym, ap, ◌∙◌, subst, arith}
+use Rattle.std.proofs.Common.{◌≡◌, ◌+◌, ◌≤◌, ℕ, List, Some, slice_get, length, sym, ap, ◌∙◌, subst, arith, ◌<◌, get_or}
 use Rattle.std.proofs.lemmas.Iterator.Adapters.{YieldsList-from_vec}
-use Rattle.std.proofs.lemmas.Iterator.Consumers.{YieldsList-turn}
+use Rattle.std.proofs.lemmas.Iterator.Consumers.{YieldsList-turn, YieldsList-end}
 use Rattle.std.proofs.lemmas.List.{length_push}
 use Rattle.std.specs.Arc.{arc_value}
-use Rattle.like_board.specs.Seats.{board_id}
+use Rattle.like_board.specs.Seats.{board_id, AreFresh, BoardId, seat_board, seat_meaning, seat_view}
 use Rattle.like_live.specs.LiveView.{LiveView}
 use Rattle.like_live.specs.Service.{IsOpenedSeat}
 use Rattle.like_board.proofs.Pushing.{each-pushed}
-use Rattle.std.proofs.Common.{◌<◌, get_or}
-use Rattle.std.proofs.lemmas.Iterator.Consumers.{YieldsList-end}
 use Rattle.std.proofs.lemmas.Option.{slice_get-get_or}
-use Rattle.like_board.specs.Seats.{AreFresh, BoardId, seat_board, seat_meaning, seat_view}
 use Rattle.like_board.specs.declared.worker_seat.WorkerSeat.{WorkerSeat}
 use Rattle.like_core.specs.Post.{IsFresh}
 use Rattle.like_core.specs.declared.opening.Opening.{Opening as CoreOpening}
