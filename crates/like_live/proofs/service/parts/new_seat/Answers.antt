@@ -1,4 +1,4 @@
-use Rattle.std.proofs.Common.{◌≡◌, ◌<◌, false, replicate, ap, sym, subst, ◌∙◌, arith}
+use Rattle.std.proofs.Common.{◌<◌, false, replicate, ap, sym, subst, ◌∙◌, arith}
 use Rattle.like_core.specs.Post.{PostView, IsFresh}
 use Rattle.like_core.specs.declared.view.WorkerSeatView.{WorkerSeatView}
 use Rattle.like_board.specs.Seats.{board_id, board_numbers, post_meaning}
