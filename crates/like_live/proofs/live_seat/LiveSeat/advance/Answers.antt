@@ -6,7 +6,7 @@ use Rattle.like_core.specs.WorkerState.{phase_of}
 use Rattle.like_seat.specs.StationView.{StationView}
 use Rattle.like_live.specs.declared.answer.TurnAnswer.TheVariants.{Runs}
 use Rattle.like_live.specs.declared.asked.Asked.{Asked}
-use Rattle.like_live.specs.LiveView.{LiveView, live_of}
+use Rattle.like_live.specs.LiveView.{IsLive, LiveView, live_of}
 use Rattle.like_live.specs.Moves.{Moves, Works, works}
 use Rattle.like_live.proofs.Finding.{goes_on}
 use Rattle.like_live.proofs.Looking.{after-looked, after-works, has-looked}
@@ -66,3 +66,9 @@ invariant_of-self-2 g c =
     (Leaves-works (live_of c.look_on-sight.new.self i.found) (live_of done.new.seat done.new.found) true done.result
     looks.seat.sized done.ensures.works)
     done.ensures.live done.ensures.capacity
+
+pub returns-then-not-sight-clause-was : goal.returns-then-not-sight-clause-was
+returns-then-not-sight-clause-was g c = subst (λ (v : LiveView). IsLive v) c.self.view_is c.self.invariant.live
+
+pub returns-clause-was : goal.returns-clause-was
+returns-clause-was g c = subst (λ (v : LiveView). IsLive v) c.self.view_is c.self.invariant.live

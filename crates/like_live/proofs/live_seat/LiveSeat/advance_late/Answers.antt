@@ -1,7 +1,8 @@
-use Rattle.std.proofs.Common.{refl, subst}
-use Rattle.like_live.specs.declared.answer.TurnAnswer.TheVariants.{Between}
-use Rattle.like_live.specs.LiveView.{LiveView, live_of}
-use Rattle.like_live.specs.Moves.{Moves, Works, waits, works}
+use Rattle.std.proofs.Common.{ap, refl, subst}
+use Rattle.like_core.specs.OpeningLimits.{has_slots}
+use Rattle.like_live.specs.declared.answer.TurnAnswer.TheVariants.{Between, Gone}
+use Rattle.like_live.specs.LiveView.{IsLive, LiveView, live_of}
+use Rattle.like_live.specs.Moves.{Moves, Works, is_gone, waits, works}
 use Rattle.like_live.proofs.Looking.{after-waits, after-works, has-looked}
 use Rattle.like_live.proofs.Moving.{Leaves-works}
 use Rattle.like_live.proofs.live_seat.LiveSeat.advance_late.Goals as goal
@@ -48,3 +49,16 @@ invariant_of-self-2 g c =
     (Leaves-works (live_of looked.new.self i.found) (live_of done.new.seat done.new.found) looked.result.ending
     done.result looked.ensures.seat.sized done.ensures.works)
     done.ensures.live done.ensures.capacity
+
+pub look_with_slots-sight-requires-clause-slotted : goal.look_with_slots-sight-requires-clause-slotted
+look_with_slots-sight-requires-clause-slotted g c = ap has_slots c.self.invariant.live.limits
+
+pub returns-then-is_gone-clause-moves : goal.returns-then-is_gone-clause-moves
+returns-then-is_gone-clause-moves g c =
+    subst (λ (v : LiveView). Moves v Gone v) c.self.view_is (is_gone (c.is_gone.ensures.0 c.if-is_gone.true) refl refl)
+
+pub returns-then-sight-clause-was : goal.returns-then-sight-clause-was
+returns-then-sight-clause-was g c = subst (λ (v : LiveView). IsLive v) c.self.view_is c.self.invariant.live
+
+pub returns-clause-was : goal.returns-clause-was
+returns-clause-was g c = subst (λ (v : LiveView). IsLive v) c.self.view_is c.self.invariant.live

@@ -1,4 +1,5 @@
-use Rattle.std.proofs.Common.{refl, subst}
+use Rattle.std.proofs.Common.{ap, refl, subst}
+use Rattle.like_core.specs.OpeningLimits.{has_slots}
 use Rattle.like_live.specs.declared.answer.TurnAnswer.TheVariants.{Between}
 use Rattle.like_live.specs.LiveView.{LiveView, live_of}
 use Rattle.like_live.specs.Moves.{waits, works}
@@ -66,3 +67,6 @@ invariant_of-self-2 g c =
     (Leaves-retire_works (live_of looked.new.self i.found) (live_of done.new.seat done.new.found) looked.result.ending
     done.result looked.ensures.seat.sized done.ensures.works)
     done.ensures.live done.ensures.capacity
+
+pub look_with_slots-sight-requires-clause-slotted : goal.look_with_slots-sight-requires-clause-slotted
+look_with_slots-sight-requires-clause-slotted g c = ap has_slots c.self.invariant.live.limits
