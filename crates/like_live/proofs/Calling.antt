@@ -94,7 +94,7 @@ LikesNow-tallies v after user page answer sized (liked old s accepted few a coun
     let one = ap (told_of page other) a in
     omega arith
 
--- a like leaves the seat the same
+-- a like that is counted leaves the seat the same
 counts-same : (v : LiveView) (s : StationView Asked) (user page : ℕ) (old : Option ℕ)
     → CountsLike v.seat user page old s
     → IsSameSeat v (with_seat v s)
@@ -105,6 +105,7 @@ counts-same v s user page (Some count) c =
     subst (λ (t : StationView Asked). IsSameSeat v (with_seat v t)) (sym c.1)
     (record { board = refl; worker = refl; marks = refl; share = refl })
 
+-- so does any like
 pub LikesNow-same : (v after : LiveView) (user page : ℕ) (answer : LikeAnswer)
     → LikesNow v user page answer after
     → IsSameSeat v after
@@ -120,6 +121,7 @@ counts-last : (s after : StationView Asked) (user page : ℕ) (old : Option ℕ)
 counts-last s after user page None c = ap (λ (t : StationView Asked). t.last) c.1
 counts-last s after user page (Some count) c = ap (λ (t : StationView Asked). t.last) c.1
 
+-- what is the last like then is as the answer tells
 pub LikesNow-last : (v after : LiveView) (user page : ℕ) (answer : LikeAnswer)
     → LikesNow v user page answer after
     → after.seat.last ≡ last_after v.seat.last user page answer

@@ -107,7 +107,7 @@ after-counted s t found home pages room half user page (Some count) parts c kept
     (after-like s found home pages room half new.post.additions s.slice s.sliced lasts parts
     (subst (λ x. IsStation x) c.1 kept))
 
--- so they do after a page was read or glanced at
+-- so they do after a seat has some other reads and glances
 after-shown : (s t : StationView Asked) (found : Waiting Found) (home : Home) (pages room half : ℕ)
     (reads glances : List PageRead)
     → AreLiveSeatParts s found home pages room half
@@ -134,6 +134,7 @@ after-shown s t found home pages room half reads glances parts is kept =
       half_is = parts.half_is;
     })
 
+-- as after a read
 pub after-read : (s t : StationView Asked) (found : Waiting Found) (home : Home) (pages room half user page : ℕ)
     (shown : Seen)
     → AreLiveSeatParts s found home pages room half
@@ -143,6 +144,7 @@ pub after-read : (s t : StationView Asked) (found : Waiting Found) (home : Home)
 after-read s t found home pages room half user page shown parts r kept =
     after-shown s t found home pages room half (has_read s.post page shown.count).reads s.post.glances parts r.read kept
 
+-- and after a glance
 pub after-glanced : (s t : StationView Asked) (found : Waiting Found) (home : Home) (pages room half user page : ℕ)
     (shown : Seen)
     → AreLiveSeatParts s found home pages room half
