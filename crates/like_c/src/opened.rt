@@ -1,5 +1,5 @@
 //! What is behind the handles.
-ghost use Rattle.std.specs.Prelude.{◌≡◌, IfErr, IfOk, MatchResult, map, reverse};
+ghost use Rattle.std.specs.Prelude.{◌≡◌, IfErr, IfOk, IsSome, MatchResult, map, reverse};
 ghost use Rattle.like_live.specs.Opening.{AreWithinLimits, IsFirstWrong, IsRefusedFor, asking};
 ghost use Rattle.like_c.specs.Opened.{IsOpenedAs, asked_of, hot_of, seat_in};
 
@@ -63,7 +63,18 @@ impl Opened {
         let Ok(opening) = opening_of(alloc, options, counts, marks, lasts) else {
             return Err(OpenError::Memory);
         };
-        let Service { driver, seats } = Service::open(alloc, &opening)?;
+        let service = Service::open(alloc, &opening)?;
+        Opened::of_service(alloc, service)
+    }
+
+    // What is behind the handles of a new service.
+    fn of_service(alloc: Global, service: Service<Guided>) -> Result<Box<Opened, Global>, OpenError>
+        ensures opened { IfOk result (λ b. (b.value.driver ≡ service.driver)
+            × (reverse (map seat_in b.value.seats.items) ≡ service.seats.items)
+            × IsSome b.value.phase) }
+        ensures refused { IfErr result (λ error. error ≡ OpenError.Memory) }
+    {
+        let Service { driver, seats } = service;
         let seats = boxed(alloc, seats)?;
         let Ok(phase) = boxed_phase(alloc, &driver) else {
             return Err(OpenError::Memory);
@@ -74,10 +85,18 @@ impl Opened {
             phase: Some(phase),
             apart: APART,
         };
-        match Box::new(alloc, opened) {
-            Ok(opened) => Ok(opened),
-            Err(_) => Err(OpenError::Memory),
-        }
+        in_box(alloc, opened)
+    }
+}
+
+// A value in a box.
+fn in_box<T: Drop>(alloc: Global, value: T) -> Result<Box<T, Global>, OpenError>
+    ensures boxed { IfOk result (λ b. b.value ≡ value) }
+    ensures refused { IfErr result (λ error. error ≡ OpenError.Memory) }
+{
+    match Box::new(alloc, value) {
+        Ok(boxed) => Ok(boxed),
+        Err(_) => Err(OpenError::Memory),
     }
 }
 
@@ -94,10 +113,7 @@ fn boxed(
         Err(_) => return Err(OpenError::Memory),
     };
     while let Some(seat) = seats.pop() {
-        match Box::new(alloc, BoxedSeat { seat, apart: APART }) {
-            Ok(seated) => boxed.push_reserved(seated),
-            Err(_) => return Err(OpenError::Memory),
-        }
+        boxed.push_reserved(in_box(alloc, BoxedSeat { seat, apart: APART })?);
     }
     Ok(boxed)
 }

@@ -1,4 +1,4 @@
--- What a like does to tallies.
+-- What a like does to tallies and last likes.
 use Rattle.std.proofs.Common.{◌≡◌, ℕ, ◌+◌, ◌<◌, ◌==◌, Bool, true, false, not, cond, nat_lt, List, [], ◌∷◌, ◌++◌, length, get_or, set, Option, Some, None, refl, ap, sym, ◌∙◌, subst, inl, inr, arith}
 use Rattle.std.proofs.lemmas.Bool.{cases_eq, eq-eqb, ltb-true, ne_eqb}
 use Rattle.std.proofs.lemmas.List.{get_or-set_other, get_or-set_same}
@@ -12,11 +12,12 @@ use Rattle.like_requests.specs.declared.verdict.Verdict.TheVariants.{Accepted, U
 use Rattle.like_requests.specs.Verdict.{is_known}
 use Rattle.like_seat.specs.StationView.{StationView, tally_of}
 use Rattle.like_seat.specs.Steps.{CountsLike}
+use Rattle.like_tables.specs.UserTable.{with_last}
 use Rattle.like_live.specs.declared.answer.LikeAnswer.{LikeAnswer}
 use Rattle.like_live.specs.declared.asked.Asked.{Asked}
-use Rattle.like_live.specs.LiveView.{LiveView, tally}
-use Rattle.like_live.specs.Calls.{LikesNow, TalliesLike, full, liked, refused, told_of, verdict_at}
-use Rattle.like_live.proofs.Moving.{IsSized}
+use Rattle.like_live.specs.LiveView.{IsSameSeat, LiveView, tally, with_seat}
+use Rattle.like_live.specs.Calls.{LikesNow, TalliesLike, full, last_after, liked, refused, told_of, verdict_at}
+use Rattle.like_live.proofs.Moving.{IsSized, same_seat}
 
 -- a request that is accepted has passed the last test
 last_test : (a b c : Bool)
@@ -92,3 +93,42 @@ LikesNow-tallies v after user page answer sized (liked old s accepted few a coun
     let same = ap (λ (w : LiveView). tally w other) is in
     let one = ap (told_of page other) a in
     omega arith
+
+-- a like that is counted leaves the seat the same
+counts-same : (v : LiveView) (s : StationView Asked) (user page : ℕ) (old : Option ℕ)
+    → CountsLike v.seat user page old s
+    → IsSameSeat v (with_seat v s)
+counts-same v s user page None c =
+    subst (λ (t : StationView Asked). IsSameSeat v (with_seat v t)) (sym c.1)
+    (record { board = refl; worker = refl; marks = refl; share = refl })
+counts-same v s user page (Some count) c =
+    subst (λ (t : StationView Asked). IsSameSeat v (with_seat v t)) (sym c.1)
+    (record { board = refl; worker = refl; marks = refl; share = refl })
+
+-- so does any like
+pub LikesNow-same : (v after : LiveView) (user page : ℕ) (answer : LikeAnswer)
+    → LikesNow v user page answer after
+    → IsSameSeat v after
+LikesNow-same v after user page answer (refused fails a is) = subst (IsSameSeat v) (sym is) (same_seat v)
+LikesNow-same v after user page answer (full accepted most a is) = subst (IsSameSeat v) (sym is) (same_seat v)
+LikesNow-same v after user page answer (liked old s accepted few a counts is) =
+    subst (IsSameSeat v) (sym is) (counts-same v s user page old counts)
+
+-- the page of a like that is counted is its user's last
+counts-last : (s after : StationView Asked) (user page : ℕ) (old : Option ℕ)
+    → CountsLike s user page old after
+    → after.last ≡ with_last s.last user page
+counts-last s after user page None c = ap (λ (t : StationView Asked). t.last) c.1
+counts-last s after user page (Some count) c = ap (λ (t : StationView Asked). t.last) c.1
+
+-- what is the last like then is as the answer tells
+pub LikesNow-last : (v after : LiveView) (user page : ℕ) (answer : LikeAnswer)
+    → LikesNow v user page answer after
+    → after.seat.last ≡ last_after v.seat.last user page answer
+LikesNow-last v after user page answer (refused fails a is) =
+    ap (λ (w : LiveView). w.seat.last) is ∙ ap (last_after v.seat.last user page) (sym a)
+LikesNow-last v after user page answer (full accepted most a is) =
+    ap (λ (w : LiveView). w.seat.last) is ∙ ap (last_after v.seat.last user page) (sym a)
+LikesNow-last v after user page answer (liked old s accepted few a counts is) =
+    ap (λ (w : LiveView). w.seat.last) is ∙ counts-last v.seat s user page old counts
+    ∙ ap (last_after v.seat.last user page) (sym a)

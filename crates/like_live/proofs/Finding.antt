@@ -185,6 +185,26 @@ Finding-more v now next a f d first is shown post capacity slice sliced last fou
         ∙ ap (λ (xs : List PageRead). v.seat.post.reads ++ xs)
         (sym (map-append (read_for (length v.seat.post.additions)) d.found (f ∷ [])))
 
+-- they are no more than there is room for
+pub Finding-room : (v now : LiveView) → Finding v now
+    → length (waiting now) + length now.found ≡ length (waiting v) + length v.found
+Finding-room v now f =
+    let asked = map (λ (x : Found). x.asked) f.found in
+    omega (
+      arith,
+      ap (λ (xs : List Asked). length xs) f.order,
+      length-append asked (waiting now),
+      length-map f.found (λ (x : Found). x.asked),
+      ap (λ (xs : List Found). length xs) f.found_is,
+      length-append v.found f.found,
+    )
+
+-- the seat runs its joined phase still, once the first that waits is taken out
+pub Finding-joined : (v now : LiveView) (s : StationView Asked) → Finding v now
+    → RunsJoined v.seat.post.state → s ≡ without_first now.seat → RunsJoined s.post.state
+Finding-joined v now s f joined is =
+    subst (λ (p : PostView). RunsJoined p.state) (sym (ap (λ (t : StationView Asked). t.post) is ∙ f.post)) joined
+
 -- the first that waits still is the seat's, once it is taken out
 pub Finding-first : (v now : LiveView) (s : StationView Asked) (a : Asked) → Finding v now → All (IsOwn v.seat) (waiting v)
     → slice_get (waiting now) 0 ≡ Some a → s ≡ without_first now.seat → IsOwn s a

@@ -10,6 +10,7 @@ pub mod Gone
 pub mod Histories
 pub mod Keeping
 pub mod Lasting
+pub mod Looking
 pub mod Moments
 pub mod Moving
 pub mod Newly

@@ -1,6 +1,6 @@
 -- What phase work leaves as it is.
-use Rattle.std.proofs.Common.{◌≡◌, ℕ, Bool, length, refl, ap, sym, ◌∙◌, subst}
-use Rattle.std.proofs.lemmas.List.{length-replicate}
+use Rattle.std.proofs.Common.{◌≡◌, ℕ, ◌+◌, ◌/◌, Bool, List, length, refl, ap, sym, ◌∙◌, subst, arith, length-append}
+use Rattle.std.proofs.lemmas.List.{length-map, length-replicate}
 use Rattle.like_core.specs.declared.sight.Sight.{Sight}
 use Rattle.like_core.specs.Post.{answered, pages_of}
 use Rattle.like_seat.specs.Merge.{MergesAndReports, merged}
@@ -8,7 +8,11 @@ use Rattle.like_seat.specs.StationView.{StationView}
 use Rattle.like_seat.proofs.MergedLikes.{merged-tally}
 use Rattle.like_live.specs.declared.answer.TurnAnswer.{TurnAnswer}
 use Rattle.like_live.specs.declared.asked.Asked.{Asked}
-use Rattle.like_live.specs.LiveView.{IsSameSeat, KeepsTallies, LiveView, with_seat}
+use Rattle.like_live.specs.declared.asked.Found.{Found}
+use Rattle.like_live.specs.Kept.{AreLiveSeatParts}
+use Rattle.like_live.specs.LiveView.{IsLive, IsSameSeat, KeepsTallies, LiveView, live_of, room_of, waiting, with_seat}
+use Rattle.like_tables.specs.Home.{Home, IsHomeOf}
+use Rattle.like_tables.specs.Waiting.{Waiting}
 use Rattle.like_seat.specs.Steps.{came_back}
 use Rattle.like_live.specs.Calls as calls
 use Rattle.like_live.specs.Calls.{ComeBackCase, RetireCase, RetireWorks, retired_seat, retires, stays}
@@ -18,14 +22,16 @@ use Rattle.like_live.specs.Moves.{FindsAll, Moves, MovesBy, Works, is_gone, look
 abbrev pub IsSized : LiveView → Type 0
 IsSized v = length v.seat.slice ≡ pages_of v.seat.post
 
--- it is the same seat, with the same tallies and the same last likes
+-- it is the same seat, with the same tallies, the same last likes, and as much room for looks
 pub record Leaves (v after : LiveView) : Type 0 where
   pub same : IsSameSeat v after
   pub tallies : KeepsTallies v after
   pub last : after.seat.last ≡ v.seat.last
   pub sized : length after.seat.slice ≡ length v.seat.slice
+  pub room : room_of after ≡ room_of v
+  pub looks : length (waiting after) + length after.found ≡ length (waiting v) + length v.found
 
-same_seat : (v : LiveView) → IsSameSeat v v
+pub same_seat : (v : LiveView) → IsSameSeat v v
 same_seat v = record { board = refl; worker = refl; marks = refl; share = refl }
 
 pub same_seat_both : (v now after : LiveView) → IsSameSeat v now → IsSameSeat now after → IsSameSeat v after
@@ -37,7 +43,14 @@ same_seat_both v now after a b = record {
 }
 
 pub Leaves-all : (v : LiveView) → Leaves v v
-Leaves-all v = record { same = same_seat v; tallies = λ page. refl; last = refl; sized = refl }
+Leaves-all v = record {
+  same = same_seat v;
+  tallies = λ page. refl;
+  last = refl;
+  sized = refl;
+  room = refl;
+  looks = refl;
+}
 
 pub Leaves-both : (v now after : LiveView) → Leaves v now → Leaves now after → Leaves v after
 Leaves-both v now after a b = record {
@@ -45,14 +58,18 @@ Leaves-both v now after a b = record {
   tallies = λ page. b.tallies page ∙ a.tallies page;
   last = b.last ∙ a.last;
   sized = b.sized ∙ a.sized;
+  room = b.room ∙ a.room;
+  looks = b.looks ∙ a.looks;
 }
 
-Leaves-looked : (v : LiveView) (sight : Sight) (mask : ℕ) → Leaves v (looked v sight mask)
+pub Leaves-looked : (v : LiveView) (sight : Sight) (mask : ℕ) → Leaves v (looked v sight mask)
 Leaves-looked v sight mask = record {
   same = record { board = refl; worker = refl; marks = refl; share = refl };
   tallies = λ page. refl;
   last = refl;
   sized = refl;
+  room = refl;
+  looks = refl;
 }
 
 Leaves-acknowledged : (v : LiveView) → Leaves v (acknowledged v)
@@ -61,6 +78,8 @@ Leaves-acknowledged v = record {
   tallies = λ page. refl;
   last = refl;
   sized = refl;
+  room = refl;
+  looks = refl;
 }
 
 Leaves-found : (v after : LiveView) → FindsAll v after → Leaves v after
@@ -69,6 +88,10 @@ Leaves-found v after f = subst (Leaves v) (sym f.rest) (record {
   tallies = λ page. refl;
   last = refl;
   sized = refl;
+  room = refl;
+  looks =
+      let asked = ap (λ (xs : List Asked). length xs) f.order in
+      omega (arith, asked, length-map f.found (λ (x : Found). x.asked), length-append v.found f.found);
 })
 
 -- to merge a slice and report leaves each page's tally
@@ -82,6 +105,8 @@ Leaves-merged v s sized m =
       tallies = merged-tally v.seat adds m.1.0.1.0;
       last = refl;
       sized = length-replicate {A = ℕ} (pages_of v.seat.post) 0 ∙ sym sized;
+      room = refl;
+      looks = refl;
     })
 
 pub Leaves-works : (v after : LiveView) (ending : Bool) (answer : TurnAnswer)
@@ -122,9 +147,11 @@ Leaves-retired v = record {
   tallies = λ page. refl;
   last = refl;
   sized = refl;
+  room = refl;
+  looks = refl;
 }
 
-Leaves-retire_works : (v after : LiveView) (ending : Bool) (answer : TurnAnswer)
+pub Leaves-retire_works : (v after : LiveView) (ending : Bool) (answer : TurnAnswer)
     → IsSized v
     → RetireWorks v ending answer after
     → Leaves v after
@@ -141,6 +168,8 @@ Leaves-came_back v phase mask = record {
   tallies = λ page. refl;
   last = refl;
   sized = refl;
+  room = refl;
+  looks = refl;
 }
 
 pub Leaves-come_back : (v after : LiveView) (answer : TurnAnswer)
@@ -151,3 +180,19 @@ Leaves-come_back v after answer sized (calls.runs s gone a back is) =
     subst (Leaves v) (sym (is ∙ ap (with_seat v) back.1.1)) (Leaves-came_back v back.0 back.1.0)
 Leaves-come_back v after answer sized (calls.between gone a is) = subst (Leaves v) (sym is) (Leaves-all v)
 Leaves-come_back v after answer sized (calls.there here m) = Leaves-moves v after answer sized m
+
+-- a live seat's parts agree after what leaves all that, if it is live then
+pub after-leaves : (s t : StationView Asked) (found now : Waiting Found) (home : Home) (pages room half : ℕ)
+    → AreLiveSeatParts s found home pages room half
+    → Leaves (live_of s found) (live_of t now)
+    → IsLive (live_of t now)
+    → now.capacity ≡ found.capacity
+    → AreLiveSeatParts t now home pages room half
+after-leaves s t found now home pages room half parts leaves live capacity = record {
+  live = live;
+  capacity = capacity ∙ parts.capacity ∙ sym leaves.room;
+  home_is = subst (IsHomeOf home) (sym leaves.same.share) parts.home_is;
+  pages_are = parts.pages_are ∙ sym (ap (λ (xs : List Bool). length xs) leaves.same.marks);
+  room_is = omega (arith, parts.room_is, leaves.looks, leaves.room);
+  half_is = parts.half_is ∙ ap (λ n. n / 2) (sym leaves.room);
+}

@@ -1,22 +1,32 @@
 -- What is known of a request that is accepted.
-use Rattle.std.proofs.Common.{◌≡◌, ◌%◌, ◌<◌, ◌^◌, ℕ, List, Option, Some, None, true, nat_lt, ap, sym, subst, ◌∙◌, arith}
+use Rattle.std.proofs.Common.{◌≡◌, ◌+◌, ◌%◌, ◌<◌, ◌^◌, ℕ, List, drop, length, Option, Some, None, true, nat_lt, ap, sym, subst, ◌∙◌, arith, length-drop}
 use Rattle.std.proofs.Math.Nat.{mod-mod}
 use Rattle.std.proofs.lemmas.Bool.{and_from, and_parts, eq-eqb, eqb-true}
+use Rattle.std.proofs.lemmas.List.{length_push}
+use Rattle.std.proofs.lemmas.List.Elements.{All-drop, All-push}
 use Rattle.like_core.specs.OpeningLimits.{service_limits}
+use Rattle.like_core.specs.Phase.{IsJoined}
+use Rattle.like_core.specs.Post.{has_glanced, has_read}
+use Rattle.like_core.specs.declared.view.PageRead.{PageRead}
+use Rattle.like_seat.specs.declared.seen.Seen.{Seen}
+use Rattle.like_core.specs.WorkerState.{RunsSplit, phase_of}
+use Rattle.like_core.specs.declared.worker_state.WorkerState.{WorkerState}
+use Rattle.like_core.specs.declared.worker_state.WorkerState.TheVariants as state
 use Rattle.like_core.specs.declared.view.Addition.{Addition}
 use Rattle.like_requests.specs.Verdict.{is_accepted}
 use Rattle.like_requests.specs.declared.request.Request.{Request}
-use Rattle.like_seat.specs.StationView.{IsStation, StationView}
+use Rattle.like_seat.specs.StationView.{IsStation, StationView, phase_at, likes_of}
 use Rattle.like_tables.specs.Home.{Home}
 use Rattle.like_tables.specs.Share.{Share, owns}
-use Rattle.like_seat.specs.StationView.{likes_of}
 use Rattle.like_seat.specs.SlicedLike.{SlicedLike}
-use Rattle.like_seat.specs.Steps.{CountsLike, liked_last, sliced, with_addition}
+use Rattle.like_seat.specs.Steps.{CountsLike, Glances, Reads, holding, liked_last, sliced, with_addition}
 use Rattle.like_tables.specs.UserTable.{with_last}
 use Rattle.like_tables.specs.Waiting.{Waiting}
 use Rattle.like_live.specs.declared.asked.Asked.{Asked}
 use Rattle.like_live.specs.declared.asked.Found.{Found}
+use Rattle.like_live.specs.Calls.{PutsBy}
 use Rattle.like_live.specs.Kept.{AreLiveSeatParts}
+use Rattle.like_live.specs.LiveView.{IsOwn, LiveView, RanNext, live_of}
 
 -- the user of a request that is accepted is the seat's
 pub owned_since : (s : Share) (r : Request)
@@ -96,3 +106,123 @@ after-counted s t found home pages room half user page (Some count) parts c kept
     subst (λ x. AreLiveSeatParts x found home pages room half) (sym c.1)
     (after-like s found home pages room half new.post.additions s.slice s.sliced lasts parts
     (subst (λ x. IsStation x) c.1 kept))
+
+-- so they do after a seat has some other reads and glances
+after-shown : (s t : StationView Asked) (found : Waiting Found) (home : Home) (pages room half : ℕ)
+    (reads glances : List PageRead)
+    → AreLiveSeatParts s found home pages room half
+    → t ≡ record s { post = record s.post { reads = reads; glances = glances } }
+    → IsStation t
+    → AreLiveSeatParts t found home pages room half
+after-shown s t found home pages room half reads glances parts is kept =
+    let live = parts.live in
+    subst (λ x. AreLiveSeatParts x found home pages room half) (sym is) (record {
+      live = record {
+        seat = subst (λ x. IsStation x) is kept;
+        limits = live.limits;
+        home = live.home;
+        split = live.split;
+        own = λ k d below. (let o = live.own k d below in record { there = o.there; owned = o.owned });
+        asked = live.asked;
+        next = live.next;
+        room = live.room;
+      };
+      capacity = parts.capacity;
+      home_is = parts.home_is;
+      pages_are = parts.pages_are;
+      room_is = parts.room_is;
+      half_is = parts.half_is;
+    })
+
+-- as after a read
+pub after-read : (s t : StationView Asked) (found : Waiting Found) (home : Home) (pages room half user page : ℕ)
+    (shown : Seen)
+    → AreLiveSeatParts s found home pages room half
+    → Reads s user page shown t
+    → IsStation t
+    → AreLiveSeatParts t found home pages room half
+after-read s t found home pages room half user page shown parts r kept =
+    after-shown s t found home pages room half (has_read s.post page shown.count).reads s.post.glances parts r.read kept
+
+-- and after a glance
+pub after-glanced : (s t : StationView Asked) (found : Waiting Found) (home : Home) (pages room half user page : ℕ)
+    (shown : Seen)
+    → AreLiveSeatParts s found home pages room half
+    → Glances s user page shown t
+    → IsStation t
+    → AreLiveSeatParts t found home pages room half
+after-glanced s t found home pages room half user page shown parts r kept =
+    after-shown s t found home pages room half s.post.reads (has_glanced s.post page r.count).glances parts r.glanced
+    kept
+
+-- who runs a split phase does not run a joined one
+not-joined : (s : WorkerState) → RunsSplit s → IsJoined (phase_of s) → ⊥
+not-joined (state.Runs k) odd even = omega arith
+not-joined (state.Answered k) h even = absurd h
+not-joined state.Gone h even = absurd h
+
+-- a live seat's parts agree after one look more was put by, for which there was room
+pub after-held : (s t : StationView Asked) (found : Waiting Found) (home : Home) (pages room left half : ℕ) (a : Asked)
+    → AreLiveSeatParts s found home pages room half
+    → RunsSplit s.post.state → IsOwn s a → a.phase ≡ phase_at s
+    → room ≡ left + 1 → t ≡ holding s a → IsStation t
+    → AreLiveSeatParts t found home pages left half
+after-held s t found home pages room left half a parts split own asked one is kept =
+    let live = parts.live in
+    let more = length_push s.held.held a in
+    subst (λ x. AreLiveSeatParts x found home pages left half) (sym is) (record {
+      live = record {
+        seat = subst (λ x. IsStation x) is kept;
+        limits = live.limits;
+        home = live.home;
+        split = λ joined. absurd (not-joined s.post.state split joined);
+        own = All-push (IsOwn (holding s a)) s.held.held a
+            (λ k d below. (let o = live.own k d below in record { there = o.there; owned = o.owned }))
+            (record { there = own.there; owned = own.owned });
+        asked = All-push (λ (x : Asked). x.phase ≡ phase_at s) s.held.held a live.asked asked;
+        next = live.next;
+        room = omega (arith, parts.room_is, more, one);
+      };
+      capacity = parts.capacity;
+      home_is = parts.home_is;
+      pages_are = parts.pages_are;
+      room_is = omega (arith, parts.room_is, more, one);
+      half_is = parts.half_is;
+    })
+
+-- and the look is put by
+pub puts-by : (v : LiveView) (s t : StationView Asked) (found : Waiting Found) (home : Home) (pages room half : ℕ) (a : Asked)
+    → AreLiveSeatParts s found home pages room half
+    → live_of s found ≡ v → 0 < room → t ≡ holding s a
+    → PutsBy v a (live_of t found)
+puts-by v s t found home pages room half a parts same some is =
+    subst (λ (w : LiveView). PutsBy w a (live_of t found)) same (record {
+      room = omega (arith, parts.room_is, some);
+      is = ap (λ (x : StationView Asked). live_of x found) is;
+    })
+
+-- a live seat's parts agree after the first of the found looks was taken, which leaves room for one more if there was one
+pub after-taken : (s : StationView Asked) (found now : Waiting Found) (home : Home) (pages room left half : ℕ)
+    → AreLiveSeatParts s found home pages room half
+    → now ≡ record found { held = drop 1 found.held }
+    → left + length (drop 1 found.held) ≡ room + length found.held
+    → AreLiveSeatParts s now home pages left half
+after-taken s found now home pages room left half parts is more =
+    let live = parts.live in
+    subst (λ x. AreLiveSeatParts s x home pages left half) (sym is) (record {
+      live = record {
+        seat = live.seat;
+        limits = live.limits;
+        home = live.home;
+        split = live.split;
+        own = live.own;
+        asked = live.asked;
+        next = All-drop RanNext 1 found.held live.next;
+        room = omega (arith, live.room, length-drop 1 found.held);
+      };
+      capacity = parts.capacity;
+      home_is = parts.home_is;
+      pages_are = parts.pages_are;
+      room_is = omega (arith, parts.room_is, more);
+      half_is = parts.half_is;
+    })

@@ -64,7 +64,7 @@ runs_this (state.Answered k) h = absurd h
 runs_this state.Gone h = absurd h
 
 -- a page is split in a split phase alone
-split_phase : (post : PostView) (page : ℕ) → slices post page ≡ true → IsSplit (phase_of post.state)
+pub split_phase : (post : PostView) (page : ℕ) → slices post page ≡ true → IsSplit (phase_of post.state)
 split_phase post page split = eqb-true _ _ ((and_parts _ _ split).0)
 
 -- right after a glance at a split page: what it was told is a count on the board and the slice, which is held

@@ -4,6 +4,8 @@ ghost use Rattle.std.specs.Arc.{arc_value};
 ghost use Rattle.like_board.specs.Seats.{AreFresh, board_id, seat_board, seat_meaning, seat_view};
 ghost use Rattle.like_core.specs.Post.{IsFresh};
 ghost use Rattle.like_core.specs.views.Views.{fresh};
+ghost use Rattle.like_tables.specs.Share.{share_of};
+ghost use Rattle.like_tables.specs.UserTable.{table_with_lasts};
 ghost use Rattle.like_live.specs.Opening.{IsWithinLimits, board_opening};
 ghost use Rattle.like_live.specs.Service.{AreGone, AreOpened, AreOpenedSeats, IsOpenedSeat};
 
@@ -73,11 +75,16 @@ fn new_seats<C: Choice>(
     let mut seats = Vec::new(alloc);
     for worker in workers {
         let number = seats.len() as u32;
-        let signals = Signals::new(hint.share()?, choice.sampler(number)?);
+        let signals = new_signals(choice, hint, number)?;
         let seat = new_seat(alloc, opening, factor, board, signals, worker, number)?;
         seats.push(seat)?;
     }
     Ok(seats)
+}
+
+// What the seat with this number tells its driver.
+fn new_signals<C: Choice>(choice: &C, hint: &Hint, number: u32) -> Result<Signals, AllocError> {
+    Ok(Signals::new(hint.share()?, choice.sampler(number)?))
 }
 
 // The seat of one worker.
@@ -99,12 +106,29 @@ fn new_seat(
     ensures { IfOk result (IsOpenedSeat opening.now factor
         (board_id (arc_value board.now)) number) }
 {
-    let post = worker.at_shared(Arc::try_clone(board)?);
+    let (board, last) = seat_parts(alloc, opening, board, number)?;
+    let post = worker.at_shared(board);
     let pages = opening.counts.len() as u32;
-    let seats = opening.seats;
-    let last = Users::with_lasts(alloc, opening.users, seats, seats, number, &opening.lasts)?;
     match LiveSeat::new(alloc, post, factor, pages, opening.room, last, signals) {
         Ok(seat) => Ok(seat),
         Err(_) => Err(AllocError),
     }
+}
+
+// The board for the seat with this number, which all seats share, and the seat's users.
+fn seat_parts(
+    alloc: Global,
+    opening: &Opening,
+    board: &Arc<Board>,
+    number: u32,
+) -> Result<(Arc<Board>, Users), AllocError>
+    requires within { IsWithinLimits opening.now }
+    ensures here { IfOk result (λ r. arc_value r.0 ≡ arc_value board.now) }
+    ensures users { IfOk result (λ r. r.1 ≡ table_with_lasts
+        (share_of opening.now.users opening.now.seats opening.now.seats number) opening.now.lasts.items) }
+{
+    let board = Arc::try_clone(board)?;
+    let seats = opening.seats;
+    let last = Users::with_lasts(alloc, opening.users, seats, seats, number, &opening.lasts)?;
+    Ok((board, last))
 }

@@ -1,4 +1,4 @@
-use Rattle.std.proofs.Common.{Bool, ap, sym, subst, ◌∙◌}
+use Rattle.std.proofs.Common.{Bool, true, ap, sym, subst, ◌∙◌}
 use Rattle.std.proofs.lemmas.Bool.{not-false, not-true}
 use Rattle.like_core.specs.Phase.{IsJoined}
 use Rattle.like_core.specs.declared.worker_state.WorkerState.{WorkerState}
@@ -6,9 +6,11 @@ use Rattle.like_core.specs.WorkerState.{phase_of}
 use Rattle.like_seat.specs.StationView.{StationView}
 use Rattle.like_live.specs.declared.answer.TurnAnswer.TheVariants.{Runs}
 use Rattle.like_live.specs.declared.asked.Asked.{Asked}
-use Rattle.like_live.specs.LiveView.{LiveView, live_of}
+use Rattle.like_live.specs.LiveView.{IsLive, LiveView, live_of}
 use Rattle.like_live.specs.Moves.{Moves, Works, works}
 use Rattle.like_live.proofs.Finding.{goes_on}
+use Rattle.like_live.proofs.Looking.{after-looked, after-works, has-looked}
+use Rattle.like_live.proofs.Moving.{Leaves-works}
 use Rattle.like_live.proofs.live_seat.LiveSeat.advance.Goals as goal
 
 pub returns-then-not-sight-clause-moves : goal.returns-then-not-sight-clause-moves
@@ -38,3 +40,35 @@ returns-clause-moves g c =
     (λ m. live_of (looks.1 m) c.self.inside.found)
     (subst (λ (e : Bool). Works (live_of c.look_on-sight.new.self c.self.inside.found) e c.work-answer.result after)
     (sym (not-false _ c.if-not-sight.false)) c.work-answer.ensures.works)))
+
+pub work-answer-requires-clause-looked : goal.work-answer-requires-clause-looked
+work-answer-requires-clause-looked g c =
+    let i = c.self.inside in
+    has-looked i.seat c.look_on-sight.new.self i.found i.home i.pages i.room i.half c.look_on-sight.result
+    c.self.invariant c.look_on-sight.ensures.looks c.look_on-sight.ensures.goes_on
+
+pub invariant_of-self : goal.invariant_of-self
+invariant_of-self g c =
+    let i = c.self.inside in
+    after-looked i.seat c.look_on-sight.new.self i.found i.home i.pages i.room i.half c.look_on-sight.result
+    c.self.invariant c.look_on-sight.ensures.looks (ap phase_of c.look_on-sight.ensures.stays)
+
+pub returns-then-not-sight-clause-keeps : goal.returns-then-not-sight-clause-keeps
+returns-then-not-sight-clause-keeps g c = (invariant_of-self g c).live
+
+pub invariant_of-self-2 : goal.invariant_of-self-2
+invariant_of-self-2 g c =
+    let i = c.self.inside in
+    let looks = c.look_on-sight.ensures.looks in
+    let done = c.work-answer in
+    after-works i.seat c.look_on-sight.new.self done.new.seat i.found done.new.found i.home i.pages i.room i.half
+    c.look_on-sight.result c.self.invariant looks
+    (Leaves-works (live_of c.look_on-sight.new.self i.found) (live_of done.new.seat done.new.found) true done.result
+    looks.seat.sized done.ensures.works)
+    done.ensures.live done.ensures.capacity
+
+pub returns-then-not-sight-clause-was : goal.returns-then-not-sight-clause-was
+returns-then-not-sight-clause-was g c = subst (λ (v : LiveView). IsLive v) c.self.view_is c.self.invariant.live
+
+pub returns-clause-was : goal.returns-clause-was
+returns-clause-was g c = subst (λ (v : LiveView). IsLive v) c.self.view_is c.self.invariant.live

@@ -1,7 +1,10 @@
-use Rattle.std.proofs.Common.{refl, subst}
-use Rattle.like_live.specs.declared.answer.TurnAnswer.TheVariants.{Between}
-use Rattle.like_live.specs.LiveView.{LiveView, live_of}
-use Rattle.like_live.specs.Moves.{Moves, Works, waits, works}
+use Rattle.std.proofs.Common.{ap, refl, subst}
+use Rattle.like_core.specs.OpeningLimits.{has_slots}
+use Rattle.like_live.specs.declared.answer.TurnAnswer.TheVariants.{Between, Gone}
+use Rattle.like_live.specs.LiveView.{IsLive, LiveView, live_of}
+use Rattle.like_live.specs.Moves.{Moves, Works, is_gone, waits, works}
+use Rattle.like_live.proofs.Looking.{after-waits, after-works, has-looked}
+use Rattle.like_live.proofs.Moving.{Leaves-works}
 use Rattle.like_live.proofs.live_seat.LiveSeat.advance_late.Goals as goal
 
 pub returns-then-sight-clause-moves : goal.returns-then-sight-clause-moves
@@ -20,3 +23,42 @@ returns-clause-moves g c =
     (works sight looks.0 c.look_with_slots-sight.ensures.sight c.if-sight.false
     (subst (λ (u : LiveView). Works u sight.ending c.work.result after)
     (λ m. live_of (looks.1 m) c.self.inside.found) c.work.ensures.works))
+
+pub invariant_of-self : goal.invariant_of-self
+invariant_of-self g c =
+    let i = c.self.inside in
+    after-waits i.seat c.look_with_slots-sight.new.self i.found i.home i.pages i.room i.half
+    c.look_with_slots-sight.result c.self.invariant c.look_with_slots-sight.ensures c.if-sight.true
+
+pub returns-then-sight-clause-keeps : goal.returns-then-sight-clause-keeps
+returns-then-sight-clause-keeps g c = (invariant_of-self g c).live
+
+pub work-requires-clause-looked : goal.work-requires-clause-looked
+work-requires-clause-looked g c =
+    let i = c.self.inside in
+    has-looked i.seat c.look_with_slots-sight.new.self i.found i.home i.pages i.room i.half
+    c.look_with_slots-sight.result c.self.invariant c.look_with_slots-sight.ensures c.if-sight.false
+
+pub invariant_of-self-2 : goal.invariant_of-self-2
+invariant_of-self-2 g c =
+    let i = c.self.inside in
+    let looked = c.look_with_slots-sight in
+    let done = c.work in
+    after-works i.seat looked.new.self done.new.seat i.found done.new.found i.home i.pages i.room i.half looked.result
+    c.self.invariant looked.ensures
+    (Leaves-works (live_of looked.new.self i.found) (live_of done.new.seat done.new.found) looked.result.ending
+    done.result looked.ensures.seat.sized done.ensures.works)
+    done.ensures.live done.ensures.capacity
+
+pub look_with_slots-sight-requires-clause-slotted : goal.look_with_slots-sight-requires-clause-slotted
+look_with_slots-sight-requires-clause-slotted g c = ap has_slots c.self.invariant.live.limits
+
+pub returns-then-is_gone-clause-moves : goal.returns-then-is_gone-clause-moves
+returns-then-is_gone-clause-moves g c =
+    subst (λ (v : LiveView). Moves v Gone v) c.self.view_is (is_gone (c.is_gone.ensures.0 c.if-is_gone.true) refl refl)
+
+pub returns-then-sight-clause-was : goal.returns-then-sight-clause-was
+returns-then-sight-clause-was g c = subst (λ (v : LiveView). IsLive v) c.self.view_is c.self.invariant.live
+
+pub returns-clause-was : goal.returns-clause-was
+returns-clause-was g c = subst (λ (v : LiveView). IsLive v) c.self.view_is c.self.invariant.live

@@ -1,8 +1,13 @@
-use Rattle.std.proofs.Common.{◌≡◌, refl, sym, subst}
+use Rattle.std.proofs.Common.{◌≡◌, ap, refl, sym, subst}
 use Rattle.like_core.specs.declared.worker_state.WorkerState.TheVariants.{Gone}
-use Rattle.like_live.specs.declared.answer.TurnAnswer.TheVariants.{Runs}
+use Rattle.like_live.specs.declared.answer.TurnAnswer.TheVariants.{Runs, Between}
 use Rattle.like_live.specs.LiveView.{LiveView, live_of}
-use Rattle.like_live.specs.Calls.{ComeBackCase, runs, there}
+use Rattle.like_live.specs.Calls.{ComeBackCase, runs, there, between}
+use Rattle.like_seat.specs.StationView.{StationView}
+use Rattle.like_live.specs.declared.asked.Asked.{Asked}
+use Rattle.like_live.specs.Kept.{AreLiveSeatParts}
+use Rattle.like_live.proofs.Looking.{after-back}
+use Rattle.like_live.proofs.Moving.{IsSized, Leaves-come_back}
 use Rattle.like_live.proofs.live_seat.LiveSeat.come_back.Goals as goal
 
 pub returns-then-not-is_gone-clause-case : goal.returns-then-not-is_gone-clause-case
@@ -19,3 +24,43 @@ returns-then-returns-clause-case g c =
     let after = live_of c.returns.new.seat c.self.inside.found in
     subst (λ (v : LiveView). ComeBackCase v Runs after) c.self.view_is
     (runs c.returns.new.seat (c.is_gone.ensures.0 c.if-not-is_gone.false) refl (c.returns.ensures.back c.if-returns.true) refl)
+
+pub returns-then-returns-clause-tallies : goal.returns-then-returns-clause-tallies
+returns-then-returns-clause-tallies g c =
+    (Leaves-come_back c.args.self.now (live_of c.returns.new.seat c.self.inside.found) Runs
+    (subst IsSized c.self.view_is c.self.invariant.live.seat.sized) (returns-then-returns-clause-case g c)).tallies
+
+pub returns-then-returns-clause-same : goal.returns-then-returns-clause-same
+returns-then-returns-clause-same g c =
+    (Leaves-come_back c.args.self.now (live_of c.returns.new.seat c.self.inside.found) Runs
+    (subst IsSized c.self.view_is c.self.invariant.live.seat.sized) (returns-then-returns-clause-case g c)).same
+
+pub returns-then-returns-clause-last : goal.returns-then-returns-clause-last
+returns-then-returns-clause-last g c =
+    (Leaves-come_back c.args.self.now (live_of c.returns.new.seat c.self.inside.found) Runs
+    (subst IsSized c.self.view_is c.self.invariant.live.seat.sized) (returns-then-returns-clause-case g c)).last
+
+pub invariant_of-self : goal.invariant_of-self
+invariant_of-self g c =
+    let i = c.self.inside in
+    after-back i.seat c.returns.new.seat i.found i.home i.pages i.room i.half c.self.invariant
+    (c.is_gone.ensures.0 c.if-not-is_gone.false) (c.returns.ensures.back c.if-returns.true) c.returns.ensures.seat
+
+pub returns-then-returns-clause-keeps : goal.returns-then-returns-clause-keeps
+returns-then-returns-clause-keeps g c = (invariant_of-self g c).live
+
+pub invariant_of-self-2 : goal.invariant_of-self-2
+invariant_of-self-2 g c =
+    let i = c.self.inside in
+    subst (λ (t : StationView Asked). AreLiveSeatParts t i.found i.home i.pages i.room i.half)
+    (sym (c.returns.ensures.none c.if-returns.false)) c.self.invariant
+
+pub returns-clause-keeps : goal.returns-clause-keeps
+returns-clause-keeps g c = (invariant_of-self-2 g c).live
+
+pub returns-clause-case : goal.returns-clause-case
+returns-clause-case g c =
+    let after = live_of c.returns.new.seat c.self.inside.found in
+    subst (λ (v : LiveView). ComeBackCase v Between after) c.self.view_is
+    (between (c.is_gone.ensures.0 c.if-not-is_gone.false) refl
+    (ap (λ (t : StationView Asked). live_of t c.self.inside.found) (c.returns.ensures.none c.if-returns.false)))

@@ -4,6 +4,7 @@ use Rattle.like_seat.specs.Steps.{Glances, Reads}
 use Rattle.like_live.specs.declared.asked.Asked.{Asked}
 use Rattle.like_live.specs.Calls.{plain, split}
 use Rattle.like_live.specs.LiveView.{LiveView, with_seat}
+use Rattle.like_live.proofs.Requests.{after-glanced, after-read}
 use Rattle.like_live.proofs.live_seat.LiveSeat.glance_now.Goals as goal
 
 pub returns-then-accepted-clause-case : goal.returns-then-accepted-clause-case
@@ -29,3 +30,21 @@ returns-clause-case g c =
     (subst (λ (u : ℕ). Reads s u c.args.page c.read_at.result c.read_at.new.self) c.in-Some.ensures.accepted.user_is
     c.read_at.ensures.reads))
     (ap (λ (w : LiveView). with_seat w c.read_at.new.self) c.self.view_is)
+
+pub invariant_of-self : goal.invariant_of-self
+invariant_of-self g c =
+    let i = c.self.inside in
+    after-glanced i.seat c.glance.new.self i.found i.home i.pages i.room i.half c.in-Some.accepted.placed.user
+    c.args.page c.glance.result c.self.invariant c.glance.ensures.glances c.glance.ensures.seat
+
+pub returns-then-accepted-clause-keeps : goal.returns-then-accepted-clause-keeps
+returns-then-accepted-clause-keeps g c = (invariant_of-self g c).live
+
+pub invariant_of-self-2 : goal.invariant_of-self-2
+invariant_of-self-2 g c =
+    let i = c.self.inside in
+    after-read i.seat c.read_at.new.self i.found i.home i.pages i.room i.half c.in-Some.accepted.placed.user
+    c.args.page c.read_at.result c.self.invariant c.read_at.ensures.reads c.read_at.ensures.seat
+
+pub returns-clause-keeps : goal.returns-clause-keeps
+returns-clause-keeps g c = (invariant_of-self-2 g c).live

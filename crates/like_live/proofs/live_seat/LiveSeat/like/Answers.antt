@@ -1,6 +1,8 @@
-use Rattle.std.proofs.Common.{refl, arith}
-use Rattle.like_live.specs.Calls.{between, runs}
-use Rattle.like_live.proofs.Calling.{LikesNow-tallies}
+use Rattle.std.proofs.Common.{ap, ◌∙◌, refl, arith}
+use Rattle.like_live.specs.Calls.{between, gone, runs, last_after}
+use Rattle.like_live.proofs.Calling.{LikesNow-last, LikesNow-same, LikesNow-tallies}
+use Rattle.like_tables.specs.UserTable.{UserTable}
+use Rattle.like_live.proofs.Moving.{same_seat_both}
 use Rattle.like_live.proofs.live_seat.LiveSeat.like.Goals as goal
 
 pub returns-in-Runs-clause-case : goal.returns-in-Runs-clause-case
@@ -15,3 +17,22 @@ returns-in-Runs-clause-tallies g c = λ other.
 
 pub returns-in-Between-clause-case : goal.returns-in-Between-clause-case
 returns-in-Between-clause-case g c = between c.in-Between.ensures.case refl
+
+pub returns-in-Runs-clause-same : goal.returns-in-Runs-clause-same
+returns-in-Runs-clause-same g c =
+    same_seat_both c.args.self.now c.turn.new.self c.like_now.new.self c.turn.ensures.same
+    (LikesNow-same c.turn.new.self c.like_now.new.self c.args.user c.args.page c.like_now.result c.like_now.ensures.case)
+
+pub returns-in-Runs-clause-last : goal.returns-in-Runs-clause-last
+returns-in-Runs-clause-last g c =
+    LikesNow-last c.turn.new.self c.like_now.new.self c.args.user c.args.page c.like_now.result c.like_now.ensures.case
+    ∙ ap (λ (t : UserTable). last_after t c.args.user c.args.page c.like_now.result) c.turn.ensures.last
+
+pub returns-in-Between-clause-tallies : goal.returns-in-Between-clause-tallies
+returns-in-Between-clause-tallies g c = λ other. omega (arith, c.turn.ensures.tallies other)
+
+pub returns-in-Gone-clause-tallies : goal.returns-in-Gone-clause-tallies
+returns-in-Gone-clause-tallies g c = λ other. omega (arith, c.turn.ensures.tallies other)
+
+pub returns-in-Gone-clause-case : goal.returns-in-Gone-clause-case
+returns-in-Gone-clause-case g c = gone c.in-Gone.ensures.case refl

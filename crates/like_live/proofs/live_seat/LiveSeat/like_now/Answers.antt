@@ -1,10 +1,11 @@
-use Rattle.std.proofs.Common.{◌≡◌, ◌<◌, ℕ, None, Some, refl, ap, subst, ◌∙◌}
+use Rattle.std.proofs.Common.{◌≡◌, ◌<◌, ℕ, None, Some, refl, ap, sym, subst, ◌∙◌}
 use Rattle.like_seat.specs.StationView.{StationView, likes_of}
 use Rattle.like_seat.specs.Steps.{CountsLike}
 use Rattle.like_live.specs.declared.asked.Asked.{Asked}
 use Rattle.like_live.specs.Calls.{LikesNow, liked}
 use Rattle.like_live.specs.LiveView.{LiveView, live_of, with_seat}
-use Rattle.like_live.proofs.Requests.{not-full}
+use Rattle.like_live.proofs.Requests.{not-full, after-counted}
+use Rattle.like_live.specs.Kept.{AreLiveSeatParts}
 use Rattle.like_live.proofs.live_seat.LiveSeat.like_now.Goals as goal
 
 pub returns-then-try_sliced_at-clause-case : goal.returns-then-try_sliced_at-clause-case
@@ -54,3 +55,35 @@ returns-clause-case g c =
     subst (λ (w : LiveView). LikesNow w c.args.user c.args.page c.like_late-2.result c.like_late-2.new.self) same
     (subst (λ (u : ℕ). LikesNow (live_of c.try_plain_at.new.self c.self.inside.found) u c.args.page c.like_late-2.result
     c.like_late-2.new.self) c.in-Some.ensures.accepted.user_is c.like_late-2.ensures.case)
+
+pub invariant_of-self : goal.invariant_of-self
+invariant_of-self g c =
+    let i = c.self.inside in
+    after-counted i.seat c.try_sliced_at.new.self i.found i.home i.pages i.room i.half c.in-Some.accepted.placed.user
+    c.args.page None c.self.invariant (c.try_sliced_at.ensures.counts c.if-try_sliced_at.true)
+    c.try_sliced_at.ensures.seat
+
+pub returns-then-try_sliced_at-clause-keeps : goal.returns-then-try_sliced_at-clause-keeps
+returns-then-try_sliced_at-clause-keeps g c = (invariant_of-self g c).live
+
+pub invariant_of-self-then-accepted : goal.invariant_of-self-then-accepted
+invariant_of-self-then-accepted g c =
+    let i = c.self.inside in
+    subst (λ (t : StationView Asked). AreLiveSeatParts t i.found i.home i.pages i.room i.half)
+    (sym (c.try_sliced_at.ensures.full c.if-try_sliced_at.false)) c.self.invariant
+
+pub invariant_of-self-then-try_plain_at : goal.invariant_of-self-then-try_plain_at
+invariant_of-self-then-try_plain_at g c =
+    let i = c.self.inside in
+    let counts = c.try_plain_at.ensures.counts c.if-try_plain_at.true in
+    after-counted i.seat c.try_plain_at.new.self i.found i.home i.pages i.room i.half c.in-Some.accepted.placed.user
+    c.args.page (Some counts.0) c.self.invariant counts.1 c.try_plain_at.ensures.seat
+
+pub returns-then-try_plain_at-clause-keeps : goal.returns-then-try_plain_at-clause-keeps
+returns-then-try_plain_at-clause-keeps g c = (invariant_of-self-then-try_plain_at g c).live
+
+pub invariant_of-self-2 : goal.invariant_of-self-2
+invariant_of-self-2 g c =
+    let i = c.self.inside in
+    subst (λ (t : StationView Asked). AreLiveSeatParts t i.found i.home i.pages i.room i.half)
+    (sym (c.try_plain_at.ensures.full c.if-try_plain_at.false)) c.self.invariant

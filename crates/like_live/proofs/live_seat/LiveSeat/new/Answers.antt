@@ -1,8 +1,56 @@
-use Rattle.std.proofs.Common.{◌≡◌, ℕ, zero, suc, Bool, false, List, length, replicate, get_or, ap, ◌∙◌, refl, arith}
+use Rattle.std.proofs.Common.{◌≡◌, ℕ, zero, suc, ◌/◌, Bool, false, List, [], length, replicate, get_or, ap, sym, subst, ◌∙◌, refl, arith}
 use Rattle.std.proofs.lemmas.List.{length-replicate}
-use Rattle.like_core.specs.OpeningLimits.{has_slots}
+use Rattle.like_core.specs.OpeningLimits.{has_slots, service_limits}
 use Rattle.like_core.specs.declared.limits.Limits.{Limits}
+use Rattle.like_core.specs.Post.{PostView}
+use Rattle.like_seat.specs.StationView.{StationView, phase_at}
+use Rattle.like_seat.specs.Steps.{IsNewStation}
+use Rattle.like_tables.specs.Home.{Home, IsHomeOf}
+use Rattle.like_tables.specs.UserTable.{UserTable}
+use Rattle.like_tables.specs.Waiting.{Waiting}
+use Rattle.like_live.specs.declared.asked.Asked.{Asked}
+use Rattle.like_live.specs.declared.asked.Found.{Found}
+use Rattle.like_live.specs.Kept.{AreLiveSeatParts}
+use Rattle.like_live.specs.LiveView.{IsOwn, RanNext}
+use Rattle.like_live.proofs.Looking.{all-none}
 use Rattle.like_live.proofs.live_seat.LiveSeat.new.Goals as goal
+
+-- the parts of a new live seat agree
+new-parts : (post : PostView) (s : StationView Asked) (found : Waiting Found) (home : Home) (users : UserTable)
+    (pages room left : ℕ)
+    → IsNewStation post room users s
+    → found ≡ record { held = []; capacity = room }
+    → IsHomeOf home users.share
+    → left ≡ room
+    → post.limits ≡ service_limits
+    → post.marks ≡ replicate pages false
+    → users.share.submitters ≡ users.share.workers
+    → AreLiveSeatParts s found home pages left (room / 2)
+new-parts post s found home users pages room left new is home_is all limits marks alone =
+    let none = ap (λ (w : Waiting Asked). w.held) new.held in
+    let capacity = ap (λ (w : Waiting Asked). w.capacity) new.held in
+    let none_found = ap (λ (w : Waiting Found). w.held) is in
+    let no_more = ap (λ (xs : List Asked). length xs) none in
+    let no_found = ap (λ (xs : List Found). length xs) none_found in
+    record {
+      live = record {
+        seat = new.is;
+        limits = ap (λ (p : PostView). p.limits) new.at_post ∙ limits;
+        home = subst (λ (t : UserTable). t.share.submitters ≡ t.share.workers) (sym new.last) alone;
+        split = λ joined. none;
+        own = all-none (IsOwn s) s.held.held none;
+        asked = all-none (λ (a : Asked). a.phase ≡ phase_at s) s.held.held none;
+        next = all-none RanNext found.held none_found;
+        room = omega (arith, no_more, no_found);
+      };
+      capacity = ap (λ (w : Waiting Found). w.capacity) is ∙ sym capacity;
+      home_is = subst (λ (t : UserTable). IsHomeOf home t.share) (sym new.last) home_is;
+      pages_are =
+          sym (ap (λ (p : PostView). length p.marks) new.at_post ∙ ap (λ (xs : List Bool). length xs) marks
+          ∙ length-replicate {A = Bool} pages false);
+      room_is = omega (arith, no_more, no_found, capacity, all);
+      half_is = ap (λ n. n / 2) (sym capacity);
+    }
 
 -- no page is marked among flags that are all false
 none-marked : (n page : ℕ) → get_or (replicate n false) page false ≡ false
@@ -26,3 +74,24 @@ of_service-requires-clause-service g c = record {
   unmarked = λ page.
       ap (λ (xs : List Bool). get_or xs page false) c.requires.marks ∙ none-marked c.args.pages page;
 }
+
+pub invariant_of-result : goal.invariant_of-result
+invariant_of-result g c =
+    new-parts (g.P.Post.view c.args.post) c.in-Ok.seat c.in_ok-found.found c.home-home.result c.args.last c.args.pages
+    c.args.room c.new-in-Ok.result c.in-Ok.ensures.new c.in_ok-found.ensures c.home-home.ensures c.new-in-Ok.ensures
+    c.requires.limits c.requires.marks c.requires.home
+
+pub returns-in-Ok-clause-live : goal.returns-in-Ok-clause-live
+returns-in-Ok-clause-live g c = (invariant_of-result g c).live
+
+pub returns-in-Ok-clause-new : goal.returns-in-Ok-clause-new
+returns-in-Ok-clause-new g c =
+    let new = c.in-Ok.ensures.new in
+    record {
+      at_post = new.at_post;
+      held = new.held;
+      slice = new.slice;
+      sliced = new.sliced;
+      last = new.last;
+      found = ap (λ (w : Waiting Found). w.held) c.in_ok-found.ensures;
+    }

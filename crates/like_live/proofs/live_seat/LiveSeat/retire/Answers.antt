@@ -1,9 +1,11 @@
-use Rattle.std.proofs.Common.{refl, subst}
+use Rattle.std.proofs.Common.{ap, refl, subst}
+use Rattle.like_core.specs.OpeningLimits.{has_slots}
 use Rattle.like_live.specs.declared.answer.TurnAnswer.TheVariants.{Between}
 use Rattle.like_live.specs.LiveView.{LiveView, live_of}
 use Rattle.like_live.specs.Moves.{waits, works}
 use Rattle.like_live.specs.Calls.{RetireCase, RetireWorks}
-use Rattle.like_live.proofs.Moving.{IsSized, Leaves-retires}
+use Rattle.like_live.proofs.Moving.{IsSized, Leaves-retires, Leaves-retire_works}
+use Rattle.like_live.proofs.Looking.{after-waits, after-works, has-looked}
 use Rattle.like_live.proofs.live_seat.LiveSeat.retire.Goals as goal
 
 pub returns-then-sight-clause-case : goal.returns-then-sight-clause-case
@@ -27,3 +29,44 @@ returns-clause-tallies g c =
     let after = live_of c.work_or_retire.new.seat c.work_or_retire.new.found in
     (Leaves-retires c.args.self.now after c.work_or_retire.result
     (subst IsSized c.self.view_is c.self.invariant.live.seat.sized) (returns-clause-case g c)).tallies
+
+pub returns-clause-same : goal.returns-clause-same
+returns-clause-same g c =
+    let after = live_of c.work_or_retire.new.seat c.work_or_retire.new.found in
+    (Leaves-retires c.args.self.now after c.work_or_retire.result
+    (subst IsSized c.self.view_is c.self.invariant.live.seat.sized) (returns-clause-case g c)).same
+
+pub returns-clause-last : goal.returns-clause-last
+returns-clause-last g c =
+    let after = live_of c.work_or_retire.new.seat c.work_or_retire.new.found in
+    (Leaves-retires c.args.self.now after c.work_or_retire.result
+    (subst IsSized c.self.view_is c.self.invariant.live.seat.sized) (returns-clause-case g c)).last
+
+pub invariant_of-self : goal.invariant_of-self
+invariant_of-self g c =
+    let i = c.self.inside in
+    after-waits i.seat c.look_with_slots-sight.new.self i.found i.home i.pages i.room i.half
+    c.look_with_slots-sight.result c.self.invariant c.look_with_slots-sight.ensures c.if-sight.true
+
+pub returns-then-sight-clause-keeps : goal.returns-then-sight-clause-keeps
+returns-then-sight-clause-keeps g c = (invariant_of-self g c).live
+
+pub work_or_retire-requires-clause-looked : goal.work_or_retire-requires-clause-looked
+work_or_retire-requires-clause-looked g c =
+    let i = c.self.inside in
+    has-looked i.seat c.look_with_slots-sight.new.self i.found i.home i.pages i.room i.half
+    c.look_with_slots-sight.result c.self.invariant c.look_with_slots-sight.ensures c.if-sight.false
+
+pub invariant_of-self-2 : goal.invariant_of-self-2
+invariant_of-self-2 g c =
+    let i = c.self.inside in
+    let looked = c.look_with_slots-sight in
+    let done = c.work_or_retire in
+    after-works i.seat looked.new.self done.new.seat i.found done.new.found i.home i.pages i.room i.half looked.result
+    c.self.invariant looked.ensures
+    (Leaves-retire_works (live_of looked.new.self i.found) (live_of done.new.seat done.new.found) looked.result.ending
+    done.result looked.ensures.seat.sized done.ensures.works)
+    done.ensures.live done.ensures.capacity
+
+pub look_with_slots-sight-requires-clause-slotted : goal.look_with_slots-sight-requires-clause-slotted
+look_with_slots-sight-requires-clause-slotted g c = ap has_slots c.self.invariant.live.limits

@@ -1,8 +1,11 @@
-use Rattle.std.proofs.Common.{ap, refl, sym, ◌∙◌}
+use Rattle.std.proofs.Common.{◌≡◌, List, drop, length, ap, refl, sym, subst, ◌∙◌, arith}
 use Rattle.like_tables.specs.Waiting.{Waiting}
 use Rattle.like_live.specs.declared.asked.Found.{Found}
 use Rattle.like_live.specs.LiveView.{live_of}
-use Rattle.like_live.proofs.Finding.{Finding-first, Finding-next, Finding-ran, Finding-start, joined_phase}
+use Rattle.like_live.proofs.Finding.{Finding-first, Finding-next, Finding-ran, Finding-start, joined_phase, Finding-end, Finding-joined, Finding-room, first_of, none_first, plain, running}
+use Rattle.like_seat.specs.StationView.{StationView}
+use Rattle.like_live.specs.declared.asked.Asked.{Asked}
+use Rattle.like_live.specs.Moves.{FindsAll}
 use Rattle.like_live.proofs.live_seat.moves.find_all.Goals as goal
 
 pub read_for-seen-requires-clause-there : goal.read_for-seen-requires-clause-there
@@ -46,3 +49,42 @@ returns-clause-next g c =
     let looked = c.requires.looked in
     Finding-ran v now c.loop-asked.invariant.finding
     (looked.before (joined_phase c.args.seat.now.post.state c.requires.joined)) looked.next
+
+pub returns-clause-finds : goal.returns-clause-finds
+returns-clause-finds g c =
+    let v = live_of c.args.seat.now c.args.found.now in
+    let s = c.loop-asked.seat in
+    let none = none_first s.held.held (sym c.next_held.ensures.first ∙ c.in_default.is) in
+    let rest = ap (λ (xs : List Asked). drop 1 xs) none ∙ sym none in
+    let same : c.next_held.new.self ≡ s =
+    c.next_held.ensures.rest ∙ (λ m. record s { held = record s.held { held = rest m } }) in
+    subst (λ (t : StationView Asked). FindsAll v (live_of t c.loop-asked.found)) (sym same)
+    (Finding-end v (live_of s c.loop-asked.found) c.loop-asked.invariant.finding none)
+
+pub read_for-seen-requires-clause-plain : goal.read_for-seen-requires-clause-plain
+read_for-seen-requires-clause-plain g c =
+    plain c.next_held.new.self.post c.in-Some.asked.page
+    (Finding-joined (live_of c.args.seat.now c.args.found.now) (live_of c.loop-asked.seat c.loop-asked.found)
+    c.next_held.new.self c.loop-asked.invariant.finding c.requires.joined c.in-Some.ensures.rest)
+
+pub read_for-seen-requires-clause-running : goal.read_for-seen-requires-clause-running
+read_for-seen-requires-clause-running g c =
+    running c.next_held.new.self.post.state
+    (Finding-joined (live_of c.args.seat.now c.args.found.now) (live_of c.loop-asked.seat c.loop-asked.found)
+    c.next_held.new.self c.loop-asked.invariant.finding c.requires.joined c.in-Some.ensures.rest)
+
+pub push-requires : goal.push-requires
+push-requires g c =
+    let l = c.loop-asked in
+    let looked = c.requires.looked in
+    let first = first_of l.seat.held.held c.in-Some.asked (sym c.in-Some.ensures.first) in
+    let same = Finding-room (live_of c.args.seat.now c.args.found.now) (live_of l.seat l.found) l.invariant.finding in
+    omega (arith, ap (λ (xs : List Asked). length xs) first, same, looked.room, looked.capacity, l.invariant.capacity)
+
+pub loop-asked-smaller : goal.loop-asked-smaller
+loop-asked-smaller g c =
+    let first = first_of c.loop-asked.seat.held.held c.in-Some.asked (sym c.in-Some.ensures.first) in
+    let rest =
+    ap (λ (t : StationView Asked). length t.held.held) (c.read_for-seen.ensures.reads.read)
+    ∙ ap (λ (t : StationView Asked). length t.held.held) c.in-Some.ensures.rest in
+    omega (arith, ap (λ (xs : List Asked). length xs) first, rest)

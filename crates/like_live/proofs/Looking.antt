@@ -1,0 +1,147 @@
+-- What a live seat keeps when it looks at the phase word.
+use Rattle.std.proofs.Common.{◌≡◌, ℕ, ◌+◌, ◌⊎◌, inl, inr, Bool, true, false, List, [], cond, refl, ap, sym, ◌∙◌, subst, arith}
+use Rattle.std.specs.List.{All}
+use Rattle.std.proofs.lemmas.List.Elements.{All-nil}
+use Rattle.like_core.specs.declared.sight.Sight.{Sight}
+use Rattle.like_core.specs.declared.worker_state.WorkerState.{WorkerState}
+use Rattle.like_core.specs.declared.worker_state.WorkerState.TheVariants as state
+use Rattle.like_core.specs.Phase.{IsJoined}
+use Rattle.like_core.specs.WorkerState.{IsRunning, IsSightOf, phase_of, seen}
+use Rattle.like_seat.specs.StationView.{IsStation, StationView, phase_at}
+use Rattle.like_seat.specs.Steps.{ComesBack, LooksAndEnters}
+use Rattle.like_tables.specs.Home.{Home}
+use Rattle.like_tables.specs.Waiting.{Waiting}
+use Rattle.like_live.specs.declared.asked.Asked.{Asked}
+use Rattle.like_live.specs.declared.asked.Found.{Found}
+use Rattle.like_live.specs.Kept.{AreLiveSeatParts, HasLooked}
+use Rattle.like_live.specs.LiveView.{IsLive, live_of}
+use Rattle.like_live.proofs.Moving.{Leaves, Leaves-both, Leaves-looked, after-leaves}
+
+-- a seat that is to wait stays in its phase
+waits-phase : (w : WorkerState) (sight : Sight) → IsSightOf w sight → sight.waits ≡ true
+    → phase_of (seen w sight) ≡ phase_of w
+waits-phase (state.Runs k) sight is waits = refl
+waits-phase (state.Answered k) sight is waits =
+    ap (λ (b : Bool). phase_of (cond b (state.Answered k) (state.Runs (k + 1)))) waits
+waits-phase state.Gone sight is waits = absurd is
+
+-- one that is not to wait stays in its phase or enters the next
+on-phase : (w : WorkerState) (sight : Sight) → IsSightOf w sight → sight.waits ≡ false
+    → (phase_of (seen w sight) ≡ phase_of w) ⊎ (phase_of (seen w sight) ≡ phase_of w + 1)
+on-phase (state.Runs k) sight is on = inl refl
+on-phase (state.Answered k) sight is on =
+    inr (ap (λ (b : Bool). phase_of (cond b (state.Answered k) (state.Runs (k + 1)))) on)
+on-phase state.Gone sight is on = absurd is
+
+-- all is true of the elements of a list that has none
+pub all-none : {X : Type 0} (P : X → Type 0) (xs : List X) → xs ≡ [] → All P xs
+all-none P xs none = subst (All P) (sym none) (All-nil P)
+
+-- a live seat's parts agree after a look by which it stays in its phase
+pub after-looked : (s u : StationView Asked) (found : Waiting Found) (home : Home) (pages room half : ℕ) (sight : Sight)
+    → AreLiveSeatParts s found home pages room half
+    → LooksAndEnters s sight u → phase_at u ≡ phase_at s
+    → AreLiveSeatParts u found home pages room half
+after-looked s u found home pages room half sight parts looks same =
+    let live = parts.live in
+    let is = looks.looks.1 in
+    let phase : phase_of (seen s.post.state sight) ≡ phase_at s =
+    ap (λ (x : StationView Asked). phase_at x) (sym is) ∙ same in
+    subst (λ x. AreLiveSeatParts x found home pages room half) (sym is) (record {
+      live = record {
+        seat = subst (λ x. IsStation x) is looks.seat;
+        limits = live.limits;
+        home = live.home;
+        split = λ joined. live.split (subst IsJoined phase joined);
+        own = λ k d below. (let o = live.own k d below in record { there = o.there; owned = o.owned });
+        asked = λ k d below. live.asked k d below ∙ sym phase;
+        next = live.next;
+        room = live.room;
+      };
+      capacity = parts.capacity;
+      home_is = parts.home_is;
+      pages_are = parts.pages_are;
+      room_is = parts.room_is;
+      half_is = parts.half_is;
+    })
+
+-- so they do if it is to wait
+pub after-waits : (s u : StationView Asked) (found : Waiting Found) (home : Home) (pages room half : ℕ) (sight : Sight)
+    → AreLiveSeatParts s found home pages room half
+    → LooksAndEnters s sight u → sight.waits ≡ true
+    → AreLiveSeatParts u found home pages room half
+after-waits s u found home pages room half sight parts looks waits =
+    after-looked s u found home pages room half sight parts looks
+    (ap (λ (x : StationView Asked). phase_at x) looks.looks.1 ∙ waits-phase s.post.state sight looks.sight waits)
+
+-- if it is not, it can do its phase work
+pub has-looked : (s u : StationView Asked) (found : Waiting Found) (home : Home) (pages room half : ℕ) (sight : Sight)
+    → AreLiveSeatParts s found home pages room half
+    → LooksAndEnters s sight u → sight.waits ≡ false
+    → HasLooked u found
+has-looked s u found home pages room half sight parts looks on =
+    let live = parts.live in
+    let is = looks.looks.1 in
+    let phase = phase_of (seen s.post.state sight) in
+    let at = on-phase s.post.state sight looks.sight on in
+    subst (λ x. HasLooked x found) (sym is) (record {
+      seat = subst (λ x. IsStation x) is looks.seat;
+      runs = subst (λ (x : StationView Asked). IsRunning x.post.state) is (looks.runs on);
+      limits = live.limits;
+      home = live.home;
+      own = λ k d below. (let o = live.own k d below in record { there = o.there; owned = o.owned });
+      asked = λ odd. elim at [
+        | inl same ↦ λ k d below. live.asked k d below ∙ sym same
+        | inr next ↦ all-none (λ (a : Asked). a.phase ≡ phase) s.held.held (live.split (omega (arith, odd, next)))
+      ];
+      before = λ even. elim at [
+        | inl same ↦
+            all-none (λ (a : Asked). phase ≡ a.phase + 1) s.held.held (live.split (subst IsJoined same even))
+        | inr next ↦ λ k d below. next ∙ ap (λ n. n + 1) (sym (live.asked k d below))
+      ];
+      next = live.next;
+      capacity = parts.capacity;
+      room = live.room;
+    })
+
+-- and its parts agree after that
+pub after-works : (s u t : StationView Asked) (found now : Waiting Found) (home : Home) (pages room half : ℕ) (sight : Sight)
+    → AreLiveSeatParts s found home pages room half
+    → LooksAndEnters s sight u
+    → Leaves (live_of u found) (live_of t now)
+    → IsLive (live_of t now)
+    → now.capacity ≡ found.capacity
+    → AreLiveSeatParts t now home pages room half
+after-works s u t found now home pages room half sight parts looks leaves live capacity =
+    let v = live_of s found in
+    after-leaves s t found now home pages room half parts
+    (Leaves-both v (live_of u found) (live_of t now)
+    (subst (λ x. Leaves v (live_of x found)) (sym looks.looks.1) (Leaves-looked v sight looks.looks.0)) leaves)
+    live capacity
+
+-- a live seat's parts agree after it came back
+pub after-back : (s u : StationView Asked) (found : Waiting Found) (home : Home) (pages room half : ℕ)
+    → AreLiveSeatParts s found home pages room half
+    → s.post.state ≡ state.Gone → ComesBack s u → IsStation u
+    → AreLiveSeatParts u found home pages room half
+after-back s u found home pages room half parts gone back kept =
+    let live = parts.live in
+    let is = back.1.1 in
+    let none = live.split (subst (λ (w : WorkerState). IsJoined (phase_of w)) (sym gone) refl) in
+    subst (λ x. AreLiveSeatParts x found home pages room half) (sym is) (record {
+      live = record {
+        seat = subst (λ x. IsStation x) is kept;
+        limits = live.limits;
+        home = live.home;
+        split = λ joined. none;
+        own = λ k d below. (let o = live.own k d below in record { there = o.there; owned = o.owned });
+        asked = all-none (λ (a : Asked). a.phase ≡ back.0) s.held.held none;
+        next = live.next;
+        room = live.room;
+      };
+      capacity = parts.capacity;
+      home_is = parts.home_is;
+      pages_are = parts.pages_are;
+      room_is = parts.room_is;
+      half_is = parts.half_is;
+    })

@@ -1,0 +1,55 @@
+use Rattle.std.proofs.Common.{◌≡◌, ◌+◌, length, ap, sym, subst, ◌∙◌, arith}
+use Rattle.like_core.specs.WorkerState.{RunsSplit}
+use Rattle.like_seat.specs.StationView.{phase_at}
+use Rattle.like_live.specs.Calls.{asked_in}
+use Rattle.like_live.specs.LiveView.{IsOwn, LiveView, room_of, waiting}
+use Rattle.like_live.proofs.Requests.{after-held, puts-by}
+use Rattle.like_live.proofs.live_seat.LiveSeat.wait_late.Goals as goal
+
+pub returns-then-left-eq0-clause-full : goal.returns-then-left-eq0-clause-full
+returns-then-left-eq0-clause-full g c = λ _.
+    subst (λ (w : LiveView). length (waiting w) + length w.found ≡ room_of w) c.self.view_is
+    (omega (arith, c.self.invariant.room_is, c.left.ensures, c.if-left-eq0.true))
+
+pub put_by-requires : goal.put_by-requires
+put_by-requires g c = omega (arith, c.self.invariant.room_is, c.take.ensures)
+
+pub invariant_of-self : goal.invariant_of-self
+invariant_of-self g c =
+    let i = c.self.inside in
+    let a = asked_in c.args.phase c.args.user c.args.page c.args.tag in
+    after-held i.seat c.put_by.new.self i.found i.home i.pages i.room c.take.new.self i.half a c.self.invariant
+    (subst (λ (w : LiveView). RunsSplit w.seat.post.state) (sym c.self.view_is) c.requires.split)
+    (subst (λ (w : LiveView). IsOwn w.seat a) (sym c.self.view_is) c.requires.own)
+    (c.requires.phase ∙ ap (λ (w : LiveView). phase_at w.seat) (sym c.self.view_is))
+    c.take.ensures c.put_by.ensures.holds c.put_by.ensures.seat
+
+pub invariant_of-self-else-clear-self : goal.invariant_of-self-else-clear-self
+invariant_of-self-else-clear-self g c =
+    let i = c.self.inside in
+    let a = asked_in c.args.phase c.args.user c.args.page c.args.tag in
+    after-held i.seat c.put_by.new.self i.found i.home i.pages i.room c.set_free.new.self i.half a c.self.invariant
+    (subst (λ (w : LiveView). RunsSplit w.seat.post.state) (sym c.self.view_is) c.requires.split)
+    (subst (λ (w : LiveView). IsOwn w.seat a) (sym c.self.view_is) c.requires.own)
+    (c.requires.phase ∙ ap (λ (w : LiveView). phase_at w.seat) (sym c.self.view_is))
+    (c.take.ensures ∙ ap (λ n. n + 1) (sym c.set_free.ensures)) c.put_by.ensures.holds c.put_by.ensures.seat
+
+pub returns-then-clear-self-clause-waits : goal.returns-then-clear-self-clause-waits
+returns-then-clear-self-clause-waits g c = λ _.
+    let i = c.self.inside in
+    puts-by c.args.self.now i.seat c.put_by.new.self i.found i.home i.pages i.room i.half
+    (asked_in c.args.phase c.args.user c.args.page c.args.tag) c.self.invariant c.self.view_is
+    (omega (arith, c.take.ensures)) c.put_by.ensures.holds
+
+pub returns-then-clear-self-clause-keeps : goal.returns-then-clear-self-clause-keeps
+returns-then-clear-self-clause-keeps g c = (invariant_of-self g c).live
+
+pub returns-else-clear-self-clause-waits : goal.returns-else-clear-self-clause-waits
+returns-else-clear-self-clause-waits g c = λ _.
+    let i = c.self.inside in
+    puts-by c.args.self.now i.seat c.put_by.new.self i.found i.home i.pages i.room i.half
+    (asked_in c.args.phase c.args.user c.args.page c.args.tag) c.self.invariant c.self.view_is
+    (omega (arith, c.take.ensures)) c.put_by.ensures.holds
+
+pub returns-else-clear-self-clause-keeps : goal.returns-else-clear-self-clause-keeps
+returns-else-clear-self-clause-keeps g c = (invariant_of-self-else-clear-self g c).live
