@@ -1,4 +1,7 @@
 //! Tests of what is read and written: records, pages, requests, scripts, replies and the words of the command line.
+//!
+//! What is large is dropped by a call of `drop`: a function at whose end it goes would prove once more how each of its
+//! parts is dropped.
 #![tactic(auto)]
 
 #[cfg(test)]

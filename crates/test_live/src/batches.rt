@@ -64,5 +64,6 @@ fn a_batch_is_cut(rt: HostRuntime) -> Result<(), Fail> {
     let liked = cut(&rt, &mut service.seats, &mut service.driver);
     let total = liked.saturating_add(10);
     assert!(rt; are_last_counts(&mut service.driver, true, [total, 20]));
+    drop(service);
     Ok(())
 }

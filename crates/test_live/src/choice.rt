@@ -135,24 +135,23 @@ fn is_in(slots: &Slots, page: u32) -> bool {
     false
 }
 
+// Whether the first slots have these pages, and these slots are in use.
+fn are_slots(slots: &Slots, pages: &[u32], bits: u64) -> bool {
+    slots.pages().starts_with(pages) && slots.bits() == bits
+}
+
 #[test]
 fn slots_of_a_proposal(rt: HostRuntime) {
     // The factor is that of buckets by the page modulo 1,024.
     let mut slots = Slots::new(1 << 22, 5_000, &[7]);
-    assert_eq!(rt; (slots.page(0), slots.bits()), (7, 1));
+    assert!(rt; are_slots(&slots, &[7], 1));
     // 1,031 has the bucket of 7, 1,034 that of 10, and there are no pages from 5,000 on.
     slots.choose(&[10, 1_031, 1_034, 5_000, 20, 10]);
-    assert_eq!(rt;
-        (slots.page(0), slots.page(1), slots.page(2), slots.bits()),
-        (7, 10, 20, 7)
-    );
+    assert!(rt; are_slots(&slots, &[7, 10, 20], 7));
     slots.choose(&[30, 20]);
-    assert_eq!(rt;
-        (slots.page(0), slots.page(1), slots.page(2), slots.bits()),
-        (7, 30, 20, 7)
-    );
+    assert!(rt; are_slots(&slots, &[7, 30, 20], 7));
     slots.choose(&[]);
-    assert_eq!(rt; slots.bits(), 1);
+    assert!(rt; slots.bits() == 1);
 }
 
 #[test]
@@ -162,7 +161,7 @@ fn proposals_that_are_set(rt: HostRuntime) {
     let mut proposed = Proposed::new();
     proposed.set(&[3, 1, 2]);
     proposed.propose(&slots, &mut proposal);
-    assert_eq!(rt; proposal.pages(), [3, 1, 2].as_slice());
+    assert!(rt; proposal.pages() == [3, 1, 2].as_slice());
     NoProposal.propose(&slots, &mut proposal);
     assert!(rt; proposal.pages().is_empty());
 }
@@ -191,33 +190,74 @@ impl Sampled {
     }
 }
 
-#[test]
-fn popular_pages_are_found(rt: HostRuntime) -> Result<(), AllocError> {
+// Of the likes so far, how many were of the 64 most popular pages, and how many of pages in slots.
+#[derive(Drop)]
+struct Counted {
+    best: u64,
+    sliced: u64,
+}
+
+impl Counted {
+    // Counts a like of the page with this rank.
+    fn add(&mut self, slots: &Slots, rank: u32, page: u32) {
+        self.best = self.best.wrapping_add(u64::from(rank < 64));
+        self.sliced = self.sliced.wrapping_add(u64::from(is_in(slots, page)));
+    }
+}
+
+// The likes between two choices, by two seats in turn, which are counted or not.
+fn likes_by_two(
+    drawn: &mut Drawn,
+    seats: &mut [Sampled; 2],
+    slots: &Slots,
+    counted: &mut Counted,
+    counts: bool,
+) {
+    for request in 0..REQUESTS {
+        let rank = drawn.rank();
+        let page = page_at(rank);
+        seats[request as usize % 2].likes(page);
+        if counts {
+            counted.add(slots, rank, page);
+        }
+    }
+}
+
+// The likes of the last two of twelve choices.
+fn last_likes(samples: &mut Samples, seats: &mut [Sampled; 2]) -> Counted {
     let mut drawn = Drawn { state: 1 };
-    let mut samples = Samples::new(rt.alloc(), 2, 512)?;
     let mut slots = Slots::new(0x9e37_79b1, PAGES, &[]);
     let mut proposal = Proposal::new();
-    let mut seats = [
-        Sampled::new(samples.sampler(0)?),
-        Sampled::new(samples.sampler(1)?),
-    ];
-    let mut best = 0u64;
-    let mut sliced = 0u64;
+    let mut counted = Counted { best: 0, sliced: 0 };
     for choice in 0..12u32 {
-        for request in 0..REQUESTS {
-            let rank = drawn.rank();
-            let page = page_at(rank);
-            seats[request as usize % 2].likes(page);
-            if choice >= 10 {
-                best = best.wrapping_add(u64::from(rank < 64));
-                sliced = sliced.wrapping_add(u64::from(is_in(&slots, page)));
-            }
-        }
+        likes_by_two(&mut drawn, seats, &slots, &mut counted, choice >= 10);
         samples.propose(&slots, &mut proposal);
         slots.choose(proposal.pages());
     }
+    counted
+}
+
+// Two seats.
+fn two_seats(samples: &Samples) -> Result<[Sampled; 2], AllocError> {
+    let first = samples.sampler(0)?;
+    let second = samples.sampler(1)?;
+    Ok([Sampled::new(first), Sampled::new(second)])
+}
+
+#[test]
+fn popular_pages_are_found(rt: HostRuntime) -> Result<(), AllocError> {
+    let mut samples = Samples::new(rt.alloc(), 2, 512)?;
+    let mut seats = two_seats(&samples)?;
+    let Counted { best, sliced } = last_likes(&mut samples, &mut seats);
     assert!(rt; sliced / 95 >= best / 100, "{sliced} of {best}");
     Ok(())
+}
+
+// Likes of pages that are alike.
+fn likes_any(drawn: &mut Drawn, seat: &mut Sampled) {
+    for _ in 0..REQUESTS {
+        seat.likes(drawn.next() % PAGES);
+    }
 }
 
 #[test]
@@ -228,9 +268,7 @@ fn pages_that_are_alike_are_not_popular(rt: HostRuntime) -> Result<(), AllocErro
     let mut proposal = Proposal::new();
     let mut seat = Sampled::new(samples.sampler(0)?);
     for _ in 0..12u32 {
-        for _ in 0..REQUESTS {
-            seat.likes(drawn.next() % PAGES);
-        }
+        likes_any(&mut drawn, &mut seat);
         samples.propose(&slots, &mut proposal);
         assert!(rt; proposal.pages().is_empty());
     }

@@ -43,7 +43,8 @@ fn change(
     drives(rt, driver, DriverAnswer::Released);
 }
 
-fn likes(rt: &impl Abort, seat: &mut LiveSeat<SharedPost>, user: u32)
+/// A like of page 0.
+pub fn likes(rt: &impl Abort, seat: &mut LiveSeat<SharedPost>, user: u32)
     ensures { IsSameSeat seat.old seat.new }
 {
     assert!(rt; seat.like(user, 0) == LikeAnswer::Liked);

@@ -1,5 +1,8 @@
 //! Tests of the live core: the worked examples of a live service, a host with several threads, and the choice of hot
 //! pages.
+//!
+//! What is large is dropped by a call of `drop`: a function at whose end it goes would prove once more how each of its
+//! parts is dropped.
 #![tactic(auto)]
 
 #[cfg(test)]

@@ -1,8 +1,9 @@
 //! What a service takes is given back where its seats and its driver are dropped, in each order. No contract says so.
+use crate::ends::likes;
 use crate::services::opened;
 use like_board::SharedPost;
 use like_choice::Guided;
-use like_live::{LikeAnswer, LiveSeat, Service};
+use like_live::{LiveSeat, Service};
 use std::alloc::Global;
 use std::fs;
 use std::process::Abort;
@@ -18,7 +19,9 @@ const PAGES: usize = 32;
 // The last seat likes, and all are dropped, that one first.
 fn drops_seats(rt: &impl Abort, mut seats: Vec<LiveSeat<SharedPost>>) {
     let mut seat = seats.pop().expect(rt, "a seat");
-    assert!(rt; seat.like(1, 0) == LikeAnswer::Liked);
+    likes(rt, &mut seat, 1);
+    drop(seat);
+    drop(seats);
 }
 
 // Drops the driver first, or the seats.

@@ -18,6 +18,10 @@ pub enum OnSeat {
     Retire(TurnAnswer),
     ComeBack(TurnAnswer),
     TakeFound(Option<Found>),
+    /// Whether its first two users are there, and their last likes.
+    FirstTwo(Option<[u32; 2]>),
+    /// A user's last like, or the verdict of the user.
+    Last(u32, Result<Option<u32>, Verdict>),
     /// A batch, how many of its calls were made, and the answers behind it.
     Run(&'static [Call; 5], usize, &'static [Answer; 5]),
     Phase(u64),
@@ -32,6 +36,8 @@ pub enum OnDriver {
     Snapshot(Option<u64>, [u64; 2]),
     /// Whether the last counts were written, and the counts behind it.
     LastCounts(bool, [u64; 2]),
+    /// The only page that is split, or was in the last split phase.
+    Splits(u32),
     Phase(u64),
 }
 
@@ -43,13 +49,19 @@ pub enum Step {
     Seat(usize, OnSeat),
 }
 
+/// Calls in order, in parts, with the name of what makes them.
+#[derive(Clone, Copy)]
+pub struct Calls {
+    pub name: &'static str,
+    pub parts: &'static [&'static [Step]],
+}
+
 /// A service of two pages, the first of them marked, with 10 and 20 likes, and of users 0 to 3; and its calls in order.
 #[derive(Clone, Copy)]
 pub struct Scene {
-    pub name: &'static str,
     pub seats: u32,
     pub room: u32,
-    pub parts: &'static [&'static [Step]],
+    pub calls: Calls,
 }
 
 /// What each answer is before a batch.
@@ -84,6 +96,40 @@ macro_rules! look {
             $seat,
             OnSeat::Look($user, $page, 0, LookAnswer::Seen(seen!($count))),
         )
+    };
+}
+
+// A glance at a page that the user liked last.
+macro_rules! glance_at {
+    ($seat:literal, $user:literal, $page:literal, $count:literal) => {
+        Step::Seat(
+            $seat,
+            OnSeat::Glance(
+                $user,
+                $page,
+                GlanceAnswer::Seen(Seen {
+                    last: Some($page),
+                    count: $count,
+                }),
+            ),
+        )
+    };
+}
+
+// A look, with its tag and answer.
+macro_rules! look_at {
+    ($seat:literal, $user:literal, $page:literal, $tag:literal, $answer:expr) => {
+        Step::Seat($seat, OnSeat::Look($user, $page, $tag, $answer))
+    };
+}
+
+// What a look is shown at once.
+macro_rules! shown {
+    ($last:expr, $count:literal) => {
+        LookAnswer::Seen(Seen {
+            last: $last,
+            count: $count,
+        })
     };
 }
 
@@ -155,6 +201,12 @@ macro_rules! drive {
     };
 }
 
+macro_rules! splits {
+    ($page:literal) => {
+        Step::Driver(OnDriver::Splits($page))
+    };
+}
+
 // The end of a phase, which both seats answer, and the release of the next.
 const CHANGE: &[Step] = &[
     drive!(IfItServes, Announced),
@@ -204,222 +256,421 @@ const BATCH_ANSWERS: &[Answer; 5] = &[
 
 const SCENES: &[Scene] = &[
     Scene {
-        name: "live_plain",
         seats: 1,
         room: 1,
-        parts: &[&[
-            like!(0, 0, 0),
-            like!(0, 1, 0),
-            like!(0, 0, 0),
-            look!(0, 0, 0, 13),
-            retire!(0),
-            Step::Seat(0, OnSeat::Like(0, 0, LikeAnswer::Gone)),
-        ]],
+        calls: Calls {
+            name: "live_plain",
+            parts: &[&[
+                like!(0, 0, 0),
+                like!(0, 1, 0),
+                like!(0, 0, 0),
+                look!(0, 0, 0, 13),
+                retire!(0),
+                Step::Seat(0, OnSeat::Like(0, 0, LikeAnswer::Gone)),
+            ]],
+        },
     },
     Scene {
-        name: "live_two_seats",
         seats: 2,
         room: 1,
-        parts: &[
-            &[like!(0, 0, 0), look!(0, 0, 0, 11)],
-            CHANGE,
-            &[
-                like!(0, 0, 0),
-                like!(0, 0, 0),
-                like!(1, 1, 0),
-                asks!(0, 7, Waits),
-                glance!(0, 0, 13),
-                glance!(1, 1, 12),
-                look!(0, 0, 1, 20),
+        calls: Calls {
+            name: "live_two_seats",
+            parts: &[
+                &[like!(0, 0, 0), look!(0, 0, 0, 11)],
+                CHANGE,
+                &[
+                    like!(0, 0, 0),
+                    like!(0, 0, 0),
+                    like!(1, 1, 0),
+                    asks!(0, 7, Waits),
+                    glance!(0, 0, 13),
+                    glance!(1, 1, 12),
+                    look!(0, 0, 1, 20),
+                ],
+                CHANGE,
+                &[
+                    like!(0, 0, 1),
+                    found!(7, Some(0), 14),
+                    Step::Seat(0, OnSeat::TakeFound(None)),
+                ],
             ],
-            CHANGE,
-            &[
-                like!(0, 0, 1),
-                found!(7, Some(0), 14),
-                Step::Seat(0, OnSeat::TakeFound(None)),
-            ],
-        ],
+        },
     },
     // Looks of both users of seat 0 wait.
     Scene {
-        name: "live_room",
         seats: 2,
         room: 2,
-        parts: &[
-            CHANGE,
-            &[asks!(0, 1, Waits), asks!(2, 2, Waits), asks!(0, 3, NoRoom)],
-            CHANGE,
-            &[turn!(0, Runs)],
-            CHANGE,
-            &[
-                asks!(0, 3, NoRoom),
-                found!(1, None, 10),
-                asks!(0, 3, Waits),
-                asks!(0, 3, NoRoom),
+        calls: Calls {
+            name: "live_room",
+            parts: &[
+                CHANGE,
+                &[asks!(0, 1, Waits), asks!(2, 2, Waits), asks!(0, 3, NoRoom)],
+                CHANGE,
+                &[turn!(0, Runs)],
+                CHANGE,
+                &[
+                    asks!(0, 3, NoRoom),
+                    found!(1, None, 10),
+                    asks!(0, 3, Waits),
+                    asks!(0, 3, NoRoom),
+                ],
             ],
-        ],
+        },
     },
     // Seat 0 makes no call in phase 2 before that is ending.
     Scene {
-        name: "live_retire",
         seats: 2,
         room: 1,
-        parts: &[
-            CHANGE,
-            &[asks!(0, 7, Waits)],
-            CHANGE,
-            &[
-                drive!(IfItServes, Announced),
-                retire!(0),
-                found!(7, None, 10),
-                Step::Seat(0, OnSeat::TakeFound(None)),
-                turn!(1, Between),
-                drive!(IfItServes, Released),
+        calls: Calls {
+            name: "live_retire",
+            parts: &[
+                CHANGE,
+                &[asks!(0, 7, Waits)],
+                CHANGE,
+                &[
+                    drive!(IfItServes, Announced),
+                    retire!(0),
+                    found!(7, None, 10),
+                    Step::Seat(0, OnSeat::TakeFound(None)),
+                    turn!(1, Between),
+                    drive!(IfItServes, Released),
+                ],
             ],
-        ],
+        },
     },
     Scene {
-        name: "live_batch",
         seats: 2,
         room: 1,
-        parts: &[
-            CHANGE,
-            &[Step::Seat(0, OnSeat::Run(BATCH, 4, BATCH_ANSWERS))],
-        ],
+        calls: Calls {
+            name: "live_batch",
+            parts: &[
+                CHANGE,
+                &[Step::Seat(0, OnSeat::Run(BATCH, 4, BATCH_ANSWERS))],
+            ],
+        },
     },
     // The counts of a snapshot are those of the boundary of phases 0 and 1.
     Scene {
-        name: "takes_a_snapshot",
         seats: 1,
         room: 2,
-        parts: &[&[
-            like!(0, 0, 0),
-            drive!(No, Running),
-            drive!(IfItServes, Announced),
-            Step::Driver(OnDriver::Snapshot(None, [0, 0])),
-            drive!(IfItServes, Waiting),
-            turn!(0, Between),
-            Step::Driver(OnDriver::Snapshot(Some(0), [11, 20])),
-            drive!(IfItServes, Released),
-            Step::Driver(OnDriver::Phase(1)),
-            Step::Seat(0, OnSeat::Phase(0)),
-            turn!(0, Runs),
-            Step::Seat(0, OnSeat::Phase(1)),
-        ]],
+        calls: Calls {
+            name: "takes_a_snapshot",
+            parts: &[&[
+                like!(0, 0, 0),
+                drive!(No, Running),
+                drive!(IfItServes, Announced),
+                Step::Driver(OnDriver::Snapshot(None, [0, 0])),
+                drive!(IfItServes, Waiting),
+                turn!(0, Between),
+                Step::Driver(OnDriver::Snapshot(Some(0), [11, 20])),
+                drive!(IfItServes, Released),
+                Step::Driver(OnDriver::Phase(1)),
+                Step::Seat(0, OnSeat::Phase(0)),
+                turn!(0, Runs),
+                Step::Seat(0, OnSeat::Phase(1)),
+            ]],
+        },
     },
     // A split phase ends early once the looks that wait at one of the seats take half of its room. In phase 3, looks
     // that were found before don't count, nor does what ended phase 1.
     Scene {
-        name: "ends_at_half_the_room",
         seats: 2,
         room: 4,
-        parts: &[
-            CHANGE,
-            &[
-                drive!(No, Running),
-                asks!(0, 1, Waits),
-                asks_seat_1!(1, 2),
-                drive!(No, Running),
-                asks!(2, 3, Waits),
+        calls: Calls {
+            name: "ends_at_half_the_room",
+            parts: &[
+                CHANGE,
+                &[
+                    drive!(No, Running),
+                    asks!(0, 1, Waits),
+                    asks_seat_1!(1, 2),
+                    drive!(No, Running),
+                    asks!(2, 3, Waits),
+                ],
+                EARLY_CHANGE,
+                CHANGE,
+                &[
+                    turn!(0, Runs),
+                    drive!(No, Running),
+                    asks!(0, 4, Waits),
+                    asks_seat_1!(1, 5),
+                    drive!(No, Running),
+                    asks_seat_1!(3, 6),
+                ],
+                EARLY_CHANGE,
             ],
-            EARLY_CHANGE,
-            CHANGE,
-            &[
-                turn!(0, Runs),
-                drive!(No, Running),
-                asks!(0, 4, Waits),
-                asks_seat_1!(1, 5),
-                drive!(No, Running),
-                asks_seat_1!(3, 6),
-            ],
-            EARLY_CHANGE,
-        ],
+        },
     },
     // The end of `live-plain`: the last counts, once the only seat is gone.
     Scene {
-        name: "tells_the_last_counts",
         seats: 1,
         room: 2,
-        parts: &[&[
-            like!(0, 0, 0),
-            like!(0, 1, 0),
-            like!(0, 0, 0),
-            Step::Driver(OnDriver::LastCounts(false, [0, 0])),
-            retire!(0),
-            drive!(IfItServes, Ended),
-            Step::Driver(OnDriver::LastCounts(true, [13, 20])),
-            drive!(IfItServes, Ended),
-            Step::Driver(OnDriver::Phase(0)),
-            Step::Driver(OnDriver::Snapshot(None, [0, 0])),
-            Step::Driver(OnDriver::LastCounts(true, [13, 20])),
-        ]],
+        calls: Calls {
+            name: "tells_the_last_counts",
+            parts: &[&[
+                like!(0, 0, 0),
+                like!(0, 1, 0),
+                like!(0, 0, 0),
+                Step::Driver(OnDriver::LastCounts(false, [0, 0])),
+                retire!(0),
+                drive!(IfItServes, Ended),
+                Step::Driver(OnDriver::LastCounts(true, [13, 20])),
+                drive!(IfItServes, Ended),
+                Step::Driver(OnDriver::Phase(0)),
+                Step::Driver(OnDriver::Snapshot(None, [0, 0])),
+                Step::Driver(OnDriver::LastCounts(true, [13, 20])),
+            ]],
+        },
     },
     // Both seats leave phase 0 while it is ending. There are no last counts in phase 1, which is split.
     Scene {
-        name: "ends_what_all_have_left",
         seats: 2,
         room: 1,
-        parts: &[&[
-            like!(0, 0, 0),
-            drive!(IfItServes, Announced),
-            retire!(0),
-            retire!(1),
-            drive!(No, Released),
-            drive!(No, Ended),
-            Step::Driver(OnDriver::LastCounts(false, [0, 0])),
-            drive!(IfItServes, Announced),
-            drive!(IfItServes, Released),
-            drive!(IfItServes, Ended),
-            Step::Driver(OnDriver::LastCounts(true, [11, 20])),
-        ]],
+        calls: Calls {
+            name: "ends_what_all_have_left",
+            parts: &[&[
+                like!(0, 0, 0),
+                drive!(IfItServes, Announced),
+                retire!(0),
+                retire!(1),
+                drive!(No, Released),
+                drive!(No, Ended),
+                Step::Driver(OnDriver::LastCounts(false, [0, 0])),
+                drive!(IfItServes, Announced),
+                drive!(IfItServes, Released),
+                drive!(IfItServes, Ended),
+                Step::Driver(OnDriver::LastCounts(true, [11, 20])),
+            ]],
+        },
     },
     // Seat 0 leaves phase 0 twice, is away in phases 1 and 2, and comes back in phase 3. Both leave phase 4 while it is
     // ending, and seat 1 comes back in phase 5.
     Scene {
-        name: "live_back",
         seats: 2,
         room: 1,
-        parts: &[
-            &[
-                retire!(0),
-                come_back!(0, Runs),
-                like!(0, 0, 0),
-                retire!(0),
-                drive!(IfItServes, Announced),
-                come_back!(0, Between),
-                turn!(1, Between),
-                come_back!(0, Between),
-                drive!(IfItServes, Released),
-                like!(1, 1, 0),
+        calls: Calls {
+            name: "live_back",
+            parts: &[
+                &[
+                    retire!(0),
+                    come_back!(0, Runs),
+                    like!(0, 0, 0),
+                    retire!(0),
+                    drive!(IfItServes, Announced),
+                    come_back!(0, Between),
+                    turn!(1, Between),
+                    come_back!(0, Between),
+                    drive!(IfItServes, Released),
+                    like!(1, 1, 0),
+                ],
+                CHANGE_BY_SEAT_1,
+                CHANGE_BY_SEAT_1,
+                &[
+                    come_back!(0, Runs),
+                    Step::Seat(0, OnSeat::Phase(3)),
+                    like!(0, 0, 0),
+                    glance!(0, 0, 13),
+                    come_back!(0, Runs),
+                ],
+                CHANGE,
+                &[
+                    drive!(IfItServes, Announced),
+                    retire!(0),
+                    retire!(1),
+                    come_back!(0, Between),
+                    drive!(No, Released),
+                    drive!(No, Ended),
+                    come_back!(1, Runs),
+                    like!(1, 1, 0),
+                    drive!(No, Running),
+                ],
+                CHANGE_BY_SEAT_1,
+                &[
+                    retire!(1),
+                    drive!(IfItServes, Ended),
+                    Step::Driver(OnDriver::LastCounts(true, [14, 20])),
+                    come_back!(0, Between),
+                ],
             ],
-            CHANGE_BY_SEAT_1,
-            CHANGE_BY_SEAT_1,
-            &[
-                come_back!(0, Runs),
-                Step::Seat(0, OnSeat::Phase(3)),
-                like!(0, 0, 0),
-                glance!(0, 0, 13),
-                come_back!(0, Runs),
-            ],
-            CHANGE,
-            &[
-                drive!(IfItServes, Announced),
-                retire!(0),
-                retire!(1),
-                come_back!(0, Between),
-                drive!(No, Released),
-                drive!(No, Ended),
-                come_back!(1, Runs),
-                like!(1, 1, 0),
-                drive!(No, Running),
-            ],
-            CHANGE_BY_SEAT_1,
-            &[
-                retire!(1),
-                drive!(IfItServes, Ended),
-                Step::Driver(OnDriver::LastCounts(true, [14, 20])),
-                come_back!(0, Between),
-            ],
-        ],
+        },
     },
 ];
+
+// Of page 999,999 there are two likes by seat 0 and one by seat 1, and of page 5 one by each.
+const LIVE_SLOTS: &Calls = &Calls {
+    name: "live_slots",
+    parts: &[
+        CHANGE,
+        &[
+            splits!(999_999),
+            like!(0, 0, 999_999),
+            like!(0, 0, 999_999),
+            like!(1, 1, 999_999),
+            like!(0, 2, 5),
+            like!(1, 3, 5),
+            glance_at!(0, 0, 999_999, 2),
+            glance_at!(1, 1, 999_999, 1),
+        ],
+        CHANGE,
+        &[retire!(0), retire!(1)],
+    ],
+};
+
+// In phase 1 page 7 is split: three likes of it, and one of page 8. In phase 3 page 8 is, in the same slot: two likes of
+// it, and one of page 7, at which a look is seen at once.
+const LIVE_MOVES: &Calls = &Calls {
+    name: "live_moves",
+    parts: &[
+        CHANGE,
+        &[
+            splits!(7),
+            like!(0, 0, 7),
+            like!(0, 0, 7),
+            like!(1, 1, 7),
+            like!(0, 2, 8),
+            look_at!(0, 0, 7, 1, LookAnswer::Waits),
+        ],
+        CHANGE,
+        CHANGE,
+        &[
+            splits!(8),
+            like!(0, 0, 7),
+            like!(0, 2, 8),
+            like!(1, 3, 8),
+            look_at!(0, 0, 7, 2, shown!(Some(7), 4)),
+            look_at!(1, 3, 8, 3, LookAnswer::Waits),
+        ],
+        CHANGE,
+        &[retire!(0), retire!(1)],
+    ],
+};
+
+const RUNS: &Calls = &Calls {
+    name: "a phase that goes on",
+    parts: &[&[drive!(IfItServes, Running)]],
+};
+
+const SPLITS_500: &Calls = &Calls {
+    name: "live_hot",
+    parts: &[CHANGE, &[splits!(500)]],
+};
+
+const SPLITS_999: &Calls = &Calls {
+    name: "none_gets_hot",
+    parts: &[CHANGE, &[splits!(999)]],
+};
+
+const ENDS_OF_THREE: &Calls = &Calls {
+    name: "live_again",
+    parts: &[&[
+        like!(0, 2, 1),
+        like!(0, 0, 1),
+        like!(0, 0, 0),
+        retire!(0),
+        retire!(1),
+        Step::Driver(OnDriver::LastCounts(true, [11, 22])),
+        Step::Seat(0, OnSeat::FirstTwo(Some([0, 1]))),
+        Step::Seat(0, OnSeat::Last(2, Ok(Some(1)))),
+        Step::Seat(1, OnSeat::FirstTwo(None)),
+        Step::Seat(1, OnSeat::Last(1, Ok(None))),
+        Step::Seat(1, OnSeat::Last(0, Err(Verdict::OtherHome))),
+        Step::Seat(1, OnSeat::Last(3, Err(Verdict::UnknownUser))),
+    ]],
+};
+
+const GOES_ON: &Calls = &Calls {
+    name: "live_again, going on",
+    parts: &[&[
+        look_at!(0, 0, 1, 0, shown!(Some(0), 22)),
+        look_at!(0, 2, 1, 0, shown!(Some(1), 22)),
+        look_at!(1, 1, 1, 0, shown!(None, 22)),
+    ]],
+};
+
+const ENDS_THE_FIRST: &Calls = &Calls {
+    name: "ends_in_any_case",
+    parts: &[&[
+        drive!(No, Running),
+        drive!(IfItServes, Running),
+        drive!(Always, Announced),
+        drive!(Always, Waiting),
+    ]],
+};
+
+const ANNOUNCES: &Calls = &Calls {
+    name: "the end of phase 0",
+    parts: &[&[drive!(IfItServes, Announced)]],
+};
+
+const ANSWERS_AND_RELEASES: &Calls = &Calls {
+    name: "phase 1",
+    parts: &[&[turn!(0, Between), drive!(IfItServes, Released)]],
+};
+
+const LIKES_THE_LAST: &Calls = &Calls {
+    name: "opens_a_hundred_thousand_pages",
+    parts: &[&[
+        like!(0, 0, 99_999),
+        Step::Seat(
+            0,
+            OnSeat::Like(0, 100_000, LikeAnswer::Refused(Verdict::UnknownPage)),
+        ),
+        glance_at!(0, 0, 99_999, 8),
+    ]],
+};
+
+/// A joined phase with no request, and a split one. All seats retire then.
+pub fn live_slots_calls() -> &'static Calls {
+    LIVE_SLOTS
+}
+
+/// Phases 0 to 3. All seats retire then.
+pub fn live_moves_calls() -> &'static Calls {
+    LIVE_MOVES
+}
+
+/// A phase goes on.
+pub fn runs() -> &'static Calls {
+    RUNS
+}
+
+/// Page 500 is split in the next phase.
+pub fn splits_500() -> &'static Calls {
+    SPLITS_500
+}
+
+/// Page 999 is split in the next phase.
+pub fn splits_999() -> &'static Calls {
+    SPLITS_999
+}
+
+/// Likes of users 2 and 0, and the end of a service of three users whose counts begin at 10 and 20. Each of its seats
+/// tells the last likes of its users, and refuses other users.
+pub fn ends_of_three() -> &'static Calls {
+    ENDS_OF_THREE
+}
+
+/// Looks of users 0 to 2 at page 1 in the service that goes on from there.
+pub fn goes_on() -> &'static Calls {
+    GOES_ON
+}
+
+/// Nothing is split, so only the host's word ends the first phase.
+pub fn ends_the_first() -> &'static Calls {
+    ENDS_THE_FIRST
+}
+
+/// The end of a phase is announced.
+pub fn announces() -> &'static Calls {
+    ANNOUNCES
+}
+
+/// The only seat answers the end, and the next phase is released.
+pub fn answers_and_releases() -> &'static Calls {
+    ANSWERS_AND_RELEASES
+}
+
+/// The last of 100,000 pages gets a like.
+pub fn likes_the_last() -> &'static Calls {
+    LIKES_THE_LAST
+}

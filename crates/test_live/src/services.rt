@@ -2,13 +2,10 @@
 ghost use Rattle.std.specs.Prelude.{IfOk};
 ghost use Rattle.like_live.specs.Service.{AreItsSeats};
 
+use crate::play::plays;
+use crate::scenes::{announces, answers_and_releases, likes_the_last};
 use like_choice::Guided;
-use like_live::{
-    DriverAnswer, End, GlanceAnswer, LikeAnswer, NO_PAGE, OpenError, Opening, PhaseNow, Service,
-    TurnAnswer,
-};
-use like_requests::Verdict;
-use like_seat::Seen;
+use like_live::{NO_PAGE, OpenError, Opening, PhaseNow, Service};
 use std::alloc::{AllocError, Global};
 use std::process::Abort;
 use std::test::Fail;
@@ -194,28 +191,40 @@ fn all_at_limits() -> &'static [Numbers] {
     AT_LIMITS
 }
 
+// Whether a service has as many seats and pages as it was opened with.
+fn has_its_numbers(service: &Service<Guided>, numbers: &Numbers) -> bool {
+    service.seats.len() == numbers.seats as usize
+        && service.driver.pages() as usize == numbers.counts.len()
+}
+
 #[test]
 fn opens_at_each_limit(rt: HostRuntime) -> Result<(), Fail> {
     for numbers in all_at_limits() {
         let service = opened_with(rt.alloc(), numbers)?;
-        assert!(rt; service.seats.len() == numbers.seats as usize);
-        assert!(rt; service.driver.pages() as usize == numbers.counts.len());
+        assert!(rt; has_its_numbers(&service, numbers));
+        drop(service);
     }
     Ok(())
 }
 
-// Whether a service of 100 pages is opened with this many of them marked, the last of these first.
-fn opens_with_marks(alloc: Global, many: u32) -> Result<bool, Fail> {
+// A service of 100 pages with this many of them marked, the last of these first.
+fn opening_with_marks(alloc: Global, many: u32) -> Result<Opening, AllocError> {
     let numbers = Numbers {
         counts: &[0; 100],
         ..PLAIN
     };
     let mut opening = opening_of(alloc, &numbers)?;
     opening.marks = (0..many).rev().collect(alloc)?;
-    match Service::open(alloc, &opening) {
-        Ok(_) => Ok(true),
-        Err(OpenError::Marks) => Ok(false),
-        Err(_) => Err(Fail::new("no service")),
+    Ok(opening)
+}
+
+// Whether a service of 100 pages is opened with this many of them marked.
+fn opens_with_marks(alloc: Global, many: u32) -> Result<bool, Fail> {
+    let opening = opening_with_marks(alloc, many)?;
+    match Service::open(alloc, &opening).err() {
+        None => Ok(true),
+        Some(OpenError::Marks) => Ok(false),
+        Some(_) => Err(Fail::new("no service")),
     }
 }
 
@@ -226,31 +235,30 @@ fn opens_with_64_marks_at_most(rt: HostRuntime) -> Result<(), Fail> {
     Ok(())
 }
 
-// The last of 100,000 pages gets a like.
-fn likes_the_last(rt: &impl Abort, service: &mut Service<Guided>) {
-    assert!(rt; service.driver.pages() == 100_000);
-    let seat = service.seats.first_mut().expect(rt, "a seat is there");
-    assert!(rt; seat.like(0, 99_999) == LikeAnswer::Liked);
-    assert!(rt; seat.like(0, 100_000) == LikeAnswer::Refused(Verdict::UnknownPage));
-    let seen = Seen {
-        last: Some(99_999),
-        count: 8,
-    };
-    assert!(rt; seat.glance(0, 99_999) == GlanceAnswer::Seen(seen));
+// A service of one seat and user, and of 100,000 pages with seven likes each.
+fn opening_of_many(alloc: Global) -> Result<Opening, AllocError> {
+    Ok(Opening {
+        counts: Vec::from_elem(alloc, 7, 100_000)?,
+        marks: Vec::new(alloc),
+        seats: 1,
+        users: 1,
+        lasts: Vec::new(alloc),
+        room: 1,
+        hot: None,
+    })
+}
+
+fn opened_with_many(alloc: Global) -> Result<Service<Guided>, Fail> {
+    let opening = opening_of_many(alloc)?;
+    open(alloc, &opening)
 }
 
 #[test]
 fn opens_a_hundred_thousand_pages(rt: HostRuntime) -> Result<(), Fail> {
-    let opening = Opening {
-        counts: Vec::from_elem(rt.alloc(), 7, 100_000)?,
-        marks: Vec::new(rt.alloc()),
-        seats: 1,
-        users: 1,
-        lasts: Vec::new(rt.alloc()),
-        room: 1,
-        hot: None,
-    };
-    likes_the_last(&rt, &mut open(rt.alloc(), &opening)?);
+    let mut service = opened_with_many(rt.alloc())?;
+    assert!(rt; service.driver.pages() == 100_000);
+    plays(&rt, &mut service, likes_the_last());
+    drop(service);
     Ok(())
 }
 
@@ -287,23 +295,31 @@ fn for_any_thread<T: Send + Sync>(_value: &T) {}
 
 // Ends phase 0 of a service with one seat.
 fn ends_the_first(rt: &impl Abort, service: &mut Service<Guided>, phase: &PhaseNow) {
-    assert!(rt;
-        service.driver.turn(End::IfItServes) == DriverAnswer::Announced && phase.get() == 0
-    );
-    let seat = service.seats.first_mut().expect(rt, "a seat is there");
-    assert!(rt; seat.turn() == TurnAnswer::Between);
-    assert!(rt; service.driver.turn(End::IfItServes) == DriverAnswer::Released && phase.get() == 1);
+    plays(rt, service, announces());
+    assert!(rt; phase.get() == 0);
+    plays(rt, service, answers_and_releases());
+    assert!(rt; phase.get() == 1);
+}
+
+// The phase of a service that ends its first one, and another owner of it, which sees that.
+fn owners(
+    rt: &impl Abort,
+    service: &mut Service<Guided>,
+) -> Result<(PhaseNow, PhaseNow), AllocError> {
+    let phase = service.driver.phase_now()?;
+    let other = phase.share()?;
+    ends_the_first(rt, service, &other);
+    Ok((phase, other))
 }
 
 // Another owner sees the phase that the driver releases, and still has it once the driver is dropped.
 #[test]
 fn tells_the_phase_to_another_owner(rt: HostRuntime) -> Result<(), Fail> {
     let mut service = opened(rt.alloc(), 1, 2)?;
-    let phase = service.driver.phase_now()?;
-    let other = phase.share()?;
-    for_any_thread(&other);
-    ends_the_first(&rt, &mut service, &other);
+    let owners = owners(&rt, &mut service);
     drop(service);
+    let (phase, other) = owners?;
+    for_any_thread(&other);
     assert!(rt; phase.get() == 1 && other.get() == 1);
     Ok(())
 }

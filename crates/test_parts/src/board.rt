@@ -309,19 +309,37 @@ fn comes_and_goes<P: Returns>(post: &mut P) -> bool
     }
 }
 
-// A worker of a service comes back while the phase isn't ending, and not while it is.
+// Whether all are gone, and the end of the present phase is announced, which is not the last one.
+fn announces(coord: &mut CoordSeat, board: &Board) -> bool
+    requires { coord_board coord.old ≡ board_id board.now }
+{
+    let sight = coord.look(board);
+    if !sight.all_gone || sight.ending || coord.is_last() {
+        return false;
+    }
+    coord.announce(board);
+    true
+}
+
+// The only worker is gone. It comes back while the phase isn't ending, and not while it is.
+fn comes_back<P: Returns>(rt: &impl Abort, board: &Board, coord: &mut CoordSeat, post: &mut P)
+    requires here { coord_board coord.old ≡ board_id board.now }
+    requires gone { (P.view post.old).state ≡ Gone }
+    requires lets { LetsReturn (P.view post.old).limits }
+{
+    assert!(rt; coord.look(board).all_gone);
+    assert!(rt; comes_and_goes(post));
+    assert!(rt; announces(coord, board));
+    assert!(rt; post.come_back().is_none());
+}
+
 #[test]
 fn comes_back_to_a_service(rt: HostRuntime) -> Result<(), Fail> {
     let limits = small_limits();
     let (board, mut coord, mut seats) = opened(rt.alloc(), 1, 1, 10, false, limits)?;
     let mut post = last_post(&rt, &mut seats, &board, &coord, limits);
     post.retire();
-    assert!(rt; coord.look(&board).all_gone);
-    assert!(rt; comes_and_goes(&mut post));
-    let sight = coord.look(&board);
-    assert!(rt; sight.all_gone && !sight.ending && !coord.is_last());
-    coord.announce(&board);
-    assert!(rt; post.come_back().is_none());
+    comes_back(&rt, &board, &mut coord, &mut post);
     Ok(())
 }
 

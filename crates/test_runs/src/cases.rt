@@ -93,7 +93,10 @@ pub fn replayed(
     script: Vec<Turned>,
 ) -> Result<Report, ReplayFault> {
     assert!(rt; script.len() <= MAX_ENTRIES as usize);
-    replay(alloc, &setup, plans, &script)
+    let replayed = replay(alloc, &setup, plans, &script);
+    drop(script);
+    drop(setup);
+    replayed
 }
 
 /// What a run of these plans on threads ends in. It takes its settings, as `replayed` does.
@@ -104,7 +107,9 @@ pub fn ran(
     plans: Vec<Vec<Request>>,
     gate: &impl Gate,
 ) -> Result<Report, RunFault> {
-    run(rt, alloc, &setup, plans, gate)
+    let ran = run(rt, alloc, &setup, plans, gate);
+    drop(setup);
+    ran
 }
 
 fn are_counts(report: &Report, counts: &[u64]) -> bool {

@@ -1,5 +1,8 @@
 //! Tests of runs and replays: worked examples, with values that were worked out by hand, and drawn replays, beside the
 //! tables of turns.
+//!
+//! What is large is dropped by a call of `drop`: a function at whose end it goes would prove once more how each of its
+//! parts is dropped.
 #![tactic(auto)]
 
 #[cfg(test)]

@@ -39,14 +39,19 @@ fn assert_none(rt: &impl Abort, report: Report) {
 fn replayed_unnoted(rt: &impl Abort, alloc: Global) -> Report {
     let setup = plain_likes().setup(rt, alloc);
     let plans = plain_likes().plans(rt, alloc, &setup.pages);
-    replay_noting(alloc, &setup, plans, &[], false).expect(rt, "a report")
+    let replayed = replay_noting(alloc, &setup, plans, &[], false);
+    drop(setup);
+    replayed.expect(rt, "a report")
 }
 
 // The report of a run that notes none.
 fn ran_unnoted(rt: &(impl Abort + Threads + Wait + Sync), alloc: Global) -> Report {
     let setup = plain_likes().setup(rt, alloc);
     let plans = plain_likes().plans(rt, alloc, &setup.pages);
-    let ran = run_noting(rt, alloc, &setup, plans, &Watch::idle(), u32::MAX, false);
+    let gate = Watch::idle();
+    let ran = run_noting(rt, alloc, &setup, plans, &gate, u32::MAX, false);
+    drop(gate);
+    drop(setup);
     ran.expect(rt, "a report")
 }
 

@@ -64,7 +64,9 @@ fn assert_liked(
 fn runs_plain_likes(rt: HostRuntime) {
     let setup = plain_likes().setup(&rt, rt.alloc());
     let plans = plain_likes().plans(&rt, rt.alloc(), &setup.pages);
-    let report = ran(&rt, rt.alloc(), setup, plans, &Watch::idle()).expect(&rt, "a report");
+    let gate = Watch::idle();
+    let report = ran(&rt, rt.alloc(), setup, plans, &gate).expect(&rt, "a report");
+    drop(gate);
     assert!(rt; are_placed_singly(places_of(&rt, &report)));
     assert_liked(&rt, report, 1, 3, 2, 13);
 }
@@ -133,6 +135,7 @@ fn assert_likes(rt: &(impl Abort + Threads + Wait + Sync), alloc: Global, run: &
     let report = case.report(rt, alloc, plans, &gate);
     assert_all_liked(rt, report, run.submitters, run.each);
     assert_calls(rt, &gate, run.submitters.saturating_mul(run.each));
+    drop(gate);
 }
 
 // Asserts that there are `submitters` rows of `each` replies, all of them `Liked`, and that each submitter is a user.
@@ -185,6 +188,7 @@ fn tells_the_gate_of_each_call(rt: HostRuntime) {
     let plans = likes(&rt, rt.alloc(), 3, 70_000);
     let report = one_page(2, 2, 1_000_000).report(&rt, rt.alloc(), plans, &gate);
     assert_told(&rt, report, &gate);
+    drop(gate);
 }
 
 fn assert_told(rt: &impl Abort, report: Report, gate: &Ledger) {
@@ -202,7 +206,9 @@ fn limited(
     starts: u32,
 ) -> Result<Report, RunFault> {
     let setup = one_page(2, 2, 1_000).setup(rt, alloc);
-    run_limited(rt, alloc, &setup, likes(rt, alloc, 2, 1), gate, starts)
+    let ran = run_limited(rt, alloc, &setup, likes(rt, alloc, 2, 1), gate, starts);
+    drop(setup);
+    ran
 }
 
 // The fault that a run ends in, if it does: here alone its report is dropped unread.
@@ -216,6 +222,7 @@ fn assert_not_started(rt: &(impl Abort + Threads + Wait + Sync), alloc: Global, 
     let fault = fault_of(limited(rt, alloc, &gate, starts));
     assert!(rt; fault == Some(RunFault::Start));
     assert!(rt; gate.has_calls(0) && gate.phases() == 0);
+    drop(gate);
 }
 
 // Asserts that a run makes its report with at most this many threads, which are enough.
@@ -236,6 +243,8 @@ fn starts_no_more_than_it_may(rt: HostRuntime) {
 fn names_the_limit_that_a_run_breaks(rt: HostRuntime) {
     let plans = likes(&rt, rt.alloc(), 2, 1);
     let case = one_page(17, 2, 1_000);
-    let fault = fault_of(case.run(&rt, rt.alloc(), plans, &Watch::idle()));
+    let gate = Watch::idle();
+    let fault = fault_of(case.run(&rt, rt.alloc(), plans, &gate));
+    drop(gate);
     assert!(rt; fault == Some(RunFault::Settings(SettingsFault::Workers)));
 }

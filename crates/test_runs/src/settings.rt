@@ -52,7 +52,9 @@ fn waits_so(rt: &(impl Abort + Threads + Wait + Sync), alloc: Global, run: &Wait
     let plans = likes(rt, alloc, run.submitters, run.each);
     let report = one_page(1, 2, run.turns).report(rt, alloc, plans, &gate);
     assert!(rt; has_phases(report, gate.phases()));
-    gate.gave_up() == run.in_vain && (!run.in_vain || gate.phases() == 1)
+    let waits = gate.gave_up() == run.in_vain && (!run.in_vain || gate.phases() == 1);
+    drop(gate);
+    waits
 }
 
 // Whether a run went through this many phases.
@@ -115,6 +117,7 @@ fn fill_stash(rt: &(impl Abort + Threads + Wait + Sync), alloc: Global, stash: u
     let plans = requests(rt, alloc, Op::Look, 1, 200);
     let report = case.report(rt, alloc, plans, &gate);
     assert!(rt; !gate.gave_up());
+    drop(gate);
     most_stashed(report)
 }
 

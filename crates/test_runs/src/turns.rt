@@ -148,7 +148,10 @@ fn answers_in(rt: &impl Abort, alloc: Global, case: &Case) -> (String, Report) {
     let setup = case.setup(rt, alloc);
     let plans = case.plans(rt, alloc, &setup.pages);
     let script = turns(rt, alloc, case.script);
-    answers(rt, alloc, &setup, plans, &script)
+    let answers = answers(rt, alloc, &setup, plans, &script);
+    drop(script);
+    drop(setup);
+    answers
 }
 
 // Asserts what the turns of a case's script answer, a word for each, and the counts of its run.

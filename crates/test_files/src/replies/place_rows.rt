@@ -33,6 +33,8 @@ fn assert_rows(rt: &impl Abort, alloc: Global, file: &str, places: &[Place], row
     assert_writes(rt, alloc, rows, |out| {
         write_places(alloc, &report, &pages, out)
     });
+    drop(report);
+    drop(pages);
 }
 
 // Of two workers that merged a like each, of none, and of a page with a name in quotes.
@@ -55,6 +57,7 @@ fn assert_appends(rt: &impl Abort, alloc: Global, report: &Report)
     let pages = one_page(rt, alloc, "name,count,split\na,0,no\n");
     let mut out = list(rt, alloc, b"before\n");
     write_places(alloc, report, &pages, &mut out).expect(rt, "memory");
+    drop(pages);
     assert_bytes(rt, out, b"before\nplace,0,0,1,0,a,1\n");
 }
 
@@ -62,4 +65,5 @@ fn assert_appends(rt: &impl Abort, alloc: Global, report: &Report)
 fn appends_places(rt: HostRuntime) {
     let report = report_on(&rt, rt.alloc(), &[place(0, 0, 1)]);
     assert_appends(&rt, rt.alloc(), &report);
+    drop(report);
 }

@@ -171,6 +171,7 @@ fn assert_written(rt: &impl Abort, alloc: Global, file: &str, report: &Report, t
     assert_writes(rt, alloc, text, |out| {
         write_report(alloc, report, &pages, out)
     });
+    drop(pages);
 }
 
 // The same, of a report that is no longer used.
@@ -178,6 +179,7 @@ fn assert_report(rt: &impl Abort, alloc: Global, file: &str, report: Report, tex
     requires { (pages : List Page) → length pages ≡ 1 → IsWritable pages (reported report) }
 {
     assert_written(rt, alloc, file, &report, text);
+    drop(report);
 }
 
 #[test]
@@ -229,6 +231,7 @@ fn assert_appends(rt: &impl Abort, alloc: Global, report: &Report, text: &str)
     let pages = one_page(rt, alloc, "name,count,split\na,10,no\n");
     let mut out = list(rt, alloc, b"before\n");
     write_report(alloc, report, &pages, &mut out).expect(rt, "memory");
+    drop(pages);
     assert_bytes(rt, out, text.as_bytes());
 }
 
@@ -238,4 +241,5 @@ fn appends(rt: HostRuntime) {
         "before\nrow,id,number,phase,answer,page,count\nreply,0,1,0,liked,,\npage,0,,,,a,1\nuser,0,,,,a,\n";
     let report = like_report(&rt, rt.alloc(), 0, 0, &[]);
     assert_appends(&rt, rt.alloc(), &report, text);
+    drop(report);
 }

@@ -127,6 +127,7 @@ fn assert_written(
 ) {
     let report = report_of_likes(rt, alloc, count);
     assert_text(rt, alloc, &report, extent, text);
+    drop(report);
 }
 
 fn extent(totals: bool, places: bool) -> Extent {
