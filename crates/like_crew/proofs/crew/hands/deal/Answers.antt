@@ -1,4 +1,5 @@
-use Rattle.std.proofs.Common.{◌≡◌, [], List, Vec, Global, get_or, map, refl, sym, ap, ◌∙◌, subst, arith, ◌%◌}
+use Rattle.std.proofs.Common.{◌≡◌, ◌<◌, [], List, Vec, Global, get_or, map, refl, sym, ap, ◌∙◌, subst, arith, ◌%◌}
+use Rattle.std.proofs.Math.Nat.{mod-lt}
 use Rattle.std.proofs.lemmas.List.{length-set, length_push, map-id}
 use Rattle.std.proofs.lemmas.Iterator.Adapters.{YieldsList-from_vec}
 use Rattle.std.proofs.lemmas.Iterator.Consumers.{YieldsList-end}
@@ -43,3 +44,8 @@ returns-clause-dealt g c =
     subst (λ xs. get_or (map held c.loop-item.hands.items) worker [] ≡ dealt c.args.workers worker xs) whole
     (is-dealt c.args.workers worker c.loop-item.yielded (get_or (map held c.loop-item.hands.items) worker []) c.requires
     (c.loop-item.invariant.dealt worker below))
+
+pub index_mut-requires : goal.index_mut-requires
+index_mut-requires g c =
+    subst (λ n. c.loop-item.submitter % c.args.workers < n) (sym (c.loop-item.hands.ok.0 ∙ c.loop-item.invariant.sized))
+    (mod-lt c.loop-item.submitter c.requires)
