@@ -1,3 +1,4 @@
+use Rattle.std.proofs.Common.{true≢false, sym, ◌∙◌}
 use Rattle.like_crew.proofs.crew.Crew+ListInbox.round.Goals as goal
 
 pub returns-then-ended-clause-round : goal.returns-then-ended-clause-round
@@ -34,4 +35,4 @@ pub returns-else-ended-clause-ended : goal.returns-else-ended-clause-ended
 returns-else-ended-clause-ended c = c.ends-ended.ensures.ended
 
 pub returns-else-ended-clause-gone : goal.returns-else-ended-clause-gone
-returns-else-ended-clause-gone c = λ ended. absurd (cc (ended, c.if-ended.false))
+returns-else-ended-clause-gone c = λ ended. absurd (true≢false (sym ended ∙ c.if-ended.false))
