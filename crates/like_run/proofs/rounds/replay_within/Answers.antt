@@ -38,29 +38,12 @@ report_of-requires-clause-ended c =
     (lists_of c.args.plans.items) c.in_ok-site.site c.in_ok-crew.crew c.in_ok-ended.ended c.in_ok-crew.ensures
     c.in_ok-ended.ensures.ended)
 
-pub new-requires-clause-within : goal.new-requires-clause-within
-new-requires-clause-within c = ?
-
-pub new-requires-clause-site : goal.new-requires-clause-site
-new-requires-clause-site c = ?
-
-pub new-requires-clause-seats : goal.new-requires-clause-seats
-new-requires-clause-seats c = ?
+pub new-requires-2-clause-site : goal.new-requires-2-clause-site
+new-requires-2-clause-site c =
+    subst (λ (xs : List (Vec Request Global)). IsSite c.args.setup.now (lists_of xs) c.in_ok-site.site)
+    c.deref.ensures.value c.in_ok-site.ensures.site
 
 pub report_of-requires-clause-within : goal.report_of-requires-clause-within
-report_of-requires-clause-within c = ?
-
-pub returns-clause-report : goal.returns-clause-report
-returns-clause-report c = ?
-
-pub returns-clause-fault : goal.returns-clause-fault
-returns-clause-fault c = ?
-
-pub returns-in_err-site-clause-fault : goal.returns-in_err-site-clause-fault
-returns-in_err-site-clause-fault c = ?
-
-pub returns-in_err-crew-clause-fault : goal.returns-in_err-crew-clause-fault
-returns-in_err-crew-clause-fault c = ?
-
-pub returns-in_err-ended-clause-fault : goal.returns-in_err-ended-clause-fault
-returns-in_err-ended-clause-fault c = ?
+report_of-requires-clause-within c =
+    subst (λ (v : Vec (Vec Request Global) Global). FitsRun c.args.setup.now (lists_of v.items)) (sym c.of-lists.ensures)
+    c.requires.within
