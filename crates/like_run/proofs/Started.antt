@@ -11,7 +11,7 @@ abbrev pub first_of : PromisedHandle Served Owes → ServerView
 first_of thread = thread.promise.server.value
 
 -- as many threads as servers
-as-many : (threads : List (PromisedHandle Served Owes)) (servers : List ServerView)
+pub as-many : (threads : List (PromisedHandle Served Owes)) (servers : List ServerView)
     → map first_of threads ≡ servers
     → length threads ≡ length servers
 as-many threads servers are = sym (length-map threads first_of) ∙ ap (λ (xs : List ServerView). length xs) are
