@@ -176,12 +176,16 @@ fn in_scope<'s, E, R: Threads + Wait + Sync, G: Gate>(
         mut coordinator,
         servers,
     } = crew;
+    let Ok(room) = Room::new(alloc, servers.len(), ends.len()) else {
+        drop(coordinator);
+        return Err(RunFault::Memory);
+    };
     let Room {
         mut workers,
         mut submitters,
         mut logs,
         mut seats,
-    } = Room::new(alloc, servers.len(), ends.len())?;
+    } = room;
     let all = start_all(
         scope,
         rt,
@@ -195,6 +199,7 @@ fn in_scope<'s, E, R: Threads + Wait + Sync, G: Gate>(
         starts,
     );
     let Some(go) = tell(rt, start, all) else {
+        drop(coordinator);
         return Err(RunFault::Start);
     };
     coordinate(rt, parkers, &mut coordinator);
