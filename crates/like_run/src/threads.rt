@@ -143,7 +143,11 @@ fn on_threads<R: Threads + Wait + Sync, G: Gate>(
     ensures ended { IfOk result (HasEndedOn starts crew.entry ends.entry.items) }
     ensures fault { IfErr result IsRunFaultUnderWay }
 {
-    let parkers = &Parkers::new(alloc, crew.servers.len())?;
+    let Ok(parkers) = Parkers::new(alloc, crew.servers.len()) else {
+        drop(crew);
+        return Err(RunFault::Memory);
+    };
+    let parkers = &parkers;
     let start = &OnceLock::new();
     thread::scope(
         thread::scope_env(),
