@@ -153,6 +153,20 @@ loop-seat-preserved g c =
 pub deal-requires : goal.deal-requires
 deal-requires g c = c.requires.within.numbers.workers.0
 
+-- no server was made yet
+none-made : (R : ℕ → ServerView → Type 0) (servers : List ServerView) → servers ≡ [] → AllZip R [] servers
+none-made R [] is = tt
+none-made R (s ∷ more) is = absurd (cc is)
+
+pub loop-seat-init : goal.loop-seat-init
+loop-seat-init g c = record {
+  hands = refl;
+  len = ap length c.new-servers.ensures.items;
+  servers = none-made
+      (IsServer (workload_of c.args.setup.now (plans_of (map g.I.Inbox.view c.args.inboxes.items))) c.args.setup.now.workers
+      (board_numbers (board_id c.args.board.now)) c.args.notes) c.new-servers.result.items c.new-servers.ensures.items;
+}
+
 -- the number of a worker is small
 fits-worker : (number k workers : ℕ) → number ≡ k → k < workers → workers ≤ max_workers → Fits w32 number
 fits-worker number k workers same below few = omega arith
