@@ -221,3 +221,15 @@ returns g c =
     subst (λ n. AllZip (IsServer (workload_of c.args.setup.now (plans_of (map g.I.Inbox.view c.args.inboxes.items)))
     c.args.setup.now.workers (board_numbers (board_id c.args.board.now)) c.args.notes) (range_with_len 0 n)
     l.servers.items) (t.1 ∙ c.requires.len) l.invariant.servers
+
+pub at-requires : goal.at-requires
+at-requires g c =
+    let l = c.loop-seat in
+    let k : ℕ = length l.yielded in
+    let from = c.into_iter-seat-iterator.ensures.into_iter_gives in
+    let all = YieldsList-from_vec {s = c.into_iter-seat-iterator.result} c.args.seats.items from.0
+    (from.1 ∙ c.args.seats.ok.0) in
+    let turn = YieldsList-turn all l.yielded _ l.yielded_by _ c.next.new.self c.in-Some.seat c.in-Some.is
+    c.next.ensures.steps in
+    (c.requires.seats k c.in-Some.seat
+    (slice_get_read c.args.seats.items (length c.args.seats.items) k c.in-Some.seat refl turn.0 turn.1)).0
