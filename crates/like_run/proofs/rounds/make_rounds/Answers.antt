@@ -23,11 +23,5 @@ pub returns-then-round-clause-goes_on : goal.returns-then-round-clause-goes_on
 returns-then-round-clause-goes_on c =
     crew-further _ c.loop.crew c.round.new.self c.loop.invariant.goes_on c.round.ensures.goes_on
 
-pub returns-then-round-clause-ended : goal.returns-then-round-clause-ended
-returns-then-round-clause-ended c = c.round.ensures.ended c.if-round.true
-
-pub returns-then-round-clause-gone : goal.returns-then-round-clause-gone
-returns-then-round-clause-gone c = c.round.ensures.gone c.if-round.true
-
 pub returns-clause-goes_on : goal.returns-clause-goes_on
 returns-clause-goes_on c = c.loop.invariant.goes_on

@@ -49,9 +49,6 @@ loop-end-preserved g c =
 pub returns-then-len-most-clause-few : goal.returns-then-len-most-clause-few
 returns-then-len-most-clause-few g c = c.loop-end.invariant.few
 
-pub returns-in-None-start_submitter-clause-few : goal.returns-in-None-start_submitter-clause-few
-returns-in-None-start_submitter-clause-few g c = c.loop-end.invariant.few
-
 pub returns-clause-few : goal.returns-clause-few
 returns-clause-few g c = c.loop-end.invariant.few
 
@@ -66,6 +63,3 @@ returns-clause-many g c = λ _.
 
 pub returns-then-len-most-clause-many : goal.returns-then-len-most-clause-many
 returns-then-len-most-clause-many g c = λ started. absurd (true≢false (sym started))
-
-pub returns-in-None-start_submitter-clause-many : goal.returns-in-None-start_submitter-clause-many
-returns-in-None-start_submitter-clause-many g c = λ started. absurd (true≢false (sym started))

@@ -1,4 +1,4 @@
-use Rattle.std.proofs.Common.{◌≡◌, ◌<◌, ◌≤◌, ◌∙◌, ◌++◌, ◌∷◌, [], ℕ, true≢false, List, length, map, subst, sym, ap, arith}
+use Rattle.std.proofs.Common.{◌≡◌, ◌<◌, ◌≤◌, ◌∙◌, ◌++◌, ◌∷◌, [], ℕ, List, length, map, subst, sym, ap, arith}
 use Rattle.std.specs.List.{All}
 use Rattle.std.proofs.lemmas.Iterator.Adapters.{YieldsList-from_vec}
 use Rattle.std.proofs.lemmas.Iterator.Consumers.{YieldsList-end, YieldsList-turn}
@@ -77,15 +77,6 @@ loop-server-preserved g c =
       servers = servers-more l.threads.items c.push_reserved.new.self.items thread l.yielded c.in-Some.server pushed
           l.invariant.servers started.ensures.server;
     }
-
-pub returns-in-None-start_worker-clause-told : goal.returns-in-None-start_worker-clause-told
-returns-in-None-start_worker-clause-told g c = c.loop-server.invariant.told
-
-pub returns-in-None-start_worker-clause-few : goal.returns-in-None-start_worker-clause-few
-returns-in-None-start_worker-clause-few g c = c.loop-server.invariant.few
-
-pub returns-in-None-start_worker-clause-servers : goal.returns-in-None-start_worker-clause-servers
-returns-in-None-start_worker-clause-servers g c = λ started. absurd (true≢false (sym started))
 
 pub returns-clause-told : goal.returns-clause-told
 returns-clause-told g c = c.loop-server.invariant.told
