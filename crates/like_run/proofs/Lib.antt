@@ -1,3 +1,5 @@
 pub mod Entries
 pub mod Lines
+pub mod Reported
 pub mod Scripts
+pub mod Started

@@ -91,8 +91,13 @@ fn play(alloc: Global, crew: Crew<'_, ListInbox>, script: &[Turned]) -> Result<E
     let mut crew = crew;
     make_all(&mut crew, script);
     crew.open_all();
-    make_rounds(&mut crew)?;
-    Ok(crew.finish(alloc)?)
+    match make_rounds(&mut crew) {
+        Ok(()) => Ok(crew.finish(alloc)?),
+        Err(fault) => {
+            drop(crew);
+            Err(fault)
+        }
+    }
 }
 
 // Makes a script's entries in their order.

@@ -1,4 +1,4 @@
-ghost use Rattle.std.specs.Prelude.{◌≡◌, ◌+◌, ◌≤◌, false, true, IfErr, IfOk, OnOk, length};
+ghost use Rattle.std.specs.Prelude.{◌≡◌, ◌+◌, ◌≤◌, false, true, [], All, IfErr, IfOk, OnOk, length, map, vec_capacity};
 ghost use Rattle.like_requests.specs.Setup.{FitsRun, IsWithinLimits};
 ghost use Rattle.like_promises.specs.WorkloadOf.{lists_of};
 ghost use Rattle.like_crew.specs.Ended.{IsEnded};
@@ -11,8 +11,10 @@ ghost use Rattle.like_promises.specs.RunFault.{IsRunFault};
 use crate::threads::coordinator::{coordinate, join_all};
 use crate::threads::room::Room;
 use crate::threads::submitters::start_submitters;
+use crate::threads::worker::{Owes, Served};
 use crate::threads::workers::start_workers;
-use like_crew::{Crew, Ended, Seats, Site, report_of};
+use like_board::BoardPost;
+use like_crew::{Crew, Ended, Seats, Server, Site, report_of};
 use like_promises::{Report, RunFault};
 use like_queue::{Lines, Parkers, SendEnd, TakeEnd, ends_of, tell};
 use like_requests::{Request, Setup, check_setup};
@@ -21,7 +23,7 @@ use std::alloc::Global;
 use std::snapshot::Snapshot;
 use std::sync::{OnceLock, Wait};
 use std::thread;
-use std::thread::{Scope, Threads};
+use std::thread::{JoinHandle, PromisedHandle, Scope, Threads};
 
 mod coordinator;
 mod room;
@@ -141,7 +143,11 @@ fn on_threads<R: Threads + Wait + Sync, G: Gate>(
     ensures ended { IfOk result (HasEndedOn starts crew.entry ends.entry.items) }
     ensures fault { IfErr result IsRunFaultUnderWay }
 {
-    let parkers = &Parkers::new(alloc, crew.servers.len())?;
+    let Ok(parkers) = Parkers::new(alloc, crew.servers.len()) else {
+        drop(crew);
+        return Err(RunFault::Memory);
+    };
+    let parkers = &parkers;
     let start = &OnceLock::new();
     thread::scope(
         thread::scope_env(),
@@ -174,27 +180,60 @@ fn in_scope<'s, E, R: Threads + Wait + Sync, G: Gate>(
         mut coordinator,
         servers,
     } = crew;
+    let Ok(room) = Room::new(alloc, servers.len(), ends.len()) else {
+        drop(coordinator);
+        return Err(RunFault::Memory);
+    };
     let Room {
         mut workers,
         mut submitters,
         mut logs,
         mut seats,
-    } = Room::new(alloc, servers.len(), ends.len())?;
-    let left = starts.saturating_sub(servers.len());
-    let all = start_workers(
+    } = room;
+    let all = start_all(
         scope,
         rt,
         gate,
         start,
         parkers,
         servers,
+        ends,
         &mut workers,
+        &mut submitters,
         starts,
-    ) && start_submitters(scope, rt, gate, start, parkers, ends, &mut submitters, left);
+    );
     let Some(go) = tell(rt, start, all) else {
+        drop(coordinator);
         return Err(RunFault::Start);
     };
     coordinate(rt, parkers, &mut coordinator);
     join_all(rt, workers, &go, &mut logs, &mut seats);
     Ok(Ended::new(coordinator, logs, seats))
+}
+
+// Starts the threads of all workers, and then those of all submitters, and says whether all could be started; more than
+// `most` can't be.
+fn start_all<'s, E, R: Threads + Wait + Sync, G: Gate>(
+    scope: &Scope<'s, E>,
+    rt: &'s R,
+    gate: &'s G,
+    start: &'s OnceLock<bool>,
+    parkers: &'s Parkers,
+    servers: Vec<Server<BoardPost<'s>, TakeEnd<'s>>>,
+    ends: Vec<SendEnd<'s>>,
+    workers: &mut Vec<PromisedHandle<Served<'s>, Owes<'s>>>,
+    submitters: &mut Vec<JoinHandle<()>>,
+    most: usize,
+) -> bool
+    requires new { AreNewEnds ends.items }
+    requires workers { (workers.old.items ≡ []) × (length servers.items ≤ vec_capacity workers.old) }
+    requires submitters { (submitters.old.items ≡ []) × (length ends.items ≤ vec_capacity submitters.old) }
+    ensures told { All (λ thread. thread.promise.start.now.id ≡ start.now.id) workers.new.items }
+    ensures servers { result ≡ true
+        → map (λ thread. thread.promise.server.value) workers.new.items ≡ servers.entry.items }
+    ensures enough { result ≡ true → length servers.entry.items + length ends.entry.items ≤ most }
+{
+    let left = most.saturating_sub(servers.len());
+    start_workers(scope, rt, gate, start, parkers, servers, workers, most)
+        && start_submitters(scope, rt, gate, start, parkers, ends, submitters, left)
 }

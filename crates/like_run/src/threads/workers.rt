@@ -54,6 +54,7 @@ fn start_worker<'s, E, R: Threads + Wait + Sync, G: Gate>(
     ensures server { IfSome result (λ thread. thread.promise.server.value ≡ server.entry) }
 {
     if worker >= most {
+        drop(server);
         return None;
     }
     let owes = Owes {

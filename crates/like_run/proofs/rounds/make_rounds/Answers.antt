@@ -22,3 +22,6 @@ returns-then-round-clause-rounds c =
 pub returns-then-round-clause-goes_on : goal.returns-then-round-clause-goes_on
 returns-then-round-clause-goes_on c =
     crew-further _ c.loop.crew c.round.new.self c.loop.invariant.goes_on c.round.ensures.goes_on
+
+pub returns-clause-goes_on : goal.returns-clause-goes_on
+returns-clause-goes_on c = c.loop.invariant.goes_on

@@ -1,4 +1,4 @@
-use Rattle.std.proofs.Common.{List, Vec, Global, get_or, sym, subst}
+use Rattle.std.proofs.Common.{List, Vec, Global, get_or, sym, ap, subst}
 use Rattle.std.proofs.lemmas.List.{length-map}
 use Rattle.like_requests.specs.Setup.{FitsRun}
 use Rattle.like_requests.specs.declared.request.Request.{Request}
@@ -9,6 +9,7 @@ use Rattle.like_crew.specs.Site.{IsSite}
 use Rattle.like_crew.proofs.Ending.{has-ended}
 use Rattle.like_crew.proofs.Asked.{requests_of}
 use Rattle.like_run.proofs.Entries.{can-make}
+use Rattle.like_run.proofs.Reported.{is-report}
 use Rattle.like_run.proofs.rounds.replay_within.Goals as goal
 
 pub new-requires : goal.new-requires
@@ -37,3 +38,20 @@ report_of-requires-clause-ended c =
     (has-ended c.args.setup.now
     (lists_of c.args.plans.items) c.in_ok-site.site c.in_ok-crew.crew c.in_ok-ended.ended c.in_ok-crew.ensures
     c.in_ok-ended.ensures.ended)
+
+pub new-requires-2-clause-site : goal.new-requires-2-clause-site
+new-requires-2-clause-site c =
+    subst (λ (xs : List (Vec Request Global)). IsSite c.args.setup.now (lists_of xs) c.in_ok-site.site)
+    c.deref.ensures.value c.in_ok-site.ensures.site
+
+pub report_of-requires-clause-within : goal.report_of-requires-clause-within
+report_of-requires-clause-within c =
+    subst (λ (v : Vec (Vec Request Global) Global). FitsRun c.args.setup.now (lists_of v.items)) (sym c.of-lists.ensures)
+    c.requires.within
+
+pub returns-clause-report : goal.returns-clause-report
+returns-clause-report c =
+    is-report c.args.setup.now (lists_of c.of-lists.result.value.items) (lists_of c.args.plans.items)
+    c.in_ok-site.site.notes c.args.notes c.in_ok-report_of.field-0
+    (ap (λ (v : Vec (Vec Request Global) Global). lists_of v.items) c.of-lists.ensures) c.in_ok-site.ensures.notes
+    c.in_ok-report_of.ensures.report c.in_ok-report_of.ensures.places c.in_ok-report_of.ensures.none

@@ -1,9 +1,10 @@
-use Rattle.std.proofs.Common.{List, Vec, Global, sym, subst}
+use Rattle.std.proofs.Common.{List, Vec, Global, sym, ap, subst}
 use Rattle.like_requests.specs.Setup.{FitsRun}
 use Rattle.like_requests.specs.declared.request.Request.{Request}
 use Rattle.like_promises.specs.WorkloadOf.{lists_of}
 use Rattle.like_crew.specs.Ended.{IsEnded}
 use Rattle.like_crew.specs.Site.{IsSite}
+use Rattle.like_run.proofs.Reported.{is-report}
 use Rattle.like_run.proofs.threads.run_within.Goals as goal
 
 pub new-requires : goal.new-requires
@@ -22,3 +23,18 @@ pub report_of-requires-clause-ended : goal.report_of-requires-clause-ended
 report_of-requires-clause-ended g c =
     subst (λ (v : Vec (Vec Request Global) Global). IsEnded c.args.setup.now
     (lists_of v.items) c.in_ok-site.site c.in_ok-ended.ended) (sym c.of-lists.ensures) c.in_ok-ended.ensures.ended
+
+pub report_of-requires-clause-within : goal.report_of-requires-clause-within
+report_of-requires-clause-within g c =
+    subst (λ (v : Vec (Vec Request Global) Global). FitsRun c.args.setup.now (lists_of v.items)) (sym c.of-lists.ensures)
+    c.requires
+
+pub returns-clause-report : goal.returns-clause-report
+returns-clause-report g c =
+    is-report c.args.setup.now (lists_of c.of-lists.result.value.items) (lists_of c.args.plans.items)
+    c.in_ok-site.site.notes c.args.notes c.in_ok-report_of.field-0
+    (ap (λ (v : Vec (Vec Request Global) Global). lists_of v.items) c.of-lists.ensures) c.in_ok-site.ensures.notes
+    c.in_ok-report_of.ensures.report c.in_ok-report_of.ensures.places c.in_ok-report_of.ensures.none
+
+pub returns-clause-enough : goal.returns-clause-enough
+returns-clause-enough g c = c.in_ok-ended.ensures.enough

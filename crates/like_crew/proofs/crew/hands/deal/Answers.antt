@@ -1,7 +1,8 @@
-use Rattle.std.proofs.Common.{◌≡◌, [], List, Vec, Global, get_or, map, refl, sym, ap, ◌∙◌, subst, arith, ◌%◌}
+use Rattle.std.proofs.Common.{◌≡◌, ◌<◌, ◌≤◌, ◌+◌, ◌^◌, [], ℕ, Fits, w64, List, Vec, Global, length, get_or, map, refl, sym, ap, ◌∙◌, subst, arith, ◌%◌}
+use Rattle.std.proofs.Math.Nat.{mod-lt}
 use Rattle.std.proofs.lemmas.List.{length-set, length_push, map-id}
 use Rattle.std.proofs.lemmas.Iterator.Adapters.{YieldsList-from_vec}
-use Rattle.std.proofs.lemmas.Iterator.Consumers.{YieldsList-end}
+use Rattle.std.proofs.lemmas.Iterator.Consumers.{YieldsList-end, YieldsList-turn}
 use Rattle.like_tables.specs.Share.{dealt}
 use Rattle.like_tables.proofs.Dealt.{is-dealt}
 use Rattle.like_crew.proofs.lists.Deals.{deal-none, deal-pushed}
@@ -43,3 +44,24 @@ returns-clause-dealt g c =
     subst (λ xs. get_or (map held c.loop-item.hands.items) worker [] ≡ dealt c.args.workers worker xs) whole
     (is-dealt c.args.workers worker c.loop-item.yielded (get_or (map held c.loop-item.hands.items) worker []) c.requires
     (c.loop-item.invariant.dealt worker below))
+
+pub index_mut-requires : goal.index_mut-requires
+index_mut-requires g c =
+    subst (λ n. c.loop-item.submitter % c.args.workers < n) (sym (c.loop-item.hands.ok.0 ∙ c.loop-item.invariant.sized))
+    (mod-lt c.loop-item.submitter c.requires)
+
+-- the next number of a submitter fits
+fits-next : (submitter k many len cap : ℕ) → submitter ≡ k → k < many → len ≡ many → len ≤ cap → cap < 2 ^ 63
+    → Fits w64 (submitter + 1)
+fits-next submitter k many len cap same below sized within small = omega arith
+
+pub overflow_add-submitter : goal.overflow_add-submitter
+overflow_add-submitter g c =
+    let l = c.loop-item in
+    let from = c.into_iter-item-iterator.ensures.into_iter_gives in
+    let all = YieldsList-from_vec {s = c.into_iter-item-iterator.result} c.args.items.items from.0
+    (from.1 ∙ c.args.items.ok.0) in
+    let turn = YieldsList-turn all l.yielded _ l.yielded_by _ c.next.new.self c.in-Some.item c.in-Some.is
+    c.next.ensures.steps in
+    fits-next l.submitter (length l.yielded) (length c.args.items.items) c.args.items.len c.args.items.cap
+    l.invariant.next turn.0 c.args.items.ok.0 c.args.items.ok.1 c.args.items.small

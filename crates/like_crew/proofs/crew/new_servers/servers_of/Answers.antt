@@ -1,8 +1,10 @@
-use Rattle.std.proofs.Common.{◌≡◌, ◌<◌, ◌+◌, ◌++◌, ◌∷◌, [], ℕ, Bool, List, Vec, Global, length, map, drop, get_or, remove, refl, sym, ap, ◌∙◌, subst, add-one}
+use Rattle.std.proofs.Common.{◌≡◌, ◌<◌, ◌≤◌, ◌+◌, ◌++◌, ◌∷◌, [], ℕ, Bool, Fits, w32, List, Vec, Global, length, map, drop, get_or, remove, refl, sym, ap, ◌∙◌, subst, add-one, arith}
 use Rattle.std.proofs.lemmas.Iterator.Adapters.{YieldsList-from_vec}
-use Rattle.std.proofs.lemmas.Iterator.Consumers.{YieldsList-turn}
-use Rattle.std.proofs.lemmas.List.{length_push}
+use Rattle.std.proofs.lemmas.Iterator.Consumers.{YieldsList-end, YieldsList-turn}
+use Rattle.std.specs.List.{AllZip, range_with_len}
+use Rattle.std.proofs.lemmas.List.{length-drop, length_push}
 use Rattle.std.proofs.lemmas.Option.{slice_get_read}
+use Rattle.like_limits.specs.Limits.{max_workers}
 use Rattle.like_requests.proofs.Planned.{plans-within}
 use Rattle.like_requests.specs.Setup.{FitsRun, IsWithin}
 use Rattle.like_requests.specs.declared.setup.Setup.{Setup}
@@ -147,3 +149,87 @@ loop-seat-preserved g c =
       len = both.0;
       servers = both.1;
     }
+
+pub deal-requires : goal.deal-requires
+deal-requires g c = c.requires.within.numbers.workers.0
+
+-- no server was made yet
+none-made : (R : ℕ → ServerView → Type 0) (servers : List ServerView) → servers ≡ [] → AllZip R [] servers
+none-made R [] is = tt
+none-made R (s ∷ more) is = absurd (cc is)
+
+pub loop-seat-init : goal.loop-seat-init
+loop-seat-init g c = record {
+  hands = refl;
+  len = ap length c.new-servers.ensures.items;
+  servers = none-made
+      (IsServer (workload_of c.args.setup.now (plans_of (map g.I.Inbox.view c.args.inboxes.items))) c.args.setup.now.workers
+      (board_numbers (board_id c.args.board.now)) c.args.notes) c.new-servers.result.items c.new-servers.ensures.items;
+}
+
+-- the number of a worker is small
+fits-worker : (number k workers : ℕ) → number ≡ k → k < workers → workers ≤ max_workers → Fits w32 number
+fits-worker number k workers same below few = omega arith
+
+pub overflow_cast-number : goal.overflow_cast-number
+overflow_cast-number g c =
+    let l = c.loop-seat in
+    let from = c.into_iter-seat-iterator.ensures.into_iter_gives in
+    let all = YieldsList-from_vec {s = c.into_iter-seat-iterator.result} c.args.seats.items from.0
+    (from.1 ∙ c.args.seats.ok.0) in
+    let turn = YieldsList-turn all l.yielded _ l.yielded_by _ c.next.new.self c.in-Some.seat c.in-Some.is
+    c.next.ensures.steps in
+    fits-worker c.len-number.result (length l.yielded) c.args.setup.now.workers
+    (c.len-number.ensures ∙ l.servers.ok.0 ∙ l.invariant.len) (subst (λ n. length l.yielded < n) c.requires.len turn.0)
+    c.requires.within.numbers.workers.1
+
+pub new-requires-clause-is_worker : goal.new-requires-clause-is_worker
+new-requires-clause-is_worker g c =
+    let l = c.loop-seat in
+    let from = c.into_iter-seat-iterator.ensures.into_iter_gives in
+    let all = YieldsList-from_vec {s = c.into_iter-seat-iterator.result} c.args.seats.items from.0
+    (from.1 ∙ c.args.seats.ok.0) in
+    let turn = YieldsList-turn all l.yielded _ l.yielded_by _ c.next.new.self c.in-Some.seat c.in-Some.is
+    c.next.ensures.steps in
+    subst (λ n. n < c.args.setup.now.workers) (sym (c.len-number.ensures ∙ l.servers.ok.0 ∙ l.invariant.len))
+    (subst (λ n. length l.yielded < n) c.requires.len turn.0)
+
+-- a worker whose turn it is has a hand
+hand-left : {A : Type 0} (hands left : List A) (k workers : ℕ) → left ≡ drop k hands → length hands ≡ workers → k < workers
+    → 0 < length left
+hand-left hands left k workers rest sized below = omega (arith, ap length rest, length-drop k hands)
+
+pub remove-inboxes-requires : goal.remove-inboxes-requires
+remove-inboxes-requires g c =
+    let l = c.loop-seat in
+    let from = c.into_iter-seat-iterator.ensures.into_iter_gives in
+    let all = YieldsList-from_vec {s = c.into_iter-seat-iterator.result} c.args.seats.items from.0
+    (from.1 ∙ c.args.seats.ok.0) in
+    let turn = YieldsList-turn all l.yielded _ l.yielded_by _ c.next.new.self c.in-Some.seat c.in-Some.is
+    c.next.ensures.steps in
+    subst (λ n. 0 < n) (sym l.hands.ok.0)
+    (hand-left c.in_ok-hands.hands.items l.hands.items (length l.yielded) c.args.setup.now.workers l.invariant.hands
+    c.in_ok-hands.ensures.len (subst (λ n. length l.yielded < n) c.requires.len turn.0))
+
+pub returns : goal.returns
+returns g c =
+    let l = c.loop-seat in
+    let from = c.into_iter-seat-iterator.ensures.into_iter_gives in
+    let all = YieldsList-from_vec {s = c.into_iter-seat-iterator.result} c.args.seats.items from.0
+    (from.1 ∙ c.args.seats.ok.0) in
+    let t = YieldsList-end all l.yielded _ l.yielded_by _ c.next.new.self c.in-None.is c.next.ensures.steps in
+    subst (λ n. AllZip (IsServer (workload_of c.args.setup.now (plans_of (map g.I.Inbox.view c.args.inboxes.items)))
+    c.args.setup.now.workers (board_numbers (board_id c.args.board.now)) c.args.notes) (range_with_len 0 n)
+    l.servers.items) (t.1 ∙ c.requires.len) l.invariant.servers
+
+pub at-requires : goal.at-requires
+at-requires g c =
+    let l = c.loop-seat in
+    let k : ℕ = length l.yielded in
+    let from = c.into_iter-seat-iterator.ensures.into_iter_gives in
+    let all = YieldsList-from_vec {s = c.into_iter-seat-iterator.result} c.args.seats.items from.0
+    (from.1 ∙ c.args.seats.ok.0) in
+    let turn = YieldsList-turn all l.yielded _ l.yielded_by _ c.next.new.self c.in-Some.seat c.in-Some.is
+    c.next.ensures.steps in
+    (c.requires.seats k c.in-Some.seat
+    (slice_get_read c.args.seats.items (length c.args.seats.items) k c.in-Some.seat refl turn.0 turn.1)).0

@@ -1,4 +1,4 @@
-use Rattle.std.proofs.Common.{◌<◌, length, refl, sym, ◌∙◌, arith}
+use Rattle.std.proofs.Common.{◌<◌, true≢false, length, refl, sym, ◌∙◌, arith}
 use Rattle.std.proofs.lemmas.Option.{slice_get_read}
 use Rattle.like_crew.specs.ServerTurns.{MakesTurn}
 use Rattle.like_crew.proofs.lists.Stepped.{stepped-all, stepped-more, stepped-none}
@@ -27,7 +27,7 @@ loop-worker-preserved g c =
       gone = elim c.if-gone.branch [
         | then-gone w ↦ λ e. gone-more l.servers.items l.worker c.retires-retired.new.server within
             (l.invariant.gone w.if-gone.true) (c.retires-retired.ensures.gone (sym w.gone-is ∙ e))
-        | else-gone w ↦ λ e. absurd (cc (w.if-gone.false, w.gone-is, e))
+        | else-gone w ↦ λ e. absurd (true≢false (sym e ∙ w.gone-is ∙ w.if-gone.false))
       ];
     }
 

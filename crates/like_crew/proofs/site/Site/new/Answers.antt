@@ -1,8 +1,9 @@
 use Rattle.std.proofs.Common.{◌≡◌, ◌≤◌, ◌∙◌, ℕ, List, Vec, Global, Bool, length, map, sym, ap, subst, refl}
 use Rattle.std.specs.List.{All}
+use Rattle.std.proofs.lemmas.List.{length-map}
 use Rattle.like_requests.specs.Pages.{Page}
 use Rattle.like_requests.specs.declared.request.Request.{Request}
-use Rattle.like_limits.specs.Limits.{max_count, max_requests}
+use Rattle.like_limits.specs.Limits.{max_count, max_pages, max_requests}
 use Rattle.like_core.specs.declared.view.CoordSeatView.{CoordSeatView}
 use Rattle.like_core.specs.core.State.{opening}
 use Rattle.like_board.specs.Seats.{board_id}
@@ -49,3 +50,21 @@ returns-clause-seats c =
           c.in_ok-board.workers.items marks refl refl
           c.in_ok-board.ensures.views;
     }
+
+pub new-requires-clause-same_pages : goal.new-requires-clause-same_pages
+new-requires-clause-same_pages c =
+    let pages = c.args.setup.now.pages in
+    ap length (c.deref-2.ensures.value ∙ c.in_ok-marks.ensures.marks) ∙ length-map pages (λ (p : Page). p.split)
+    ∙ sym (ap length (c.deref.ensures.value ∙ c.in_ok-counts.ensures.counts) ∙ length-map pages (λ (p : Page). p.count))
+
+pub new-requires-clause-few_pages : goal.new-requires-clause-few_pages
+new-requires-clause-few_pages c =
+    subst (λ n. n ≤ max_pages)
+    (sym (ap length (c.deref.ensures.value ∙ c.in_ok-counts.ensures.counts)
+    ∙ length-map c.args.setup.now.pages (λ (p : Page). p.count))) c.counts.ensures.pages.entries.few
+
+pub new-requires-clause-some_worker : goal.new-requires-clause-some_worker
+new-requires-clause-some_worker c = c.requires.numbers.workers.0
+
+pub new-requires-clause-few_workers : goal.new-requires-clause-few_workers
+new-requires-clause-few_workers c = c.requires.numbers.workers.1

@@ -6,7 +6,8 @@ use Rattle.like_queue.specs.Inbox.{HandsOver, InboxView}
 use Rattle.like_tables.specs.Share.{Share}
 use Rattle.like_roles.specs.worker.WorkerView.{WorkerView, submitter_at}
 use Rattle.like_roles.specs.declared.turn.Turn.{Turn}
-use Rattle.like_roles.specs.declared.turn.Turn.TheVariants.{Try}
+use Rattle.like_roles.specs.declared.turn.Turn.TheVariants.{Retired, Try}
+use Rattle.like_roles.specs.worker.Turns as turns
 use Rattle.like_roles.specs.worker.Turns.{Gives, Turns}
 use Rattle.like_crew.specs.ServerTurns.{ServerTurns, place_at, tries, tries_none}
 use Rattle.like_crew.specs.Server.{Agree, ServerGoesOn, WorksFor, ServerView}
@@ -217,3 +218,33 @@ returns-in_default-clause-goes_on g c =
       works = λ workload h. serves-turn workload u v inboxes opened c.turn.ensures.takes
           (c.turn.ensures.follows workload) h;
     })
+
+-- a server has as many inboxes as its worker serves submitters
+place-there : {J : Type 0} (view : J → InboxView) (v : WorkerView) (inboxes : List J) (place tried many : ℕ)
+    → Agree v (map view inboxes)
+    → v.pending ≡ Some place
+    → v.pending ≡ Some tried
+    → place < length v.ended
+    → many ≡ length inboxes
+    → tried < many
+place-there view v inboxes place tried many a pends told there sized =
+    let at : tried ≡ place = same_Some _ _ (sym told ∙ pends) in
+    omega (arith, at, there, a.places, length-map inboxes view, sized)
+
+pub index_mut-requires : goal.index_mut-requires
+index_mut-requires g c =
+    let p = c.in-Try.ensures.pending in
+    let items = c.self.inside.inboxes.items in
+    place-there g.I.Inbox.view c.turn.new.self items p.0 c.tried-place.result _
+    (agree-turn c.self.inside.worker c.turn.new.self (map g.I.Inbox.view items) c.turn.result c.turn.ensures.case
+    c.turn.ensures.takes c.self.invariant.2) p.1.0 c.tried-place.ensures p.1.2 c.self.inside.inboxes.ok.0
+
+-- what was taken from a submitter retires no worker
+never-retired : (v w : WorkerView) (took : Taken) (answer : Turn) → Gives v took answer w → answer ≡ Retired → ⊥
+never-retired v w took answer (turns.nothing t is s) retired = cc (is, retired)
+never-retired v w took answer (turns.ends place p t is s) retired = cc (is, retired)
+never-retired v w took answer (turns.asks place ask p t (turns.stashes h is s)) retired = cc (is, retired)
+never-retired v w took answer (turns.asks place ask p t (turns.runs h is s)) retired = cc (is, retired)
+
+pub returns-in-Try-clause-retired : goal.returns-in-Try-clause-retired
+returns-in-Try-clause-retired g c = λ e. absurd (never-retired _ _ _ _ c.give.ensures.case e)
