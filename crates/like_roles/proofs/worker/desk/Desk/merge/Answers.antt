@@ -1,15 +1,19 @@
-use Rattle.std.proofs.Common.{◌≡◌, ◌≤◌, ◌∷◌, ◌++◌, [], length, subst, ap, sym, ◌∙◌, arith}
+use Rattle.std.proofs.Common.{◌≡◌, ◌≤◌, ◌∷◌, ◌++◌, [], length, get_or, subst, ap, sym, ◌∙◌, arith}
 use Rattle.std.proofs.lemmas.List.{length-set}
 use Rattle.like_core.specs.declared.limits.Limits.{Limits}
 use Rattle.like_core.specs.OpeningLimits.{has_slots}
 use Rattle.like_limits.specs.Buckets.{buckets, run_factor}
 use Rattle.like_limits.specs.Limits.{max_pages}
 use Rattle.like_tables.specs.declared.held.Held.{Held}
+use Rattle.like_core.specs.Post.{pages_of}
+use Rattle.like_core.specs.WorkerState.{RunsSplit, SawEnding}
+use Rattle.like_seat.proofs.MergedLikes.{same_everywhere}
 use Rattle.like_seat.specs.StationView.{StationView, phase_at}
 use Rattle.like_seat.specs.Steps.{IsNext, MergesNext, NoneFrom}
 use Rattle.like_roles.proofs.PageOrder.{AreUnliked-run, IsNextLiked-run, Merging-done, Merging-next, Merging-start, merge_of}
 use Rattle.like_roles.specs.declared.worker.desk.Desk.{Desk}
 use Rattle.like_roles.specs.worker.Desk.{IsSettled}
+use Rattle.like_roles.specs.worker.WorkerView.{WorkerView}
 use Rattle.like_roles.proofs.Counting.{HasNoted, merged-settled}
 use Rattle.like_roles.proofs.Merging.{HaveNoted-more, HaveNoted-none, IsMerged-noted}
 use Rattle.like_roles.proofs.worker.desk.Desk.merge.Goals as goal
@@ -28,6 +32,16 @@ pub merge_next-requires-clause-within : goal.merge_next-requires-clause-within
 merge_next-requires-clause-within g c =
     omega (arith, c.loop-merged.invariant.within, few_pages c.loop-merged.seat c.loop-merged.self c.loop-merged.invariant.settled)
 
+pub merge_next-requires-clause-split : goal.merge_next-requires-clause-split
+merge_next-requires-clause-split g c =
+    subst RunsSplit (sym (ap (λ (x : StationView Held). x.post.state) c.loop-merged.invariant.merging.1.0.rest))
+    c.requires.split
+
+pub merge_next-requires-clause-ending : goal.merge_next-requires-clause-ending
+merge_next-requires-clause-ending g c =
+    subst SawEnding (sym (ap (λ (x : StationView Held). x.post.last) c.loop-merged.invariant.merging.1.0.rest))
+    c.requires.ending
+
 pub returns-clause-merged : goal.returns-clause-merged
 returns-clause-merged g c =
     let l = c.loop-merged in
@@ -40,6 +54,18 @@ returns-clause-merged g c =
     let whole = Merging-done c.args.seat.now l.seat c.merge_next.new.self l.from adds i.merging.1.0 i.within rest
     done.1 c.requires.settled.sound.seat.sized in
     IsMerged-noted c.args.seat.now c.merge_next.new.self c.args.self.now l.self adds whole.0 whole.1 i.merging.1.1
+
+pub returns-clause-settled : goal.returns-clause-settled
+returns-clause-settled g c =
+    let l = c.loop-merged in
+    let done = subst (λ r. MergesNext l.seat l.from r c.merge_next.new.self) c.in_default.is
+    c.merge_next.ensures.merges in
+    subst (λ (s : StationView Held). IsSettled s l.self) (sym done.1) l.invariant.settled
+
+pub returns-clause-empty : goal.returns-clause-empty
+returns-clause-empty g c = λ page _ _.
+    ap (λ (v : WorkerView). get_or v.slice page 0) (returns-clause-merged g c).1.1
+    ∙ same_everywhere (pages_of c.args.seat.now.post) page 0
 
 pub loop-merged-init : goal.loop-merged-init
 loop-merged-init g c = record {
