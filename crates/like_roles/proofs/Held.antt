@@ -240,7 +240,7 @@ settled-push s t d h is room own seat e =
     })) refl
 
 -- one request less is left
-sum-less : (xs : List ℕ) (i : ℕ) → i < length xs → 1 ≤ get_or xs i 0 → sum (set xs i (get_or xs i 0 - 1)) + 1 ≡ sum xs
+pub sum-less : (xs : List ℕ) (i : ℕ) → i < length xs → 1 ≤ get_or xs i 0 → sum (set xs i (get_or xs i 0 - 1)) + 1 ≡ sum xs
 sum-less xs i h some = omega (arith, sum_by-set (λ x. x) xs i (get_or xs i 0 - 1) 0 h)
 
 -- a request was taken from the submitter at a place

@@ -20,7 +20,7 @@ use Rattle.like_roles.specs.worker.New.{IsNew, IsPostOf}
 use Rattle.like_roles.proofs.Started.{follows-new}
 use Rattle.like_roles.proofs.worker.Worker.noting.Goals as goal
 
--- a post has as many pages as its marks are of
+-- a new post of a worker has the pages of its setup
 pages_are : (worker : ℕ) (s : Setup) (post : PostView) → IsPostOf worker s.pages post → pages_of post ≡ length s.pages
 pages_are worker s post p = ap (λ (xs : List Bool). length xs) p.marks ∙ length-map s.pages (λ q. q.split)
 

@@ -3,13 +3,40 @@ use Rattle.like_tables.specs.Share.{submitter_of}
 use Rattle.like_tables.specs.UserTable.{UserTable}
 use Rattle.like_tables.specs.declared.held.Held.{Held}
 use Rattle.like_seat.specs.StationView.{StationView}
-use Rattle.like_roles.specs.worker.Desk.{HasRoomForOne, IsSettled, view_of}
+use Rattle.like_roles.specs.worker.Desk.{view_of}
 use Rattle.like_roles.specs.worker.Judged.{IsJudged}
 use Rattle.like_roles.specs.worker.Serve.{Runs}
-use Rattle.like_roles.specs.worker.Turns.{held_from, runs, stashes, with_stashed, with_taken}
+use Rattle.like_roles.specs.worker.Turns.{runs, stashes, with_stashed, with_taken}
 use Rattle.like_roles.specs.worker.WorkerView.{WorkerView, has_to_wait}
-use Rattle.like_roles.proofs.Held.{settled-push, settled-taken, IsOwn-taken, CanServe-taken, view_of-taken, waits-split}
+use Rattle.like_roles.proofs.Held.{settled-push, settled-taken, sum-less, IsOwn-taken, CanServe-taken, view_of-taken, waits-split}
 use Rattle.like_roles.proofs.worker.desk.Desk.take.Goals as goal
+
+pub submitter_at-requires : goal.submitter_at-requires
+submitter_at-requires g c =
+    subst (λ (t : UserTable). submitter_of t.share.workers t.share.worker c.args.place < t.share.submitters)
+    (sym c.users.ensures) (c.requires.sound.places.submitters c.args.place c.requires.tried.there)
+
+pub waits-waits-requires-clause-judged : goal.waits-waits-requires-clause-judged
+waits-waits-requires-clause-judged g c =
+    subst
+    (λ (t : UserTable). IsJudged t.share (record { submitter = c.submitter_at.result; ask = c.args.ask })
+    c.of-judged.result) c.users-2.ensures c.of-judged.ensures
+
+pub note_taken-requires-clause-there : goal.note_taken-requires-clause-there
+note_taken-requires-clause-there g c =
+    omega (arith, c.requires.tried.there, c.requires.sound.places.sized, c.args.self.now.left.ok.0)
+
+pub note_taken-requires-clause-room : goal.note_taken-requires-clause-room
+note_taken-requires-clause-room g c =
+    let less = sum-less c.args.self.now.left.items c.args.place (note_taken-requires-clause-there g c)
+    c.requires.given.some in
+    omega (arith, c.requires.sound.room.taken, less)
+
+pub put_by-requires : goal.put_by-requires
+put_by-requires g c =
+    let s = c.args.seat.now in
+    c.requires.tried.split (waits-split s.post s.last.share.users s.last.share.submitters c.submitter_at.result
+    c.args.ask.request c.waits-waits.result c.waits-waits.ensures c.if-waits.true)
 
 pub returns-then-waits-clause-sound : goal.returns-then-waits-clause-sound
 returns-then-waits-clause-sound g c =
