@@ -26,7 +26,7 @@ use Rattle.like_roles.specs.worker.WorkerView.{is_look_at_sliced}
 use Rattle.like_promises.specs.Looks.{page_looked_at}
 use Rattle.like_roles.specs.declared.worker.desk.judged.Judged.{Judged}
 use Rattle.like_roles.specs.worker.Judged.{IsJudged}
-use Rattle.like_roles.specs.worker.Desk.{CanServe, HasRoom, HasRoomForOne, HasSubmitters, IsOwn, IsSettled, IsSound, IsTried, view_of}
+use Rattle.like_roles.specs.worker.Desk.{CanServe, HasRoom, HasRoomForOne, HasRoomToNote, HasSubmitters, IsOwn, IsSettled, IsSound, IsTried, view_of}
 use Rattle.like_roles.specs.worker.Turns.{trying, with_taken}
 use Rattle.like_roles.proofs.InBlocks.{runs-phase, runs-weaker}
 
@@ -170,6 +170,71 @@ sound-tried s d e place is at rest =
           subst
           (λ k. IsTried s (record d { pending = Some place; cursor = (place + 1) % length d.ended.items }) k)
           same (record { there = at.there; running = at.running; joined = at.joined; split = at.split });
+    })
+
+-- and one that tries nobody any more, also where it took an end mark
+pub sound-untried : (s : StationView Held) (d e : Desk)
+    → IsSound s d
+    → vec_len e.ended ≡ vec_len d.ended
+    → e ≡ record d { pending = None; ended = e.ended }
+    → IsSound s e
+sound-untried s d e is sized rest =
+    let places = is.places in
+    let room = is.room in
+    subst (IsSound s) (sym rest) (record {
+      seat = is.seat;
+      run = is.run;
+      started = is.started;
+      places = record {
+        is_worker = places.is_worker;
+        sized = places.sized ∙ sym sized;
+        submitters = λ place inside. places.submitters place (omega (arith, inside, sized));
+        cursor = omega (arith, places.cursor, sized);
+      };
+      room = record {
+        taken = room.taken;
+        ran = room.ran;
+        few_ran = room.few_ran;
+        adds = room.adds;
+        few = room.few;
+      };
+      held = is.held;
+      tried = λ place tries. cc tries;
+    })
+
+-- a worker stays settled that noted a request that it ran
+pub settled-ran : (s : StationView Held) (d e : Desk)
+    → IsSettled s d
+    → HasRoomToNote s d
+    → vec_len e.ran ≡ vec_len d.ran + 1
+    → vec_capacity e.ran ≡ vec_capacity d.ran
+    → e ≡ record d { ran = e.ran }
+    → IsSettled s e
+settled-ran s d e is one len capacity rest =
+    let places = is.sound.places in
+    let room = is.sound.room in
+    subst (IsSettled s) (sym rest) (record {
+      sound = record {
+        seat = is.sound.seat;
+        run = is.sound.run;
+        started = is.sound.started;
+        places = record {
+          is_worker = places.is_worker;
+          sized = places.sized;
+          submitters = places.submitters;
+          cursor = places.cursor;
+        };
+        room = record {
+          taken = room.taken;
+          ran = omega (arith, one.ran, len, capacity);
+          few_ran = omega (arith, room.few_ran, capacity);
+          adds = room.adds;
+          few = room.few;
+        };
+        held = is.sound.held;
+        tried = λ place tries. absurd (cc (is.untried, tries));
+      };
+      untried = is.untried;
     })
 
 -- the first request that is held is taken out, which leaves room to run it
