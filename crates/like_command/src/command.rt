@@ -1,4 +1,4 @@
-ghost use Rattle.std.specs.Prelude.{◌≡◌, [], true, IfOk, codes, fold};
+ghost use Rattle.std.specs.Prelude.{◌≡◌, IfOk, codes, fold};
 ghost use Rattle.clap.specs.Words.{app_of, new_app, with_rule};
 ghost use Rattle.like_command.specs.Built.{IsArgument, IsCommand, IsSubcommand};
 ghost use Rattle.like_command.specs.CommandLine.{bounded_rule, flag_rule, likes_app, number_rule, number_rules, option_rules, replay_command, required_list_rule, required_rule, run_command, text_rule};
@@ -131,27 +131,18 @@ fn replay<'a>(alloc: Global) -> Result<Command<'a>, AllocError>
         .arg(requests_argument(alloc))
 }
 
-// The program's command line without its subcommands.
-fn program<'a>(alloc: Global) -> Result<Command<'a>, AllocError>
-    ensures { IfOk result (λ c. app_of c
-        ≡ record { top = record likes_app.top { is_leaf = true }; subs = [] }) }
+/// The program's command line. Its first word is the first one after the program's name.
+pub fn likes_command<'a>(alloc: Global) -> Result<Command<'a>, AllocError>
+    ensures { IfOk result (λ c. app_of c ≡ likes_app) }
 {
-    let command = Command::new(alloc, "likes")
+    Command::new(alloc, "likes")
         .bin_name("likes")?
         .no_binary_name(true)
         .subcommand_required(true)
         .disable_help_subcommand(true)
         .version(help::VERSION)
         .about(help::LIKES)
-        .after_help(help::STATUSES);
-    Ok(command)
-}
-
-/// The program's command line. Its first word is the first one after the program's name.
-pub fn likes_command<'a>(alloc: Global) -> Result<Command<'a>, AllocError>
-    ensures { IfOk result (λ c. app_of c ≡ likes_app) }
-{
-    program(alloc)?
+        .after_help(help::STATUSES)
         .subcommand(run(alloc)?)?
         .subcommand(replay(alloc)?)
 }
