@@ -1,3 +1,4 @@
 pub mod Commands
+pub mod Grown
 pub mod Matched
 pub mod Walked

@@ -15,6 +15,7 @@ fn bounded_option<'a>(
     value_name: &'a str,
     least: u32,
     most: u32,
+    help: &'a str,
 ) -> Arg<'a>
     ensures { IsArgument (bounded_rule name.entry.now least most) result }
 {
@@ -23,6 +24,7 @@ fn bounded_option<'a>(
         .value_name(value_name)
         .action(ArgAction::Set)
         .value_parser(ValueParser::signed(i64::from(least), i64::from(most)))
+        .help(help)
 }
 
 // An option for a whole number within bounds, with its default.
@@ -33,17 +35,21 @@ fn number_option<'a>(
     default: &'a str,
     least: u32,
     most: u32,
+    help: &'a str,
 ) -> Arg<'a>
     ensures { IsArgument (number_rule name.entry.now default.entry.now least most) result }
 {
-    bounded_option(alloc, name, value_name, least, most).default_value(default)
+    bounded_option(alloc, name, value_name, least, most, help).default_value(default)
 }
 
 // An option without a value.
-fn flag<'a>(alloc: Global, name: &'a str) -> Arg<'a>
+fn flag<'a>(alloc: Global, name: &'a str, help: &'a str) -> Arg<'a>
     ensures { IsArgument (flag_rule name.entry.now) result }
 {
-    Arg::new(alloc, name).long(name).action(ArgAction::SetTrue)
+    Arg::new(alloc, name)
+        .long(name)
+        .action(ArgAction::SetTrue)
+        .help(help)
 }
 
 // The option for the script file.
@@ -88,26 +94,10 @@ fn with_numbers<'a>(alloc: Global, name: &'a str, about: &'a str) -> Result<Comm
     Command::new(alloc, name)
         .about(about)
         .after_help(help::REPORT)
-        .arg(
-            number_option(alloc, "workers", "N", "4", 1, 16)
-                .short('w')
-                .help(help::WORKERS),
-        )?
-        .arg(
-            number_option(alloc, "users", "U", "1000", 1, 1_000_000)
-                .short('u')
-                .help(help::USERS),
-        )?
-        .arg(
-            number_option(alloc, "stash", "C", "256", 1, 4_096)
-                .short('s')
-                .help(help::STASH),
-        )?
-        .arg(
-            number_option(alloc, "turns", "T", "1000", 0, 1_000_000)
-                .short('t')
-                .help(help::TURNS),
-        )
+        .arg(number_option(alloc, "workers", "N", "4", 1, 16, help::WORKERS).short('w'))?
+        .arg(number_option(alloc, "users", "U", "1000", 1, 1_000_000, help::USERS).short('u'))?
+        .arg(number_option(alloc, "stash", "C", "256", 1, 4_096, help::STASH).short('s'))?
+        .arg(number_option(alloc, "turns", "T", "1000", 0, 1_000_000, help::TURNS).short('t'))
 }
 
 // A subcommand with all options of runs and replays.
@@ -115,11 +105,11 @@ fn with_options<'a>(alloc: Global, name: &'a str, about: &'a str) -> Result<Comm
     ensures { IfOk result (IsCommand (fold with_rule (new_app name.entry.now) option_rules)) }
 {
     with_numbers(alloc, name, about)?
-        .arg(bounded_option(alloc, "hot", "H", 1, 1_000_000).help(help::HOT))?
-        .arg(flag(alloc, "places").help(help::PLACES))?
-        .arg(flag(alloc, "totals").help(help::TOTALS))?
-        .arg(flag(alloc, "summary").help(help::SUMMARY))?
-        .arg(flag(alloc, "progress").help(help::PROGRESS))
+        .arg(bounded_option(alloc, "hot", "H", 1, 1_000_000, help::HOT))?
+        .arg(flag(alloc, "places", help::PLACES))?
+        .arg(flag(alloc, "totals", help::TOTALS))?
+        .arg(flag(alloc, "summary", help::SUMMARY))?
+        .arg(flag(alloc, "progress", help::PROGRESS))
 }
 
 // The subcommand `run`.

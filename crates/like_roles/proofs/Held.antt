@@ -1,9 +1,9 @@
 -- What a worker holds, and that it stays sound.
-use Rattle.std.proofs.Common.{◌≡◌, ℕ, ◌+◌, ◌-◌, ◌*◌, ◌%◌, ◌<◌, ◌≤◌, Bool, true, false, is_some, List, [], ◌∷◌, ◌++◌, length, drop, get_or, set, sum, Option, Some, None, refl, ap, sym, ◌∙◌, arith, subst, vec_len, vec_capacity}
+use Rattle.std.proofs.Common.{◌≡◌, ◌≢◌, ℕ, ◌+◌, ◌-◌, ◌*◌, ◌%◌, ◌<◌, ◌≤◌, Bool, true, false, is_some, List, [], ◌∷◌, ◌++◌, length, drop, get_or, set, sum, Option, Some, None, refl, ap, sym, ◌∙◌, arith, subst, vec_len, vec_capacity}
 use Rattle.std.proofs.lemmas.List.{length-append, length-set}
 use Rattle.std.proofs.lemmas.List.Sums.{sum_by-set}
 use Rattle.std.proofs.lemmas.Bool.{and_parts}
-use Rattle.std.proofs.Math.Nat.{add-mul-mod_self_left, mod-eq_of_lt}
+use Rattle.std.proofs.Math.Nat.{add-mul-mod_self_left, mod-eq_of_lt, mod-lt}
 use Rattle.std.proofs.lemmas.List.Elements.{All-drop, All-append, All-cons}
 use Rattle.std.specs.List.{All, slice_get}
 use Rattle.std.specs.Option.{option_map_or}
@@ -11,10 +11,11 @@ use Rattle.like_requests.specs.Verdict.{is_accepted}
 use Rattle.like_requests.specs.declared.request.Numbered.{Numbered}
 use Rattle.like_requests.specs.declared.request.Request.{Request}
 use Rattle.like_requests.specs.Setup.{IsThere}
-use Rattle.like_core.specs.Phase.{IsSplit, is_marked}
+use Rattle.like_core.specs.Phase.{IsJoined, IsSplit, is_marked}
 use Rattle.like_core.specs.PhaseMasks.{mask_of}
 use Rattle.like_core.specs.Post.{PostView, pages_of, slices}
-use Rattle.like_core.specs.WorkerState.{IsRunning, phase_of}
+use Rattle.like_core.specs.WorkerState.{IsRunning, RunsJoined, RunsSplit, phase_of}
+use Rattle.like_core.specs.declared.worker_state.WorkerState.{WorkerState}
 use Rattle.like_core.proofs.core.InPhase.{split-IsSplit}
 use Rattle.like_tables.specs.Share.{submitter_of}
 use Rattle.like_tables.specs.declared.held.Held.{Held}
@@ -25,8 +26,9 @@ use Rattle.like_roles.specs.worker.WorkerView.{is_look_at_sliced}
 use Rattle.like_promises.specs.Looks.{page_looked_at}
 use Rattle.like_roles.specs.declared.worker.desk.judged.Judged.{Judged}
 use Rattle.like_roles.specs.worker.Judged.{IsJudged}
-use Rattle.like_roles.specs.worker.Desk.{CanServe, HasRoom, HasRoomForOne, HasSubmitters, IsOwn, IsSettled, IsSound, view_of}
-use Rattle.like_roles.specs.worker.Turns.{trying}
+use Rattle.like_roles.specs.worker.Desk.{CanServe, HasRoom, HasRoomForOne, HasRoomToNote, HasSubmitters, IsOwn, IsSettled, IsSound, IsTried, view_of}
+use Rattle.like_roles.specs.worker.Turns.{trying, with_taken}
+use Rattle.like_roles.proofs.InBlocks.{runs-phase, runs-weaker}
 
 -- a list whose first element is known
 pub first_of : {X : Type 0} (xs : List X) (x : X) → slice_get xs 0 ≡ Some x → xs ≡ x ∷ drop 1 xs
@@ -81,6 +83,159 @@ settled-after s t d e is seat limits last share own room rest =
       };
       untried = ap (λ (x : Desk). x.pending) rest ∙ is.untried;
     }
+
+-- a worker stays sound where its post answers a phase or leaves, which changes the post's state alone
+pub sound-stopped : (s t : StationView Held) (d : Desk) (w : WorkerState)
+    → IsSettled s d
+    → IsStation t
+    → t ≡ record s { post = record s.post { state = w } }
+    → IsSound t d
+sound-stopped s t d w is seat e =
+    let share = ap (λ (x : StationView Held). x.last.share) e in
+    let own = AreOwn-moved s t s.held.held share (ap (λ (x : StationView Held). x.post.marks) e) is.sound.held in
+    let room = is.sound.room in
+    (settled-after s t d d is seat (ap (λ (x : StationView Held). x.post.limits) e)
+    (ap (λ (x : StationView Held). x.post.last) e) share
+    (subst (λ xs. All (IsOwn t) xs) (sym (ap (λ (x : StationView Held). x.held.held) e)) own)
+    (subst (λ x. HasRoom x d) (sym e) (record {
+      taken = room.taken;
+      ran = room.ran;
+      few_ran = room.few_ran;
+      adds = room.adds;
+      few = room.few;
+    })) refl).sound
+
+-- in a joined phase the submitter at a place may be tried where nothing is held
+pub tried-joined : (s : StationView Held) (d : Desk) (place : ℕ)
+    → RunsJoined s.post.state
+    → s.held.held ≡ []
+    → place < length d.ended.items
+    → IsTried s d place
+tried-joined s d place joined empty inside =
+    let at = runs-phase IsJoined s.post.state joined in
+    record {
+      there = omega (arith, d.ended.ok.0, inside);
+      running = runs-weaker IsJoined (λ _. Unit {0}) s.post.state (λ k is. tt) joined;
+      joined = λ _. empty;
+      split = λ split. absurd (omega (arith, at, split));
+    }
+
+-- and in a split one where there is room for a look that waits
+pub tried-split : (s : StationView Held) (d : Desk) (place : ℕ)
+    → IsStation s
+    → RunsSplit s.post.state
+    → length s.held.held ≢ s.held.capacity
+    → place < length d.ended.items
+    → IsTried s d place
+tried-split s d place seat split room inside =
+    let at = runs-phase IsSplit s.post.state split in
+    record {
+      there = omega (arith, d.ended.ok.0, inside);
+      running = runs-weaker IsSplit (λ _. Unit {0}) s.post.state (λ k is. tt) split;
+      joined = λ joined. absurd (omega (arith, at, joined));
+      split = λ _. omega (arith, seat.waiting.within, room);
+    }
+
+-- a worker that tries a submitter that it may try stays sound
+pub sound-tried : (s : StationView Held) (d e : Desk) (place : ℕ)
+    → IsSettled s d
+    → IsTried s d place
+    → e ≡ record d { pending = Some place; cursor = (place + 1) % length d.ended.items }
+    → IsSound s e
+sound-tried s d e place is at rest =
+    let places = is.sound.places in
+    let room = is.sound.room in
+    let next : (place + 1) % length d.ended.items < length d.ended.items =
+    mod-lt (place + 1) (omega (arith, d.ended.ok.0, at.there)) in
+    subst (IsSound s) (sym rest) (record {
+      seat = is.sound.seat;
+      run = is.sound.run;
+      started = is.sound.started;
+      places = record {
+        is_worker = places.is_worker;
+        sized = places.sized;
+        submitters = places.submitters;
+        cursor = omega (arith, d.ended.ok.0, next);
+      };
+      room = record {
+        taken = room.taken;
+        ran = room.ran;
+        few_ran = room.few_ran;
+        adds = room.adds;
+        few = room.few;
+      };
+      held = is.sound.held;
+      tried = λ other tries.
+          let same : place ≡ other = cc tries in
+          subst
+          (λ k. IsTried s (record d { pending = Some place; cursor = (place + 1) % length d.ended.items }) k)
+          same (record { there = at.there; running = at.running; joined = at.joined; split = at.split });
+    })
+
+-- and one that tries nobody any more, also where it took an end mark
+pub sound-untried : (s : StationView Held) (d e : Desk)
+    → IsSound s d
+    → vec_len e.ended ≡ vec_len d.ended
+    → e ≡ record d { pending = None; ended = e.ended }
+    → IsSound s e
+sound-untried s d e is sized rest =
+    let places = is.places in
+    let room = is.room in
+    subst (IsSound s) (sym rest) (record {
+      seat = is.seat;
+      run = is.run;
+      started = is.started;
+      places = record {
+        is_worker = places.is_worker;
+        sized = places.sized ∙ sym sized;
+        submitters = λ place inside. places.submitters place (omega (arith, inside, sized));
+        cursor = omega (arith, places.cursor, sized);
+      };
+      room = record {
+        taken = room.taken;
+        ran = room.ran;
+        few_ran = room.few_ran;
+        adds = room.adds;
+        few = room.few;
+      };
+      held = is.held;
+      tried = λ place tries. cc tries;
+    })
+
+-- a worker stays settled that noted a request that it ran
+pub settled-ran : (s : StationView Held) (d e : Desk)
+    → IsSettled s d
+    → HasRoomToNote s d
+    → vec_len e.ran ≡ vec_len d.ran + 1
+    → vec_capacity e.ran ≡ vec_capacity d.ran
+    → e ≡ record d { ran = e.ran }
+    → IsSettled s e
+settled-ran s d e is one len capacity rest =
+    let places = is.sound.places in
+    let room = is.sound.room in
+    subst (IsSettled s) (sym rest) (record {
+      sound = record {
+        seat = is.sound.seat;
+        run = is.sound.run;
+        started = is.sound.started;
+        places = record {
+          is_worker = places.is_worker;
+          sized = places.sized;
+          submitters = places.submitters;
+          cursor = places.cursor;
+        };
+        room = record {
+          taken = room.taken;
+          ran = omega (arith, one.ran, len, capacity);
+          few_ran = omega (arith, room.few_ran, capacity);
+          adds = room.adds;
+          few = room.few;
+        };
+        held = is.sound.held;
+        tried = λ place tries. absurd (cc (is.untried, tries));
+      };
+      untried = is.untried;
+    })
 
 -- the first request that is held is taken out, which leaves room to run it
 pub settled-pop : (s t : StationView Held) (d : Desk) (first : Held)
@@ -150,7 +305,7 @@ settled-push s t d h is room own seat e =
     })) refl
 
 -- one request less is left
-sum-less : (xs : List ℕ) (i : ℕ) → i < length xs → 1 ≤ get_or xs i 0 → sum (set xs i (get_or xs i 0 - 1)) + 1 ≡ sum xs
+pub sum-less : (xs : List ℕ) (i : ℕ) → i < length xs → 1 ≤ get_or xs i 0 → sum (set xs i (get_or xs i 0 - 1)) + 1 ≡ sum xs
 sum-less xs i h some = omega (arith, sum_by-set (λ x. x) xs i (get_or xs i 0 - 1) 0 h)
 
 -- a request was taken from the submitter at a place
@@ -260,3 +415,20 @@ pub view_of-tried : (s t : StationView Held) (d e : Desk) (place : ℕ)
     → t ≡ s
     → view_of t e ≡ trying (view_of s d) place
 view_of-tried s t d e place is same = (λ m. view_of (same m) (is m))
+
+-- and one that took a request from the submitter at a place
+pub view_of-taken : (s : StationView Held) (d n : Desk) (place phase submitter : ℕ) (ask : Numbered)
+    → n.left.items ≡ set d.left.items place (get_or d.left.items place 0 - 1)
+    → n.taken.items ≡ d.taken.items ++ record { phase = phase; submitter = submitter; number = ask.number } ∷ []
+    → n ≡ record d { left = n.left; taken = n.taken }
+    → phase ≡ phase_of s.post.state
+    → submitter ≡ submitter_of s.last.share.workers s.last.share.worker place
+    → view_of s n ≡ with_taken (view_of s d) place ask
+view_of-taken s d n place phase submitter ask left taken rest phase_is submitter_is =
+    ap (view_of s) rest
+    ∙ (λ m. record (view_of s d) { left = left m; taken = taken m })
+    ∙ (λ m. record (view_of s d) {
+      left = set d.left.items place (get_or d.left.items place 0 - 1);
+      taken =
+          d.taken.items ++ record { phase = phase_is m; submitter = submitter_is m; number = ask.number } ∷ [];
+    })

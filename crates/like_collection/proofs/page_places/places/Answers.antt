@@ -1,10 +1,33 @@
-use Rattle.std.proofs.Common.{◌≡◌, ◌+◌, ◌++◌, ◌∷◌, [], List, length, get_or, take, ap, sym, ◌∙◌, subst, arith}
-use Rattle.std.proofs.lemmas.List.{length-take-le, take_all, take_more}
+use Rattle.std.proofs.Common.{◌≡◌, ◌+◌, ◌<◌, ◌++◌, ◌∷◌, [], List, length, get_or, take, refl, ap, sym, ◌∙◌, subst, arith}
+use Rattle.std.specs.List.{All}
+use Rattle.std.proofs.lemmas.List.{get_or-replicate, length-map, length-replicate, length-take-le, take_all, take_more}
+use Rattle.like_promises.specs.declared.log.Added.{Added}
 use Rattle.like_promises.specs.declared.log.WorkerLog.{WorkerLog}
 use Rattle.like_promises.specs.declared.place.Place.{Place}
 use Rattle.like_promises.specs.places.Places.{AreByOld, lists_in, places_in, places_of}
 use Rattle.like_collection.proofs.PlaceLists.{places_in-push}
 use Rattle.like_collection.proofs.page_places.places.Goals as goal
+
+pub loop-log-init : goal.loop-log-init
+loop-log-init c = record {
+  worker = refl;
+  sized = ap length c.in_ok-rows.ensures ∙ length-replicate c.args.pages [];
+  each = λ page below.
+      ap (λ (ls : List (List Place)). get_or ls page []) c.in_ok-rows.ensures
+      ∙ get_or-replicate c.args.pages page [] [] below;
+}
+
+pub put_adds-requires : goal.put_adds-requires
+put_adds-requires c = λ k d inside.
+    let l = c.loop-log in
+    let log = c.log-item.result in
+    let there = subst (λ (w : WorkerLog). All (λ (a : Added). a.page < c.args.pages) w.adds.items) (sym c.log-item.is)
+    (c.requires.there l.log-index log c.loop-log-test.true) in
+    let own = subst (All (λ (a : Added). a.page < c.args.pages)) (sym c.deref.ensures.value) there in
+    omega (arith, own k d inside, l.invariant.sized, length-map l.rows.items (λ row. row.items))
+
+pub overflow_add-worker : goal.overflow_add-worker
+overflow_add-worker c = omega (arith, c.loop-log.invariant.worker, c.loop-log-test.true, c.requires.few)
 
 pub loop-log-preserved : goal.loop-log-preserved
 loop-log-preserved c =

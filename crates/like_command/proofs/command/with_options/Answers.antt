@@ -3,7 +3,7 @@ use Rattle.std.proofs.lemmas.Result.{IfOk-weaker}
 use Rattle.std.specs.List.{fold}
 use Rattle.clap.specs.Words.{App, new_app, with_rule}
 use Rattle.like_command.specs.CommandLine.{bounded_rule, flag_rule, number_rules}
-use Rattle.like_command.proofs.Commands.{added, helped}
+use Rattle.like_command.proofs.Commands.{added}
 use Rattle.like_command.proofs.command.with_options.Goals as goal
 
 abbrev app1 : App → App
@@ -21,15 +21,14 @@ app4 a = with_rule (app3 a) (flag_rule (codes "summary"))
 pub returns : goal.returns
 returns c =
     let app0 : App = fold with_rule (new_app c.args.name.now) number_rules in
-    let a1 = helped c.bounded_option.result c.help.result _ _ c.help.ensures c.bounded_option.ensures in
-    let a2 = helped c.flag.result c.help-2.result _ _ c.help-2.ensures c.flag.ensures in
-    let a3 = helped c.flag-2.result c.help-3.result _ _ c.help-3.ensures c.flag-2.ensures in
-    let a4 = helped c.flag-3.result c.help-4.result _ _ c.help-4.ensures c.flag-3.ensures in
-    let a5 = helped c.flag-4.result c.help-5.result _ _ c.help-5.ensures c.flag-4.ensures in
     let s0 = c.in_ok-with_numbers.ensures in
-    let s1 = added c.in_ok-with_numbers.field-0 c.in_ok-arg.field-0 c.help.result _ app0 c.in_ok-arg.ensures a1 s0 in
-    let s2 = added c.in_ok-arg.field-0 c.in_ok-arg-2.field-0 c.help-2.result _ (app1 app0) c.in_ok-arg-2.ensures a2 s1 in
-    let s3 = added c.in_ok-arg-2.field-0 c.in_ok-arg-3.field-0 c.help-3.result _ (app2 app0) c.in_ok-arg-3.ensures a3 s2 in
-    let s4 = added c.in_ok-arg-3.field-0 c.in_ok-arg-4.field-0 c.help-4.result _ (app3 app0) c.in_ok-arg-4.ensures a4 s3 in
+    let s1 = added c.in_ok-with_numbers.field-0 c.in_ok-arg.field-0 c.bounded_option.result _ app0 c.in_ok-arg.ensures
+    c.bounded_option.ensures s0 in
+    let s2 = added c.in_ok-arg.field-0 c.in_ok-arg-2.field-0 c.flag.result _ (app1 app0) c.in_ok-arg-2.ensures
+    c.flag.ensures s1 in
+    let s3 = added c.in_ok-arg-2.field-0 c.in_ok-arg-3.field-0 c.flag-2.result _ (app2 app0) c.in_ok-arg-3.ensures
+    c.flag-2.ensures s2 in
+    let s4 = added c.in_ok-arg-3.field-0 c.in_ok-arg-4.field-0 c.flag-3.result _ (app3 app0) c.in_ok-arg-4.ensures
+    c.flag-3.ensures s3 in
     IfOk-weaker c.arg-5.result _ _
-    (λ x h. added c.in_ok-arg-4.field-0 x c.help-5.result _ (app4 app0) h a5 s4) c.arg-5.ensures
+    (λ x h. added c.in_ok-arg-4.field-0 x c.flag-4.result _ (app4 app0) h c.flag-4.ensures s4) c.arg-5.ensures

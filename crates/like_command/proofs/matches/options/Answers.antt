@@ -24,3 +24,15 @@ returns-clause-values c =
       requests = c.in_ok-requests.ensures;
       some_requests = omega (arith, size, c.requires.requests.2);
     }
+
+pub number-workers-requires : goal.number-workers-requires
+number-workers-requires c = (1, 16, c.requires.workers, omega arith)
+
+pub number-users-requires : goal.number-users-requires
+number-users-requires c = (1, 1000000, c.requires.users, omega arith)
+
+pub number-stash-requires : goal.number-stash-requires
+number-stash-requires c = (1, 4096, c.requires.stash, omega arith)
+
+pub number-turns-requires : goal.number-turns-requires
+number-turns-requires c = (0, 1000000, c.requires.turns, omega arith)

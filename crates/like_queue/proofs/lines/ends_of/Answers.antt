@@ -1,5 +1,5 @@
-use Rattle.std.proofs.Common.{◌≡◌, ◌<◌, ◌∙◌, ◌++◌, ◌∷◌, [], List, arith, length, map, sym, ap}
-use Rattle.std.proofs.lemmas.List.{length-map, map-id, map_push}
+use Rattle.std.proofs.Common.{◌≡◌, ℕ, ◌<◌, ◌∙◌, ◌++◌, ◌∷◌, [], List, arith, length, get_or, map, sym, ap}
+use Rattle.std.proofs.lemmas.List.{get_or-map, length-map, map-id, map_push}
 use Rattle.std.proofs.lemmas.Simd.{map-map}
 use Rattle.std.proofs.lemmas.Iterator.Adapters.{YieldsList-from_vec}
 use Rattle.std.proofs.lemmas.Iterator.Consumers.{YieldsList-end, YieldsList-turn}
@@ -114,3 +114,52 @@ push_reserved-requires-in-loop-send c =
       line-left (λ (p : Sender × Taker). p.1) l.takes.items c.args.passes.items l.yielded c.args.lines.now
           l.invariant.takes c.requires turn.0,
     )
+
+-- the pass at a place is of the line there
+pass-at : (passes : List (Sender × Taker)) (lines : List LineId) (n k : ℕ) (pass : Sender × Taker) (line : LineId)
+    → passes ≡ map new_ends lines
+    → n < length passes
+    → pass ≡ get_or passes n pass
+    → k ≡ n
+    → line ≡ get_or lines k line
+    → pass ≡ new_ends line
+pass-at passes lines n k pass line are inside is same at =
+    let below : n < length lines = omega (arith, ap length are ∙ length-map lines new_ends) in
+    is ∙ (ap (λ (ps : List (Sender × Taker)). get_or ps n pass) are
+    ∙ (get_or-map new_ends lines n line pass below
+    ∙ ap new_ends (ap (λ (i : ℕ). get_or lines i line) (sym same) ∙ sym at)))
+
+pub loop-send-init : goal.loop-send-init
+loop-send-init c = record {
+  sends = c.in_ok-sends.ensures.items;
+  takes = c.in_ok-takes.ensures.items;
+  room = (c.in_ok-sends.ensures.exact, c.in_ok-takes.ensures.exact);
+}
+
+pub at-requires : goal.at-requires
+at-requires c =
+    let l = c.loop-send in
+    let from = c.into_iter-send-iterator.ensures.into_iter_gives in
+    let all = YieldsList-from_vec {s = c.into_iter-send-iterator.result} c.args.passes.items from.0
+    (from.1 ∙ c.args.passes.ok.0) in
+    let turn = YieldsList-turn all l.yielded _ l.yielded_by _ c.next.new.self (c.in-Some.send, c.in-Some.take)
+    c.in-Some.is c.next.ensures.steps in
+    let sent = ap length l.invariant.sends ∙ length-map l.yielded (λ (p : Sender × Taker). p.0) in
+    ap (λ (p : Sender × Taker). p.0.line)
+    (pass-at c.args.passes.items c.args.lines.now (length l.yielded) c.len.result (c.in-Some.send, c.in-Some.take)
+    c.index-lines-len.result c.requires turn.0 turn.1 (omega (arith, c.len.ensures, l.sends.ok.0, sent))
+    c.index-lines-len.is)
+
+pub at-requires-in-loop-send : goal.at-requires-in-loop-send
+at-requires-in-loop-send c =
+    let l = c.loop-send in
+    let from = c.into_iter-send-iterator.ensures.into_iter_gives in
+    let all = YieldsList-from_vec {s = c.into_iter-send-iterator.result} c.args.passes.items from.0
+    (from.1 ∙ c.args.passes.ok.0) in
+    let turn = YieldsList-turn all l.yielded _ l.yielded_by _ c.next.new.self (c.in-Some.send, c.in-Some.take)
+    c.in-Some.is c.next.ensures.steps in
+    let sent = ap length l.invariant.sends ∙ length-map l.yielded (λ (p : Sender × Taker). p.0) in
+    ap (λ (p : Sender × Taker). p.1.line)
+    (pass-at c.args.passes.items c.args.lines.now (length l.yielded) c.len.result (c.in-Some.send, c.in-Some.take)
+    c.index-lines-len.result c.requires turn.0 turn.1 (omega (arith, c.len.ensures, l.sends.ok.0, sent))
+    c.index-lines-len.is)

@@ -1,4 +1,4 @@
-use Rattle.std.proofs.Common.{length, sym, ap, arith}
+use Rattle.std.proofs.Common.{◌≡◌, length, sym, ap, arith}
 use Rattle.like_tables.specs.Share.{share_of}
 use Rattle.like_tables.proofs.Homes.{homes-push, homes_below-other, homes_below-own}
 use Rattle.like_tables.proofs.Owned.{homes_below-le, homes_below-zero}
@@ -35,4 +35,19 @@ loop-submitter-preserved c =
       ];
       len = omega (arith, i.len, c.in_ok-push.ensures.len);
       below = λ n less. rw c.in_ok-push.ensures.items (homes-push s _ _ _ i.len i.below i.homes n less);
+    }
+
+pub invariant_of-result : goal.invariant_of-result
+invariant_of-result c =
+    let s = share_of c.args.users c.args.submitters c.args.workers c.args.worker in
+    let l = c.loop-submitter in
+    let i = l.invariant in
+    let all : l.submitter ≡ c.args.submitters = omega (arith, l.auto.submitter-end, c.loop-submitter-test.false) in
+    record {
+      lawful = record { submitters = c.requires.submitters; workers = c.requires.workers };
+      fits = omega (arith, c.ranges.submitters);
+      few = omega (arith, c.ranges.users);
+      enough = omega (arith, i.len, all, c.in_ok-push-2.ensures.len, c.push-2.new.self.ok.0, l.homes_below.ok.0);
+      below = λ n within.
+          rw c.in_ok-push-2.ensures.items (homes-push s _ _ _ i.len i.below i.homes n (omega (arith, within, all)));
     }

@@ -1,6 +1,6 @@
 use Rattle.std.proofs.Common.{◌+◌, ◌<◌, set, arith, sym, ap, subst, ◌∙◌}
 use Rattle.like_limits.specs.Buckets.{buckets}
-use Rattle.like_tables.specs.SplitPages.{none_split}
+use Rattle.like_tables.specs.SplitPages.{SplitPages, none_split}
 use Rattle.like_tables.specs.Tags.{AreTags}
 use Rattle.like_tables.proofs.Tagged.{AreEmpty, AreEmpty-next, AreTags-emptied, inside-lt, table_by-cleared}
 use Rattle.like_tables.proofs.split_pages.SplitPages.clear.Goals as goal
@@ -28,3 +28,20 @@ returns c =
     let s = c.loop-bucket.self-inside in
     table_by-cleared s.factor s.tags s.used c.loop-bucket.from i.tags i.empty c.in_default.ensures.none
     ∙ ap none_split i.factor
+
+pub loop-bucket-init : goal.loop-bucket-init
+loop-bucket-init c = record {
+  within = omega arith;
+  factor = ap (λ (s : SplitPages). s.factor) c.self.view_is;
+  tags = c.self.invariant;
+  empty = λ b below. absurd (omega (arith, below));
+}
+
+pub remove-requires : goal.remove-requires
+remove-requires c = inside-lt c.loop-bucket.self-inside.used c.in-Some.bucket c.in-Some.ensures.next.inside
+
+pub loop-bucket-smaller : goal.loop-bucket-smaller
+loop-bucket-smaller c =
+    let s = c.loop-bucket.self-inside in
+    let next = c.in-Some.ensures.next in
+    omega (arith, inside-lt s.used c.in-Some.bucket next.inside, c.loop-bucket.invariant.tags.room, next.after)

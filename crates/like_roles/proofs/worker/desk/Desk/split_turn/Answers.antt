@@ -1,10 +1,12 @@
-use Rattle.std.proofs.Common.{◌≢◌, length, refl, ap, subst}
+use Rattle.std.proofs.Common.{◌≡◌, ◌≢◌, ℕ, ◌<◌, true, length, get_or, inl, inr, refl, ap, subst}
+use Rattle.like_core.specs.WorkerState.{phase_of}
+use Rattle.like_core.specs.declared.worker_state.WorkerState.TheVariants as state
 use Rattle.like_seat.specs.StationView.{StationView}
 use Rattle.like_tables.specs.declared.held.Held.{Held}
 use Rattle.like_roles.specs.worker.Desk.{view_of}
-use Rattle.like_roles.specs.worker.Turns.{reports, tries_split}
-use Rattle.like_roles.specs.worker.WorkerView.{IsNextPlace}
-use Rattle.like_roles.proofs.Held.{view_of-tried}
+use Rattle.like_roles.specs.worker.Turns.{idles, reports, tries_split}
+use Rattle.like_roles.specs.worker.WorkerView.{IsNextPlace, TookAllEnds}
+use Rattle.like_roles.proofs.Held.{sound-stopped, sound-tried, tried-split, view_of-tried}
 use Rattle.like_roles.proofs.worker.desk.Desk.split_turn.Goals as goal
 
 pub returns-then-ending-clause-works : goal.returns-then-ending-clause-works
@@ -22,3 +24,30 @@ returns-in-Some-clause-works g c =
     (subst (λ xs. IsNextPlace xs d.cursor place) c.deref.ensures.value c.in-Some.ensures)
     c.try_next.ensures.answer
     (view_of-tried s s d c.try_next.new.self place c.try_next.ensures.tried refl)
+
+pub returns-then-ending-clause-sound : goal.returns-then-ending-clause-sound
+returns-then-ending-clause-sound g c =
+    let s = c.merge.new.seat in
+    sound-stopped s c.report.new.self c.merge.new.self (state.Answered (phase_of s.post.state)) c.merge.ensures.settled
+    c.report.ensures.seat c.report.ensures.stops
+
+pub returns-then-is_full-clause-works : goal.returns-then-is_full-clause-works
+returns-then-is_full-clause-works g c =
+    idles c.requires.split c.if-ending.false (inr (c.is_full.ensures.0 c.if-is_full.true)) refl refl
+
+pub returns-in-Some-clause-sound : goal.returns-in-Some-clause-sound
+returns-in-Some-clause-sound g c =
+    let s = c.args.seat.now in
+    let d = c.args.self.now in
+    let place = c.in-Some.place in
+    let room : length s.held.held ≢ s.held.capacity = λ e. absurd (cc (c.is_full.ensures.1 e, c.if-is_full.false)) in
+    let next = subst (λ xs. IsNextPlace xs d.cursor place) c.deref.ensures.value c.in-Some.ensures in
+    sound-tried s d c.try_next.new.self place c.requires.settled
+    (tried-split s d place c.requires.settled.sound.seat c.requires.split room next.there) c.try_next.ensures.tried
+
+pub returns-in-None-clause-works : goal.returns-in-None-clause-works
+returns-in-None-clause-works g c =
+    let all : TookAllEnds (view_of c.args.seat.now c.args.self.now) =
+    subst (λ xs. (place : ℕ) → place < length xs → get_or xs place true ≡ true) c.deref.ensures.value
+    c.in-None.ensures in
+    idles c.requires.split c.if-ending.false (inl all) refl refl
