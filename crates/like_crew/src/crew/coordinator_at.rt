@@ -29,8 +29,8 @@ impl<'a> Model for CoordinatorAt<'a> {
         × ChoseByCounts l.coordinator };
 }
 
-/// The coordinator at this board, which was made with these counts and the limits of a run; it counts `turns` turns
 impl<'a> CoordinatorAt<'a> {
+    /// The coordinator at this board, which was made with these counts and the limits of a run. It counts `turns` turns
     /// in each phase, and `hot` likes make a page hot.
     pub(crate) fn new(
         alloc: Global,
