@@ -1,4 +1,5 @@
 pub mod slots
 pub mod Examples
 pub mod Lists
+pub mod Parts
 pub mod PlaceLists

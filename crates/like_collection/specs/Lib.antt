@@ -1,3 +1,4 @@
 pub mod CollectFaults
 pub mod Entries
+pub mod Parts
 pub mod Slots

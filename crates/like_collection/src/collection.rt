@@ -3,13 +3,16 @@ ghost use Rattle.like_limits.specs.Limits.{max_submitters};
 ghost use Rattle.like_collection.specs.CollectFaults.{IsCollectFault};
 ghost use Rattle.like_promises.specs.Collected.{IsCollected, rows_of, entries_in};
 
+mod parts;
 mod slot_row;
 mod slots;
 
+use self::parts::{join, parts_of};
 use self::slots::Slots;
 use crate::collect_fault::CollectFault;
 use like_promises::{Replies, WorkerLog};
 use std::alloc::Global;
+use std::thread::Threads;
 
 /// Collects the answer of each request from the workers' logs. `sizes` tells how many requests each submitter has.
 ///
@@ -26,4 +29,23 @@ pub fn collect(alloc: Global, sizes: &[u32], logs: &[WorkerLog]) -> Result<Repli
         slots.put_all(&log.ran)?;
     }
     slots.into_replies(alloc)
+}
+
+/// The same in parallel, where the entries of submitter s's requests are in log s mod N, of N logs. Else it collects one
+/// log after the other.
+pub fn collect_at_once<T: Threads + Sync>(
+    rt: &T,
+    alloc: Global,
+    sizes: &[u32],
+    logs: &[WorkerLog],
+) -> Result<Replies, CollectFault>
+    requires { length sizes.now ≤ max_submitters }
+    ensures { MatchResult result
+        (λ replies. IsCollected sizes.now (entries_in logs.now) (rows_of replies))
+        (IsCollectFault sizes.now (entries_in logs.now)) }
+{
+    match parts_of(rt, alloc, sizes, logs) {
+        Ok(parts) if !logs.is_empty() => Ok(join(alloc, sizes.len(), parts)?),
+        _ => collect(alloc, sizes, logs),
+    }
 }

@@ -1,9 +1,9 @@
-ghost use Rattle.std.specs.Prelude.{◌≡◌, ◌≤◌, IfErr, IfOk, IsSomeAnd, MatchResult, Option, is_some, length, option_map};
+ghost use Rattle.std.specs.Prelude.{◌≡◌, ◌≤◌, IfErr, IfOk, IsSomeAnd, List, MatchResult, Option, is_some, length, option_map};
 ghost use Rattle.like_promises.specs.WorkloadOf.{lists_of};
 ghost use Rattle.like_records.specs.Reading.{ReadFailed};
 ghost use Rattle.like_limits.specs.Limits.{max_entries};
 ghost use Rattle.like_files.specs.FailedReads.{TellsRead};
-ghost use Rattle.like_files.specs.Inputs.{GivesScript, RefusesScript, inputs_in, inputs_of};
+ghost use Rattle.like_files.specs.Inputs.{GivesLists, GivesScript, Inputs, RefusesScript, inputs_in, inputs_of};
 ghost use Rattle.like_files.specs.Outcome.{IsOutcome};
 ghost use Rattle.like_files.specs.Replay.{HasReplayed, HasReplayedLists, IsReplayFilesFault, IsReplayListsFault};
 ghost use Rattle.like_replies.specs.declared.notice.Notice.{Notice};
@@ -11,14 +11,15 @@ ghost use Rattle.like_replies.specs.declared.notice.Notice.{Notice};
 use crate::asked::{extent_of, with_pages};
 use crate::fault::DriverFault;
 use crate::opened::Opened;
-use crate::plans::read_plans;
+use crate::plans::{read_plans, read_plans_at_once};
 use crate::progress::{NoProgress, Part, Progress};
 use like_command::Options;
 use like_replies::{Notice, Text};
-use like_requests::{Request, Setup, read_pages};
+use like_requests::{Pages, Request, Setup, read_pages};
 use like_run::{ScriptFault, Turned, read_script, replay_noting};
 use std::alloc::Global;
 use std::io::{Read, Write};
+use std::thread::Threads;
 
 /// Reads the pages file, the request files in their order and the script file; replays the run that they ask for; and
 /// writes its report. The options say whether that has the totals alone, and whether it has places. Without a script,
@@ -38,17 +39,16 @@ pub fn replay_files<R: Read + Drop, W: Write>(
         (IsReplayFilesFault options.now inputs) W.contents out.old out.new result }
     ensures read { IfErr result (TellsRead pages requests.items script) }
 {
-    let files = Opened {
-        pages,
-        requests,
-        script,
-    };
-    replay_opened(alloc, options, files, out, &mut NoProgress)?;
+    let pages = read_pages(alloc, pages)?;
+    let plans = read_plans(alloc, &pages, requests)?;
+    replay_read(alloc, options, pages, plans, script, out, &mut NoProgress)?;
     Ok(())
 }
 
-/// The same for files that are open, with the notice on the report, while `progress` hears of each part.
-pub fn replay_opened<R: Read + Drop, W: Write, P: Progress>(
+/// The same for files that are open, with the request files read in parallel, and with the notice on the report, while
+/// `progress` hears of each part. The replay itself is the calling thread's work.
+pub fn replay_opened<T: Threads + Sync, R: Read + Drop + Send, W: Write, P: Progress>(
+    rt: &T,
     alloc: Global,
     options: &Options,
     files: Opened<R>,
@@ -62,9 +62,33 @@ pub fn replay_opened<R: Read + Drop, W: Write, P: Progress>(
         W.contents out.old out.new result }
     ensures read { IfErr result (TellsRead files.pages files.requests.items files.script) }
 {
-    let pages = read_pages(alloc, files.pages)?;
-    let plans = read_plans(alloc, &pages, files.requests)?;
-    let script = read_turns(alloc, files.script)?;
+    let Opened {
+        pages,
+        requests,
+        script,
+    } = files;
+    let pages = read_pages(alloc, pages)?;
+    let plans = read_plans_at_once(rt, alloc, &pages, requests)?;
+    replay_read(alloc, options, pages, plans, script, out, progress)
+}
+
+// Reads the script, and replays it with what the other files gave.
+fn replay_read<R: Read + Drop, W: Write, P: Progress>(
+    alloc: Global,
+    options: &Options,
+    pages: Pages,
+    plans: Vec<Vec<Request>>,
+    script: Option<R>,
+    out: &mut W,
+    progress: &mut P,
+) -> Result<Option<Notice>, DriverFault>
+    ensures replayed { (inputs : Inputs) → GivesLists inputs.pages inputs.requests pages (lists_of plans.items)
+        → inputs.script ≡ option_map R.remaining script
+        → IsOutcome (HasReplayed options.now inputs) (IsReplayFilesFault options.now inputs)
+        W.contents out.old out.new result }
+    ensures read { (file : R) (files : List R) → IfErr result (TellsRead file files script) }
+{
+    let script = read_turns(alloc, script)?;
     progress.done(Part::Reading);
     let setup = with_pages(options, pages);
     replay_lists(alloc, options, &setup, plans, &script, out, progress)

@@ -7,6 +7,7 @@ use like_files::{NoProgress, Opened, replay_opened};
 use like_replies::Notice;
 use std::alloc::{AllocError, Global};
 use std::io::Write;
+use std::thread::Threads;
 
 // The pages file of the example.
 const PAGES: &str = "name,count,split\na,10,no\n";
@@ -15,7 +16,11 @@ const PAGES: &str = "name,count,split\na,10,no\n";
 const REQUESTS: &str = "op,user,page\nlike,0,a\nlike,1,a\nlike,0,a\n";
 
 /// Replays the built-in example onto `out`.
-pub fn replay_example<W: Write>(alloc: Global, out: &mut W) -> Result<Option<Notice>, ProgramFault>
+pub fn replay_example<T: Threads + Sync, W: Write>(
+    rt: &T,
+    alloc: Global,
+    out: &mut W,
+) -> Result<Option<Notice>, ProgramFault>
     ensures replayed { IfOk result (HasReplayedExample (W.contents out.old) (W.contents out.new)) }
     ensures fault { IfErr result (IsExampleFault (W.contents out.old) (W.contents out.new)) }
 {
@@ -27,7 +32,7 @@ pub fn replay_example<W: Write>(alloc: Global, out: &mut W) -> Result<Option<Not
         requests,
         script: None,
     };
-    let done = replay_opened(alloc, &options, files, out, &mut NoProgress);
+    let done = replay_opened(rt, alloc, &options, files, out, &mut NoProgress);
     with_options(done, options)
 }
 

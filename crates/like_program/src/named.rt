@@ -31,7 +31,8 @@ where
 
 /// Opens the files that the options name, and replays them onto `out`. Gives the notice on the report, if there is one.
 /// After `Write` and `Memory` a part of the report may have been written.
-pub fn replay_named<O: Opener, W: Write, P: Progress>(
+pub fn replay_named<T: Threads + Sync, O: Opener, W: Write, P: Progress>(
+    rt: &T,
     opener: &O,
     alloc: Global,
     options: &Options,
@@ -39,11 +40,11 @@ pub fn replay_named<O: Opener, W: Write, P: Progress>(
     progress: &mut P,
 ) -> Result<Option<Notice>, DriverFault>
 where
-    O::Reader: Read + Drop,
+    O::Reader: Read + Drop + Send,
     ensures { IsOutcome (HasReplayedNamed (O.opens opener.now) O.Reader.remaining options.now)
         (IsReplayNamedFault (O.opens opener.now) O.Reader.remaining (O.refuses opener.now) options.now)
         W.contents out.old out.new result }
 {
     let files = open_files(opener, alloc, options)?;
-    replay_opened(alloc, options, files, out, progress)
+    replay_opened(rt, alloc, options, files, out, progress)
 }

@@ -85,7 +85,7 @@ where
         (IsServeFault (map string_bytes words.now) (W.contents out.old) (W.contents out.new)) }
 {
     if words.is_empty() {
-        return replay_example(alloc, out);
+        return replay_example(rt, alloc, out);
     }
     match parse(alloc, words)? {
         Asked::Run(options) => {
@@ -95,7 +95,7 @@ where
         }
         Asked::Replay(options) => {
             begin(&options, watch)?;
-            let done = replay_named(&Disk { files: rt }, alloc, &options, out, watch);
+            let done = replay_named(rt, &Disk { files: rt }, alloc, &options, out, watch);
             with_options(done, options)
         }
         Asked::Help(text) => {

@@ -3,14 +3,14 @@ use Rattle.std.proofs.lemmas.Result.{IfOk-weaker, err_from_is_err_and}
 use Rattle.like_program.proofs.NamedFiles.{all_named, named-script, replay-refused}
 use Rattle.like_program.proofs.named.replay_named.Goals as goal
 
-pub replay_opened-requires : goal.replay_opened-requires
-replay_opened-requires g c = record {
-  request_names =
-      all_named (g.O.Opener.opens c.args.opener.now) c.args.options.now c.in_ok-files.files c.in_ok-files.ensures;
-  script_name = named-script
-      (g.O.Opener.opens c.args.opener.now) g.O.Reader.Read.remaining c.args.options.now c.in_ok-files.files
-      c.in_ok-files.ensures;
-}
+pub replay_opened-requires-clause-request_names : goal.replay_opened-requires-clause-request_names
+replay_opened-requires-clause-request_names g c κs within =
+    all_named (g.O.Opener.opens c.args.opener.now) c.args.options.now c.in_ok-files.files c.in_ok-files.ensures
+
+pub replay_opened-requires-clause-script_name : goal.replay_opened-requires-clause-script_name
+replay_opened-requires-clause-script_name g c κs within =
+    named-script (g.O.Opener.opens c.args.opener.now) g.O.Reader.Read.remaining c.args.options.now c.in_ok-files.files
+    c.in_ok-files.ensures
 
 pub returns-in_err-files : goal.returns-in_err-files
 returns-in_err-files g c =

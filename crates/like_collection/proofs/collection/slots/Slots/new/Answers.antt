@@ -1,4 +1,4 @@
-use Rattle.std.proofs.Common.{◌+◌, ℕ, None, List, Option, [], ◌++◌, ◌∷◌, get_or, map, replicate, take, ap, sym, ◌∙◌}
+use Rattle.std.proofs.Common.{ℕ, None, List, Option, [], ◌++◌, ◌∷◌, get_or, map, replicate, take, ap, sym, ◌∙◌}
 use Rattle.std.proofs.lemmas.List.{map-append, take_all, take_more}
 use Rattle.like_promises.specs.declared.answer.Answer.{Answer}
 use Rattle.like_collection.proofs.collection.slots.Slots.new.Goals as goal
