@@ -1,12 +1,13 @@
 -- Logs that have one entry for each request and no other are collected.
-use Rattle.std.proofs.Common.{◌≡◌, ◌≢◌, ℕ, suc, ◌+◌, ◌<◌, ◌≤◌, Bool, true, false, cond, List, [], ◌∷◌, ◌++◌, length, filter, refl, sym, ap, ◌∙◌, arith, zero-add}
+use Rattle.std.proofs.Common.{◌≡◌, ◌≢◌, ℕ, suc, ◌+◌, ◌<◌, ◌≤◌, Bool, true, false, cond, List, [], ◌∷◌, ◌++◌, Result, Ok, Err, IfErr, MatchResult, length, filter, refl, sym, ap, subst, ◌∙◌, arith, zero-add}
 use Rattle.std.proofs.lemmas.Bool.{eq-eqb, lt-ltb}
 use Rattle.like_tables.specs.Share.{owns, share_of, worker_of}
 use Rattle.like_promises.specs.declared.log.Ran.{Ran}
 use Rattle.like_collection.specs.declared.collect_fault.CollectFault.{CollectFault}
 use Rattle.like_collection.specs.declared.collect_fault.CollectFault.TheVariants.{Stranger, Double, Missing, Memory}
 use Rattle.like_collection.specs.CollectFaults.{IsCollectFault, IsFirstBadEntry}
-use Rattle.like_promises.specs.Collected.{entries_of}
+use Rattle.like_promises.specs.declared.replies.Replies.{Replies}
+use Rattle.like_promises.specs.Collected.{IsCollected, entries_of, rows_of}
 use Rattle.like_collection.specs.Entries.{is_of}
 use Rattle.like_requests.specs.Verdict.{home}
 use Rattle.like_crew.specs.Gathered.{RunsOnce}
@@ -59,6 +60,23 @@ no-fault sizes entries (Double submitter number) r f =
 no-fault sizes entries (Missing submitter number) r f =
     absurd (omega (arith, r.requests submitter number f.request, ap (λ (xs : List Ran). length xs) f.missing))
 no-fault sizes entries Memory r f = refl
+
+-- if the logs have one entry for each request and no other, only memory can be lacking
+pub memory-alone : (sizes : List ℕ) (entries : List Ran) (collected : Result Replies CollectFault)
+    → RunsOnce sizes entries
+    → MatchResult collected (λ replies. IsCollected sizes entries (rows_of replies)) (IsCollectFault sizes entries)
+    → IfErr collected (λ fault. fault ≡ Memory)
+memory-alone sizes entries (Ok replies) once is = tt
+memory-alone sizes entries (Err fault) once is = no-fault sizes entries fault once is
+
+-- what was collected
+pub collected-at : (sizes : List ℕ) (entries : List Ran) (collected : Result Replies CollectFault) (replies : Replies)
+    → collected ≡ Ok replies
+    → MatchResult collected (λ replies. IsCollected sizes entries (rows_of replies)) (IsCollectFault sizes entries)
+    → IsCollected sizes entries (rows_of replies)
+collected-at sizes entries collected replies is match =
+    subst (λ r. MatchResult r (λ replies. IsCollected sizes entries (rows_of replies)) (IsCollectFault sizes entries)) is
+    match
 
 -- a worker owns the users whose home it serves
 pub owns-own : (users submitters workers user : ℕ)

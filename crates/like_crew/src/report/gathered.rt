@@ -1,31 +1,26 @@
-ghost use Rattle.std.specs.Prelude.{◌≡◌, ◌<◌, ◌≤◌, ℕ, [], false, true, All, IfOk, Some, length, slice_get};
+ghost use Rattle.std.specs.Prelude.{◌≡◌, ◌<◌, ◌≤◌, ℕ, [], false, true, All, IfErr, IfOk, Ok, Some, length, slice_get};
 ghost use Rattle.like_requests.specs.Verdict.{home};
-ghost use Rattle.like_limits.specs.Limits.{max_submitters, max_workers};
-ghost use Rattle.like_promises.specs.Collected.{IsCollected, rows_of, entries_in};
+ghost use Rattle.like_limits.specs.Limits.{max_workers};
+ghost use Rattle.like_collection.specs.declared.collect_fault.CollectFault.TheVariants.{Memory};
 ghost use Rattle.like_promises.specs.places.Places.{ArePlaces, lists_in};
 ghost use Rattle.like_promises.specs.declared.log.WorkerLog.{WorkerLog as Log};
 ghost use Rattle.like_tables.specs.Share.{worker_of};
 ghost use Rattle.like_tables.specs.UserTable.{last_of};
-ghost use Rattle.like_crew.specs.Gathered.{AreTables, RunsOnce};
+ghost use Rattle.like_crew.specs.Gathered.{AreTables};
 
-use like_collection::{CollectFault, collect, places};
+use like_collection::{CollectFault, places};
 use like_promises::{Place, Replies, WorkerLog};
 use std::alloc::{AllocError, Global};
 
-/// The replies. The logs have one entry for each request, and no other.
-pub fn replies_of(alloc: Global, sizes: &[u32], logs: &[WorkerLog]) -> Result<Replies, AllocError>
-    requires few { length sizes.now ≤ max_submitters }
-    requires once { RunsOnce sizes.now (entries_in logs.now) }
-    ensures { IfOk result (λ replies. IsCollected sizes.now (entries_in logs.now)
-        (rows_of replies)) }
+/// The replies that were collected: only memory can be lacking.
+pub fn replies_of(collected: Result<Replies, CollectFault>) -> Result<Replies, AllocError>
+    requires { IfErr collected (λ fault. fault ≡ Memory) }
+    ensures { IfOk result (λ replies. collected ≡ Ok replies) }
 {
-    let fault = match collect(alloc, sizes, logs) {
-        Ok(replies) => return Ok(replies),
-        Err(fault) => fault,
-    };
-    match fault {
-        CollectFault::Memory => Err(AllocError),
-        _ => unreachable!(),
+    match collected {
+        Ok(replies) => Ok(replies),
+        Err(CollectFault::Memory) => Err(AllocError),
+        Err(_) => unreachable!(),
     }
 }
 

@@ -11,11 +11,12 @@ use Rattle.like_promises.specs.declared.log.Added.{Added}
 use Rattle.like_promises.specs.declared.log.WorkerLog.{WorkerLog}
 use Rattle.like_tables.specs.Share.{worker_of}
 use Rattle.like_promises.specs.WorkloadOf.{workload_of_run, lists_of}
-use Rattle.like_crew.specs.Gathered.{AreTables, RunsOnce}
+use Rattle.like_crew.specs.Gathered.{AreTables}
 use Rattle.like_promises.specs.EndToEnd.{runs_of}
 use Rattle.like_crew.proofs.additions.Tiled.{all-there, of-likes, placed-are, stand-are, tiles-are}
+use Rattle.like_crew.proofs.Once.{collected-at, memory-alone}
 use Rattle.like_crew.proofs.Whole.{all-gone, none-noted, all-here, are-all, chosen-are, counts-are, known, last-likes-are, log-at, logs-are, logs-size, runs-once, seen-counts, tables}
-use Rattle.like_crew.proofs.report.report_of.Goals as goal
+use Rattle.like_crew.proofs.report.report_with.Goals as goal
 
 pub final_counts-counts-requires-clause-left : goal.final_counts-counts-requires-clause-left
 final_counts-counts-requires-clause-left c = record {
@@ -31,25 +32,17 @@ final_counts-counts-requires-clause-places c =
     ap (λ (xs : List ℕ). length xs)
     (c.requires.site.counts ∙ sym (ap (λ (z : Opening). z.counts) c.requires.ended.opening))
 
-pub replies_of-requires-clause-few : goal.replies_of-requires-clause-few
-replies_of-requires-clause-few c =
-    omega (
-      arith,
-      ap (λ (xs : List ℕ). length xs) (c.deref.ensures.value ∙ c.requires.site.sizes),
-      c.requires.within.numbers.submitters.1,
-    )
-
-pub replies_of-requires-clause-once : goal.replies_of-requires-clause-once
-replies_of-requires-clause-once c =
+pub replies_of-requires : goal.replies_of-requires
+replies_of-requires c =
     let plans : List (List Request) = lists_of c.args.plans.now.value.items in
-    let workers : ℕ = c.args.setup.now.workers in
     let e = c.args.ended in
-    subst (λ (logs : List WorkerLog). RunsOnce c.deref.result.now (entries_in logs)) (sym c.deref-2.ensures.value)
-    (runs-once (known c.args.setup.now plans c.args.site e c.requires.ended) workers e.logs.items c.deref.result.now
-    (c.deref.ensures.value ∙ c.requires.site.sizes)
+    memory-alone c.args.site.sizes.items (entries_in e.logs.items) c.args.collected
+    (runs-once (known c.args.setup.now plans c.args.site e c.requires.ended) c.args.setup.now.workers e.logs.items
+    c.args.site.sizes.items c.requires.site.sizes
     (logs-size c.args.setup.now plans c.args.site e c.requires.ended)
     c.requires.within.numbers.workers.0
     (log-at c.args.setup.now plans c.args.site e c.requires.ended c.final_counts-counts.ensures.closed.masks))
+    c.requires.collected
 
 -- the number of submitters
 submitters-are : (many : ℕ) (sizes : List ℕ) (plans : List (List Request))
@@ -72,8 +65,8 @@ pub last_likes-requires-clause-logs : goal.last_likes-requires-clause-logs
 last_likes-requires-clause-logs c =
     let size = logs-size c.args.setup.now
     (lists_of c.args.plans.now.value.items) c.args.site c.args.ended c.requires.ended in
-    let same : length c.deref-3.result.now ≡ c.args.setup.now.workers =
-    ap (λ (xs : List WorkerLog). length xs) c.deref-3.ensures.value ∙ size in
+    let same : length c.deref.result.now ≡ c.args.setup.now.workers =
+    ap (λ (xs : List WorkerLog). length xs) c.deref.ensures.value ∙ size in
     let some : 1 ≤ c.args.setup.now.workers = c.requires.within.numbers.workers.0 in
     omega (arith, same, some)
 
@@ -82,7 +75,7 @@ last_likes-requires-clause-tables c =
     let plans : List (List Request) = lists_of c.args.plans.now.value.items in
     let many = submitters-are c.len.result c.args.site.sizes.items (lists_of c.args.plans.now.value.items)
     (c.len.ensures ∙ c.args.site.sizes.ok.0) c.requires.site.sizes in
-    subst (λ (logs : List WorkerLog). AreTables c.args.setup.now.users c.len.result logs) (sym c.deref-3.ensures.value)
+    subst (λ (logs : List WorkerLog). AreTables c.args.setup.now.users c.len.result logs) (sym c.deref.ensures.value)
     (subst (λ n. AreTables c.args.setup.now.users n c.args.ended.logs.items) (sym many)
     (tables c.args.setup.now plans c.args.site c.args.ended c.requires.ended))
 
@@ -93,8 +86,6 @@ returns-clause-report c =
     let e = c.args.ended in
     let h = c.requires.ended in
     let size : length e.logs.items ≡ workers = logs-size c.args.setup.now plans c.args.site e h in
-    let sized : c.deref.result.now ≡ map length (lists_of c.args.plans.now.value.items) =
-    c.deref.ensures.value ∙ c.requires.site.sizes in
     let many = submitters-are c.len.result c.args.site.sizes.items (lists_of c.args.plans.now.value.items)
     (c.len.ensures ∙ c.args.site.sizes.ok.0) c.requires.site.sizes in
     let told = c.final_counts-counts.ensures in
@@ -106,9 +97,10 @@ returns-clause-report c =
     record {
       workers_all = size;
       logs = logs;
-      replies = subst (λ sizes. IsCollected sizes (entries_in e.logs.items) (rows_of c.in_ok-replies.replies)) sized
-          (subst (λ (logs : List WorkerLog). IsCollected c.deref.result.now (entries_in logs)
-          (rows_of c.in_ok-replies.replies)) c.deref-2.ensures.value c.in_ok-replies.ensures);
+      replies = subst (λ sizes. IsCollected sizes (entries_in e.logs.items) (rows_of c.in_ok-replies.replies))
+          c.requires.site.sizes
+          (collected-at c.args.site.sizes.items (entries_in e.logs.items) c.args.collected c.in_ok-replies.replies
+          c.in_ok-replies.ensures c.requires.collected);
       counts = counts-are c.args.setup.now plans c.args.site e h told.closed.masks
           c.final_counts-counts.result.items refl pages
           (λ page there. told.totals page (omega (arith, there, pages)));
@@ -118,7 +110,7 @@ returns-clause-report c =
           (λ user log there at.
           c.in_ok-last.ensures.last user log there
           (ap (λ (logs : List WorkerLog). slice_get logs (worker_of (length logs) (home c.len.result user)))
-          c.deref-3.ensures.value
+          c.deref.ensures.value
           ∙ ap (λ n. slice_get e.logs.items (worker_of (length e.logs.items) (home n user))) many ∙ at));
       joined = h.joined;
       seen = seen-counts c.args.setup.now plans c.args.site e h told.closed.masks refl told.closed.reads;
@@ -131,7 +123,7 @@ places_of-requires-clause-few c =
     let size = logs-size c.args.setup.now plans c.args.site c.args.ended c.requires.ended in
     omega (
       arith,
-      ap (λ (xs : List WorkerLog). length xs) c.deref-4.ensures.value,
+      ap (λ (xs : List WorkerLog). length xs) c.deref-2.ensures.value,
       size,
       c.requires.within.numbers.workers.1,
     )
@@ -142,11 +134,11 @@ places_of-requires-clause-there c notes =
     let closed = c.final_counts-counts.ensures.closed in
     let there = all-there c.args.setup.now plans c.args.site c.args.ended c.requires.ended closed.masks closed.counted
     notes c.requires.within.there in
-    subst (λ (n : ℕ). All (λ (log : WorkerLog). All (λ (a : Added). a.page < n) log.adds.items) c.deref-4.result.now)
+    subst (λ (n : ℕ). All (λ (log : WorkerLog). All (λ (a : Added). a.page < n) log.adds.items) c.deref-2.result.now)
     (sym c.len-2.ensures.len)
     (subst (λ (logs : List WorkerLog). All
     (λ (log : WorkerLog). All (λ (a : Added). a.page < length c.args.setup.now.pages) log.adds.items) logs)
-    (sym c.deref-4.ensures.value) there)
+    (sym c.deref-2.ensures.value) there)
 
 pub returns-clause-places : goal.returns-clause-places
 returns-clause-places c notes =
@@ -169,7 +161,7 @@ returns-clause-places c notes =
       order = λ worker d within. (placed worker d within).order;
       in_time = stand-are setup plans c.args.site e h closed.masks closed.counted notes closed.stand;
       rows = subst (λ (n : ℕ). P n e.logs.items) c.len-2.ensures.len
-          (subst (P c.len-2.result) c.deref-4.ensures.value (c.in_ok-places.ensures.noted notes));
+          (subst (P c.len-2.result) c.deref-2.ensures.value (c.in_ok-places.ensures.noted notes));
     }
 
 pub returns-clause-none : goal.returns-clause-none
