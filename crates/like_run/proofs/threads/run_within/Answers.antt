@@ -12,29 +12,29 @@ new-requires g c =
     subst (λ (xs : List (Vec Request Global)). FitsRun c.args.setup.now (lists_of xs))
     (sym c.deref.ensures.value) c.requires
 
-pub report_of-requires-clause-site : goal.report_of-requires-clause-site
-report_of-requires-clause-site g c =
+pub report_at_once-requires-clause-site : goal.report_at_once-requires-clause-site
+report_at_once-requires-clause-site g c κs lives =
     subst (λ (v : Vec (Vec Request Global) Global). IsSite c.args.setup.now (lists_of v.items) c.in_ok-site.site)
     (sym c.of-lists.ensures)
     (subst (λ (xs : List (Vec Request Global)). IsSite c.args.setup.now (lists_of xs) c.in_ok-site.site)
     c.deref.ensures.value c.in_ok-site.ensures.site)
 
-pub report_of-requires-clause-ended : goal.report_of-requires-clause-ended
-report_of-requires-clause-ended g c =
+pub report_at_once-requires-clause-ended : goal.report_at_once-requires-clause-ended
+report_at_once-requires-clause-ended g c κs lives =
     subst (λ (v : Vec (Vec Request Global) Global). IsEnded c.args.setup.now
     (lists_of v.items) c.in_ok-site.site c.in_ok-ended.ended) (sym c.of-lists.ensures) c.in_ok-ended.ensures.ended
 
-pub report_of-requires-clause-within : goal.report_of-requires-clause-within
-report_of-requires-clause-within g c =
+pub report_at_once-requires-clause-within : goal.report_at_once-requires-clause-within
+report_at_once-requires-clause-within g c κs lives =
     subst (λ (v : Vec (Vec Request Global) Global). FitsRun c.args.setup.now (lists_of v.items)) (sym c.of-lists.ensures)
     c.requires
 
 pub returns-clause-report : goal.returns-clause-report
 returns-clause-report g c =
     is-report c.args.setup.now (lists_of c.of-lists.result.value.items) (lists_of c.args.plans.items)
-    c.in_ok-site.site.notes c.args.notes c.in_ok-report_of.field-0
+    c.in_ok-site.site.notes c.args.notes c.in_ok-report_at_once.field-0
     (ap (λ (v : Vec (Vec Request Global) Global). lists_of v.items) c.of-lists.ensures) c.in_ok-site.ensures.notes
-    c.in_ok-report_of.ensures.report c.in_ok-report_of.ensures.places c.in_ok-report_of.ensures.none
+    c.in_ok-report_at_once.ensures.report c.in_ok-report_at_once.ensures.places c.in_ok-report_at_once.ensures.none
 
 pub returns-clause-enough : goal.returns-clause-enough
 returns-clause-enough g c = c.in_ok-ended.ensures.enough
