@@ -8,9 +8,9 @@ use Rattle.std.proofs.lemmas.Option.{none-some, same_Some}
 use Rattle.std.proofs.lemmas.Slice.Eq.{bytes_eq-Decides}
 use Rattle.clap.proofs.ValueTestLemmas.{accepts-Accepts}
 use Rattle.clap.specs.Facts.{explicit_source, parser_of_value}
-use Rattle.clap.specs.Faults.{check_fault, entered_fault, fault_of, level_fault}
+use Rattle.clap.specs.Faults.{check_fault, entered_fault, fault_of, is_simple_and_free, level_fault}
 use Rattle.clap.specs.Kinds.{HasKind, Kinds, value_kinds}
-use Rattle.clap.specs.Simple.{Shape, built, built_leaf, entered, inherited, marked_built, names_of, new_rule, rows_at, subcommand_of, with_leaf_noted}
+use Rattle.clap.specs.Simple.{App, HasMatchesOf, Shape, app_of, built, built_leaf, entered, inherited, is_simple, marked_built, names_of, new_rule, rows_at, subcommand_of, with_leaf_noted}
 use Rattle.clap.specs.Words.{subcommand_rows_of}
 use Rattle.clap.specs.Matches.{subcommand_name_of}
 use Rattle.clap.specs.declared.parser.matches.ArgMatches.{ArgMatches}
@@ -19,6 +19,7 @@ use Rattle.clap.specs.Takes.{is_given}
 use Rattle.clap.specs.Values.{bool_text, reading_of, refused_kind}
 use Rattle.clap.specs.ValueTests.{accepts}
 use Rattle.clap.specs.Walk.{Held, Names, Row, Rule, Text, all_of, answers_to, arg_by_id, default_rows, finished, first_of, has_row, more_values, nothing_held, reading_by, rows_after, settled, stop_after, walk, walk_from, with_default, with_values}
+use Rattle.clap.specs.declared.builder.command.Command.{Command}
 use Rattle.clap.specs.declared.error.Error.{Error}
 use Rattle.clap.specs.declared.error.kind.ErrorKind.TheVariants.{MissingRequiredArgument}
 use Rattle.clap.specs.declared.builder.value_parser.Reading.{Reading}
@@ -452,24 +453,30 @@ asks words m (Help text) none same h = absurd h
 -- ---- a parse
 
 -- a parse that succeeds met no fault, and entered a subcommand with what it needs
-pub parsed : (spelled words : List Text) (m : ArgMatches)
-    → fault_of likes_app spelled ≡ []
-    → subcommand_rows_of m ≡ subcommand_of likes_app spelled
+pub parsed : (command : Command) (spelled words : List Text) (m : ArgMatches)
+    → app_of command ≡ likes_app
+    → (is_simple_and_free (app_of command) ≡ true → fault_of (app_of command) spelled ≡ [])
+    → HasMatchesOf (app_of command) spelled m
     → spelled ≡ spelled_out words
     → (faults_of words ≡ []) × (subcommand_rows_of m ≡ entered_of words) × (rows : List Row)
     × IsEntered (subcommand_rows_of m) rows × HasAll rows
-parsed spelled words m kinds matches spells =
-    let none : faults_of words ≡ [] = subst (λ list. fault_of likes_app list ≡ []) spells kinds in
+parsed command spelled words m same kinds matches spells =
+    let none : faults_of words ≡ [] =
+    subst (λ list. fault_of likes_app list ≡ []) spells
+    (subst (λ (a : App). fault_of a spelled ≡ []) same (kinds (ap is_simple_and_free same))) in
     let found = enters (spelled_out words) none in
-    let entered_is = matches ∙ ap (subcommand_of likes_app) spells in
+    let entered_is = (matches (ap is_simple same)).1 ∙ ap₂ subcommand_of same spells in
     (none, entered_is, found.0, subst (λ e. IsEntered e found.0) (sym entered_is) found.1, found.2)
 
 -- the kinds of fault of a parse that fails
-pub failed : (spelled words : List Text) (e : Error)
-    → HasKind (fault_of likes_app spelled) e
+pub failed : (command : Command) (spelled words : List Text) (e : Error)
+    → app_of command ≡ likes_app
+    → (is_simple_and_free (app_of command) ≡ true → HasKind (fault_of (app_of command) spelled) e)
     → spelled ≡ spelled_out words
     → HasKind (faults_of words) e
-failed spelled words e kinds spells = subst (λ list. HasKind (fault_of likes_app list) e) spells kinds
+failed command spelled words e same kinds spells =
+    subst (λ list. HasKind (fault_of likes_app list) e) spells
+    (subst (λ (a : App). HasKind (fault_of a spelled) e) same (kinds (ap is_simple_and_free same)))
 
 pub when_ok : {T E : Type 0} (r : Result T E) (P : T → Type 0) (Q : E → Type 0) → MatchResult r P Q → IfOk r P
 when_ok (Ok x) P Q h = h

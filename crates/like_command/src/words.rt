@@ -1,16 +1,15 @@
 ghost use Rattle.std.specs.Prelude.{◌≡◌, List, IfErr, IfOk, map};
-ghost use Rattle.clap.specs.Words.{Text, fault_of, subcommand_of, subcommand_rows_of};
+ghost use Rattle.clap.specs.Words.{Text};
 ghost use Rattle.clap.specs.Walk.{texts};
-ghost use Rattle.clap.specs.Kinds.{FailsBy, HasKind};
+ghost use Rattle.clap.specs.Kinds.{HasKind};
 ghost use Rattle.like_command.specs.Asked.{Asks, IsParseFault, RefusesWords, faults_of, spelled_out};
-ghost use Rattle.like_command.specs.CommandLine.{likes_app};
 
 use crate::asked::Asked;
 use crate::command::likes_command;
 use crate::fault::ParseFault;
 use crate::matches::matched;
+use clap::Error;
 use clap::error::ErrorKind;
-use clap::{ArgMatches, Error};
 use std::alloc::{AllocError, Global};
 use std::convert::AsStr;
 
@@ -22,19 +21,10 @@ pub fn parse<S: AsStr>(alloc: Global, words: &[S]) -> Result<Asked, ParseFault>
     ensures fault { IfErr result (IsParseFault (map S.text words.now)) }
 {
     let spelled = spelled_out(alloc, words)?;
-    match matches_of(alloc, spelled.as_slice()) {
+    match likes_command(alloc)?.try_get_matches_from(spelled.as_slice()) {
         Ok(matches) => Ok(matched(alloc, &matches)?),
         Err(error) => refused(alloc, &error),
     }
-}
-
-// What `clap` finds in the words.
-fn matches_of<'w>(alloc: Global, words: &'w [&'w str]) -> Result<ArgMatches<'w>, Error>
-    ensures kinds { FailsBy (fault_of likes_app (texts words.now)) result }
-    ensures found { IfOk result (λ matches.
-        subcommand_rows_of matches ≡ subcommand_of likes_app (texts words.now)) }
-{
-    likes_command(alloc)?.try_get_matches_from(words)
 }
 
 // The words as `clap` reads them: `help run` is another spelling of `run --help`.
