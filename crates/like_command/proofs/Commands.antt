@@ -1,8 +1,9 @@
 -- What clap reads of a command that is built up.
 use Rattle.std.specs.Borrow.{Bor}
-use Rattle.std.proofs.Common.{◌≡◌, ◌∙◌, ◌||◌, ℕ, Option, Some, false, true, length, ap, ap₂}
+use Rattle.std.proofs.Common.{◌≡◌, ◌∙◌, ◌||◌, ℕ, List, [], ◌∷◌, ◌++◌, Option, Some, false, true, length, ap, ap₂, subst, sym}
+use Rattle.std.specs.List.{AllZip, fold}
 use Rattle.clap.specs.Walk.{texts}
-use Rattle.clap.specs.Words.{AddsArg, AddsSubcommand, App, Rule, Shape, Text, app_of, items_of, rule_of, with_rule, with_subcommand}
+use Rattle.clap.specs.Words.{AddsArg, AddsInTurn, AddsSubcommand, App, Rule, Shape, Text, app_of, items_of, rule_of, with_rule, with_subcommand}
 use Rattle.clap.specs.declared.builder.action.ArgAction.{ArgAction}
 use Rattle.clap.specs.declared.builder.arg.Arg.{Arg}
 use Rattle.clap.specs.declared.builder.command.Command.{Command}
@@ -98,3 +99,38 @@ pub sub_added : (old sub new : Command) (shape : Shape) (s : App)
     → app_of old ≡ s
     → app_of new ≡ with_subcommand s shape
 sub_added old sub new shape s h is was = h.shape is.local ∙ ap₂ with_subcommand was is.shape_is
+
+-- more arguments in turn
+pub all_added : (old new : Command) (rules : List Rule) (list : List Arg) (s : App)
+    → AddsInTurn AddsArg old list new
+    → AllZip IsArgument rules list
+    → IsCommand s old
+    → IsCommand (fold with_rule s rules) new
+all_added old new [] [] s h arguments was = subst (IsCommand s) h was
+all_added old new [] (a ∷ list) s h arguments was = absurd arguments
+all_added old new (r ∷ rules) [] s h arguments was = absurd arguments
+all_added old new (r ∷ rules) (a ∷ list) s h arguments was =
+    all_added h.0 new rules list (with_rule s r) h.2 arguments.1 (added old h.0 a r s h.1 arguments.0 was)
+
+-- one list of arguments after another
+pub appended : (rules more : List Rule) (list others : List Arg)
+    → AllZip IsArgument rules list
+    → AllZip IsArgument more others
+    → AllZip IsArgument (rules ++ more) (list ++ others)
+appended [] more [] others h after = after
+appended [] more (a ∷ list) others h after = absurd h
+appended (r ∷ rules) more [] others h after = absurd h
+appended (r ∷ rules) more (a ∷ list) others h after = (h.0, appended rules more list others h.1 after)
+
+-- more subcommands in turn
+pub all_subs_added : (old new : Command) (shapes : List Shape) (list : List Command) (s : App)
+    → AddsInTurn AddsSubcommand old list new
+    → AllZip IsSubcommand shapes list
+    → app_of old ≡ s
+    → app_of new ≡ fold with_subcommand s shapes
+all_subs_added old new [] [] s h subs was = ap app_of (sym h) ∙ was
+all_subs_added old new [] (c ∷ list) s h subs was = absurd subs
+all_subs_added old new (shape ∷ shapes) [] s h subs was = absurd subs
+all_subs_added old new (shape ∷ shapes) (c ∷ list) s h subs was =
+    all_subs_added h.0 new shapes list (with_subcommand s shape) h.2 subs.1
+    (sub_added old c h.0 shape s h.1 subs.0 was)

@@ -77,9 +77,8 @@ impl Parkers {
 
     /// Wakes the worker of a submitter.
     pub fn wake_worker_of(&self, submitter: u32) {
-        let worker = (submitter as usize).checked_rem(self.workers.len());
-        if let Some(parker) = worker.and_then(|worker| self.workers.get(worker)) {
-            parker.unpark();
+        if !self.workers.is_empty() {
+            self.workers[submitter as usize % self.workers.len()].unpark();
         }
     }
 }

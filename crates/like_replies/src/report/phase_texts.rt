@@ -42,8 +42,7 @@ fn phase_and(alloc: Global, phase: u32, rest: &[u8]) -> Result<Sheet, AllocError
 fn add_phase(text: &mut Sheet, phase: u32, rest: &[u8]) -> Result<(), AllocError>
     ensures { OnOk result (text.new ≡ text.old ++ (phase_text phase ++ rest.now)) }
 {
-    text.add(b",")?;
-    text.add_number(u64::from(phase))?;
+    text.add_numbered(b",", u64::from(phase))?;
     text.add(rest)
 }
 

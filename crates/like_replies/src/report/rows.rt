@@ -1,8 +1,9 @@
 ghost use Rattle.std.specs.Prelude.{◌≡◌, ◌<◌, ◌++◌, ℕ, List, IfOk, OnOk, codes, length};
-ghost use Rattle.csv.specs.Writing.{default_writer, row_text};
+ghost use Rattle.std.specs.Option.{ForSome};
+ghost use Rattle.csv.specs.Writing.{default_writer, field_text, row_text};
 ghost use Rattle.like_requests.specs.Pages.{Page};
-ghost use Rattle.like_promises.specs.declared.reply.Reply.TheVariants.{Refused};
-ghost use Rattle.like_replies.specs.Rows.{IsAnswer, IsShowable, header_row, hot_row, page_row, reply_row, user_row};
+ghost use Rattle.like_promises.specs.declared.reply.Reply.TheVariants.{Refused, Seen};
+ghost use Rattle.like_replies.specs.Rows.{IsAnswer, IsShowable, header_row, hot_row, name_of, page_row, reply_row, user_row};
 ghost use Rattle.like_replies.specs.PlaceRows.{place_row};
 ghost use Rattle.like_replies.specs.RowParts.{phase_text, place_start, reply_start, shown_text};
 
@@ -27,8 +28,7 @@ pub fn start_reply(alloc: Global, submitter: u64) -> Result<Sheet, AllocError>
     ensures { IfOk result (λ start. start ≡ reply_start submitter) }
 {
     let mut start = Sheet::new(alloc);
-    start.add(b"reply,")?;
-    start.add_number(submitter)?;
+    start.add_numbered(b"reply,", submitter)?;
     start.add(b",")?;
     Ok(start)
 }
@@ -59,18 +59,30 @@ fn add_shown(
 {
     match reply {
         Reply::Liked => sheet.add(texts.liked()),
-        Reply::Seen { last, count } => {
-            sheet.add(texts.seen())?;
-            sheet.add(names.text_of_last(last))?;
-            sheet.add(b",")?;
-            sheet.add_number(count)?;
-            sheet.add(b"\n")
-        }
+        Reply::Seen { last, count } => add_seen(sheet, names, texts, last, count),
         Reply::Refused(verdict) => {
             sheet.add(texts.start())?;
             sheet.add(refusal(verdict).as_bytes())
         }
     }
+}
+
+// The same for a look.
+fn add_seen(
+    sheet: &mut Sheet,
+    names: &Names,
+    texts: &PhaseTexts,
+    last: Option<u32>,
+    count: u64,
+) -> Result<(), AllocError>
+    requires { ForSome last (λ page. page < length names.now) }
+    ensures { OnOk result (sheet.new ≡ sheet.old
+        ++ (phase_text texts.now ++ shown_text names.now (Seen last count))) }
+{
+    sheet.add(texts.seen())?;
+    sheet.add(names.text_of_last(last))?;
+    sheet.add_numbered(b",", count)?;
+    sheet.add(b"\n")
 }
 
 /// Adds the row of a submitter's request, with the texts of an even and of an odd phase at hand: joined and split
@@ -94,18 +106,25 @@ pub fn add_reply(
     add_shown(sheet, names, texts, answer.reply)
 }
 
+// Adds text, and after it the name of a page.
+fn add_named(sheet: &mut Sheet, text: &[u8], names: &Names, page: u32) -> Result<(), AllocError>
+    requires { page < length names.now }
+    ensures { OnOk result (sheet.new
+        ≡ sheet.old ++ (text.now ++ field_text default_writer (name_of names.now page))) }
+{
+    sheet.add(text)?;
+    sheet.add(names.text(page))
+}
+
 /// Adds the row of a page with its final count.
 pub fn add_page(sheet: &mut Sheet, names: &Names, page: u32, count: u64) -> Result<(), AllocError>
     requires { page < length names.now }
     ensures { OnOk result (sheet.new ≡ sheet.old
         ++ row_text default_writer (page_row names.now page count)) }
 {
-    sheet.add(b"page,")?;
-    sheet.add_number(u64::from(page))?;
-    sheet.add(b",,,,")?;
-    sheet.add(names.text(page))?;
-    sheet.add(b",")?;
-    sheet.add_number(count)?;
+    sheet.add_numbered(b"page,", u64::from(page))?;
+    add_named(sheet, b",,,,", names, page)?;
+    sheet.add_numbered(b",", count)?;
     sheet.add(b"\n")
 }
 
@@ -117,8 +136,7 @@ pub fn add_user(sheet: &mut Sheet, names: &Names, head: &Head, page: u32) -> Res
         ++ row_text default_writer (user_row names.now head.now.number page)) }
 {
     sheet.add(head.text())?;
-    sheet.add(b",,,,")?;
-    sheet.add(names.text(page))?;
+    add_named(sheet, b",,,,", names, page)?;
     sheet.add(b",\n")
 }
 
@@ -128,12 +146,9 @@ pub fn add_hot(sheet: &mut Sheet, names: &Names, phase: u32, page: u32) -> Resul
     ensures { OnOk result (sheet.new ≡ sheet.old
         ++ row_text default_writer (hot_row names.now phase page)) }
 {
-    sheet.add(b"hot,")?;
-    sheet.add_number(u64::from(page))?;
-    sheet.add(b",,")?;
-    sheet.add_number(u64::from(phase))?;
-    sheet.add(b",,")?;
-    sheet.add(names.text(page))?;
+    sheet.add_numbered(b"hot,", u64::from(page))?;
+    sheet.add_numbered(b",,", u64::from(phase))?;
+    add_named(sheet, b",,", names, page)?;
     sheet.add(b",\n")
 }
 
@@ -150,10 +165,8 @@ pub fn add_place(
 {
     start_place(sheet, page, place)?;
     sheet.add_number(place.old)?;
-    sheet.add(b",")?;
-    sheet.add(names.text(page))?;
-    sheet.add(b",")?;
-    sheet.add_number(place.n)?;
+    add_named(sheet, b",", names, page)?;
+    sheet.add_numbered(b",", place.n)?;
     sheet.add(b"\n")
 }
 
@@ -161,11 +174,8 @@ pub fn add_place(
 fn start_place(sheet: &mut Sheet, page: u32, place: &Place) -> Result<(), AllocError>
     ensures { OnOk result (sheet.new ≡ sheet.old ++ place_start page place.now) }
 {
-    sheet.add(b"place,")?;
-    sheet.add_number(u64::from(page))?;
-    sheet.add(b",")?;
-    sheet.add_number(u64::from(place.worker))?;
-    sheet.add(b",")?;
-    sheet.add_number(u64::from(place.phase))?;
+    sheet.add_numbered(b"place,", u64::from(page))?;
+    sheet.add_numbered(b",", u64::from(place.worker))?;
+    sheet.add_numbered(b",", u64::from(place.phase))?;
     sheet.add(b",")
 }

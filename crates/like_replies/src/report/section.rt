@@ -1,4 +1,4 @@
-ghost use Rattle.std.specs.Prelude.{◌≡◌, ◌<◌, ◌+◌, ◌^◌, [], ◌∷◌, ◌++◌, All, IfOk, OnOk, codes, length};
+ghost use Rattle.std.specs.Prelude.{◌≡◌, ◌<◌, ◌+◌, ◌^◌, ℕ, [], ◌∷◌, ◌++◌, All, IfOk, OnOk, codes, length};
 ghost use Rattle.std.specs.Option.{ForSome};
 ghost use Rattle.like_replies.specs.PlaceRows.{page_place_rows};
 ghost use Rattle.like_replies.specs.RowParts.{reply_start};
@@ -83,8 +83,27 @@ fn add_answers(
 {
     let mut head = reply_head(alloc, submitter, before)?;
     let mut phases = first_phases(alloc)?;
+    add_replies(alloc, sheet, names, &mut head, &mut phases, answers)
+}
+
+// Adds the rows of requests, from the one of this head on.
+fn add_replies(
+    alloc: Global,
+    sheet: &mut Sheet,
+    names: &Names,
+    head: &mut Head,
+    phases: &mut [PhaseTexts; 2],
+    answers: &[Answer],
+) -> Result<(), AllocError>
+    requires room { head.old.number + length answers.now < 2 ^ 64 }
+    requires shown { All (λ a. IsShowable names.now a.reply) answers.now }
+    ensures { (submitter before : ℕ)
+        → head.old ≡ record { start = reply_start submitter; number = before + 1 }
+        → OnOk result (sheet.new ≡ sheet.old
+        ++ rows_text (answer_rows names.now submitter before answers.now)) }
+{
     for answer in answers {
-        add_reply(alloc, sheet, names, &head, &mut phases, answer)?;
+        add_reply(alloc, sheet, names, head, phases, answer)?;
         head.next();
     }
     Ok(())

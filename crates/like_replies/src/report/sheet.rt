@@ -53,6 +53,15 @@ impl Sheet {
         self.add(Buffer::new().format(number).as_bytes())
     }
 
+    /// Adds text, and after it a number.
+    pub fn add_numbered(&mut self, text: &[u8], number: u64) -> Result<(), AllocError>
+        ensures { OnOk result (self.new
+            ≡ self.old ++ (text.now ++ field_text default_writer (decimal number))) }
+    {
+        self.add(text)?;
+        self.add_number(number)
+    }
+
     /// Hands all the text on.
     pub fn hand_on<W: Write>(&mut self, out: &mut W) -> Result<(), WriteFault>
         ensures handed { OnOk result (Appends (W.contents out.old) (W.contents out.new) self.old) }

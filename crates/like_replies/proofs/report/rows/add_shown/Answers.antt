@@ -1,15 +1,15 @@
 use Rattle.std.proofs.Common.{rules, append_assoc}
 use Rattle.std.proofs.lemmas.Result.{IfOk-equal}
-use Rattle.like_replies.proofs.rows.RowTexts.{seen-text}
 use Rattle.like_replies.proofs.report.rows.add_shown.Goals as goal
 
 pub returns-in-Liked : goal.returns-in-Liked
 returns-in-Liked c = rw (c.in-Liked.is, ← c.liked.ensures c.args.names.now) c.add.ensures
 
-pub returns-in_ok-add_number-in-Seen : goal.returns-in_ok-add_number-in-Seen
-returns-in_ok-add_number-in-Seen c =
-    rw (c.in-Seen.is, seen-text c.args.names.now c.in-Seen.last c.in-Seen.count, ← c.text_of_last.ensures)
-    (search (rules, IfOk-equal, append_assoc))
+pub add_seen-requires : goal.add_seen-requires
+add_seen-requires c = rw c.in-Seen.is at c.requires.there
+
+pub returns-in-Seen : goal.returns-in-Seen
+returns-in-Seen c = rw c.in-Seen.is c.add_seen.ensures
 
 pub refusal-requires : goal.refusal-requires
 refusal-requires c = rw c.in-Refused.is at c.requires.answer
