@@ -119,7 +119,16 @@ fn are_counts(report: &Report, counts: &[u64]) -> bool {
 /// Asserts the counts of a report, and drops it: a caller that dropped it would prove once more how each of its parts is
 /// dropped.
 pub fn assert_counts(rt: &impl Abort, report: Report, counts: &[u64]) {
-    assert!(rt; are_counts(&report, counts));
+    let are_right = are_counts(&report, counts);
+    drop(report);
+    assert_that(rt, are_right, "other counts");
+}
+
+/// Stops the test and tells what is wrong, unless this holds.
+pub fn assert_that(rt: &impl Abort, holds: bool, wrong: &str) {
+    if !holds {
+        rt.panic(wrong);
+    }
 }
 
 /// Asserts that a text is this.

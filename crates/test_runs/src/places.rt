@@ -1,5 +1,5 @@
 //! The places of the additions in runs.
-use super::cases::{assert_counts, plain_likes};
+use super::cases::{assert_counts, assert_that, plain_likes};
 use super::gates::Watch;
 use like_replies::{Place, Report};
 use like_run::{replay_noting, run_noting};
@@ -10,7 +10,7 @@ use std::thread::Threads;
 
 /// The additions to the one page of a report.
 pub fn places_of<'a>(rt: &impl Abort, report: &'a Report) -> &'a [Place] {
-    assert!(rt; report.places.len() == 1);
+    assert_that(rt, report.places.len() == 1, "not one page");
     report.places.first().expect(rt, "a page")
 }
 
@@ -26,12 +26,19 @@ pub fn are_placed_singly(places: &[Place]) -> bool {
     old == 13
 }
 
+// Whether a report has no places, and its logs no additions.
+fn has_none(report: &Report) -> bool {
+    for log in report.logs.iter() {
+        if !log.adds.is_empty() {
+            return false;
+        }
+    }
+    report.places.is_empty()
+}
+
 // Asserts that a report of plain likes has their count, and no places.
 fn assert_none(rt: &impl Abort, report: Report) {
-    assert!(rt; report.places.is_empty());
-    for log in report.logs.iter() {
-        assert!(rt; log.adds.is_empty());
-    }
+    assert_that(rt, has_none(&report), "a place or an addition");
     assert_counts(rt, report, &[13]);
 }
 

@@ -2,7 +2,7 @@
 //! replay may last.
 use super::cases::{
     Case, FULL_STASH, IDLE_WORKERS, LATE_WORKER, PLAIN_LIKES, SMALL, SPLIT_AND_STASH,
-    STASH_THEN_LIKE, TWO_SLICES, UNSPLIT, assert_counts, likes,
+    STASH_THEN_LIKE, TWO_SLICES, UNSPLIT, assert_counts, assert_that, likes,
 };
 use super::lists::{Alike, are_alike};
 use super::logs::{Log, NO_LOG};
@@ -311,7 +311,7 @@ fn is_shown(report: &Report, example: &Example) -> bool {
 fn assert_examples(rt: &impl Abort, alloc: Global, examples: &[Example]) {
     for example in examples {
         let report = example.case.replay(rt, alloc).expect(rt, "a report");
-        assert!(rt; is_shown(&report, example), "{}", example.name);
+        assert_that(rt, is_shown(&report, example), example.name);
         assert_counts(rt, report, example.counts);
     }
 }
@@ -342,7 +342,8 @@ fn fault_of(replayed: Result<Report, ReplayFault>) -> Option<ReplayFault> {
 #[test]
 fn names_an_entry_that_is_away(rt: HostRuntime) {
     let fault = fault_of(away().replay(&rt, rt.alloc()));
-    assert!(rt; fault == Some(ReplayFault::Settings(SettingsFault::Script { at: 1 })));
+    let wanted = Some(ReplayFault::Settings(SettingsFault::Script { at: 1 }));
+    assert_that(&rt, fault == wanted, "out of memory, or another answer");
 }
 
 // Whether 2,060 entries ran: entry n in phase n with number n, from 1 on.
@@ -370,11 +371,10 @@ fn is_hot_in_odd_phases(hot: &[Chosen]) -> bool {
 }
 
 // Asserts that like n of 2,060 ran in phase n, and that page 0 alone was hot in 1,024 odd phases, from 3 on.
-fn assert_hot_in_1024_phases(rt: &impl Abort, report: Report) {
+fn assert_hot_in_1024_phases(rt: &impl Abort, report: &Report) {
     let log = report.logs.first().expect(rt, "a log");
-    assert!(rt; ran_by_phase(&log.ran));
-    assert!(rt; is_hot_in_odd_phases(&report.hot));
-    assert_counts(rt, report, &[2_060]);
+    assert_that(rt, ran_by_phase(&log.ran), "other phases");
+    assert_that(rt, is_hot_in_odd_phases(&report.hot), "other choices");
 }
 
 // Example `hot-limit`.
@@ -391,8 +391,10 @@ fn hot_limit() -> &'static Case {
 #[test]
 fn chooses_in_1024_phases_at_most(rt: HostRuntime) {
     let plans = likes(&rt, rt.alloc(), 1, 2_060);
-    let report = hot_limit().replay_plans(&rt, rt.alloc(), plans);
-    assert_hot_in_1024_phases(&rt, report.expect(&rt, "a report"));
+    let replayed = hot_limit().replay_plans(&rt, rt.alloc(), plans);
+    let report = replayed.expect(&rt, "a report");
+    assert_hot_in_1024_phases(&rt, &report);
+    assert_counts(&rt, report, &[2_060]);
 }
 
 // Example `bounds`.
@@ -413,11 +415,16 @@ fn replay_likes(rt: &impl Abort, alloc: Global, number: usize) -> Result<Report,
 
 #[test]
 fn a_replay_has_a_million_rounds(rt: HostRuntime) {
-    for number in [1_000_000, 999_998] {
-        let fault = fault_of(replay_likes(&rt, rt.alloc(), number));
-        assert!(rt; fault == Some(ReplayFault::Unfinished));
+    for number in &[1_000_000, 999_998] {
+        let fault = fault_of(replay_likes(&rt, rt.alloc(), *number));
+        assert_that(&rt, fault == Some(ReplayFault::Unfinished), "out of memory, or another answer");
     }
     let report = replay_likes(&rt, rt.alloc(), 999_997).expect(&rt, "a report");
-    assert!(rt; report.phases == 0 && report.hot.is_empty());
+    assert_that(&rt, is_of_phase_0(&report), "not in phase 0");
     assert_counts(&rt, report, &[999_997]);
+}
+
+// Whether a run ended in phase 0, with no choice of hot pages.
+fn is_of_phase_0(report: &Report) -> bool {
+    report.phases == 0 && report.hot.is_empty()
 }
