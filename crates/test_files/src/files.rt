@@ -1,6 +1,6 @@
 //! What the readers of pages, requests and scripts make of files: of whole ones, and of some that are cut short, fail
 //! in mid-stream, have a byte changed or are of another kind.
-ghost use Rattle.std.specs.Prelude.{◌≡◌, ◌<◌, ◌∷◌, [], length};
+ghost use Rattle.std.specs.Prelude.{◌≡◌, ◌<◌, ◌++◌, ◌∷◌, [], length};
 
 mod cases;
 mod limits;
@@ -51,7 +51,7 @@ pub fn list_of<T: Drop>(rt: &impl Abort, alloc: Global, item: T) -> Vec<T>
     ensures { result.items ≡ item ∷ [] }
 {
     let mut items = Vec::new(alloc);
-    items.push(item).expect(rt, "memory");
+    push(rt, &mut items, item);
     items
 }
 
@@ -60,12 +60,14 @@ pub fn pair_of<T: Drop>(rt: &impl Abort, alloc: Global, first: T, second: T) -> 
     ensures { result.items ≡ first ∷ second ∷ [] }
 {
     let mut items = list_of(rt, alloc, first);
-    items.push(second).expect(rt, "memory");
+    push(rt, &mut items, second);
     items
 }
 
 /// Puts an item at the end of others.
-pub fn push<T: Drop>(rt: &impl Abort, items: &mut Vec<T>, item: T) {
+pub fn push<T: Drop>(rt: &impl Abort, items: &mut Vec<T>, item: T)
+    ensures { items.new.items ≡ items.old.items ++ item ∷ [] }
+{
     items.push(item).expect(rt, "memory");
 }
 
