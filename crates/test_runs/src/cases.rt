@@ -68,7 +68,10 @@ impl Case {
         plans: Vec<Vec<Request>>,
         gate: &impl Gate,
     ) -> Result<Report, RunFault> {
-        ran(rt, alloc, self.setup(rt, alloc), plans, gate)
+        let setup = self.setup(rt, alloc);
+        let ran = run(rt, alloc, &setup, plans, gate);
+        drop(setup);
+        ran
     }
 
     /// The report of a run of these plans on threads.
@@ -97,19 +100,6 @@ pub fn replayed(
     drop(script);
     drop(setup);
     replayed
-}
-
-/// What a run of these plans on threads ends in. It takes its settings, as `replayed` does.
-pub fn ran(
-    rt: &(impl Abort + Threads + Wait + Sync),
-    alloc: Global,
-    setup: Setup,
-    plans: Vec<Vec<Request>>,
-    gate: &impl Gate,
-) -> Result<Report, RunFault> {
-    let ran = run(rt, alloc, &setup, plans, gate);
-    drop(setup);
-    ran
 }
 
 fn are_counts(report: &Report, counts: &[u64]) -> bool {

@@ -199,24 +199,10 @@ fn has_run_order(rt: &impl Abort, alloc: Global, log: &WorkerLog) -> bool {
 fn assert_logs(rt: &impl Abort, alloc: Global, logs: &[WorkerLog], phases: u32) {
     let all = likes_of(rt, alloc, logs, phases);
     let up_to = all.up_to(rt, alloc);
-    assert_each(rt, alloc, logs, &all, &up_to, phases);
-    drop(up_to);
-    drop(all);
-}
-
-// The same, where these are all likes.
-fn assert_each(
-    rt: &impl Abort,
-    alloc: Global,
-    logs: &[WorkerLog],
-    all: &Likes,
-    up_to: &Likes,
-    phases: u32,
-) {
     for log in logs {
         let is_in_order = has_run_order(rt, alloc, log);
         assert_that(rt, is_in_order, "another order");
-        let are_right = has_right_counts(rt, alloc, &log.ran, all, up_to, phases);
+        let are_right = has_right_counts(rt, alloc, &log.ran, &all, &up_to, phases);
         assert_that(rt, are_right, "a count out of its bounds");
     }
 }

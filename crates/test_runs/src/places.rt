@@ -51,12 +51,16 @@ fn replayed_unnoted(rt: &impl Abort, alloc: Global) -> Report {
     replayed.expect(rt, "a report")
 }
 
-// The report of a run that notes none.
-fn ran_unnoted(rt: &(impl Abort + Threads + Wait + Sync), alloc: Global) -> Report {
+/// The report of a run of plain likes, which notes the additions or doesn't.
+pub fn ran_plain(
+    rt: &(impl Abort + Threads + Wait + Sync),
+    alloc: Global,
+    is_noted: bool,
+) -> Report {
     let setup = plain_likes().setup(rt, alloc);
     let plans = plain_likes().plans(rt, alloc, &setup.pages);
     let gate = Watch::idle();
-    let ran = run_noting(rt, alloc, &setup, plans, &gate, u32::MAX, false);
+    let ran = run_noting(rt, alloc, &setup, plans, &gate, u32::MAX, is_noted);
     drop(gate);
     drop(setup);
     ran.expect(rt, "a report")
@@ -65,5 +69,5 @@ fn ran_unnoted(rt: &(impl Abort + Threads + Wait + Sync), alloc: Global) -> Repo
 #[test]
 fn notes_no_places_where_none_are_asked(rt: HostRuntime) {
     assert_none(&rt, replayed_unnoted(&rt, rt.alloc()));
-    assert_none(&rt, ran_unnoted(&rt, rt.alloc()));
+    assert_none(&rt, ran_plain(&rt, rt.alloc(), false));
 }

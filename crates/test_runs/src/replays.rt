@@ -417,14 +417,14 @@ fn replay_likes(rt: &impl Abort, alloc: Global, number: usize) -> Result<Report,
 fn a_replay_has_a_million_rounds(rt: HostRuntime) {
     for number in &[1_000_000, 999_998] {
         let fault = fault_of(replay_likes(&rt, rt.alloc(), *number));
-        assert_that(&rt, fault == Some(ReplayFault::Unfinished), "out of memory, or another answer");
+        assert_that(
+            &rt,
+            fault == Some(ReplayFault::Unfinished),
+            "out of memory, or another answer",
+        );
     }
     let report = replay_likes(&rt, rt.alloc(), 999_997).expect(&rt, "a report");
-    assert_that(&rt, is_of_phase_0(&report), "not in phase 0");
+    assert_that(&rt, report.phases == 0, "not in phase 0");
+    assert_that(&rt, report.hot.is_empty(), "a choice");
     assert_counts(&rt, report, &[999_997]);
-}
-
-// Whether a run ended in phase 0, with no choice of hot pages.
-fn is_of_phase_0(report: &Report) -> bool {
-    report.phases == 0 && report.hot.is_empty()
 }

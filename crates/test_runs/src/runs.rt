@@ -1,7 +1,7 @@
 //! Runs on threads. What is asserted of them is the same on every schedule.
-use super::cases::{Case, assert_counts, assert_that, likes, one_page, plain_likes, ran};
+use super::cases::{assert_counts, assert_that, likes, one_page};
 use super::gates::{Held, Ledger, Watch};
-use super::places::{are_placed_singly, places_of};
+use super::places::{are_placed_singly, places_of, ran_plain};
 use like_replies::{Answer, Place, Report};
 use like_requests::SettingsFault;
 use like_roles::Reply;
@@ -63,17 +63,10 @@ fn is_liked(report: &Report, submitters: usize, each: usize, users: usize) -> bo
     are_all_liked(&report.replies.rows, submitters, each) && like_the_page(&report.last, users)
 }
 
-// What a run of plain likes ends in.
-fn ran_plain(rt: &(impl Abort + Threads + Wait + Sync), alloc: Global) -> Result<Report, RunFault> {
-    let setup = plain_likes().setup(rt, alloc);
-    let plans = plain_likes().plans(rt, alloc, &setup.pages);
-    ran(rt, alloc, setup, plans, &Watch::idle())
-}
-
 // On threads the likes run in any phase.
 #[test]
 fn runs_plain_likes(rt: HostRuntime) {
-    let report = ran_plain(&rt, rt.alloc()).expect(&rt, "a report");
+    let report = ran_plain(&rt, rt.alloc(), true);
     let is_placed = are_placed_singly(places_of(&rt, &report));
     assert_that(&rt, is_placed, "other places");
     assert_liked(&rt, report, 1, 3, 2, 13);
@@ -239,7 +232,11 @@ fn assert_not_started(rt: &(impl Abort + Threads + Wait + Sync), alloc: Global, 
     let fault = fault_of(limited(rt, alloc, &gate, starts));
     let is_untouched = is_untouched(&gate);
     drop(gate);
-    assert_that(rt, fault == Some(RunFault::Start), "out of memory, or another answer");
+    assert_that(
+        rt,
+        fault == Some(RunFault::Start),
+        "out of memory, or another answer",
+    );
     assert_that(rt, is_untouched, "a call");
 }
 
