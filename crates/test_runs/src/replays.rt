@@ -73,7 +73,7 @@ const HOT_EXAMPLE: Example = Example {
     phases: 6,
 };
 
-// Of one worker, and no hot pages.
+// Of one worker, and no hot pages. No look waits.
 const OF_ONE: &[Example] = &[
     Example {
         name: "plain-likes",
@@ -106,23 +106,6 @@ const OF_ONE: &[Example] = &[
         counts: &[13],
         phases: 0,
     },
-    Example {
-        name: "split-and-stash",
-        case: SPLIT_AND_STASH,
-        logs: &[Log {
-            taken: &[(1, 0, 1), (1, 0, 2)],
-            ran: &[(1, false, 0, 1), (2, true, 0, 2)],
-        }],
-        places: &[&[Place {
-            worker: 0,
-            phase: 1,
-            old: 10,
-            n: 1,
-        }]],
-        hot: &[],
-        counts: &[11],
-        phases: 4,
-    },
     // Three likes of one worker in phase 1 are one addition.
     Example {
         name: "merged likes",
@@ -139,6 +122,44 @@ const OF_ONE: &[Example] = &[
         }]],
         hot: &[],
         counts: &[13],
+        phases: 4,
+    },
+    Example {
+        name: "unsplit-in-split-phase",
+        case: UNSPLIT,
+        logs: &[Log {
+            taken: &[(1, 0, 1), (1, 0, 2)],
+            ran: &[(1, false, 0, 1), (1, false, 0, 2)],
+        }],
+        places: &[&[Place {
+            worker: 0,
+            phase: 1,
+            old: 7,
+            n: 1,
+        }]],
+        hot: &[],
+        counts: &[8],
+        phases: 2,
+    },
+];
+
+// The same, with looks that wait.
+const OF_STASHES: &[Example] = &[
+    Example {
+        name: "split-and-stash",
+        case: SPLIT_AND_STASH,
+        logs: &[Log {
+            taken: &[(1, 0, 1), (1, 0, 2)],
+            ran: &[(1, false, 0, 1), (2, true, 0, 2)],
+        }],
+        places: &[&[Place {
+            worker: 0,
+            phase: 1,
+            old: 10,
+            n: 1,
+        }]],
+        hot: &[],
+        counts: &[11],
         phases: 4,
     },
     Example {
@@ -172,23 +193,6 @@ const OF_ONE: &[Example] = &[
         hot: &[],
         counts: &[0],
         phases: 4,
-    },
-    Example {
-        name: "unsplit-in-split-phase",
-        case: UNSPLIT,
-        logs: &[Log {
-            taken: &[(1, 0, 1), (1, 0, 2)],
-            ran: &[(1, false, 0, 1), (1, false, 0, 2)],
-        }],
-        places: &[&[Place {
-            worker: 0,
-            phase: 1,
-            old: 7,
-            n: 1,
-        }]],
-        hot: &[],
-        counts: &[8],
-        phases: 2,
     },
 ];
 
@@ -286,6 +290,10 @@ fn of_one_worker() -> &'static [Example] {
     OF_ONE
 }
 
+fn of_stashes() -> &'static [Example] {
+    OF_STASHES
+}
+
 fn of_hot_pages() -> &'static [Example] {
     OF_HOT
 }
@@ -319,6 +327,7 @@ fn assert_examples(rt: &impl Abort, alloc: Global, examples: &[Example]) {
 #[test]
 fn replays_examples(rt: HostRuntime) {
     assert_examples(&rt, rt.alloc(), of_one_worker());
+    assert_examples(&rt, rt.alloc(), of_stashes());
     assert_examples(&rt, rt.alloc(), of_hot_pages());
     assert_examples(&rt, rt.alloc(), of_several_workers());
 }
