@@ -1,6 +1,6 @@
 //! What the readers of pages, requests and scripts make of files: of whole ones, and of some that are cut short, fail
 //! in mid-stream, have a byte changed or are of another kind.
-ghost use Rattle.std.specs.Prelude.{◌≡◌, ◌<◌, length};
+ghost use Rattle.std.specs.Prelude.{◌≡◌, ◌<◌, ◌++◌, ◌∷◌, [], length};
 
 mod cases;
 mod limits;
@@ -17,19 +17,26 @@ use std::io::Read;
 use std::process::Abort;
 use test_devices::Trickle;
 
-/// A value as `Debug` shows it.
-pub fn shown<T: Debug>(rt: &impl Abort, alloc: Global, value: &T) -> String {
+/// A value as `Debug` shows it. It takes the value, so that no caller has to drop it.
+pub fn shown<T: Debug + Drop>(rt: &impl Abort, alloc: Global, value: T) -> String {
     format!(in alloc; "{value:?}").expect(rt, "memory")
 }
 
 /// Stops the test and tells what is wrong, unless this holds.
 pub fn assert_that(rt: &impl Abort, holds: bool, wrong: &str) {
-    assert!(rt; holds, "{wrong}");
+    if !holds {
+        rt.panic(wrong);
+    }
 }
 
 /// Stops the test unless a text is as is wanted.
 pub fn assert_text(rt: &impl Abort, text: String, wanted: &str) {
-    assert!(rt; text.as_str() == wanted, "{text}, and not {wanted}");
+    assert_alike(rt, &text, wanted);
+    drop(text);
+}
+
+fn assert_alike(rt: &impl Abort, text: &str, wanted: &str) {
+    assert!(rt; text == wanted, "{text}, and not {wanted}");
 }
 
 /// A list of these.
@@ -37,6 +44,31 @@ pub fn list<T: Copy + Drop>(rt: &impl Abort, alloc: Global, items: &[T]) -> Vec<
     ensures { result.items ≡ items.now }
 {
     Vec::from_slice(alloc, items).expect(rt, "memory")
+}
+
+/// A list of one item.
+pub fn list_of<T: Drop>(rt: &impl Abort, alloc: Global, item: T) -> Vec<T>
+    ensures { result.items ≡ item ∷ [] }
+{
+    let mut items = Vec::new(alloc);
+    push(rt, &mut items, item);
+    items
+}
+
+/// A list of two items.
+pub fn pair_of<T: Drop>(rt: &impl Abort, alloc: Global, first: T, second: T) -> Vec<T>
+    ensures { result.items ≡ first ∷ second ∷ [] }
+{
+    let mut items = list_of(rt, alloc, first);
+    push(rt, &mut items, second);
+    items
+}
+
+/// Puts an item at the end of others.
+pub fn push<T: Drop>(rt: &impl Abort, items: &mut Vec<T>, item: T)
+    ensures { items.new.items ≡ items.old.items ++ item ∷ [] }
+{
+    items.push(item).expect(rt, "memory");
 }
 
 /// Stops the test unless bytes are as is wanted.
@@ -54,7 +86,7 @@ fn pages_shown(rt: &impl Abort, alloc: Global, pages: &Pages) -> String {
     let mut text = String::new(alloc);
     for index in 0..pages.len() {
         assert_that(rt, is_found(pages, index), "not found by its name");
-        assert_that(rt, push_page(&mut text, pages, index), "memory");
+        push_page(rt, &mut text, pages, index);
     }
     text
 }
@@ -66,11 +98,13 @@ fn is_found(pages: &Pages, index: u32) -> bool
     pages.find(pages.name(index).as_bytes()) == Some(index)
 }
 
-fn push_page(text: &mut String, pages: &Pages, index: u32) -> bool
+fn push_page(rt: &impl Abort, text: &mut String, pages: &Pages, index: u32)
     requires { index < length pages.now }
 {
-    let (name, count, split) = (pages.name(index), pages.count(index), pages.split(index));
-    write!(text, "[{name} {count} {split}]").is_ok()
+    let name = pages.name(index);
+    let count = pages.count(index);
+    let split = pages.split(index);
+    write!(text, "[{name} {count} {split}]").expect(rt, "memory");
 }
 
 // The text of a page, a, that is not marked.
@@ -90,8 +124,12 @@ pub fn one_page(rt: &impl Abort, alloc: Global) -> Pages {
 
 fn answer_of_pages<R: Read + Drop>(rt: &impl Abort, alloc: Global, file: R) -> String {
     match read_pages(alloc, file) {
-        Ok(pages) => pages_shown(rt, alloc, &pages),
-        Err(fault) => shown(rt, alloc, &Err::<(), PagesFault>(fault)),
+        Ok(pages) => {
+            let text = pages_shown(rt, alloc, &pages);
+            drop(pages);
+            text
+        }
+        Err(fault) => shown(rt, alloc, Err::<(), PagesFault>(fault)),
     }
 }
 
@@ -102,15 +140,17 @@ pub fn requests<R: Read + Drop>(
     file: R,
 ) -> Result<Vec<Request>, RequestsFault> {
     let pages = one_page(rt, alloc);
-    read_requests(alloc, file, &pages)
+    let requests = read_requests(alloc, file, &pages);
+    drop(pages);
+    requests
 }
 
 // What a file of a kind is read as, or its fault.
 fn answer<R: Read + Drop>(rt: &impl Abort, alloc: Global, kind: Kind, file: R) -> String {
     match kind {
         Kind::Pages => answer_of_pages(rt, alloc, file),
-        Kind::Requests => shown(rt, alloc, &requests(rt, alloc, file)),
-        Kind::Script => shown(rt, alloc, &read_script(alloc, file)),
+        Kind::Requests => shown(rt, alloc, requests(rt, alloc, file)),
+        Kind::Script => shown(rt, alloc, read_script(alloc, file)),
     }
 }
 
@@ -142,6 +182,7 @@ fn two_pages() -> &'static [u8] {
 fn finds_pages_by_their_names(rt: HostRuntime) {
     let pages = pages_of(&rt, rt.alloc(), two_pages());
     assert_that(&rt, has_only_second(&pages), "not the second page alone");
+    drop(pages);
 }
 
 // Whether the second page is found by its name, and no page by another one.
@@ -172,7 +213,7 @@ fn answers(rt: &impl Abort, alloc: Global, kind: Kind, file: &[u8], by_reads: bo
     for number in 0..file.len().saturating_add(2) {
         let answer = answer_within(rt, alloc, kind, file, number, by_reads);
         if answer != last {
-            assert_that(rt, write!(text, "{number}: {answer} ").is_ok(), "memory");
+            write!(text, "{number}: {answer} ").expect(rt, "memory");
             last = answer;
         }
     }

@@ -1,4 +1,4 @@
-//! Tests of what is read and written: records, pages, requests, scripts, replies and the words of the command line.
+//! Tests of what is read and written: records, pages, requests, scripts and replies.
 //!
 //! What is large is dropped by a call of `drop`: a function at whose end it goes would prove once more how each of its
 //! parts is dropped.
@@ -12,5 +12,3 @@ mod records;
 mod replies;
 #[cfg(test)]
 mod settings;
-#[cfg(test)]
-mod words;

@@ -1,7 +1,7 @@
 //! What is read of the records of a file, and of numbers.
 mod csv;
 
-use crate::files::{assert_that, halves};
+use crate::files::{assert_that, halves, push};
 pub use csv::csv_cases;
 use like_records::{Records, RecordsFault, decimal};
 use std::alloc::Global;
@@ -12,14 +12,14 @@ use test_devices::Trickle;
 // Adds the record to the text: `|` ends a field and `;` the record.
 fn push_record<R: Read>(rt: &impl Abort, out: &mut Vec<u8>, records: &Records<R>) {
     for index in 0..records.field_count() {
-        push(rt, out, records.field(index));
-        push(rt, out, b"|");
+        push_bytes(rt, out, records.field(index));
+        push_bytes(rt, out, b"|");
     }
-    push(rt, out, b";");
+    push_bytes(rt, out, b";");
 }
 
-fn push(rt: &impl Abort, out: &mut Vec<u8>, bytes: &[u8]) {
-    assert_that(rt, out.extend_from_slice(bytes).is_ok(), "memory");
+fn push_bytes(rt: &impl Abort, out: &mut Vec<u8>, bytes: &[u8]) {
+    out.extend_from_slice(bytes).expect(rt, "memory");
 }
 
 // Adds the records of a file to the text, and gives the answer behind the last. There are less than 100 records.
@@ -56,21 +56,33 @@ fn is_read<R: Read + Drop>(
     end: Result<bool, RecordsFault>,
 ) -> bool {
     let mut records = Records::new(alloc, file);
+    let out = out_of(rt, alloc, &mut records, end);
+    drop(records);
+    out.as_slice() == wanted
+}
+
+// The records that are left, which must end so.
+fn out_of<R: Read>(
+    rt: &impl Abort,
+    alloc: Global,
+    records: &mut Records<R>,
+    end: Result<bool, RecordsFault>,
+) -> Vec<u8> {
     let mut out = Vec::new(alloc);
-    let last = push_records(rt, &mut out, &mut records);
+    let last = push_records(rt, &mut out, records);
     assert_that(
         rt,
-        ends(last, &mut records, end),
+        ends(last, records, end),
         "out of memory, or another end",
     );
-    out.as_slice() == wanted
+    out
 }
 
 /// The bytes of the file of a case: `/` is LF, `~` is CR, and `?` is a byte that is no text.
 pub fn bytes(rt: &impl Abort, alloc: Global, file: &str) -> Vec<u8> {
     let mut bytes = Vec::new(alloc);
     for byte in file.bytes() {
-        assert_that(rt, bytes.push(byte_of(byte)).is_ok(), "memory");
+        push(rt, &mut bytes, byte_of(byte));
     }
     bytes
 }
@@ -159,7 +171,9 @@ fn skip<R: Read>(rt: &impl Abort, records: &mut Records<R>, number: u32) {
 fn has_fields(rt: &impl Abort, alloc: Global, file: &[u8], number: u32, fields: &[&str]) -> bool {
     let mut records = Records::new(alloc, file);
     skip(rt, &mut records, number);
-    records.fields_are(fields)
+    let has_fields = records.fields_are(fields);
+    drop(records);
+    has_fields
 }
 
 // Files, the number of a record, fields, and whether it has them.
@@ -222,8 +236,13 @@ fn all_numbers() -> &'static [(&'static str, usize, u64, Option<u64>)] {
 #[test]
 fn reads_numbers(rt: HostRuntime) {
     for (text, digits, limit, number) in all_numbers() {
-        assert!(rt; *digits <= 19);
-        let is_read = decimal(text.as_bytes(), *digits, *limit) == *number;
+        let is_read = number_of(&rt, *text, *digits, *limit) == *number;
         assert_that(&rt, is_read, *text);
     }
+}
+
+// The number that is read.
+fn number_of(rt: &impl Abort, text: &str, digits: usize, limit: u64) -> Option<u64> {
+    assert!(rt; digits <= 19);
+    decimal(text.as_bytes(), digits, limit)
 }

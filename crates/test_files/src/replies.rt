@@ -12,6 +12,7 @@ mod place_rows;
 mod places;
 mod texts;
 mod texts_at_once;
+mod written;
 
 // The log of a worker that ran these entries and made these additions.
 fn log_of(rt: &impl Abort, alloc: Global, ran: &[Ran], adds: &[Added]) -> WorkerLog

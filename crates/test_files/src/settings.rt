@@ -1,5 +1,5 @@
 //! Settings and what is said of them, scripts that fit a run, and the verdict of a request.
-use crate::files::{assert_that, one_page, requests};
+use crate::files::{assert_that, one_page, push, requests};
 use SettingsFault::{Hot, Plan, Stash, Submitters, Turns, Users, Workers};
 use Verdict::{Accepted, OtherHome, UnknownPage, UnknownUser};
 use like_requests::{
@@ -15,7 +15,7 @@ fn likes(rt: &impl Abort, alloc: Global, numbers: &[u32; 3]) -> Vec<Vec<Request>
     for submitter in 0..submitters {
         let like = like_of(first.saturating_add(submitter));
         let plan = vec![in alloc; like; each as usize].expect(rt, "memory");
-        assert_that(rt, plans.push(plan).is_ok(), "memory");
+        push(rt, &mut plans, plan);
     }
     plans
 }
@@ -95,7 +95,10 @@ fn is_answered(rt: &impl Abort, alloc: Global, case: &Case) -> bool {
     let (numbers, hot, submitters, wanted) = case;
     let setup = setup(rt, alloc, numbers, *hot);
     let plans = likes(rt, alloc, submitters);
-    check_setup(&setup, &plans) == *wanted
+    let is_answered = check_setup(&setup, &plans) == *wanted;
+    drop(plans);
+    drop(setup);
+    is_answered
 }
 
 #[test]

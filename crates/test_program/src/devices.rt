@@ -1,5 +1,5 @@
 //! Readers and writers that fail, by `replay_files`.
-use super::replays::{assert_done, assert_that, fault_of};
+use super::replays::{assert_done, assert_fault, assert_that, fault_of, list_of};
 use like_files::DriverFault;
 use like_requests::{PagesFault, RequestsFault};
 use std::alloc::Global;
@@ -37,8 +37,7 @@ fn read_fault(
     recovers: bool,
 ) -> Option<DriverFault> {
     let (pages, requests) = plain_files();
-    let requests = reader(requests, of_requests, recovers);
-    let files = vec![in alloc; requests].expect(rt, "memory");
+    let files = list_of(rt, alloc, reader(requests, of_requests, recovers));
     let pages = reader(pages, of_pages, recovers);
     fault_of(
         rt,
@@ -61,11 +60,11 @@ fn assert_reads_fail(
     length: usize,
     recovers: bool,
 ) {
-    let want = Some(read_fault_of(is_pages));
+    let want = read_fault_of(is_pages);
     for reads in 0..=length {
         let (of_pages, of_requests) = if is_pages { (reads, ALL) } else { (ALL, reads) };
         let fault = read_fault(rt, alloc, of_pages, of_requests, recovers);
-        assert!(rt; fault == want, "after {reads} reads");
+        assert_fault(rt, fault, want, reads);
     }
 }
 
@@ -98,17 +97,14 @@ fn write_fault(
     mut out: Narrow,
 ) -> Option<DriverFault> {
     let (pages, requests) = plain_files();
-    let files = vec![in alloc; requests.as_bytes()].expect(rt, "memory");
+    let files = list_of(rt, alloc, requests.as_bytes());
     fault_of(rt, alloc, settings, pages.as_bytes(), files, None, &mut out)
 }
 
 // Asserts that a writer is at fault that takes this many writes or flushes.
 fn assert_fails(rt: &impl Abort, alloc: Global, settings: &str, out: Narrow, takes: usize) {
     let fault = write_fault(rt, alloc, settings, out);
-    assert!(rt;
-        fault == Some(DriverFault::Write),
-        "after {takes} writes or flushes"
-    );
+    assert_fault(rt, fault, DriverFault::Write, takes);
 }
 
 // Asserts that a writer of one byte a write is at fault at each of its writes.

@@ -111,6 +111,7 @@ fn assert_tells(
     assert_line(rt, alloc, &options, fault, want);
     let fault = ProgramFault::Files { options, fault };
     assert_told(rt, alloc, &fault, want, status);
+    drop(fault);
 }
 
 // Asserts what a fault's line says of the file of this name, with status 3.

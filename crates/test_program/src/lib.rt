@@ -11,3 +11,5 @@ mod program;
 mod replays;
 #[cfg(test)]
 mod runs;
+#[cfg(test)]
+mod words;

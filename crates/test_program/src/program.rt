@@ -2,7 +2,7 @@
 mod starts;
 
 use crate::program::starts::starts;
-use crate::replays::{assert_that, cell, owned};
+use crate::replays::{assert_that, cell, owned, push};
 use like_program::serve_words;
 use std::alloc::Global;
 use std::fs;
@@ -18,7 +18,7 @@ use test_devices::Narrow;
 fn texts(rt: &impl Abort, alloc: Global, text: &str) -> Vec<String> {
     let mut texts = Vec::new(alloc);
     for word in text.split_whitespace() {
-        assert_that(rt, texts.push(owned(rt, alloc, word)).is_ok(), "memory");
+        push(rt, &mut texts, owned(rt, alloc, word));
     }
     texts
 }
@@ -122,10 +122,13 @@ where
     let mut out = Narrow::new(1, writes, flushes);
     let mut errors = Vec::new(alloc);
     let told = served(rt, alloc, words, &mut out, &mut errors);
-    assert!(rt;
-        told == status && errors.as_slice() == line.as_bytes(),
-        "after {writes} writes: {told} {errors:?}"
-    );
+    let is_told = told == status && errors.as_slice() == line.as_bytes();
+    assert_is_told(rt, is_told, writes, told, &errors);
+}
+
+// Stops the test and says what was told after this many writes, unless it is right.
+fn assert_is_told(rt: &impl Abort, is_told: bool, writes: usize, status: u8, errors: &[u8]) {
+    assert!(rt; is_told, "after {writes} writes: {status} {errors:?}");
 }
 
 // How many bytes words write.

@@ -1,4 +1,6 @@
 //! Replays by `replay_files`, from the texts of the files to the text of the report or to the fault.
+ghost use Rattle.std.specs.Prelude.{◌≡◌, ◌++◌, ◌∷◌, [], is_some, length};
+
 mod cases;
 
 use crate::replays::cases::{examples, refusals};
@@ -10,12 +12,22 @@ use std::process::Abort;
 
 /// Stops the test and tells what is wrong, unless this holds.
 pub fn assert_that(rt: &impl Abort, holds: bool, wrong: &str) {
-    assert!(rt; holds, "{wrong}");
+    if !holds {
+        rt.panic(wrong);
+    }
 }
 
 /// Stops the test and tells the fault, if there is one.
 pub fn assert_done(rt: &impl Abort, name: &str, fault: Option<DriverFault>) {
     assert!(rt; fault.is_none(), "{name}: {fault:?}");
+}
+
+/// Stops the test unless this is the fault after this many reads, writes or flushes.
+pub fn assert_fault(rt: &impl Abort, fault: Option<DriverFault>, want: DriverFault, calls: usize) {
+    assert!(rt;
+        fault == Some(want),
+        "after {calls} reads, writes or flushes"
+    );
 }
 
 /// The cell of a text at an index, with `|` between cells.
@@ -63,7 +75,10 @@ pub fn options_of(
     settings: &str,
     files: usize,
     is_scripted: bool,
-) -> Options {
+) -> Options
+    ensures requests { length result.requests.items ≡ files }
+    ensures script { is_some result.script ≡ is_scripted }
+{
     Options {
         workers: number(settings, 0),
         users: number(settings, 1),
@@ -80,23 +95,44 @@ pub fn options_of(
     }
 }
 
+/// A list of one item.
+pub fn list_of<T: Drop>(rt: &impl Abort, alloc: Global, item: T) -> Vec<T>
+    ensures { result.items ≡ item ∷ [] }
+{
+    let mut items = Vec::new(alloc);
+    push(rt, &mut items, item);
+    items
+}
+
+/// Puts an item at the end of others.
+pub fn push<T: Drop>(rt: &impl Abort, items: &mut Vec<T>, item: T)
+    ensures { items.new.items ≡ items.old.items ++ item ∷ [] }
+{
+    items.push(item).expect(rt, "memory");
+}
+
 /// A copy of a text.
 pub fn owned(rt: &impl Abort, alloc: Global, text: &str) -> String {
     String::from_str(alloc, text).expect(rt, "memory")
 }
 
 // The names of this many request files.
-fn names(rt: &impl Abort, alloc: Global, files: usize) -> Vec<String> {
+fn names(rt: &impl Abort, alloc: Global, files: usize) -> Vec<String>
+    ensures { length result.items ≡ files }
+{
     let mut names = Vec::new(alloc);
     for file in 0..files {
         let name = format!(in alloc; "r{file}.csv").expect(rt, "memory");
-        assert_that(rt, names.push(name).is_ok(), "memory");
+        push(rt, &mut names, name);
     }
+    assert!(rt; names.len() == files);
     names
 }
 
 // The name of the script, where there is one.
-fn script_name(rt: &impl Abort, alloc: Global, is_there: bool) -> Option<String> {
+fn script_name(rt: &impl Abort, alloc: Global, is_there: bool) -> Option<String>
+    ensures { is_some result ≡ is_there }
+{
     if is_there {
         return Some(owned(rt, alloc, "s.csv"));
     }
@@ -114,9 +150,9 @@ pub fn fault_of<R: Read + Drop, W: Write>(
     out: &mut W,
 ) -> Option<DriverFault> {
     let options = options_of(rt, alloc, settings, requests.len(), script.is_some());
-    assert!(rt; requests.len() == options.requests.len());
-    assert!(rt; script.is_some() == options.script.is_some());
-    replay_files(alloc, &options, pages, requests, script, out).err()
+    let replayed = replay_files(alloc, &options, pages, requests, script, out);
+    drop(options);
+    replayed.err()
 }
 
 // The files of a replay, by their kind.
@@ -167,7 +203,7 @@ pub fn requests_of<'a>(
 ) -> Vec<&'a [u8]> {
     let mut files = Vec::new(alloc);
     for text in texts.split_terminator('&') {
-        assert_that(rt, files.push(cut(text, most)).is_ok(), "memory");
+        push(rt, &mut files, cut(text, most));
     }
     files
 }
@@ -194,11 +230,18 @@ fn replayed(
     fault_of(rt, alloc, case.settings, pages, requests, script, out)
 }
 
-// Whether a file of this kind whose end is missing is replayed, or is at fault itself.
-fn is_harmless(rt: &impl Abort, alloc: Global, case: &Case<'_>, file: File, most: usize) -> bool {
-    match replayed(rt, alloc, case, cuts_of(file, most), &mut Vec::new(alloc)) {
+// Asserts that a file of this kind and of this many bytes is replayed, or is at fault itself.
+fn assert_harmless(rt: &impl Abort, alloc: Global, case: &Case<'_>, file: File, most: usize) {
+    let fault = replayed(rt, alloc, case, cuts_of(file, most), &mut Vec::new(alloc));
+    let is_harmless = is_harmless(&fault, file);
+    assert!(rt; is_harmless, "{}: {file:?} of {most} bytes", case.name);
+}
+
+// Whether there is no fault, or one of a file of this kind.
+fn is_harmless(fault: &Option<DriverFault>, file: File) -> bool {
+    match fault {
         None => true,
-        Some(fault) => is_of(&fault, file),
+        Some(fault) => is_of(fault, file),
     }
 }
 
@@ -215,8 +258,7 @@ fn is_of(fault: &DriverFault, file: File) -> bool {
 // Asserts that a file of this kind and length, whatever end is missing, is replayed, or is at fault itself.
 fn assert_prefixes(rt: &impl Abort, alloc: Global, case: &Case<'_>, file: File, length: usize) {
     for most in 0..length {
-        let is_harmless = is_harmless(rt, alloc, case, file, most);
-        assert!(rt; is_harmless, "{}: {file:?} of {most} bytes", case.name);
+        assert_harmless(rt, alloc, case, file, most);
     }
 }
 
@@ -270,11 +312,21 @@ fn end_of(
 
 // Asserts what the case of a text ends in.
 fn assert_end(rt: &impl Abort, alloc: Global, text: &str) {
-    let case = case_of(text);
+    let end = end_of_case(rt, alloc, &case_of(text));
+    assert_ends(rt, text, &end);
+    drop(end);
+}
+
+// What a case ends in.
+fn end_of_case(rt: &impl Abort, alloc: Global, case: &Case<'_>) -> String {
     let mut out = Vec::new(alloc);
-    let fault = replayed(rt, alloc, &case, WHOLE, &mut out);
-    let end = end_of(rt, alloc, fault, out.is_empty());
-    assert!(rt; end.as_str() == case.end, "{text}: {end}");
+    let fault = replayed(rt, alloc, case, WHOLE, &mut out);
+    end_of(rt, alloc, fault, out.is_empty())
+}
+
+// Asserts that the case of a text has this end.
+fn assert_ends(rt: &impl Abort, text: &str, end: &str) {
+    assert!(rt; end == cell(text, 5), "{text}: {end}");
 }
 
 #[test]

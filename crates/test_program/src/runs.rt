@@ -1,5 +1,5 @@
 //! Runs on threads, by `run_files`.
-use super::replays::{assert_done, assert_that, number_at, options_of};
+use super::replays::{assert_done, assert_fault, assert_that, list_of, number_at, options_of};
 use like_files::{DriverFault, run_files};
 use std::alloc::{AllocError, Global};
 use std::io::Write;
@@ -32,10 +32,11 @@ fn run_onto<'a, W: Write>(
     requests: &'a str,
     out: &mut W,
 ) -> Option<DriverFault> {
-    let files = vec![in alloc; requests.as_bytes()].expect(rt, "memory");
+    let files = list_of(rt, alloc, requests.as_bytes());
     let options = options_of(rt, alloc, settings, 1, false);
-    assert!(rt; options.requests.len() == 1);
-    run_files(rt, alloc, &options, pages.as_bytes(), files, out).err()
+    let ran = run_files(rt, alloc, &options, pages.as_bytes(), files, out);
+    drop(options);
+    ran.err()
 }
 
 // Runs of this many likes of the page by user 0: their settings, how often each is made, and how its report ends.
@@ -115,10 +116,7 @@ fn assert_fails(
     takes: usize,
 ) {
     let (fault, _) = write_fault(rt, alloc, likes, out);
-    assert!(rt;
-        fault == Some(DriverFault::Write),
-        "after {takes} writes or flushes"
-    );
+    assert_fault(rt, fault, DriverFault::Write, takes);
 }
 
 // Asserts that a writer of this many bytes a write is at fault at each of its writes.

@@ -68,7 +68,10 @@ impl Case {
         plans: Vec<Vec<Request>>,
         gate: &impl Gate,
     ) -> Result<Report, RunFault> {
-        ran(rt, alloc, self.setup(rt, alloc), plans, gate)
+        let setup = self.setup(rt, alloc);
+        let ran = run(rt, alloc, &setup, plans, gate);
+        drop(setup);
+        ran
     }
 
     /// The report of a run of these plans on threads.
@@ -99,19 +102,6 @@ pub fn replayed(
     replayed
 }
 
-/// What a run of these plans on threads ends in. It takes its settings, as `replayed` does.
-pub fn ran(
-    rt: &(impl Abort + Threads + Wait + Sync),
-    alloc: Global,
-    setup: Setup,
-    plans: Vec<Vec<Request>>,
-    gate: &impl Gate,
-) -> Result<Report, RunFault> {
-    let ran = run(rt, alloc, &setup, plans, gate);
-    drop(setup);
-    ran
-}
-
 fn are_counts(report: &Report, counts: &[u64]) -> bool {
     report.counts.as_slice() == counts
 }
@@ -119,7 +109,16 @@ fn are_counts(report: &Report, counts: &[u64]) -> bool {
 /// Asserts the counts of a report, and drops it: a caller that dropped it would prove once more how each of its parts is
 /// dropped.
 pub fn assert_counts(rt: &impl Abort, report: Report, counts: &[u64]) {
-    assert!(rt; are_counts(&report, counts));
+    let are_right = are_counts(&report, counts);
+    drop(report);
+    assert_that(rt, are_right, "other counts");
+}
+
+/// Stops the test and tells what is wrong, unless this holds.
+pub fn assert_that(rt: &impl Abort, holds: bool, wrong: &str) {
+    if !holds {
+        rt.panic(wrong);
+    }
 }
 
 /// Asserts that a text is this.

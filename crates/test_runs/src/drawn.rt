@@ -1,7 +1,7 @@
 //! Drawn replays, compared with runs that are played by the tables of turns.
 ghost use Rattle.std.specs.Prelude.{◌+◌, ◌<◌, ◌≤◌, ◌^◌};
 
-use super::cases::{pages_of, replayed};
+use super::cases::{assert_that, pages_of, replayed};
 use super::lists::{Alike, are_alike, push};
 use super::players::{Played, Player, play};
 use like_replies::Report;
@@ -51,30 +51,12 @@ fn draw_hot(draws: &mut Draws) -> Option<u32> {
     }
 }
 
-// The first parts of four pages' rows. What says whether the page is split comes behind them.
-const PARTS: &[&str] = &["a,10,", "b,20,", "c,30,", "d,40,"];
-
-fn parts() -> &'static [&'static str] {
-    PARTS
-}
-
-// Writes a page's row, whose first part this is.
-fn write_row(rt: &impl Abort, rows: &mut String, part: &str, split: bool) {
-    write!(rows, "{part}{}\n", yes_or_no(split)).expect(rt, "memory");
-}
-
-// The rows of pages, of which these are split.
-fn marked_rows(rt: &impl Abort, alloc: Global, parts: &[&str], split: &[bool]) -> String {
-    let mut rows = String::new(alloc);
-    for (part, split) in parts.iter().zip(split) {
-        write_row(rt, &mut rows, part, *split);
-    }
-    rows
-}
-
 // Four pages, of which these are split.
-fn marked_pages(rt: &impl Abort, alloc: Global, split: &[bool]) -> Pages {
-    pages_of(rt, alloc, &marked_rows(rt, alloc, parts(), split))
+fn marked_pages(rt: &impl Abort, alloc: Global, split: &[bool; 4]) -> Pages {
+    let [a, b, c, d] = *split;
+    let (a, b, c, d) = (yes_or_no(a), yes_or_no(b), yes_or_no(c), yes_or_no(d));
+    let rows = format!(in alloc; "a,10,{a}\nb,20,{b}\nc,30,{c}\nd,40,{d}\n");
+    pages_of(rt, alloc, &rows.expect(rt, "memory"))
 }
 
 // The settings of a run with these pages.
@@ -179,7 +161,7 @@ impl Alike<Player> for WorkerLog {
     }
 }
 
-fn is_as_played(report: Report, played: Played) -> bool {
+fn is_as_played(report: &Report, played: &Played) -> bool {
     Some(report.phases) == played.phases
         && report.hot == played.chosen
         && are_alike(&report.logs, &played.players)
@@ -198,9 +180,12 @@ fn is_replayed_as_played(
     requires few { setup.workers ≤ 16 }
 {
     let played = play(rt, alloc, &setup, split, &plans, &script);
-    assert!(rt; played.is_whole(), "memory, or an event of the play");
+    assert_that(rt, played.is_whole(), "memory, or an event of the play");
     let report = replayed(rt, alloc, setup, plans, script).expect(rt, "a report");
-    is_as_played(report, played)
+    let is_as_played = is_as_played(&report, &played);
+    drop(report);
+    drop(played);
+    is_as_played
 }
 
 // Whether a run that is drawn next is replayed as it is played.

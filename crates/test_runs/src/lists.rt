@@ -3,7 +3,7 @@ use std::process::Abort;
 
 /// Puts an item at the end of others.
 pub fn push<T: Drop>(rt: &impl Abort, items: &mut Vec<T>, item: T) {
-    assert!(rt; items.push(item).is_ok());
+    items.push(item).expect(rt, "memory");
 }
 
 /// What a test compares with something of another type.

@@ -19,18 +19,13 @@ pub const NO_LOG: Log = Log {
 
 impl Alike<(u32, u32, u32)> for Took {
     fn is_like(&self, wanted: &(u32, u32, u32)) -> bool {
-        let (phase, submitter, number) = *wanted;
-        self.phase == phase && self.submitter == submitter && self.number == number
+        (self.phase, self.submitter, self.number) == *wanted
     }
 }
 
 impl Alike<Entry> for Ran {
     fn is_like(&self, wanted: &Entry) -> bool {
-        let (phase, stashed, submitter, number) = *wanted;
-        self.phase == phase
-            && self.stashed == stashed
-            && self.submitter == submitter
-            && self.number == number
+        (self.phase, self.stashed, self.submitter, self.number) == *wanted
     }
 }
 

@@ -1,6 +1,6 @@
 //! Example mixed-load: likes and looks of a page that is split and of one that isn't, on threads. Run order, and the bounds
 //! of each count, are computed here from what the workers took and from which likes they ran.
-use super::cases::{Case, SMALL, assert_counts};
+use super::cases::{Case, SMALL, assert_counts, assert_that};
 use super::gates::Watch;
 use super::lists::{are_alike, push};
 use super::logs::Entry;
@@ -183,9 +183,12 @@ fn has_right_counts(
 ) -> bool {
     let mut own = Likes::none(rt, alloc, phases);
     own.add_all(ran);
-    let own = &own;
-    let mut before = Likes::none(rt, alloc, phases);
-    Bounds { all, up_to, own }.hold_for(ran, &mut before)
+    let bounds = Bounds {
+        all,
+        up_to,
+        own: &own,
+    };
+    bounds.hold_for(ran, &mut Likes::none(rt, alloc, phases))
 }
 
 fn has_run_order(rt: &impl Abort, alloc: Global, log: &WorkerLog) -> bool {
@@ -197,22 +200,27 @@ fn assert_logs(rt: &impl Abort, alloc: Global, logs: &[WorkerLog], phases: u32) 
     let all = likes_of(rt, alloc, logs, phases);
     let up_to = all.up_to(rt, alloc);
     for log in logs {
-        assert!(rt; has_run_order(rt, alloc, log));
-        assert!(rt; has_right_counts(rt, alloc, &log.ran, &all, &up_to, phases));
+        let is_in_order = has_run_order(rt, alloc, log);
+        assert_that(rt, is_in_order, "another order");
+        let are_right = has_right_counts(rt, alloc, &log.ran, &all, &up_to, phases);
+        assert_that(rt, are_right, "a count out of its bounds");
     }
 }
 
-fn assert_right(rt: &impl Abort, alloc: Global, report: Report, gate: &Watch) {
-    assert!(rt; gate.has_calls(16_000));
-    assert!(rt; gate.phases() == report.phases.saturating_add(1));
-    assert_logs(rt, alloc, &report.logs, gate.phases());
-    assert_counts(rt, report, &[4_000, 4_000]);
+fn assert_right(rt: &impl Abort, alloc: Global, report: &Report, gate: &Watch) {
+    let phases = gate.phases();
+    assert_that(rt, gate.has_calls(16_000), "other calls");
+    let are_all = phases == report.phases.saturating_add(1);
+    assert_that(rt, are_all, "other phases");
+    assert_logs(rt, alloc, &report.logs, phases);
 }
 
 fn assert_run(rt: &(impl Abort + Threads + Wait + Sync), alloc: Global) {
     let gate = Watch::idle();
     let report = mixed_load().report(rt, alloc, plans(rt, alloc), &gate);
-    assert_right(rt, alloc, report, &gate);
+    assert_right(rt, alloc, &report, &gate);
+    drop(gate);
+    assert_counts(rt, report, &[4_000, 4_000]);
 }
 
 #[test]

@@ -1,5 +1,5 @@
 //! The places of the additions in runs.
-use super::cases::{assert_counts, plain_likes};
+use super::cases::{assert_counts, assert_that, plain_likes};
 use super::gates::Watch;
 use like_replies::{Place, Report};
 use like_run::{replay_noting, run_noting};
@@ -10,7 +10,7 @@ use std::thread::Threads;
 
 /// The additions to the one page of a report.
 pub fn places_of<'a>(rt: &impl Abort, report: &'a Report) -> &'a [Place] {
-    assert!(rt; report.places.len() == 1);
+    assert_that(rt, report.places.len() == 1, "not one page");
     report.places.first().expect(rt, "a page")
 }
 
@@ -26,12 +26,19 @@ pub fn are_placed_singly(places: &[Place]) -> bool {
     old == 13
 }
 
+// Whether a report has no places, and its logs no additions.
+fn has_none(report: &Report) -> bool {
+    for log in report.logs.iter() {
+        if !log.adds.is_empty() {
+            return false;
+        }
+    }
+    report.places.is_empty()
+}
+
 // Asserts that a report of plain likes has their count, and no places.
 fn assert_none(rt: &impl Abort, report: Report) {
-    assert!(rt; report.places.is_empty());
-    for log in report.logs.iter() {
-        assert!(rt; log.adds.is_empty());
-    }
+    assert_that(rt, has_none(&report), "a place or an addition");
     assert_counts(rt, report, &[13]);
 }
 
@@ -44,12 +51,16 @@ fn replayed_unnoted(rt: &impl Abort, alloc: Global) -> Report {
     replayed.expect(rt, "a report")
 }
 
-// The report of a run that notes none.
-fn ran_unnoted(rt: &(impl Abort + Threads + Wait + Sync), alloc: Global) -> Report {
+/// The report of a run of plain likes, which notes the additions or doesn't.
+pub fn ran_plain(
+    rt: &(impl Abort + Threads + Wait + Sync),
+    alloc: Global,
+    is_noted: bool,
+) -> Report {
     let setup = plain_likes().setup(rt, alloc);
     let plans = plain_likes().plans(rt, alloc, &setup.pages);
     let gate = Watch::idle();
-    let ran = run_noting(rt, alloc, &setup, plans, &gate, u32::MAX, false);
+    let ran = run_noting(rt, alloc, &setup, plans, &gate, u32::MAX, is_noted);
     drop(gate);
     drop(setup);
     ran.expect(rt, "a report")
@@ -58,5 +69,5 @@ fn ran_unnoted(rt: &(impl Abort + Threads + Wait + Sync), alloc: Global) -> Repo
 #[test]
 fn notes_no_places_where_none_are_asked(rt: HostRuntime) {
     assert_none(&rt, replayed_unnoted(&rt, rt.alloc()));
-    assert_none(&rt, ran_unnoted(&rt, rt.alloc()));
+    assert_none(&rt, ran_plain(&rt, rt.alloc(), false));
 }

@@ -2,7 +2,7 @@
 //! replay may last.
 use super::cases::{
     Case, FULL_STASH, IDLE_WORKERS, LATE_WORKER, PLAIN_LIKES, SMALL, SPLIT_AND_STASH,
-    STASH_THEN_LIKE, TWO_SLICES, UNSPLIT, assert_counts, likes,
+    STASH_THEN_LIKE, TWO_SLICES, UNSPLIT, assert_counts, assert_that, likes,
 };
 use super::lists::{Alike, are_alike};
 use super::logs::{Log, NO_LOG};
@@ -73,7 +73,7 @@ const HOT_EXAMPLE: Example = Example {
     phases: 6,
 };
 
-// Of one worker, and no hot pages.
+// Of one worker, and no hot pages. No look waits.
 const OF_ONE: &[Example] = &[
     Example {
         name: "plain-likes",
@@ -106,23 +106,6 @@ const OF_ONE: &[Example] = &[
         counts: &[13],
         phases: 0,
     },
-    Example {
-        name: "split-and-stash",
-        case: SPLIT_AND_STASH,
-        logs: &[Log {
-            taken: &[(1, 0, 1), (1, 0, 2)],
-            ran: &[(1, false, 0, 1), (2, true, 0, 2)],
-        }],
-        places: &[&[Place {
-            worker: 0,
-            phase: 1,
-            old: 10,
-            n: 1,
-        }]],
-        hot: &[],
-        counts: &[11],
-        phases: 4,
-    },
     // Three likes of one worker in phase 1 are one addition.
     Example {
         name: "merged likes",
@@ -139,6 +122,44 @@ const OF_ONE: &[Example] = &[
         }]],
         hot: &[],
         counts: &[13],
+        phases: 4,
+    },
+    Example {
+        name: "unsplit-in-split-phase",
+        case: UNSPLIT,
+        logs: &[Log {
+            taken: &[(1, 0, 1), (1, 0, 2)],
+            ran: &[(1, false, 0, 1), (1, false, 0, 2)],
+        }],
+        places: &[&[Place {
+            worker: 0,
+            phase: 1,
+            old: 7,
+            n: 1,
+        }]],
+        hot: &[],
+        counts: &[8],
+        phases: 2,
+    },
+];
+
+// The same, with looks that wait.
+const OF_STASHES: &[Example] = &[
+    Example {
+        name: "split-and-stash",
+        case: SPLIT_AND_STASH,
+        logs: &[Log {
+            taken: &[(1, 0, 1), (1, 0, 2)],
+            ran: &[(1, false, 0, 1), (2, true, 0, 2)],
+        }],
+        places: &[&[Place {
+            worker: 0,
+            phase: 1,
+            old: 10,
+            n: 1,
+        }]],
+        hot: &[],
+        counts: &[11],
         phases: 4,
     },
     Example {
@@ -172,23 +193,6 @@ const OF_ONE: &[Example] = &[
         hot: &[],
         counts: &[0],
         phases: 4,
-    },
-    Example {
-        name: "unsplit-in-split-phase",
-        case: UNSPLIT,
-        logs: &[Log {
-            taken: &[(1, 0, 1), (1, 0, 2)],
-            ran: &[(1, false, 0, 1), (1, false, 0, 2)],
-        }],
-        places: &[&[Place {
-            worker: 0,
-            phase: 1,
-            old: 7,
-            n: 1,
-        }]],
-        hot: &[],
-        counts: &[8],
-        phases: 2,
     },
 ];
 
@@ -286,6 +290,10 @@ fn of_one_worker() -> &'static [Example] {
     OF_ONE
 }
 
+fn of_stashes() -> &'static [Example] {
+    OF_STASHES
+}
+
 fn of_hot_pages() -> &'static [Example] {
     OF_HOT
 }
@@ -311,7 +319,7 @@ fn is_shown(report: &Report, example: &Example) -> bool {
 fn assert_examples(rt: &impl Abort, alloc: Global, examples: &[Example]) {
     for example in examples {
         let report = example.case.replay(rt, alloc).expect(rt, "a report");
-        assert!(rt; is_shown(&report, example), "{}", example.name);
+        assert_that(rt, is_shown(&report, example), example.name);
         assert_counts(rt, report, example.counts);
     }
 }
@@ -319,6 +327,7 @@ fn assert_examples(rt: &impl Abort, alloc: Global, examples: &[Example]) {
 #[test]
 fn replays_examples(rt: HostRuntime) {
     assert_examples(&rt, rt.alloc(), of_one_worker());
+    assert_examples(&rt, rt.alloc(), of_stashes());
     assert_examples(&rt, rt.alloc(), of_hot_pages());
     assert_examples(&rt, rt.alloc(), of_several_workers());
 }
@@ -342,7 +351,8 @@ fn fault_of(replayed: Result<Report, ReplayFault>) -> Option<ReplayFault> {
 #[test]
 fn names_an_entry_that_is_away(rt: HostRuntime) {
     let fault = fault_of(away().replay(&rt, rt.alloc()));
-    assert!(rt; fault == Some(ReplayFault::Settings(SettingsFault::Script { at: 1 })));
+    let wanted = Some(ReplayFault::Settings(SettingsFault::Script { at: 1 }));
+    assert_that(&rt, fault == wanted, "out of memory, or another answer");
 }
 
 // Whether 2,060 entries ran: entry n in phase n with number n, from 1 on.
@@ -370,11 +380,10 @@ fn is_hot_in_odd_phases(hot: &[Chosen]) -> bool {
 }
 
 // Asserts that like n of 2,060 ran in phase n, and that page 0 alone was hot in 1,024 odd phases, from 3 on.
-fn assert_hot_in_1024_phases(rt: &impl Abort, report: Report) {
+fn assert_hot_in_1024_phases(rt: &impl Abort, report: &Report) {
     let log = report.logs.first().expect(rt, "a log");
-    assert!(rt; ran_by_phase(&log.ran));
-    assert!(rt; is_hot_in_odd_phases(&report.hot));
-    assert_counts(rt, report, &[2_060]);
+    assert_that(rt, ran_by_phase(&log.ran), "other phases");
+    assert_that(rt, is_hot_in_odd_phases(&report.hot), "other choices");
 }
 
 // Example `hot-limit`.
@@ -391,8 +400,10 @@ fn hot_limit() -> &'static Case {
 #[test]
 fn chooses_in_1024_phases_at_most(rt: HostRuntime) {
     let plans = likes(&rt, rt.alloc(), 1, 2_060);
-    let report = hot_limit().replay_plans(&rt, rt.alloc(), plans);
-    assert_hot_in_1024_phases(&rt, report.expect(&rt, "a report"));
+    let replayed = hot_limit().replay_plans(&rt, rt.alloc(), plans);
+    let report = replayed.expect(&rt, "a report");
+    assert_hot_in_1024_phases(&rt, &report);
+    assert_counts(&rt, report, &[2_060]);
 }
 
 // Example `bounds`.
@@ -413,11 +424,16 @@ fn replay_likes(rt: &impl Abort, alloc: Global, number: usize) -> Result<Report,
 
 #[test]
 fn a_replay_has_a_million_rounds(rt: HostRuntime) {
-    for number in [1_000_000, 999_998] {
-        let fault = fault_of(replay_likes(&rt, rt.alloc(), number));
-        assert!(rt; fault == Some(ReplayFault::Unfinished));
+    for number in &[1_000_000, 999_998] {
+        let fault = fault_of(replay_likes(&rt, rt.alloc(), *number));
+        assert_that(
+            &rt,
+            fault == Some(ReplayFault::Unfinished),
+            "out of memory, or another answer",
+        );
     }
     let report = replay_likes(&rt, rt.alloc(), 999_997).expect(&rt, "a report");
-    assert!(rt; report.phases == 0 && report.hot.is_empty());
+    assert_that(&rt, report.phases == 0, "not in phase 0");
+    assert_that(&rt, report.hot.is_empty(), "a choice");
     assert_counts(&rt, report, &[999_997]);
 }

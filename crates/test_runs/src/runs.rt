@@ -1,7 +1,7 @@
 //! Runs on threads. What is asserted of them is the same on every schedule.
-use super::cases::{Case, assert_counts, likes, one_page, plain_likes, ran};
+use super::cases::{assert_counts, assert_that, likes, one_page};
 use super::gates::{Held, Ledger, Watch};
-use super::places::{are_placed_singly, places_of};
+use super::places::{are_placed_singly, places_of, ran_plain};
 use like_replies::{Answer, Place, Report};
 use like_requests::SettingsFault;
 use like_roles::Reply;
@@ -54,20 +54,21 @@ fn assert_liked(
     users: usize,
     count: u64,
 ) {
-    assert!(rt; are_all_liked(&report.replies.rows, submitters, each));
-    assert!(rt; like_the_page(&report.last, users));
+    let is_liked = is_liked(&report, submitters, each, users);
+    assert_that(rt, is_liked, "other replies or last likes");
     assert_counts(rt, report, &[count]);
+}
+
+fn is_liked(report: &Report, submitters: usize, each: usize, users: usize) -> bool {
+    are_all_liked(&report.replies.rows, submitters, each) && like_the_page(&report.last, users)
 }
 
 // On threads the likes run in any phase.
 #[test]
 fn runs_plain_likes(rt: HostRuntime) {
-    let setup = plain_likes().setup(&rt, rt.alloc());
-    let plans = plain_likes().plans(&rt, rt.alloc(), &setup.pages);
-    let gate = Watch::idle();
-    let report = ran(&rt, rt.alloc(), setup, plans, &gate).expect(&rt, "a report");
-    drop(gate);
-    assert!(rt; are_placed_singly(places_of(&rt, &report)));
+    let report = ran_plain(&rt, rt.alloc(), true);
+    let is_placed = are_placed_singly(places_of(&rt, &report));
+    assert_that(&rt, is_placed, "other places");
     assert_liked(&rt, report, 1, 3, 2, 13);
 }
 
@@ -146,7 +147,9 @@ fn assert_all_liked(rt: &impl Abort, report: Report, submitters: u32, each: u32)
 }
 
 fn assert_calls(rt: &impl Abort, gate: &Watch, number: u32) {
-    assert!(rt; gate.has_calls(number) && gate.made() == gate.awaited() && !gate.gave_up());
+    assert_that(rt, gate.has_calls(number), "other calls");
+    assert_that(rt, gate.made() == gate.awaited(), "other calls are awaited");
+    assert_that(rt, !gate.gave_up(), "a call waited in vain");
 }
 
 #[test]
@@ -184,18 +187,25 @@ fn is_second_of_worker_1(places: &[Place]) -> bool {
 // Each submitter has more likes than 16 bits can number, and those of submitter 2 are refused. All of it is in phase 0.
 #[test]
 fn tells_the_gate_of_each_call(rt: HostRuntime) {
-    let gate = Ledger::new();
-    let plans = likes(&rt, rt.alloc(), 3, 70_000);
-    let report = one_page(2, 2, 1_000_000).report(&rt, rt.alloc(), plans, &gate);
-    assert_told(&rt, report, &gate);
-    drop(gate);
+    let report = told(&rt, rt.alloc());
+    let is_placed = is_second_of_worker_1(places_of(&rt, &report));
+    assert_that(&rt, is_placed, "other places");
+    assert_counts(&rt, report, &[140_000]);
 }
 
-fn assert_told(rt: &impl Abort, report: Report, gate: &Ledger) {
-    assert!(rt; gate.is_right());
-    assert!(rt; gate.has_all(70_000));
-    assert!(rt; is_second_of_worker_1(places_of(rt, &report)));
-    assert_counts(rt, report, &[140_000]);
+// The report of a run whose gate was told of all calls.
+fn told(rt: &(impl Abort + Threads + Wait + Sync), alloc: Global) -> Report {
+    let gate = Ledger::new();
+    let plans = likes(rt, alloc, 3, 70_000);
+    let report = one_page(2, 2, 1_000_000).report(rt, alloc, plans, &gate);
+    assert_told(rt, &gate);
+    drop(gate);
+    report
+}
+
+fn assert_told(rt: &impl Abort, gate: &Ledger) {
+    assert_that(rt, gate.is_right(), "a call was not the next one");
+    assert_that(rt, gate.has_all(70_000), "other calls");
 }
 
 // What a run of two likes ends in with at most this many threads.
@@ -220,9 +230,18 @@ fn fault_of(ran: Result<Report, RunFault>) -> Option<RunFault> {
 fn assert_not_started(rt: &(impl Abort + Threads + Wait + Sync), alloc: Global, starts: u32) {
     let gate = Watch::idle();
     let fault = fault_of(limited(rt, alloc, &gate, starts));
-    assert!(rt; fault == Some(RunFault::Start));
-    assert!(rt; gate.has_calls(0) && gate.phases() == 0);
+    let is_untouched = is_untouched(&gate);
     drop(gate);
+    assert_that(
+        rt,
+        fault == Some(RunFault::Start),
+        "out of memory, or another answer",
+    );
+    assert_that(rt, is_untouched, "a call");
+}
+
+fn is_untouched(gate: &Watch) -> bool {
+    gate.has_calls(0) && gate.phases() == 0
 }
 
 // Asserts that a run makes its report with at most this many threads, which are enough.
@@ -246,5 +265,6 @@ fn names_the_limit_that_a_run_breaks(rt: HostRuntime) {
     let gate = Watch::idle();
     let fault = fault_of(case.run(&rt, rt.alloc(), plans, &gate));
     drop(gate);
-    assert!(rt; fault == Some(RunFault::Settings(SettingsFault::Workers)));
+    let wanted = Some(RunFault::Settings(SettingsFault::Workers));
+    assert_that(&rt, fault == wanted, "out of memory, or another answer");
 }

@@ -1,6 +1,6 @@
 //! That a run keeps to the turns and the stash of its settings. No schedule is sure to show it, so each test makes runs
 //! until one has shown it, and 50 at most.
-use super::cases::{Case, likes, one_page, requests};
+use super::cases::{Case, assert_that, likes, one_page, requests};
 use super::gates::{Held, Watch};
 use like_replies::Report;
 use like_requests::Op;
@@ -51,7 +51,7 @@ fn waits_so(rt: &(impl Abort + Threads + Wait + Sync), alloc: Global, run: &Wait
     let gate = Watch::new(run.held, run.looks);
     let plans = likes(rt, alloc, run.submitters, run.each);
     let report = one_page(1, 2, run.turns).report(rt, alloc, plans, &gate);
-    assert!(rt; has_phases(report, gate.phases()));
+    assert_that(rt, has_phases(report, gate.phases()), "other phases");
     let waits = gate.gave_up() == run.in_vain && (!run.in_vain || gate.phases() == 1);
     drop(gate);
     waits
@@ -116,7 +116,7 @@ fn fill_stash(rt: &(impl Abort + Threads + Wait + Sync), alloc: Global, stash: u
     let gate = Watch::new(Held::FirstRequests(1), 1 << 24);
     let plans = requests(rt, alloc, Op::Look, 1, 200);
     let report = case.report(rt, alloc, plans, &gate);
-    assert!(rt; !gate.gave_up());
+    assert_that(rt, !gate.gave_up(), "phase 1 was late");
     drop(gate);
     most_stashed(report)
 }
@@ -128,6 +128,6 @@ fn fills_its_stash_and_no_other(rt: HostRuntime) {
         for _ in 0..RUNS {
             most = most.max(fill_stash(&rt, rt.alloc(), stash));
         }
-        assert!(rt; most == stash);
+        assert_that(&rt, most == stash, "another stash");
     }
 }

@@ -25,7 +25,7 @@ fn pages(rt: &impl Abort, alloc: Global, pages: u32) -> Result<Pages, PagesFault
 }
 
 // Whether the list has this length, and there was memory for it.
-fn has_length<T: Drop>(list: &Result<Vec<T>, AllocError>, length: usize) -> bool {
+fn has_length<T: Drop>(list: Result<Vec<T>, AllocError>, length: usize) -> bool {
     match list {
         Ok(list) => list.len() == length,
         Err(_) => false,
@@ -35,14 +35,20 @@ fn has_length<T: Drop>(list: &Result<Vec<T>, AllocError>, length: usize) -> bool
 // Stops the test unless these are 1,024 pages, with as many counts and marks.
 fn assert_all(rt: &impl Abort, alloc: Global, pages: &Pages) {
     assert_that(rt, pages.len() == 1_024, "not 1,024");
-    assert_that(rt, has_length(&pages.counts(alloc), 1_024), "memory");
-    assert_that(rt, has_length(&pages.marks(alloc), 1_024), "memory");
+    assert_that(rt, has_length(pages.counts(alloc), 1_024), "memory");
+    assert_that(rt, has_length(pages.marks(alloc), 1_024), "memory");
+}
+
+// Stops the test unless 1,024 pages are read.
+fn assert_most_pages(rt: &impl Abort, alloc: Global) {
+    let pages = pages(rt, alloc, 1_024).expect(rt, "pages");
+    assert_all(rt, alloc, &pages);
+    drop(pages);
 }
 
 #[test]
 fn of_pages(rt: HostRuntime) {
-    let pages = pages(&rt, rt.alloc(), 1_024).expect(&rt, "pages");
-    assert_all(&rt, rt.alloc(), &pages);
+    assert_most_pages(&rt, rt.alloc());
 }
 
 #[test]

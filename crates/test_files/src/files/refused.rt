@@ -14,6 +14,7 @@ fn is_refused(rt: &impl Abort, alloc: Global, case: &Case) -> bool {
         is_refused || answer.as_str() == wanted,
         "another answer",
     );
+    drop(answer);
     is_refused
 }
 

@@ -1,9 +1,9 @@
 //! What logs are collected to.
-use crate::files::{assert_text, assert_that, shown};
+use crate::files::{assert_text, assert_that, push, shown};
 use crate::replies::log_of;
 use like_replies::{CollectFault, Replies, collect};
 use like_roles::{Ran, Reply, WorkerLog};
-use std::alloc::{AllocError, Global};
+use std::alloc::Global;
 use std::process::Abort;
 
 // An entry of a log, of the request of a submitter with a number.
@@ -46,7 +46,7 @@ fn ran(entry: Entry) -> Ran {
 fn log(rt: &impl Abort, alloc: Global, entries: &[Entry]) -> WorkerLog {
     let mut noted = Vec::new(alloc);
     for entry in entries {
-        assert_that(rt, noted.push(ran(*entry)).is_ok(), "memory");
+        push(rt, &mut noted, ran(*entry));
     }
     log_of(rt, alloc, &noted, &[])
 }
@@ -55,7 +55,7 @@ fn log(rt: &impl Abort, alloc: Global, entries: &[Entry]) -> WorkerLog {
 fn logs(rt: &impl Abort, alloc: Global, workers: &[&[Entry]]) -> Vec<WorkerLog> {
     let mut logs = Vec::new(alloc);
     for entries in workers {
-        assert_that(rt, logs.push(log(rt, alloc, *entries)).is_ok(), "memory");
+        push(rt, &mut logs, log(rt, alloc, *entries));
     }
     logs
 }
@@ -68,7 +68,10 @@ fn collected(
     workers: &[&[Entry]],
 ) -> Result<Replies, CollectFault> {
     assert!(rt; sizes.len() <= 64);
-    collect(alloc, sizes, &logs(rt, alloc, workers))
+    let logs = logs(rt, alloc, workers);
+    let replies = collect(alloc, sizes, &logs);
+    drop(logs);
+    replies
 }
 
 // How many requests each submitter has; the entries of each worker; what they are collected to.
@@ -141,23 +144,42 @@ fn all_logs() -> &'static [(&'static [u32], &'static [&'static [Entry]], &'stati
 #[test]
 fn entries_and_faults(rt: HostRuntime) {
     for (sizes, workers, wanted) in all_logs() {
-        let replies = collected(&rt, rt.alloc(), *sizes, *workers);
-        assert_text(&rt, shown(&rt, rt.alloc(), &replies), *wanted);
+        assert_collected(&rt, rt.alloc(), *sizes, *workers, *wanted);
     }
 }
 
+// Stops the test unless logs are collected to this.
+fn assert_collected(
+    rt: &impl Abort,
+    alloc: Global,
+    sizes: &[u32],
+    workers: &[&[Entry]],
+    wanted: &str,
+) {
+    let replies = collected(rt, alloc, sizes, workers);
+    assert_text(rt, shown(rt, alloc, replies), wanted);
+}
+
 // A like of each of this many submitters.
-fn one_each(alloc: Global, submitters: u32) -> Result<Vec<Entry>, AllocError> {
+fn one_each(rt: &impl Abort, alloc: Global, submitters: u32) -> Vec<Entry> {
     let mut entries = Vec::new(alloc);
     for submitter in 0..submitters {
-        entries.push(Like(submitter, 1))?;
+        push(rt, &mut entries, Like(submitter, 1));
     }
-    Ok(entries)
+    entries
+}
+
+// How many submitters have replies, where each of 64 has one.
+fn answered(rt: &impl Abort, alloc: Global, entries: &[Entry]) -> usize {
+    let replies = collected(rt, alloc, &[1; 64], &[entries]).expect(rt, "replies");
+    let answered = replies.rows.len();
+    drop(replies);
+    answered
 }
 
 #[test]
 fn as_many_submitters_as_there_may_be(rt: HostRuntime) {
-    let entries = one_each(rt.alloc(), 64).expect(&rt, "memory");
-    let replies = collected(&rt, rt.alloc(), &[1; 64], &[&entries]).expect(&rt, "replies");
-    assert_that(&rt, replies.rows.len() == 64, "not 64");
+    let entries = one_each(&rt, rt.alloc(), 64);
+    let answered = answered(&rt, rt.alloc(), &entries);
+    assert_that(&rt, answered == 64, "not 64");
 }

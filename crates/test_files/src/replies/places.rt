@@ -1,7 +1,7 @@
 //! The places of the additions in logs.
 ghost use Rattle.std.specs.Prelude.{◌≡◌, ◌<◌, All};
 
-use crate::files::{assert_text, shown};
+use crate::files::{assert_text, pair_of, shown};
 use crate::replies::log_of;
 use like_replies::{Place, places};
 use like_roles::Added;
@@ -38,8 +38,10 @@ fn placed(rt: &impl Abort, alloc: Global, pages: u32, first: &[Added], second: &
 {
     let first = log_of(rt, alloc, &[], first);
     let second = log_of(rt, alloc, &[], second);
-    let logs = vec![in alloc; first, second].expect(rt, "memory");
-    shown(rt, alloc, &places(alloc, pages, &logs))
+    let logs = pair_of(rt, alloc, first, second);
+    let places = places(alloc, pages, &logs);
+    drop(logs);
+    shown(rt, alloc, places)
 }
 
 const PLACES: &str = "\

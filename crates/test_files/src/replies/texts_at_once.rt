@@ -7,9 +7,11 @@ ghost use Rattle.like_replies.specs.Reported.{reported};
 ghost use Rattle.like_replies.specs.Rows.{IsShowable, IsWritable};
 
 use super::places::place;
-use super::texts::{HEADER, answer, one_page};
-use crate::files::{assert_bytes, list};
+use super::texts::{HEADER, answer};
+use super::written::one_page;
+use crate::files::{assert_bytes, list, list_of};
 use like_replies::{Extent, Place, Replies, Report, Text};
+use like_requests::Pages;
 use like_roles::Reply;
 use std::alloc::{AllocError, Global};
 use std::process::Abort;
@@ -20,7 +22,7 @@ fn liked(rt: &impl Abort, alloc: Global, count: usize) -> Replies
     ensures { (pages : List Page) → All (All (λ a. IsShowable pages a.reply)) (rows_of result) }
 {
     let answers = vec![in alloc; answer(0, Reply::Liked); count].expect(rt, "memory");
-    let rows = vec![in alloc; answers].expect(rt, "memory");
+    let rows = list_of(rt, alloc, answers);
     Replies { rows }
 }
 
@@ -37,7 +39,7 @@ fn placed(rt: &impl Abort, alloc: Global, count: usize) -> Vec<Vec<Place>>
     ensures { length result.items ≡ 1 }
 {
     let places = vec![in alloc; place(0, 7, 1); count].expect(rt, "memory");
-    vec![in alloc; places].expect(rt, "memory")
+    list_of(rt, alloc, places)
 }
 
 // The report on this many likes of one submitter, each of another user, with a place for each.
@@ -111,10 +113,26 @@ fn assert_text(
     requires placed { length report.now.places.items ≡ 1 }
 {
     let pages = one_page(rt, alloc, "name,count,split\na,0,no\n");
+    let written = written(rt, alloc, report, &pages, extent);
+    drop(pages);
+    assert_bytes(rt, written, text.as_bytes());
+}
+
+// What is written of a report.
+fn written(
+    rt: &(impl Abort + Threads + Sync),
+    alloc: Global,
+    report: &Report,
+    pages: &Pages,
+    extent: Extent,
+) -> Vec<u8>
+    requires written { IsWritable pages.now (reported report.now) }
+    requires placed { length report.now.places.items ≡ length pages.now }
+{
     let mut out = Vec::new(alloc);
-    let made = Text::new(alloc, extent, report, &pages).expect(rt, "memory");
-    made.write_at_once(rt, alloc, &mut out).expect(rt, "memory");
-    assert_bytes(rt, out, text.as_bytes());
+    let text = Text::new(alloc, extent, report, pages).expect(rt, "memory");
+    text.write_at_once(rt, alloc, &mut out).expect(rt, "memory");
+    out
 }
 
 // The same of this many likes.
@@ -138,9 +156,9 @@ fn extent(totals: bool, places: bool) -> Extent {
 // made in parallel.
 #[test]
 fn all_sections_in_order(rt: HostRuntime) {
-    for count in [0, 1, 16_384, 40_000] {
-        let text = text_of_likes(rt.alloc(), count, count).expect(&rt, "memory");
-        assert_written(&rt, rt.alloc(), count, extent(false, true), &text);
+    for count in &[0, 1, 16_384, 40_000] {
+        let text = text_of_likes(rt.alloc(), *count, *count).expect(&rt, "memory");
+        assert_written(&rt, rt.alloc(), *count, extent(false, true), &text);
     }
 }
 

@@ -17,8 +17,7 @@ returns g c pages =
     let answers : c.expect-answers.result.items ≡ many =
     subst (λ r. IfOk r (λ v. ((y : Answer) → y ≡ c.answer.result → y ≡ c.answer.result) → v.items ≡ many))
     c.expect-answers.ensures c.vec.ensures.items_if_clones_equal (λ y same. same) in
-    let rows : c.expect-rows.result.items ≡ c.expect-answers.result ∷ [] =
-    subst (λ r. IfOk r (λ v. v.items ≡ c.expect-answers.result ∷ [])) c.expect-rows.ensures c.vec-2.ensures.items in
+    let rows : c.list_of-rows.result.items ≡ c.expect-answers.result ∷ [] = c.list_of-rows.ensures in
     subst (λ (rs : List (Vec Answer Global)). All (All Shown) (map items_of rs)) (sym rows)
     (All-cons (All Shown) c.expect-answers.result.items []
     (subst (All Shown) (sym answers) (All-replicate Shown c.args.count c.answer.result shown)) (All-nil (All Shown)))

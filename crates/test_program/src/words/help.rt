@@ -1,6 +1,6 @@
 //! What help says.
 use super::asked;
-use crate::files::assert_that;
+use crate::replays::assert_that;
 use like_command::Asked;
 use std::alloc::Global;
 use std::process::Abort;
@@ -66,35 +66,6 @@ const SCRIPT: &[&str] = &["--script <FILE>", "open,S", "worker,W", "coordinator,
 // The words and statuses.
 const WORDS: &[&str] = &["run", "replay", "-V, --version", "0", "2", "3", "4", "5"];
 
-// Words, and whether the help that they ask for explains each item of a list.
-const EXPLAINED: &[(&str, &[&str], bool)] = &[
-    ("run --help", COLUMNS, true),
-    ("replay -h", COLUMNS, true),
-    ("replay p.csv --help", COLUMNS, true),
-    ("replay --help", SCRIPT, true),
-    ("run --help", SCRIPT, false),
-    ("--help", WORDS, true),
-];
-
-// A test that takes them from here has none of their texts in its proof, as it would with a constant.
-fn all_explained() -> &'static [(&'static str, &'static [&'static str], bool)] {
-    EXPLAINED
-}
-
-fn assert_explains(rt: &impl Abort, text: &str, list: &[&str], is_explained: bool) {
-    for what in list {
-        assert_that(rt, explains(text, *what) == is_explained, *what);
-    }
-}
-
-#[test]
-fn explains_each_word(rt: HostRuntime) {
-    for (words, list, is_explained) in all_explained() {
-        let text = help(&rt, rt.alloc(), *words);
-        assert_explains(&rt, &text, *list, *is_explained);
-    }
-}
-
 const HEADERS_AND_DEFAULTS: &[&str] = &[
     "name,count,split",
     "op,user,page",
@@ -104,8 +75,32 @@ const HEADERS_AND_DEFAULTS: &[&str] = &[
     "[default: 256]",
 ];
 
-fn headers_and_defaults() -> &'static [&'static str] {
-    HEADERS_AND_DEFAULTS
+// Words, whether the help that they ask for explains each item of a list, and texts that it has.
+type Case = (
+    &'static str,
+    &'static [&'static str],
+    bool,
+    &'static [&'static str],
+);
+
+const HELP: &[Case] = &[
+    ("run --help", COLUMNS, true, HEADERS_AND_DEFAULTS),
+    ("replay -h", COLUMNS, true, &[]),
+    ("replay p.csv --help", COLUMNS, true, &[]),
+    ("replay --help", SCRIPT, true, HEADERS_AND_DEFAULTS),
+    ("run --help", SCRIPT, false, &[]),
+    ("--help", WORDS, true, &[]),
+];
+
+// A test that takes them from here has none of their texts in its proof, as it would with a constant.
+fn all_help() -> &'static [Case] {
+    HELP
+}
+
+fn assert_explains(rt: &impl Abort, text: &str, list: &[&str], is_explained: bool) {
+    for what in list {
+        assert_that(rt, explains(text, *what) == is_explained, *what);
+    }
 }
 
 fn assert_says(rt: &impl Abort, text: &str, parts: &[&str]) {
@@ -114,11 +109,20 @@ fn assert_says(rt: &impl Abort, text: &str, parts: &[&str]) {
     }
 }
 
+fn assert_narrow(rt: &impl Abort, text: &str) {
+    for line in text.lines() {
+        assert_that(rt, line.len() <= 80, line);
+    }
+}
+
+// Each word, with the headers and the defaults, in lines of eighty columns.
 #[test]
-fn says_the_headers_and_the_defaults(rt: HostRuntime) {
-    for words in &["run --help", "replay --help"] {
-        let text = help(&rt, rt.alloc(), *words);
-        assert_says(&rt, &text, headers_and_defaults());
+fn explains_each_word(rt: HostRuntime) {
+    for (words, list, is_explained, texts) in all_help() {
+        let help = help(&rt, rt.alloc(), *words);
+        assert_explains(&rt, &help, *list, *is_explained);
+        assert_says(&rt, &help, *texts);
+        assert_narrow(&rt, &help);
     }
 }
 
@@ -130,26 +134,19 @@ const ALIKE: &[(&str, &str)] = &[
     ("help replay", "replay --help"),
 ];
 
+fn alike() -> &'static [(&'static str, &'static str)] {
+    ALIKE
+}
+
+// Whether words ask for the same help as others.
+fn ask_alike(rt: &impl Abort, alloc: Global, words: &str, others: &str) -> bool {
+    help(rt, alloc, words) == help(rt, alloc, others)
+}
+
 #[test]
 fn is_asked_for_by_a_word_too(rt: HostRuntime) {
-    for (words, others) in ALIKE {
-        let (text, other) = (
-            help(&rt, rt.alloc(), *words),
-            help(&rt, rt.alloc(), *others),
-        );
-        assert_that(&rt, text == other, *words);
-    }
-}
-
-fn assert_narrow(rt: &impl Abort, text: &str) {
-    for line in text.lines() {
-        assert_that(rt, line.len() <= 80, line);
-    }
-}
-
-#[test]
-fn has_lines_of_eighty_columns(rt: HostRuntime) {
-    for words in &["--help", "run --help", "replay --help"] {
-        assert_narrow(&rt, &help(&rt, rt.alloc(), *words));
+    for (words, others) in alike() {
+        let is_alike = ask_alike(&rt, rt.alloc(), *words, *others);
+        assert_that(&rt, is_alike, *words);
     }
 }

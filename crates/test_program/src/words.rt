@@ -1,9 +1,10 @@
 //! What words ask for, by `parse`.
 mod help;
 
-use crate::files::{assert_that, halves};
+use crate::replays::assert_that;
 use like_command::{Asked, ParseFault, parse};
 use std::alloc::{AllocError, Global};
+use std::fmt::Debug;
 use std::process::Abort;
 
 // The words of a text.
@@ -107,15 +108,19 @@ fn all_wrong() -> &'static [&'static str] {
 
 // Stops the test unless the words ask for what begins so.
 fn assert_asks(rt: &impl Abort, alloc: Global, words: &str, wanted: &str) {
-    let asked = asked(alloc, words);
-    let shown = format!(in alloc; "{asked:?}.").expect(rt, "memory");
+    let shown = shown(rt, alloc, asked(alloc, words));
     assert_that(rt, shown.starts_with(wanted), &shown);
+}
+
+// An answer as `Debug` shows it, with a point behind it. It takes the answer, so that no caller has to drop it.
+fn shown<T: Debug + Drop>(rt: &impl Abort, alloc: Global, answer: T) -> String {
+    format!(in alloc; "{answer:?}.").expect(rt, "memory")
 }
 
 #[test]
 fn right_words(rt: HostRuntime) {
     for case in all_asked().lines() {
-        let (words, wanted) = halves(&rt, case, " => ");
+        let (words, wanted) = case.split_once(" => ").expect(&rt, "a case");
         assert_asks(&rt, rt.alloc(), words, wanted);
     }
 }
@@ -131,6 +136,10 @@ const PAST_THE_BOUNDS: &str =
     "error: invalid value '17' for '--workers <N>': 17 is not in 1..=16\n\n\
                                For more information, try '--help'.\n";
 
+fn past_the_bounds() -> &'static str {
+    PAST_THE_BOUNDS
+}
+
 // Whether a fault has this status and line.
 fn tells(rt: &impl Abort, alloc: Global, fault: &ParseFault, status: u8, line: &str) -> bool {
     let mut text = Vec::with_capacity(alloc, 256).expect(rt, "memory");
@@ -140,7 +149,8 @@ fn tells(rt: &impl Abort, alloc: Global, fault: &ParseFault, status: u8, line: &
 #[test]
 fn faults(rt: HostRuntime) {
     let fault = asked(rt.alloc(), "replay --workers 17 p.csv r.csv").expect_err(&rt, "asked");
-    let is_told = tells(&rt, rt.alloc(), &fault, 2, PAST_THE_BOUNDS);
+    let is_told = tells(&rt, rt.alloc(), &fault, 2, past_the_bounds());
+    drop(fault);
     assert_that(&rt, is_told, "memory");
     let line = "likes: out of memory\n";
     assert_that(
