@@ -11,7 +11,7 @@ use Rattle.like_core.specs.declared.view.Addition.{Addition}
 use Rattle.like_core.specs.declared.view.PageRead.{PageRead}
 use Rattle.like_core.specs.OpeningLimits.{AreLimits, has_slots}
 use Rattle.like_core.specs.PhaseMasks.{mask_of}
-use Rattle.like_core.specs.Post.{PostView, answered, pages_of, slices}
+use Rattle.like_core.specs.Post.{KnowsSlices, PostView, answered, pages_of, slices}
 use Rattle.like_core.specs.WorkerState.{IsRunning, RunsJoined, RunsSplit, phase_of}
 use Rattle.like_limits.specs.Buckets.{bucket, buckets}
 use Rattle.like_tables.specs.Liked.{AreUnliked}
@@ -23,7 +23,7 @@ use Rattle.like_tables.proofs.Sliced.{IsSplitSlice-none, has_split-none}
 use Rattle.like_tables.proofs.Tagged.{bucket-lt}
 use Rattle.like_seat.specs.declared.tables.Tables.{Tables}
 use Rattle.like_seat.specs.Kept.{IsKept, IsOfRun, IsOfService, SplitsPages, view_of}
-use Rattle.like_seat.specs.StationView.{IsSliceInSplit, likes_of}
+use Rattle.like_seat.specs.StationView.{HasPhaseMask, IsSliceInSplit, likes_of}
 use Rattle.like_seat.specs.Steps.{IsNext, NoneFrom}
 use Rattle.like_seat.proofs.Filling.{same_tests}
 
@@ -32,6 +32,10 @@ runs-split : (s : WorkerState) → IsRunning s → IsSplit (phase_of s) → Runs
 runs-split (state.Runs k) runs odd = odd
 runs-split (state.Answered k) runs odd = absurd runs
 runs-split state.Gone runs odd = absurd runs
+
+-- who runs a phase knows which pages are sliced in it
+pub knows-slices : (post : PostView) (page : ℕ) → IsRunning post.state → HasPhaseMask post → KnowsSlices post page
+knows-slices post page runs masked = λ odd _ _. masked (runs-split post.state runs odd)
 
 -- its slice tells which pages are sliced in a phase that it runs
 pub has_split-slices : (post : PostView) (s : SplitSlice) (page : ℕ) → SplitsPages post s → IsRunning post.state

@@ -6,11 +6,13 @@ use Rattle.like_core.specs.declared.sight.Sight.{Sight}
 use Rattle.like_core.specs.declared.view.PhaseMask.{PhaseMask}
 use Rattle.like_core.specs.declared.worker_state.WorkerState.{WorkerState}
 use Rattle.like_core.specs.declared.worker_state.WorkerState.TheVariants as state
-use Rattle.like_core.specs.WorkerState.{RunsSplit, phase_of, seen}
+use Rattle.like_core.specs.WorkerState.{IsRunning, IsSightOf, RunsSplit, SeesEndingStill, phase_of, seen}
 use Rattle.like_core.specs.PhaseMasks.{HasMask}
 use Rattle.like_core.specs.Post.{PostView, looked_at, slices}
-use Rattle.like_seat.specs.StationView.{HasPhaseMask, IsSliceInSplit}
-use Rattle.like_seat.specs.Steps.{masks_entered, masks_in, saw_at}
+use Rattle.like_seat.specs.declared.tables.Tables.{Tables}
+use Rattle.like_seat.specs.Kept.{view_of}
+use Rattle.like_seat.specs.StationView.{HasPhaseMask, IsSliceInSplit, IsStation}
+use Rattle.like_seat.specs.Steps.{LooksAndEnters, masks_entered, masks_in, saw_at}
 
 -- who stays in a phase has read the masks that it had read
 same-masks : (masks : List PhaseMask) (from to mask : ℕ) → to ≡ from → masks_in masks from to mask ≡ masks
@@ -26,15 +28,40 @@ saw-same post sight mask same =
     λ m. record (looked_at post sight) { masks = masks m }
 
 -- who waits stays
+pub waiting-stays : (s : WorkerState) (sight : Sight) → sight.waits ≡ true → seen s sight ≡ s
+waiting-stays (state.Runs k) sight waits = refl
+waiting-stays (state.Answered k) sight waits =
+    ap (λ (b : Bool). cond b (state.Answered k) (state.Runs (k + 1))) waits
+waiting-stays state.Gone sight waits = refl
+
+-- and its masks stay
 pub saw-waiting : (post : PostView) (sight : Sight) (mask : ℕ)
     → sight.waits ≡ true
     → saw_at post sight mask ≡ looked_at post sight
-saw-waiting post sight mask waits = saw-same post sight mask (by_state post.state)
-  where
-    by_state : (s : WorkerState) → seen s sight ≡ s
-    by_state (state.Runs k) = refl
-    by_state (state.Answered k) = ap (λ (b : Bool). cond b (state.Answered k) (state.Runs (k + 1))) waits
-    by_state state.Gone = refl
+saw-waiting post sight mask waits = saw-same post sight mask (waiting-stays post.state sight waits)
+
+-- who doesn't wait runs a phase
+runs-after : (s : WorkerState) (sight : Sight) → IsSightOf s sight → sight.waits ≡ false → IsRunning (seen s sight)
+runs-after (state.Runs k) sight sees goes = tt
+runs-after (state.Answered k) sight sees goes =
+    subst (λ (b : Bool). IsRunning (cond b (state.Answered k) (state.Runs (k + 1)))) (sym goes) tt
+runs-after state.Gone sight sees goes = absurd sees
+
+-- a seat looks, and stays in its phase
+pub looks-stayed : {W : Type 0} (post now : PostView) (t : Tables W) (sight : Sight)
+    → IsSightOf post.state sight
+    → SeesEndingStill post.state post.last sight
+    → now ≡ looked_at post sight
+    → seen post.state sight ≡ post.state
+    → IsStation (view_of now t)
+    → LooksAndEnters (view_of post t) sight (view_of now t)
+looks-stayed post now t sight sees ending look same seat = record {
+  sight = sees;
+  ending = ending;
+  looks = (0, ap (λ (p : PostView). view_of p t) (look ∙ sym (saw-same post sight 0 same)));
+  runs = λ goes. subst (λ (p : PostView). IsRunning p.state) (sym look) (runs-after post.state sight sees goes);
+  seat = seat;
+}
 
 -- a look that enters the next phase
 pub saw-next : (post : PostView) (sight : Sight) (mask k : ℕ) → post.state ≡ state.Answered k → sight.waits ≡ false

@@ -1,14 +1,15 @@
 -- A slice that is merged.
-use Rattle.std.proofs.Common.{◌≡◌, ◌+◌, ℕ, List, ◌∷◌, ◌++◌, [], sum, true, refl, ap, sym, ◌∙◌, arith}
-use Rattle.like_core.specs.declared.worker_state.WorkerState.TheVariants.{Answered}
+use Rattle.std.proofs.Common.{◌≡◌, ◌≢◌, ◌+◌, ℕ, List, ◌∷◌, ◌++◌, [], sum, true, refl, ap, sym, ◌∙◌, arith}
+use Rattle.like_core.specs.declared.worker_state.WorkerState.{WorkerState}
+use Rattle.like_core.specs.declared.worker_state.WorkerState.TheVariants.{Answered, Gone, Runs}
 use Rattle.like_core.specs.Additions.{addition, all_added}
-use Rattle.like_core.specs.Post.{PostView, added, answered, pages_of}
-use Rattle.like_core.specs.WorkerState.{phase_of}
+use Rattle.like_core.specs.Post.{MayAdd, PostView, added, answered, pages_of}
+use Rattle.like_core.specs.WorkerState.{IsRunning, RunsSplit, SawEnding, phase_of}
 use Rattle.like_tables.specs.SplitSlice.{IsSplitSlice, SplitSlice, by_page, has_split, likes_in, no_slice, with_likes}
 use Rattle.like_tables.proofs.ByPage.{by_page-none}
 use Rattle.like_seat.specs.declared.tables.Tables.{Tables}
 use Rattle.like_seat.specs.Kept.{IsKept}
-use Rattle.like_seat.proofs.Keeping.{Kept-unsplit, Kept-written, by_page-no_slice, of-run, of-service, sum-written}
+use Rattle.like_seat.proofs.Keeping.{Kept-unsplit, Kept-written, by_page-no_slice, knows-slices, of-run, of-service, sum-written}
 use Rattle.like_seat.proofs.MergedLikes.{all_added-push}
 
 -- a seat that has merged its slice may answer
@@ -47,3 +48,30 @@ IsKept-merged {W} post t page old likes after k split likes_are is total lawful 
     Kept-written post (post.additions ++ addition (phase_of post.state) page old likes ∷ []) post.reads post.glances t
     (record t { slice = after }) k refl refl refl (ap (λ (s : SplitSlice). s.splits) is) lawful sums
     (omega (arith, k.likes, k.sums, total, sums, more)) (omega (arith, k.likes, k.seat.few))
+
+-- who runs a split phase runs a phase
+split-runs : (s : WorkerState) → RunsSplit s → IsRunning s
+split-runs (Runs k) odd = tt
+split-runs (Answered k) odd = absurd odd
+split-runs Gone odd = absurd odd
+
+-- all likes of a page in the slice may be added to its count, once the end of the phase was seen
+pub may-merge : {W : Type 0} (post : PostView) (t : Tables W) (page likes : ℕ) (after : SplitSlice)
+    → IsKept post t
+    → has_split t.slice page ≡ true
+    → likes_in t.slice page ≢ 0
+    → likes ≡ likes_in t.slice page
+    → sum after.counts + likes ≡ sum t.slice.counts
+    → SawEnding post.last
+    → MayAdd post page likes
+may-merge post t page likes after k split liked likes_are total ending =
+    let own = (k.splits page).0 split in
+    let runs = split-runs post.state own.0 in
+    record {
+      runs = runs;
+      there = own.1;
+      known = knows-slices post page runs k.seat.masked;
+      like = λ plain. absurd (cc (plain, own.2));
+      merge = λ _. (omega (arith, liked, likes_are), ending);
+      few = omega (arith, k.seat.few, k.sums, total);
+    }

@@ -1,4 +1,5 @@
 ghost use Rattle.std.specs.Prelude.{◌≡◌, ◌<◌, ◌^◌, ◌↔◌, ℕ, IsTrue, MatchOption};
+ghost use Rattle.like_core.specs.declared.event.Event.TheVariants.{Release};
 ghost use Rattle.like_core.specs.declared.worker_state.WorkerState.TheVariants.{Runs};
 ghost use Rattle.like_core.specs.core.Numbers.{sliced, total, AllIn, AllGone};
 ghost use Rattle.like_core.specs.core.Table.{NamesWhatIsThere, Suits, LeavesLast, StaysBelowBound, Permits, Refuses};
@@ -100,6 +101,13 @@ impl Core {
         sum
     }
 
+    /// Whether the end of the phase was announced, all workers are in, and the mask is 0 where the next phase is joined.
+    fn may_release(&self, mask: u64) -> bool
+        ensures { IsTrue result ↔ Suits (numbers_of self.now) (Release mask) }
+    {
+        self.ending && self.all_in() && (self.phase % 2 == 0 || mask == 0)
+    }
+
     fn suits(&self, event: Event) -> bool
         requires { NamesWhatIsThere (numbers_of self.now) event }
         ensures { IsTrue result ↔ Suits (numbers_of self.now) event }
@@ -121,7 +129,7 @@ impl Core {
             Event::Hot(worker) => self.runs(worker) && !joined,
             Event::CoordLook | Event::CoordRead(_) => true,
             Event::Announce => !self.ending,
-            Event::Release(mask) => self.ending && self.all_in() && (joined || mask == 0),
+            Event::Release(mask) => self.may_release(mask),
         }
     }
 

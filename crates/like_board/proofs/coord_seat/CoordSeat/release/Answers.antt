@@ -1,6 +1,9 @@
-use Rattle.std.proofs.Common.{◌∙◌, ap}
+use Rattle.std.proofs.Common.{◌∙◌, ap, subst, sym}
 use Rattle.like_core.specs.declared.limits.Limits.{Limits}
 use Rattle.like_core.specs.word.Forms.{form_of}
+use Rattle.like_core.specs.views.Actions.{Releases}
+use Rattle.like_board.specs.Known.{coord_view_of}
+use Rattle.like_board.specs.Seats.{coord_view}
 use Rattle.like_board.proofs.Allowed.{releasing}
 use Rattle.like_board.proofs.coord_seat.CoordSeat.release.Goals as goal
 
@@ -13,3 +16,10 @@ store-requires c =
           (c.released-next.ensures ∙ ap (λ (l : Limits). (form_of l.form).released seat.seen) seat.limited) seat.saw
           seat.is_coord c.requires.may,
     )
+
+pub returns-clause-view : goal.returns-clause-view
+returns-clause-view c = ap coord_view_of c.store.ensures.2.0.view
+
+pub returns-clause-event : goal.returns-clause-event
+returns-clause-event c =
+    subst (Releases (coord_view c.args.self.now)) (sym (returns-clause-view c)) c.store.ensures.2.0.step

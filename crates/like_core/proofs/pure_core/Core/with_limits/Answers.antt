@@ -26,12 +26,8 @@ returns-clause-start c =
 
 pub returns-clause-reachable : goal.returns-clause-reachable
 returns-clause-reachable c =
-    starts_reachable _
-    (opening_with c.args.limits c.args.workers c.args.counts.now c.args.split.now)
-    (start_stands c.in_ok-vec.field-0.items c.in_ok-empty_rows.field-0.items c.in_ok-from_slice.field-0
-    c.in_ok-from_slice-2.field-0.items (opening_with c.args.limits c.args.workers c.args.counts.now c.args.split.now)
-    (let h = c.in_ok-vec.ensures.items_if_clones_equal in search (rules, h)) c.in_ok-empty_rows.ensures
-    c.in_ok-from_slice.ensures c.in_ok-from_slice-2.ensures.items)
+    starts_reachable _ (opening_with c.args.limits c.args.workers c.args.counts.now c.args.split.now)
+    (returns-clause-start c)
 
 pub returns-clause-exclusive : goal.returns-clause-exclusive
-returns-clause-exclusive c = let h = c.in_ok-vec.ensures in core_is_exclusive _
+returns-clause-exclusive c = core_is_exclusive _

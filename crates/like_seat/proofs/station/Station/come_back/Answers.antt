@@ -1,10 +1,12 @@
-use Rattle.std.proofs.Common.{◌≡◌, ap, sym, subst, ◌∙◌}
+use Rattle.std.proofs.Common.{◌≡◌, true, ap, sym, subst, ◌∙◌}
 use Rattle.like_core.specs.declared.worker_state.WorkerState.TheVariants.{Gone}
+use Rattle.like_core.specs.OpeningLimits.{has_slots}
 use Rattle.like_core.specs.Post.{PostView}
-use Rattle.like_seat.specs.Kept.{view_of}
+use Rattle.like_core.specs.core.Moves.{LetsReturn}
+use Rattle.like_seat.specs.Kept.{IsKept, view_of}
 use Rattle.like_seat.specs.StationView.{StationView}
 use Rattle.like_seat.specs.Steps.{came_back, masks_entered, returned_at}
-use Rattle.like_seat.proofs.Entering.{IsKept-entered, empty-entered, idle-gone, ran-returned}
+use Rattle.like_seat.proofs.Entering.{IsKept-entered, IsOfService-ran, MayEnter-kept, empty-entered, idle-gone, ran-returned}
 use Rattle.like_seat.proofs.station.Station.come_back.Goals as goal
 
 pub invariant_of-self-2 : goal.invariant_of-self-2
@@ -50,3 +52,40 @@ returns-clause-back g c = λ _.
 
 pub returns-clause-seat : goal.returns-clause-seat
 returns-clause-seat g c = (invariant_of-self-2 g c).seat
+
+pub come_back-requires-clause-gone : goal.come_back-requires-clause-gone
+come_back-requires-clause-gone g c =
+    subst (λ (v : StationView g.row.W.Denot). v.post.state ≡ Gone) (sym c.self.view_is) c.requires.gone
+
+pub come_back-requires-clause-lets : goal.come_back-requires-clause-lets
+come_back-requires-clause-lets g c =
+    subst (λ (v : StationView g.row.W.Denot). LetsReturn v.post.limits) (sym c.self.view_is) c.requires.lets
+
+pub invariant_of-self : goal.invariant_of-self
+invariant_of-self g c =
+    subst (λ (p : PostView). IsKept p c.self.inside.tables) (sym c.in_default.ensures.none) c.self.invariant
+
+pub returns-in_default-clause-none : goal.returns-in_default-clause-none
+returns-in_default-clause-none g c = λ _.
+    ap (λ (p : PostView). view_of p c.self.inside.tables) c.in_default.ensures.none ∙ c.self.view_is
+
+pub returns-in_default-clause-seat : goal.returns-in_default-clause-seat
+returns-in_default-clause-seat g c = (invariant_of-self g c).seat
+
+pub enter_slots-requires-clause-may : goal.enter_slots-requires-clause-may
+enter_slots-requires-clause-may g c =
+    let p = g.P.Post.view c.self.inside.post in
+    let back = g.P.Post.view c.come_back.new.self in
+    let gone : p.state ≡ Gone =
+    subst (λ (v : StationView g.row.W.Denot). v.post.state ≡ Gone) (sym c.self.view_is) c.requires.gone in
+    MayEnter-kept p back c.self.inside.tables c.in-Some.phase c.self.invariant (idle-gone p.state gone)
+    (ran-returned p back c.in-Some.phase c.in-Some.ensures.back)
+
+pub enter_slots-requires-clause-service : goal.enter_slots-requires-clause-service
+enter_slots-requires-clause-service g c =
+    let p = g.P.Post.view c.self.inside.post in
+    let back = g.P.Post.view c.come_back.new.self in
+    let slotted = subst (λ (v : StationView g.row.W.Denot). has_slots v.post.limits ≡ true) (sym c.self.view_is)
+    c.requires.slotted in
+    IsOfService-ran p back c.self.inside.tables c.in-Some.phase c.self.invariant
+    (ran-returned p back c.in-Some.phase c.in-Some.ensures.back) slotted

@@ -1,14 +1,15 @@
-use Rattle.std.proofs.Common.{◌≡◌, ℕ, ◌+◌, ◌<◌, ◌++◌, ◌∷◌, [], get_or, length, sym, ap, subst, ◌∙◌, arith}
+use Rattle.std.proofs.Common.{◌≡◌, true, ℕ, ◌+◌, ◌<◌, ◌++◌, ◌∷◌, [], get_or, length, sym, ap, subst, ◌∙◌, arith}
 use Rattle.like_core.specs.Additions.{page_read}
-use Rattle.like_core.specs.Post.{PostView, pages_of}
-use Rattle.like_core.specs.WorkerState.{phase_of}
+use Rattle.like_core.specs.Post.{PostView, pages_of, slices}
+use Rattle.like_core.specs.WorkerState.{IsRunning, phase_of}
+use Rattle.like_tables.specs.Placed.{IsPlaced}
 use Rattle.like_tables.specs.SplitSlice.{by_page}
 use Rattle.like_tables.proofs.ByPage.{get_or-by_page}
 use Rattle.like_seat.specs.declared.seen.Seen.{Seen}
 use Rattle.like_seat.specs.Kept.{view_of}
 use Rattle.like_seat.specs.StationView.{StationView}
 use Rattle.like_seat.specs.Steps.{Glances}
-use Rattle.like_seat.proofs.Keeping.{Kept-read}
+use Rattle.like_seat.proofs.Keeping.{Kept-read, has_split-slices, knows-slices}
 use Rattle.like_seat.proofs.station.Station.glance.Goals as goal
 
 pub returns-clause-glances : goal.returns-clause-glances
@@ -40,3 +41,33 @@ invariant_of-self g c =
 
 pub returns-clause-seat : goal.returns-clause-seat
 returns-clause-seat g c = (invariant_of-self g c).seat
+
+pub last_at-last-requires : goal.last_at-last-requires
+last_at-last-requires g c =
+    subst (λ (v : StationView g.row.W.Denot). IsPlaced v.last.share c.args.placed) (sym c.self.view_is)
+    c.requires.placed
+
+pub likes-own-requires : goal.likes-own-requires
+likes-own-requires g c =
+    let p = g.P.Post.view c.self.inside.post in
+    let page : ℕ = c.args.page in
+    let there : page < pages_of p =
+    subst (λ (v : StationView g.row.W.Denot). page < pages_of v.post) (sym c.self.view_is) c.requires.there in
+    let runs : IsRunning p.state =
+    subst (λ (v : StationView g.row.W.Denot). IsRunning v.post.state) (sym c.self.view_is) c.requires.running in
+    has_split-slices p c.self.inside.tables.slice page c.self.invariant.splits runs there
+    ∙ subst (λ (v : StationView g.row.W.Denot). slices v.post page ≡ true) (sym c.self.view_is) c.requires.sliced
+
+pub glance-requires : goal.glance-requires
+glance-requires g c =
+    let p = g.P.Post.view c.self.inside.post in
+    let page : ℕ = c.args.page in
+    let runs : IsRunning p.state =
+    subst (λ (v : StationView g.row.W.Denot). IsRunning v.post.state) (sym c.self.view_is) c.requires.running in
+    record {
+      runs = runs;
+      there = subst (λ (v : StationView g.row.W.Denot). page < pages_of v.post) (sym c.self.view_is) c.requires.there;
+      known = knows-slices p page runs c.self.invariant.seat.masked;
+      sliced = subst (λ (v : StationView g.row.W.Denot). slices v.post page ≡ true) (sym c.self.view_is)
+          c.requires.sliced;
+    }

@@ -1,14 +1,14 @@
-use Rattle.std.proofs.Common.{◌≡◌, ◌+◌, Bool, cond, false, ap, sym, subst, ◌∙◌, arith, rules}
-use Rattle.std.proofs.lemmas.Bool.{not-true}
-use Rattle.like_core.specs.declared.worker_state.WorkerState.TheVariants.{Answered, Runs}
+use Rattle.std.proofs.Common.{◌≡◌, ◌≢◌, ◌+◌, Bool, cond, false, ap, sym, subst, ◌∙◌, arith, rules}
+use Rattle.std.proofs.lemmas.Bool.{not-false, not-true}
+use Rattle.like_core.specs.declared.worker_state.WorkerState.TheVariants.{Answered, Gone, Runs}
 use Rattle.like_core.specs.OpeningLimits.{has_slots}
 use Rattle.like_core.specs.Post.{PostView, looked_at}
 use Rattle.like_core.specs.WorkerState.{phase_of, seen}
 use Rattle.like_seat.specs.Kept.{view_of}
 use Rattle.like_seat.specs.StationView.{StationView}
-use Rattle.like_seat.specs.Steps.{masks_entered, saw, saw_at}
+use Rattle.like_seat.specs.Steps.{LooksAndEnters, masks_entered, saw, saw_at}
 use Rattle.like_seat.proofs.Entering.{IsKept-entered, IsKept-looked, IsOfRun-ran, MayEnter-kept, empty-entered, idle-answered, ran-looked, stays}
-use Rattle.like_seat.proofs.Looking.{saw-next}
+use Rattle.like_seat.proofs.Looking.{looks-stayed, saw-next, waiting-stays}
 use Rattle.like_seat.proofs.station.Station.look.Goals as goal
 
 pub invariant_of-self : goal.invariant_of-self
@@ -90,3 +90,38 @@ returns-then-not-sight g c =
       runs = search rules;
       seat = (invariant_of-self g c).seat;
     }
+
+pub look-sight-requires : goal.look-sight-requires
+look-sight-requires g c =
+    subst (λ (v : StationView g.row.W.Denot). v.post.state ≢ Gone) (sym c.self.view_is) c.requires.here
+
+pub invariant_of-self-else-not-sight : goal.invariant_of-self-else-not-sight
+invariant_of-self-else-not-sight g c =
+    let p = g.P.Post.view c.self.inside.post in
+    let sight = c.look-sight.result in
+    IsKept-looked p (g.P.Post.view c.look-sight.new.self) c.self.inside.tables sight c.self.invariant
+    c.look-sight.ensures.view (waiting-stays p.state sight (not-false sight.waits c.if-not-sight.false))
+
+pub returns-else-not-sight : goal.returns-else-not-sight
+returns-else-not-sight g c =
+    let p = g.P.Post.view c.self.inside.post in
+    let now = g.P.Post.view c.look-sight.new.self in
+    let t = c.self.inside.tables in
+    let sight = c.look-sight.result in
+    let told = c.look-sight.ensures in
+    subst (λ (v : StationView g.row.W.Denot). LooksAndEnters v sight (view_of now t)) c.self.view_is
+    (looks-stayed p now t sight told.sight told.ending told.view
+    (waiting-stays p.state sight (not-false sight.waits c.if-not-sight.false))
+    (invariant_of-self-else-not-sight g c).seat)
+
+pub returns-in_default : goal.returns-in_default
+returns-in_default g c =
+    let p = g.P.Post.view c.self.inside.post in
+    let now = g.P.Post.view c.look-sight.new.self in
+    let t = c.self.inside.tables in
+    let sight = c.look-sight.result in
+    let told = c.look-sight.ensures in
+    subst (λ (v : StationView g.row.W.Denot). LooksAndEnters v sight (view_of now t)) c.self.view_is
+    (looks-stayed p now t sight told.sight told.ending told.view
+    (stays p.state sight (λ k is. c.in_default.not-Answered k (sym c.self.invariant.state ∙ is)))
+    (invariant_of-self-in_default g c).seat)

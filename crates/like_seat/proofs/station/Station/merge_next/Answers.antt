@@ -1,5 +1,6 @@
 use Rattle.std.proofs.Common.{◌≡◌, ℕ, set, refl, sym, ap, subst, ◌∙◌, get_or}
 use Rattle.like_core.specs.Post.{PostView, added, pages_of}
+use Rattle.like_core.specs.WorkerState.{SawEnding}
 use Rattle.like_tables.specs.SplitSlice.{SplitSlice, by_page}
 use Rattle.like_tables.proofs.ByPage.{by_page-with_likes, get_or-by_page}
 use Rattle.like_seat.specs.declared.merged.Merged.{Merged}
@@ -7,7 +8,7 @@ use Rattle.like_seat.specs.Kept.{IsKept, view_of}
 use Rattle.like_seat.specs.StationView.{StationView}
 use Rattle.like_seat.specs.Steps.{MergesPage, NoneFrom}
 use Rattle.like_seat.proofs.Keeping.{IsNext-sliced, NoneFrom-sliced}
-use Rattle.like_seat.proofs.Merging.{IsKept-merged}
+use Rattle.like_seat.proofs.Merging.{IsKept-merged, may-merge}
 use Rattle.like_seat.proofs.station.Station.merge_next.Goals as goal
 
 pub returns-in_default-clause-merges : goal.returns-in_default-clause-merges
@@ -57,3 +58,14 @@ returns-clause-merges g c =
 
 pub returns-clause-seat : goal.returns-clause-seat
 returns-clause-seat g c = (invariant_of-self g c).seat
+
+pub take-likes-requires : goal.take-likes-requires
+take-likes-requires g c = c.in-Some.ensures.next.split
+
+pub add-old-requires : goal.add-old-requires
+add-old-requires g c =
+    let next = c.in-Some.ensures.next in
+    may-merge (g.P.Post.view c.self.inside.post) c.self.inside.tables c.in-Some.page c.take-likes.result
+    c.take-likes.new.self c.self.invariant next.split next.liked c.take-likes.ensures.taken
+    c.take-likes.ensures.total
+    (subst (λ (v : StationView g.row.W.Denot). SawEnding v.post.last) (sym c.self.view_is) c.requires.ending)

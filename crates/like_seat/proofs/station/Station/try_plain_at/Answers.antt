@@ -1,11 +1,12 @@
-use Rattle.std.proofs.Common.{◌≡◌, ℕ, ◌+◌, ◌^◌, ◌<◌, ◌≤◌, ◌∷◌, ◌++◌, [], refl, sym, ap, subst, ◌∙◌, arith}
+use Rattle.std.proofs.Common.{◌≡◌, false, ℕ, ◌+◌, ◌^◌, ◌<◌, ◌≤◌, ◌∷◌, ◌++◌, [], refl, sym, ap, subst, ◌∙◌, arith}
 use Rattle.like_core.specs.Additions.{addition}
-use Rattle.like_core.specs.Post.{PostView}
-use Rattle.like_core.specs.WorkerState.{phase_of}
+use Rattle.like_core.specs.Post.{PostView, pages_of, slices}
+use Rattle.like_core.specs.WorkerState.{IsRunning, phase_of}
 use Rattle.like_seat.specs.Kept.{IsKept, view_of}
-use Rattle.like_seat.specs.StationView.{StationView}
+use Rattle.like_seat.specs.StationView.{StationView, likes_of}
+use Rattle.like_tables.specs.Placed.{IsPlaced}
 use Rattle.like_seat.specs.Steps.{liked_last, with_addition}
-use Rattle.like_seat.proofs.Keeping.{Kept-written}
+use Rattle.like_seat.proofs.Keeping.{Kept-written, knows-slices}
 use Rattle.like_seat.proofs.MergedLikes.{all_added-push}
 use Rattle.like_seat.proofs.station.Station.try_plain_at.Goals as goal
 
@@ -51,3 +52,39 @@ returns-clause-counts g c = λ _.
             (ap (λ (s : StationView g.row.W.Denot). liked_last (with_addition s page old 1) user page) c.self.view_is),
       ),
     )
+
+pub returns-clause-few : goal.returns-clause-few
+returns-clause-few g c = λ _.
+    let few = c.try_count.ensures.room c.if-not-try_count.false in
+    subst (λ (v : StationView g.row.W.Denot). likes_of v < 2 ^ 56) c.self.view_is
+    (subst (λ (n : ℕ). n < 2 ^ 56) c.self.invariant.likes few)
+
+pub returns-then-not-try_count-clause-full : goal.returns-then-not-try_count-clause-full
+returns-then-not-try_count-clause-full g c = λ _. c.self.view_is
+
+pub set_at-requires-clause-placed : goal.set_at-requires-clause-placed
+set_at-requires-clause-placed g c =
+    subst (λ (v : StationView g.row.W.Denot). IsPlaced v.last.share c.args.placed) (sym c.self.view_is)
+    c.requires.placed
+
+pub add-requires : goal.add-requires
+add-requires g c =
+    let p = g.P.Post.view c.self.inside.post in
+    let t = c.self.inside.tables in
+    let k = c.self.invariant in
+    let page : ℕ = c.args.page in
+    let runs : IsRunning p.state =
+    subst (λ (v : StationView g.row.W.Denot). IsRunning v.post.state) (sym c.self.view_is) c.requires.running in
+    let plain : slices p page ≡ false =
+    subst (λ (v : StationView g.row.W.Denot). slices v.post page ≡ false) (sym c.self.view_is) c.requires.plain in
+    let most : 2 ^ 56 ≤ p.limits.likes =
+    subst (λ (v : StationView g.row.W.Denot). 2 ^ 56 ≤ v.post.limits.likes) (sym c.self.view_is) c.requires.most in
+    let few : t.likes < 2 ^ 56 = c.try_count.ensures.room c.if-not-try_count.false in
+    record {
+      runs = runs;
+      there = subst (λ (v : StationView g.row.W.Denot). page < pages_of v.post) (sym c.self.view_is) c.requires.there;
+      known = knows-slices p page runs k.seat.masked;
+      like = λ _. refl;
+      merge = λ split. absurd (cc (split, plain));
+      few = omega (arith, k.likes, few, most);
+    }

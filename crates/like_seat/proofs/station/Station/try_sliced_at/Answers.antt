@@ -4,7 +4,8 @@ use Rattle.like_core.specs.WorkerState.{IsRunning}
 use Rattle.like_tables.specs.SplitSlice.{SplitSlice, by_page, has_split, likes_in}
 use Rattle.like_tables.proofs.ByPage.{by_page-with_likes, get_or-by_page}
 use Rattle.like_seat.specs.Kept.{IsKept, view_of}
-use Rattle.like_seat.specs.StationView.{StationView}
+use Rattle.like_seat.specs.StationView.{StationView, likes_of}
+use Rattle.like_tables.specs.Placed.{IsPlaced}
 use Rattle.like_seat.specs.Steps.{liked_last, sliced}
 use Rattle.like_seat.proofs.Keeping.{Kept-written, has_split-slices, sum-written}
 use Rattle.like_seat.proofs.station.Station.try_sliced_at.Goals as goal
@@ -73,3 +74,30 @@ invariant_of-self g c =
 
 pub returns-clause-seat : goal.returns-clause-seat
 returns-clause-seat g c = (invariant_of-self-2 g c).seat
+
+pub returns-clause-few : goal.returns-clause-few
+returns-clause-few g c = λ _.
+    let few = c.try_count.ensures.room c.if-not-try_count.false in
+    subst (λ (v : StationView g.row.W.Denot). likes_of v < 2 ^ 56) c.self.view_is
+    (subst (λ (n : ℕ). n < 2 ^ 56) c.self.invariant.likes few)
+
+pub returns-then-not-try_count-clause-full : goal.returns-then-not-try_count-clause-full
+returns-then-not-try_count-clause-full g c = λ _. c.self.view_is
+
+pub set_at-requires-clause-placed : goal.set_at-requires-clause-placed
+set_at-requires-clause-placed g c =
+    subst (λ (v : StationView g.row.W.Denot). IsPlaced v.last.share c.args.placed) (sym c.self.view_is)
+    c.requires.placed
+
+pub add-requires-clause-split : goal.add-requires-clause-split
+add-requires-clause-split g c =
+    let p = g.P.Post.view c.self.inside.post in
+    let t = c.self.inside.tables in
+    let k = c.self.invariant in
+    let page : ℕ = c.args.page in
+    let there : page < pages_of p =
+    subst (λ (v : StationView g.row.W.Denot). page < pages_of v.post) (sym c.self.view_is) c.requires.there in
+    let runs : IsRunning p.state =
+    subst (λ (v : StationView g.row.W.Denot). IsRunning v.post.state) (sym c.self.view_is) c.requires.running in
+    has_split-slices p t.slice page k.splits runs there
+    ∙ subst (λ (v : StationView g.row.W.Denot). slices v.post page ≡ true) (sym c.self.view_is) c.requires.split

@@ -1,12 +1,12 @@
 use Rattle.std.proofs.Common.{◌≡◌, ℕ, ◌<◌, true, drop, [], length, get_or, refl, ap, rules, sym, ◌∙◌, subst}
 use Rattle.like_core.specs.Post.{answered, retired}
-use Rattle.like_core.specs.WorkerState.{phase_of}
+use Rattle.like_core.specs.WorkerState.{RunsJoined, SawEnding, phase_of}
 use Rattle.like_core.specs.declared.worker_state.WorkerState.TheVariants as state
 use Rattle.like_tables.specs.UserTable.{UserTable}
 use Rattle.like_tables.specs.declared.held.Held.{Held}
 use Rattle.like_seat.specs.StationView.{StationView}
 use Rattle.like_seat.specs.Steps.{without_first}
-use Rattle.like_roles.specs.worker.Desk.{IsSound, view_of}
+use Rattle.like_roles.specs.worker.Desk.{HasSubmitters, IsSound, view_of}
 use Rattle.like_roles.specs.worker.Judged.{IsJudged}
 use Rattle.like_roles.specs.worker.Serve.{Runs}
 use Rattle.like_roles.specs.worker.Turns.{acknowledges, retires, runs_held, tries_joined}
@@ -124,3 +124,26 @@ returns-clause-sound g c =
     subst (λ (x : StationView Held). IsSound x c.try_next.new.self) (sym same)
     (sound-tried s d c.try_next.new.self place c.requires.settled
     (tried-joined s d place c.requires.joined empty next.there) c.try_next.ensures.tried)
+
+pub retire-requires : goal.retire-requires
+retire-requires g c =
+    subst (λ (t : StationView Held). RunsJoined t.post.state) (sym c.next_held.ensures.rest) c.requires.joined
+
+pub acknowledge-requires-clause-runs : goal.acknowledge-requires-clause-runs
+acknowledge-requires-clause-runs g c =
+    subst (λ (t : StationView Held). RunsJoined t.post.state) (sym c.next_held.ensures.rest) c.requires.joined
+
+pub acknowledge-requires-clause-ending : goal.acknowledge-requires-clause-ending
+acknowledge-requires-clause-ending g c =
+    subst (λ (t : StationView Held). SawEnding t.post.last) (sym c.next_held.ensures.rest)
+    (c.requires.ending c.if-ending.true)
+
+pub try_next-requires-clause-places : goal.try_next-requires-clause-places
+try_next-requires-clause-places g c =
+    subst (λ (t : StationView Held). HasSubmitters t.last.share c.args.self.now) (sym c.next_held.ensures.rest)
+    c.requires.settled.sound.places
+
+pub try_next-requires-clause-there : goal.try_next-requires-clause-there
+try_next-requires-clause-there g c =
+    (subst (λ xs. IsNextPlace xs c.args.self.now.cursor c.in-Some-next_place.place) c.deref.ensures.value
+    c.in-Some-next_place.ensures).there

@@ -51,3 +51,28 @@ returns-in-None-clause-works g c =
     subst (λ xs. (place : ℕ) → place < length xs → get_or xs place true ≡ true) c.deref.ensures.value
     c.in-None.ensures in
     idles c.requires.split c.if-ending.false (inl all) refl refl
+
+pub merge-requires-clause-settled : goal.merge-requires-clause-settled
+merge-requires-clause-settled g c = c.requires.settled
+
+pub merge-requires-clause-split : goal.merge-requires-clause-split
+merge-requires-clause-split g c = c.requires.split
+
+pub merge-requires-clause-ending : goal.merge-requires-clause-ending
+merge-requires-clause-ending g c = c.requires.ending c.if-ending.true
+
+pub report-requires-clause-merged : goal.report-requires-clause-merged
+report-requires-clause-merged g c = c.merge.ensures.empty
+
+pub returns-then-is_full-clause-sound : goal.returns-then-is_full-clause-sound
+returns-then-is_full-clause-sound g c = c.requires.settled.sound
+
+pub try_next-requires-clause-places : goal.try_next-requires-clause-places
+try_next-requires-clause-places g c = c.requires.settled.sound.places
+
+pub try_next-requires-clause-there : goal.try_next-requires-clause-there
+try_next-requires-clause-there g c =
+    (subst (λ xs. IsNextPlace xs c.args.self.now.cursor c.in-Some.place) c.deref.ensures.value c.in-Some.ensures).there
+
+pub returns-in-None-clause-sound : goal.returns-in-None-clause-sound
+returns-in-None-clause-sound g c = c.requires.settled.sound
