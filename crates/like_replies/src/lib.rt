@@ -10,7 +10,7 @@ mod summary;
 mod write_fault;
 
 pub use extent::Extent;
-pub use like_collection::{CollectFault, collect, places};
+pub use like_collection::{CollectFault, collect, collect_at_once, places};
 pub use like_promises::{Answer, Place, Replies, Report};
 pub use notice::Notice;
 pub use refusals::Refusals;

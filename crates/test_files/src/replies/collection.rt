@@ -1,10 +1,11 @@
 //! What logs are collected to.
 use crate::files::{assert_text, assert_that, push, shown};
 use crate::replies::log_of;
-use like_replies::{CollectFault, Replies, collect};
+use like_replies::{collect, collect_at_once};
 use like_roles::{Ran, Reply, WorkerLog};
 use std::alloc::Global;
 use std::process::Abort;
+use std::thread::Threads;
 
 // An entry of a log, of the request of a submitter with a number.
 #[derive(Clone, Copy)]
@@ -58,20 +59,6 @@ fn logs(rt: &impl Abort, alloc: Global, workers: &[&[Entry]]) -> Vec<WorkerLog> 
         push(rt, &mut logs, log(rt, alloc, *entries));
     }
     logs
-}
-
-// What logs are collected to, where the submitters have this many requests each.
-fn collected(
-    rt: &impl Abort,
-    alloc: Global,
-    sizes: &[u32],
-    workers: &[&[Entry]],
-) -> Result<Replies, CollectFault> {
-    assert!(rt; sizes.len() <= 64);
-    let logs = logs(rt, alloc, workers);
-    let replies = collect(alloc, sizes, &logs);
-    drop(logs);
-    replies
 }
 
 // How many requests each submitter has; the entries of each worker; what they are collected to.
@@ -148,16 +135,23 @@ fn entries_and_faults(rt: HostRuntime) {
     }
 }
 
-// Stops the test unless logs are collected to this.
-fn assert_collected(
-    rt: &impl Abort,
+// Stops the test unless logs are collected to this, one after the other and in parallel.
+fn assert_collected<R: Abort + Threads + Sync>(
+    rt: &R,
     alloc: Global,
     sizes: &[u32],
     workers: &[&[Entry]],
     wanted: &str,
 ) {
-    let replies = collected(rt, alloc, sizes, workers);
-    assert_text(rt, shown(rt, alloc, replies), wanted);
+    assert!(rt; sizes.len() <= 64);
+    let logs = logs(rt, alloc, workers);
+    assert_text(rt, shown(rt, alloc, collect(alloc, sizes, &logs)), wanted);
+    assert_text(
+        rt,
+        shown(rt, alloc, collect_at_once(rt, alloc, sizes, &logs)),
+        wanted,
+    );
+    drop(logs);
 }
 
 // A like of each of this many submitters.
@@ -171,7 +165,9 @@ fn one_each(rt: &impl Abort, alloc: Global, submitters: u32) -> Vec<Entry> {
 
 // How many submitters have replies, where each of 64 has one.
 fn answered(rt: &impl Abort, alloc: Global, entries: &[Entry]) -> usize {
-    let replies = collected(rt, alloc, &[1; 64], &[entries]).expect(rt, "replies");
+    let logs = logs(rt, alloc, &[entries]);
+    let replies = collect(alloc, &[1; 64], &logs).expect(rt, "replies");
+    drop(logs);
     let answered = replies.rows.len();
     drop(replies);
     answered
