@@ -1,8 +1,9 @@
-use Rattle.std.proofs.Common.{◌≡◌, ◌+◌, length, ap, sym, subst, ◌∙◌, arith}
+use Rattle.std.proofs.Common.{◌≡◌, ◌+◌, length, refl, ap, sym, subst, ◌∙◌, arith}
+use Rattle.std.proofs.lemmas.Bool.{false≢true}
 use Rattle.like_core.specs.WorkerState.{RunsSplit}
 use Rattle.like_seat.specs.StationView.{phase_at}
 use Rattle.like_live.specs.Calls.{asked_in}
-use Rattle.like_live.specs.LiveView.{IsOwn, LiveView, room_of, waiting}
+use Rattle.like_live.specs.LiveView.{IsLive, IsOwn, LiveView, room_of, waiting}
 use Rattle.like_live.proofs.Requests.{after-held, puts-by}
 use Rattle.like_live.proofs.live_seat.LiveSeat.wait_late.Goals as goal
 
@@ -53,3 +54,28 @@ returns-else-clear-self-clause-waits g c = λ _.
 
 pub returns-else-clear-self-clause-keeps : goal.returns-else-clear-self-clause-keeps
 returns-else-clear-self-clause-keeps g c = (invariant_of-self-else-clear-self g c).live
+
+pub returns-then-left-eq0-clause-waits : goal.returns-then-left-eq0-clause-waits
+returns-then-left-eq0-clause-waits g c = λ e. absurd (false≢true e)
+
+pub returns-then-left-eq0-clause-none : goal.returns-then-left-eq0-clause-none
+returns-then-left-eq0-clause-none g c = λ _. refl
+
+pub returns-then-left-eq0-clause-keeps : goal.returns-then-left-eq0-clause-keeps
+returns-then-left-eq0-clause-keeps g c =
+    subst (λ (v : LiveView). IsLive v) c.self.view_is c.self.invariant.live
+
+pub take-requires : goal.take-requires
+take-requires g c = omega (arith, c.left.ensures, c.if-left-eq0.false)
+
+pub returns-then-clear-self-clause-full : goal.returns-then-clear-self-clause-full
+returns-then-clear-self-clause-full g c = λ e. absurd (false≢true (sym e))
+
+pub returns-then-clear-self-clause-none : goal.returns-then-clear-self-clause-none
+returns-then-clear-self-clause-none g c = λ e. absurd (false≢true (sym e))
+
+pub returns-else-clear-self-clause-full : goal.returns-else-clear-self-clause-full
+returns-else-clear-self-clause-full g c = λ e. absurd (false≢true (sym e))
+
+pub returns-else-clear-self-clause-none : goal.returns-else-clear-self-clause-none
+returns-else-clear-self-clause-none g c = λ e. absurd (false≢true (sym e))
