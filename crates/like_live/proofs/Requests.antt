@@ -53,6 +53,17 @@ not-full s kept limits some =
     let few = kept.few in
     omega arith
 
+-- one that has counted 2^56 may count no more
+pub is-full : (s : StationView Asked)
+    → IsStation s
+    → s.post.limits ≡ service_limits
+    → 2 ^ 56 ≤ likes_of s
+    → likes_of s ≡ s.post.limits.likes
+is-full s kept limits all =
+    let most : s.post.limits.likes ≡ 2 ^ 56 = ap (λ l. l.likes) limits in
+    let few = kept.few in
+    omega arith
+
 -- a service lets its seats count 2^56 likes
 pub likes-most : (s : StationView Asked) → s.post.limits ≡ service_limits → 2 ^ 56 ≤ s.post.limits.likes
 likes-most s limits =
