@@ -7,8 +7,9 @@ use Rattle.like_core.specs.declared.sight.Sight.{Sight}
 use Rattle.like_core.specs.declared.worker_state.WorkerState.{WorkerState}
 use Rattle.like_core.specs.declared.worker_state.WorkerState.TheVariants as state
 use Rattle.like_core.specs.Phase.{IsJoined, IsSplit}
-use Rattle.like_core.specs.Post.{PostView}
+use Rattle.like_core.specs.Post.{PostView, answered}
 use Rattle.like_core.specs.WorkerState.{IsRunning, IsSightOf, phase_of, seen}
+use Rattle.like_seat.specs.Merge.{MergesAndReports, merged}
 use Rattle.like_seat.specs.StationView.{IsStation, StationView, phase_at}
 use Rattle.like_seat.specs.Steps.{ComesBack, LooksAndEnters}
 use Rattle.like_tables.specs.Home.{Home}
@@ -123,6 +124,28 @@ looked-live s found looked odd = record {
   next = looked.next;
   room = looked.room;
 }
+
+-- and stays so when it merges its slice and reports
+pub merged-live : (s t : StationView Asked) (found : Waiting Found)
+    → HasLooked s found
+    → IsSplit (phase_at s)
+    → MergesAndReports s t → IsStation t
+    → IsLive (live_of t found)
+merged-live s t found looked odd m kept =
+    let live = looked-live s found looked odd in
+    let adds = m.1.0.0 in
+    let is : t ≡ record (merged s adds) { post = answered (merged s adds).post } =
+    m.1.1 ∙ ap (λ (x : StationView Asked). record x { post = answered x.post }) m.1.0.1.1 in
+    subst (λ (x : StationView Asked). IsLive (live_of x found)) (sym is) (record {
+      seat = subst (λ (x : StationView Asked). IsStation x) is kept;
+      limits = live.limits;
+      home = live.home;
+      split = λ even. absurd (omega (arith, odd, even));
+      own = λ k d below. (let o = live.own k d below in record { there = o.there; owned = o.owned });
+      asked = live.asked;
+      next = live.next;
+      room = live.room;
+    })
 
 -- in a joined one it is live once all that waited is found
 pub found-live : (s t : StationView Asked) (found now : Waiting Found)

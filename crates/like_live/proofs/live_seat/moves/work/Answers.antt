@@ -3,7 +3,7 @@ use Rattle.like_core.specs.WorkerState.{RunsSplit}
 use Rattle.like_live.specs.LiveView.{live_of}
 use Rattle.like_live.specs.Moves.{reports, runs_split}
 use Rattle.like_live.proofs.Finding.{joined_since, split_since}
-use Rattle.like_live.proofs.Looking.{looked-live}
+use Rattle.like_live.proofs.Looking.{looked-live, merged-live}
 use Rattle.like_live.proofs.live_seat.moves.work.Goals as goal
 
 pub returns-clause-works : goal.returns-clause-works
@@ -55,3 +55,9 @@ merge_and_report-requires-clause-ending g c = c.requires.ending c.if-not-ending.
 
 pub returns-clause-capacity : goal.returns-clause-capacity
 returns-clause-capacity g c = refl
+
+pub returns-clause-live : goal.returns-clause-live
+returns-clause-live g c =
+    merged-live c.args.seat.now c.merge_and_report.new.self c.args.found.now c.requires.looked
+    (omega (arith, c.phase-phase.ensures.phase, c.if-phase-eq0.false)) c.merge_and_report.ensures.reports
+    c.merge_and_report.ensures.seat
