@@ -1,22 +1,27 @@
--- What a like does to tallies and last likes.
+-- What a request does to tallies and last likes.
 use Rattle.std.proofs.Common.{◌≡◌, ℕ, ◌+◌, ◌<◌, ◌==◌, Bool, true, false, not, cond, nat_lt, List, [], ◌∷◌, ◌++◌, length, get_or, set, Option, Some, None, refl, ap, sym, ◌∙◌, subst, inl, inr, arith}
 use Rattle.std.proofs.lemmas.Bool.{cases_eq, eq-eqb, ltb-true, ne_eqb}
 use Rattle.std.proofs.lemmas.List.{get_or-set_other, get_or-set_same}
 use Rattle.std.proofs.lemmas.List.Sums.{sum_by-append, sum_by-cons}
 use Rattle.like_core.specs.declared.view.Addition.{Addition}
+use Rattle.like_core.specs.declared.view.PageRead.{PageRead}
 use Rattle.like_core.specs.Additions.{addition, added_to}
-use Rattle.like_core.specs.Post.{pages_of}
+use Rattle.like_core.specs.Post.{has_glanced, has_read, pages_of}
 use Rattle.like_core.specs.WorkerState.{phase_of}
 use Rattle.like_requests.specs.declared.request.PageRef.TheVariants.{Known, Unknown}
 use Rattle.like_requests.specs.declared.verdict.Verdict.TheVariants.{Accepted, UnknownUser, OtherHome, UnknownPage}
 use Rattle.like_requests.specs.Verdict.{is_known}
 use Rattle.like_seat.specs.StationView.{StationView, tally_of}
-use Rattle.like_seat.specs.Steps.{CountsLike}
+use Rattle.like_seat.specs.Steps.{CountsLike, holding}
 use Rattle.like_tables.specs.UserTable.{with_last}
+use Rattle.like_tables.specs.Waiting.{Waiting}
+use Rattle.like_live.specs.declared.answer.GlanceAnswer.{GlanceAnswer}
 use Rattle.like_live.specs.declared.answer.LikeAnswer.{LikeAnswer}
+use Rattle.like_live.specs.declared.answer.LookAnswer.{LookAnswer}
 use Rattle.like_live.specs.declared.asked.Asked.{Asked}
-use Rattle.like_live.specs.LiveView.{IsSameSeat, LiveView, tally, with_seat}
-use Rattle.like_live.specs.Calls.{LikesNow, TalliesLike, full, last_after, liked, refused, told_of, verdict_at}
+use Rattle.like_live.specs.LiveView.{IsSameSeat, KeepsTallies, LiveView, tally, with_seat}
+use Rattle.like_live.specs.Calls as calls
+use Rattle.like_live.specs.Calls.{GlancesNow, LikesNow, LooksNow, TalliesLike, asked_now, full, last_after, liked, refused, told_of, verdict_at}
 use Rattle.like_live.proofs.Moving.{IsSized, same_seat}
 
 -- a request that is accepted has passed the last test
@@ -132,3 +137,52 @@ LikesNow-last v after user page answer (full accepted most a is) =
 LikesNow-last v after user page answer (liked old s accepted few a counts is) =
     ap (λ (w : LiveView). w.seat.last) is ∙ counts-last v.seat s user page old counts
     ∙ ap (last_after v.seat.last user page) (sym a)
+
+-- what no look or glance changes: the seat, its tallies and its users' last likes
+pub record LeavesLikes (v after : LiveView) : Type 0 where
+  pub same : IsSameSeat v after
+  pub tallies : KeepsTallies v after
+  pub last : after.seat.last ≡ v.seat.last
+
+-- so reads, glances and looks that wait leave them, after a turn that does
+still-leaves : (u v : LiveView) (reads glances : List PageRead) (held : Waiting Asked)
+    → LeavesLikes u v
+    → LeavesLikes u (with_seat v (record v.seat {
+      post = record v.seat.post { reads = reads; glances = glances };
+      held = held;
+    }))
+still-leaves u v reads glances held turn =
+    let same = turn.same in
+    record {
+      same = record { board = same.board; worker = same.worker; marks = same.marks; share = same.share };
+      tallies = turn.tallies;
+      last = turn.last;
+    }
+
+-- a look leaves them
+pub LooksNow-leaves : (u v after : LiveView) (user page tag : ℕ) (answer : LookAnswer)
+    → LeavesLikes u v
+    → LooksNow v user page tag answer after
+    → LeavesLikes u after
+LooksNow-leaves u v after user page tag answer turn (calls.refused fails a is) = subst (LeavesLikes u) (sym is) turn
+LooksNow-leaves u v after user page tag answer turn (calls.seen shown s accepted plain a read is) =
+    subst (LeavesLikes u) (sym (is ∙ ap (with_seat v) read.read))
+    (still-leaves u v (has_read v.seat.post page shown.count).reads v.seat.post.glances v.seat.held turn)
+LooksNow-leaves u v after user page tag answer turn (calls.no_room accepted split most a is) =
+    subst (LeavesLikes u) (sym is) turn
+LooksNow-leaves u v after user page tag answer turn (calls.waits accepted split room a is) =
+    subst (LeavesLikes u) (sym is)
+    (still-leaves u v v.seat.post.reads v.seat.post.glances (holding v.seat (asked_now v user page tag)).held turn)
+
+-- so does a glance
+pub GlancesNow-leaves : (u v after : LiveView) (user page : ℕ) (answer : GlanceAnswer)
+    → LeavesLikes u v
+    → GlancesNow v user page answer after
+    → LeavesLikes u after
+GlancesNow-leaves u v after user page answer turn (calls.refused fails a is) = subst (LeavesLikes u) (sym is) turn
+GlancesNow-leaves u v after user page answer turn (calls.plain shown s accepted plain a read is) =
+    subst (LeavesLikes u) (sym (is ∙ ap (with_seat v) read.read))
+    (still-leaves u v (has_read v.seat.post page shown.count).reads v.seat.post.glances v.seat.held turn)
+GlancesNow-leaves u v after user page answer turn (calls.split shown s accepted split a glance is) =
+    subst (LeavesLikes u) (sym (is ∙ ap (with_seat v) glance.glanced))
+    (still-leaves u v v.seat.post.reads (has_glanced v.seat.post page glance.count).glances v.seat.held turn)

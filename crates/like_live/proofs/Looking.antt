@@ -1,20 +1,25 @@
 -- What a live seat keeps when it looks at the phase word.
-use Rattle.std.proofs.Common.{◌≡◌, ℕ, ◌+◌, ◌⊎◌, inl, inr, Bool, true, false, List, [], cond, refl, ap, sym, ◌∙◌, subst, arith}
+use Rattle.std.proofs.Common.{◌≡◌, ℕ, ◌+◌, ◌⊎◌, inl, inr, Bool, true, false, List, [], ◌++◌, cond, length, refl, ap, sym, ◌∙◌, subst, arith}
 use Rattle.std.specs.List.{All}
+use Rattle.std.proofs.lemmas.List.{length-append, length-map}
 use Rattle.std.proofs.lemmas.List.Elements.{All-nil}
 use Rattle.like_core.specs.declared.sight.Sight.{Sight}
 use Rattle.like_core.specs.declared.worker_state.WorkerState.{WorkerState}
 use Rattle.like_core.specs.declared.worker_state.WorkerState.TheVariants as state
-use Rattle.like_core.specs.Phase.{IsJoined}
+use Rattle.like_core.specs.Phase.{IsJoined, IsSplit}
+use Rattle.like_core.specs.Post.{PostView, answered}
 use Rattle.like_core.specs.WorkerState.{IsRunning, IsSightOf, phase_of, seen}
+use Rattle.like_seat.specs.Merge.{MergesAndReports, merged}
 use Rattle.like_seat.specs.StationView.{IsStation, StationView, phase_at}
 use Rattle.like_seat.specs.Steps.{ComesBack, LooksAndEnters}
 use Rattle.like_tables.specs.Home.{Home}
+use Rattle.like_tables.specs.Share.{Share}
 use Rattle.like_tables.specs.Waiting.{Waiting}
 use Rattle.like_live.specs.declared.asked.Asked.{Asked}
 use Rattle.like_live.specs.declared.asked.Found.{Found}
 use Rattle.like_live.specs.Kept.{AreLiveSeatParts, HasLooked}
-use Rattle.like_live.specs.LiveView.{IsLive, live_of}
+use Rattle.like_live.specs.LiveView.{IsLive, IsOwn, LiveView, RanNext, live_of, room_of, waiting, with_seat}
+use Rattle.like_live.specs.Moves.{FindsAll}
 use Rattle.like_live.proofs.Moving.{Leaves, Leaves-both, Leaves-looked, after-leaves}
 
 -- a seat that is to wait stays in its phase
@@ -104,7 +109,98 @@ has-looked s u found home pages room half sight parts looks on =
       room = live.room;
     })
 
--- and its parts agree after that
+-- in a split phase it is live
+pub looked-live : (s : StationView Asked) (found : Waiting Found)
+    → HasLooked s found
+    → IsSplit (phase_at s)
+    → IsLive (live_of s found)
+looked-live s found looked odd = record {
+  seat = looked.seat;
+  limits = looked.limits;
+  home = looked.home;
+  split = λ even. absurd (omega (arith, odd, even));
+  own = looked.own;
+  asked = looked.asked odd;
+  next = looked.next;
+  room = looked.room;
+}
+
+-- and stays so when it merges its slice and reports
+pub merged-live : (s t : StationView Asked) (found : Waiting Found)
+    → HasLooked s found
+    → IsSplit (phase_at s)
+    → MergesAndReports s t → IsStation t
+    → IsLive (live_of t found)
+merged-live s t found looked odd m kept =
+    let live = looked-live s found looked odd in
+    let adds = m.1.0.0 in
+    let is : t ≡ record (merged s adds) { post = answered (merged s adds).post } =
+    m.1.1 ∙ ap (λ (x : StationView Asked). record x { post = answered x.post }) m.1.0.1.1 in
+    subst (λ (x : StationView Asked). IsLive (live_of x found)) (sym is) (record {
+      seat = subst (λ (x : StationView Asked). IsStation x) is kept;
+      limits = live.limits;
+      home = live.home;
+      split = λ even. absurd (omega (arith, odd, even));
+      own = λ k d below. (let o = live.own k d below in record { there = o.there; owned = o.owned });
+      asked = live.asked;
+      next = live.next;
+      room = live.room;
+    })
+
+-- in a joined one it is live once all that waited is found
+pub found-live : (s t : StationView Asked) (found now : Waiting Found)
+    → HasLooked s found
+    → FindsAll (live_of s found) (live_of t now)
+    → All RanNext now.held → IsStation t
+    → IsLive (live_of t now)
+found-live s t found now looked finds next kept =
+    let is = finds.rest in
+    let none : t.held.held ≡ [] = ap (λ (v : LiveView). waiting v) is in
+    let same : t.held.capacity ≡ s.held.capacity = ap (λ (v : LiveView). room_of v) is in
+    let more : now.held ≡ found.held ++ finds.found = ap (λ (v : LiveView). v.found) is in
+    let asked : Found → Asked = λ f. f.asked in
+    record {
+      seat = kept;
+      limits = ap (λ (v : LiveView). v.seat.post.limits) is ∙ looked.limits;
+      home = subst (λ (x : Share). x.submitters ≡ x.workers) (sym (ap (λ (v : LiveView). v.seat.last.share) is)) looked.home;
+      split = λ joined. none;
+      own = all-none (IsOwn t) t.held.held none;
+      asked = all-none (λ (a : Asked). a.phase ≡ phase_at t) t.held.held none;
+      next = next;
+      room =
+          omega (
+            arith,
+            looked.room,
+            same,
+            ap (λ (xs : List Asked). length xs) none,
+            ap (λ (xs : List Found). length xs) more,
+            length-append found.held finds.found,
+            ap (λ (xs : List Asked). length xs) finds.order,
+            length-map finds.found asked,
+          );
+    }
+
+-- and it stays live in another state of its post
+pub stopped-live : (v : LiveView) (post : PostView)
+    → IsLive v
+    → waiting v ≡ []
+    → post.limits ≡ v.seat.post.limits
+    → IsStation (record v.seat { post = post })
+    → IsLive (with_seat v (record v.seat { post = post }))
+stopped-live v post live none same kept =
+    let s : StationView Asked = record v.seat { post = post } in
+    record {
+      seat = kept;
+      limits = same ∙ live.limits;
+      home = live.home;
+      split = λ joined. none;
+      own = all-none (IsOwn s) v.seat.held.held none;
+      asked = all-none (λ (a : Asked). a.phase ≡ phase_at s) v.seat.held.held none;
+      next = live.next;
+      room = live.room;
+    }
+
+-- and its parts agree after its phase work
 pub after-works : (s u t : StationView Asked) (found now : Waiting Found) (home : Home) (pages room half : ℕ) (sight : Sight)
     → AreLiveSeatParts s found home pages room half
     → LooksAndEnters s sight u

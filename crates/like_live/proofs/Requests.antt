@@ -1,5 +1,5 @@
 -- What is known of a request that is accepted.
-use Rattle.std.proofs.Common.{◌≡◌, ◌+◌, ◌%◌, ◌<◌, ◌^◌, ℕ, List, drop, length, Option, Some, None, true, nat_lt, ap, sym, subst, ◌∙◌, arith, length-drop}
+use Rattle.std.proofs.Common.{◌≡◌, ◌+◌, ◌%◌, ◌<◌, ◌≤◌, ◌^◌, ℕ, List, drop, length, Option, Some, None, true, nat_lt, ap, sym, subst, ◌∙◌, arith, length-drop}
 use Rattle.std.proofs.Math.Nat.{mod-mod}
 use Rattle.std.proofs.lemmas.Bool.{and_from, and_parts, eq-eqb, eqb-true}
 use Rattle.std.proofs.lemmas.List.{length_push}
@@ -21,10 +21,11 @@ use Rattle.like_tables.specs.Share.{Share, owns}
 use Rattle.like_seat.specs.SlicedLike.{SlicedLike}
 use Rattle.like_seat.specs.Steps.{CountsLike, Glances, Reads, holding, liked_last, sliced, with_addition}
 use Rattle.like_tables.specs.UserTable.{with_last}
+use Rattle.like_tables.specs.declared.placed.Placed.{Placed}
 use Rattle.like_tables.specs.Waiting.{Waiting}
 use Rattle.like_live.specs.declared.asked.Asked.{Asked}
 use Rattle.like_live.specs.declared.asked.Found.{Found}
-use Rattle.like_live.specs.Calls.{PutsBy}
+use Rattle.like_live.specs.Calls.{IsAccepted, PutsBy}
 use Rattle.like_live.specs.Kept.{AreLiveSeatParts}
 use Rattle.like_live.specs.LiveView.{IsOwn, LiveView, RanNext, live_of}
 
@@ -51,6 +52,32 @@ not-full s kept limits some =
     let most : s.post.limits.likes ≡ 2 ^ 56 = ap (λ l. l.likes) limits in
     let few = kept.few in
     omega arith
+
+-- one that has counted 2^56 may count no more
+pub is-full : (s : StationView Asked)
+    → IsStation s
+    → s.post.limits ≡ service_limits
+    → 2 ^ 56 ≤ likes_of s
+    → likes_of s ≡ s.post.limits.likes
+is-full s kept limits all =
+    let most : s.post.limits.likes ≡ 2 ^ 56 = ap (λ l. l.likes) limits in
+    let few = kept.few in
+    omega arith
+
+-- a service lets its seats count 2^56 likes
+pub likes-most : (s : StationView Asked) → s.post.limits ≡ service_limits → 2 ^ 56 ≤ s.post.limits.likes
+likes-most s limits =
+    let most : s.post.limits.likes ≡ 2 ^ 56 = ap (λ l. l.likes) limits in
+    omega arith
+
+-- a request that a live seat accepts is accepted at its worker's seat, as one of the user with the place
+pub accepted_in : (v : LiveView) (s t : StationView Asked) (found : Waiting Found) (user page : ℕ) (placed : Placed)
+    → live_of s found ≡ v → t ≡ s
+    → IsAccepted v.seat user page placed
+    → IsAccepted t placed.user page placed
+accepted_in v s t found user page placed is same a =
+    subst (λ x. IsAccepted x placed.user page placed) (sym (same ∙ ap (λ (w : LiveView). w.seat) is))
+    (subst (λ u. IsAccepted v.seat u page placed) (sym a.user_is) a)
 
 -- the seat with these additions, slice, likes that went into it, and last likes
 abbrev liked_in : StationView Asked → List Addition → List ℕ → List SlicedLike → List (Option ℕ) → StationView Asked

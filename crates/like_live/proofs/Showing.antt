@@ -16,6 +16,7 @@ use Rattle.like_live.specs.declared.answer.GlanceAnswer.{GlanceAnswer}
 use Rattle.like_live.specs.declared.answer.GlanceAnswer.TheVariants as glanced
 use Rattle.like_live.specs.declared.answer.LookAnswer.{LookAnswer}
 use Rattle.like_live.specs.declared.answer.LookAnswer.TheVariants as looked
+use Rattle.like_live.specs.declared.answer.TurnAnswer.{TurnAnswer}
 use Rattle.like_live.specs.declared.answer.TurnAnswer.TheVariants as turned
 use Rattle.like_live.specs.declared.asked.Found.{Found}
 use Rattle.like_live.specs.LiveView.{LiveView, with_seat}
@@ -51,6 +52,12 @@ runs-works v now ending (moves.runs_split split e a is) =
     some (state.Answered k) h = absurd h
     some state.Gone h = absurd h
 runs-works v now ending (moves.reports s split e a merges is) = absurd (cc a)
+
+-- so does one that is given that answer
+pub runs-after : (v now : LiveView) (ending : Bool) (answer : TurnAnswer) → Works v ending answer now
+    → answer ≡ turned.Runs → IsRunning now.seat.post.state
+runs-after v now ending answer does is =
+    runs-works v now ending (subst (λ (a : TurnAnswer). Works v ending a now) is does)
 
 runs-moves : (v now : LiveView) → Moves v turned.Runs now → IsRunning now.seat.post.state
 runs-moves v now (moves.is_gone gone a is) = absurd (cc a)

@@ -20,7 +20,7 @@ use Rattle.like_seat.proofs.Leading.{counted-is}
 use Rattle.like_choice.specs.Slots.{AreSlots, SlotsView}
 use Rattle.like_live.specs.declared.driver_answer.DriverAnswer.{DriverAnswer}
 use Rattle.like_live.specs.declared.driver_end.End.{End}
-use Rattle.like_live.specs.Splits.{AreSplitsOf, KeepsMarked, SplitsView, last_split, new_splits, slots_mask}
+use Rattle.like_live.specs.Splits.{AreSplitsOf, KeepsMarked, SawRunning, SplitsView, last_split, new_splits, slots_mask}
 use Rattle.like_live.specs.Driver.{Acts, AreDriverParts, DriverCase, DriverView, HasRoom, IsSameDriver, IsService, LooksForEnd, PublishesSlots, ReadsBoundary, ReadsLast, ReleasesNext, SnapshotCase, announces, counted, ended, ends, goes_on, is_ending, is_last, not_ended, not_now, releases, releases_joined, releases_split, running, taken, waiting}
 
 -- the lead after steps that release nothing and put nothing into slots
@@ -88,6 +88,18 @@ look-keeps v w sight sees = record {
   phase = ap (λ (l : LeadView). l.seat.phase) sees.saw;
   last = ap (λ (l : LeadView). l.seat.last) sees.saw;
 }
+
+-- a driver whose look showed the phase running saw it so
+pub saw_running : (v w : LeadView) (sight : CoordSight) → Sees v sight w → sight.ending ≡ false → SawRunning w.seat
+saw_running v w sight sees on =
+    subst (λ (s : Option CoordSight). IsSomeAnd s (λ x. x.ending ≡ false)) (sym (look-keeps v w sight sees).last) on
+
+-- one whose look showed the end of the phase, with all in, saw that
+pub saw_all_in : (v w : LeadView) (sight : CoordSight) → Sees v sight w → sight.ending ≡ true → sight.all_in ≡ true
+    → SawAllIn w.seat
+saw_all_in v w sight sees ending all_in =
+    subst (λ (s : Option CoordSight). IsSomeAnd s (λ x. (x.ending ≡ true) × (x.all_in ≡ true)))
+    (sym (look-keeps v w sight sees).last) (ending, all_in)
 
 snapshot-still : (v w : LeadView) (sight : CoordSight) (from : ℕ) (old counts : List ℕ) (phase : Option ℕ)
     → SnapshotCase v sight from old phase w counts

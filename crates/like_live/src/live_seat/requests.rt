@@ -1,4 +1,4 @@
-ghost use Rattle.std.specs.Prelude.{◌≡◌, ◌≢◌, ◌+◌, false, IfNone, IfSome, IsTrue, length};
+ghost use Rattle.std.specs.Prelude.{◌≡◌, ◌≢◌, ◌+◌, ◌^◌, ◌<◌, false, IfNone, IfSome, IsTrue, length};
 ghost use Rattle.like_core.specs.Post.{pages_of, slices};
 ghost use Rattle.like_core.specs.WorkerState.{IsRunning, RunsSplit};
 ghost use Rattle.like_seat.specs.StationView.{phase_at};
@@ -9,6 +9,7 @@ ghost use Rattle.like_live.specs.Calls.{GlancesNow, IsAccepted, LikesNow, LooksN
 use crate::answer::{GlanceAnswer, LikeAnswer, LookAnswer};
 use crate::asked::Asked;
 use crate::live_seat::LiveSeat;
+use crate::look_room::LookRoom;
 use crate::signals::{MAX_LIKES, Signals};
 use like_choice::Kind;
 use like_core::Post;
@@ -43,6 +44,21 @@ fn store<P: Post>(seat: &mut Station<P, Asked>, signals: &mut Signals, page: u32
 {
     let room = signals.store(page, kind);
     seat.give_room(room);
+}
+
+// Asks for the end of the phase once half of the room is taken. Up to there, and up to the next sample, looks are free
+// to wait.
+fn plan_ahead(room: &mut LookRoom, signals: &mut Signals, found: u32, half: u32)
+    requires { room.old + found < 2 ^ 32 }
+    ensures { room.new ≡ room.old }
+{
+    let clear = room.left() + found;
+    if clear <= half {
+        signals.ask();
+        return;
+    }
+    let most = room.left().min(clear - half - 1);
+    room.set_free(signals.count_ahead(most));
 }
 
 impl<P: Post> LiveSeat<P> {
@@ -171,8 +187,8 @@ impl<P: Post> LiveSeat<P> {
         true
     }
 
-    // The same where there is room, and asks for the end of the phase once half of it is taken. Up to there, and up to
-    // the next sample, looks are free to wait. Kept out of line, so that those make no call.
+    // The same where there is room, for a look that isn't free to wait. Kept out of line, so that those that are make no
+    // call.
     #[cold]
     #[inline(never)]
     fn wait_late(&mut self, user: u32, page: u32, tag: u64, phase: u64) -> bool
@@ -196,13 +212,12 @@ impl<P: Post> LiveSeat<P> {
             page,
             phase,
         });
-        let clear = self.room.left() + self.found.len();
-        if clear <= self.half {
-            self.signals.ask();
-        } else {
-            let most = self.room.left().min(clear - self.half - 1);
-            self.room.set_free(self.signals.count_ahead(most));
-        }
+        plan_ahead(
+            &mut self.room,
+            &mut self.signals,
+            self.found.len(),
+            self.half,
+        );
         true
     }
 

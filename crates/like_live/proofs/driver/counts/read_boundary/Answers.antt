@@ -1,11 +1,11 @@
-use Rattle.std.proofs.Common.{◌≡◌, ◌%◌, true, false, Some, ap, sym, ◌∙◌, subst, refl}
+use Rattle.std.proofs.Common.{◌≡◌, ◌+◌, ◌%◌, ◌≤◌, length, true, false, Some, ap, sym, ◌∙◌, subst, refl}
 use Rattle.std.proofs.lemmas.Bool.{eq-eqb, eqb-true, not-false, not-true}
 use Rattle.like_core.specs.declared.opening.Opening.{Opening}
 use Rattle.like_core.specs.declared.view.View.TheVariants.{Coord}
 use Rattle.like_core.specs.views.Shows.{IsKnown}
 use Rattle.like_seat.specs.Lead.{LeadView}
 use Rattle.like_live.specs.Driver.{IsBoundary, not_now, taken}
-use Rattle.like_live.proofs.Turning.{look-keeps, reads-only}
+use Rattle.like_live.proofs.Turning.{look-keeps, reads-only, saw_all_in}
 use Rattle.like_live.proofs.driver.counts.read_boundary.Goals as goal
 use Rattle.like_live.proofs.driver.counts.read_boundary.Goals.{then-not-sight-via-then-not-sight, then-not-sight-via-else-not-sight+then-not-sight-2, then-not-sight-via-else-not-sight+else-not-sight-2+then-not-is_joined}
 
@@ -51,3 +51,22 @@ returns c =
           (c.read_counts.ensures.known
           (subst (λ (z : Opening). IsKnown z (Coord seen.seat)) (sym opening) c.look-sight.ensures.known));
     }
+
+pub look-sight-requires : goal.look-sight-requires
+look-sight-requires c = c.requires.here
+
+pub read_counts-requires-clause-here : goal.read_counts-requires-clause-here
+read_counts-requires-clause-here c = (look-keeps _ _ _ c.look-sight.ensures).same.board ∙ c.requires.here
+
+pub read_counts-requires-clause-saw : goal.read_counts-requires-clause-saw
+read_counts-requires-clause-saw c =
+    saw_all_in _ _ _ c.look-sight.ensures (not-false _ c.if-not-sight.false) (not-false _ c.if-not-sight-2.false)
+
+pub read_counts-requires-clause-joined : goal.read_counts-requires-clause-joined
+read_counts-requires-clause-joined c =
+    eqb-true (c.look-sight.new.self.seat.phase % 2) 0 (sym c.is_joined.ensures ∙ c.if-not-is_joined.false)
+
+pub read_counts-requires-clause-pages : goal.read_counts-requires-clause-pages
+read_counts-requires-clause-pages c =
+    subst (λ (z : Opening). c.args.from + length c.args.counts.now ≤ length z.counts)
+    (sym (look-keeps _ _ _ c.look-sight.ensures).same.opening) c.requires.places

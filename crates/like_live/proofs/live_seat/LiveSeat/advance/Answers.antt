@@ -1,9 +1,9 @@
-use Rattle.std.proofs.Common.{Bool, true, ap, sym, subst, ◌∙◌}
+use Rattle.std.proofs.Common.{Bool, true, refl, ap, sym, subst, ◌∙◌}
 use Rattle.std.proofs.lemmas.Bool.{not-false, not-true}
 use Rattle.like_core.specs.Phase.{IsJoined}
 use Rattle.like_core.specs.declared.worker_state.WorkerState.{WorkerState}
-use Rattle.like_core.specs.WorkerState.{phase_of}
-use Rattle.like_seat.specs.StationView.{StationView}
+use Rattle.like_core.specs.WorkerState.{SawEnding, phase_of}
+use Rattle.like_seat.specs.StationView.{StationView, phase_at}
 use Rattle.like_live.specs.declared.answer.TurnAnswer.TheVariants.{Runs}
 use Rattle.like_live.specs.declared.asked.Asked.{Asked}
 use Rattle.like_live.specs.LiveView.{IsLive, LiveView, live_of}
@@ -11,6 +11,7 @@ use Rattle.like_live.specs.Moves.{Moves, Works, works}
 use Rattle.like_live.proofs.Finding.{goes_on}
 use Rattle.like_live.proofs.Looking.{after-looked, after-works, has-looked}
 use Rattle.like_live.proofs.Moving.{Leaves-works}
+use Rattle.like_live.proofs.Showing.{runs-after}
 use Rattle.like_live.proofs.live_seat.LiveSeat.advance.Goals as goal
 
 pub returns-then-not-sight-clause-moves : goal.returns-then-not-sight-clause-moves
@@ -72,3 +73,46 @@ returns-then-not-sight-clause-was g c = subst (λ (v : LiveView). IsLive v) c.se
 
 pub returns-clause-was : goal.returns-clause-was
 returns-clause-was g c = subst (λ (v : LiveView). IsLive v) c.self.view_is c.self.invariant.live
+
+pub returns-then-not-runs-clause-moves : goal.returns-then-not-runs-clause-moves
+returns-then-not-runs-clause-moves g c = c.advance_late-answer.ensures.moves
+
+pub returns-then-not-runs-clause-keeps : goal.returns-then-not-runs-clause-keeps
+returns-then-not-runs-clause-keeps g c = c.advance_late-answer.ensures.keeps
+
+pub returns-then-not-runs-clause-runs : goal.returns-then-not-runs-clause-runs
+returns-then-not-runs-clause-runs g c = c.advance_late-answer.ensures.runs
+
+pub returns-then-not-runs-clause-was : goal.returns-then-not-runs-clause-was
+returns-then-not-runs-clause-was g c = c.advance_late-answer.ensures.was
+
+pub returns-then-not-runs-clause-phase : goal.returns-then-not-runs-clause-phase
+returns-then-not-runs-clause-phase g c =
+    c.phase.ensures.phase ∙ ap (λ (v : LiveView). phase_at v.seat) c.self-then-not-runs.view_is
+
+pub look_on-sight-requires : goal.look_on-sight-requires
+look_on-sight-requires g c = record { running = c.if-not-runs.ensures.runs.0 refl }
+
+pub returns-then-not-sight-clause-runs : goal.returns-then-not-sight-clause-runs
+returns-then-not-sight-clause-runs g c =
+    λ _. c.look_on-sight.ensures.looks.runs c.look_on-sight.ensures.goes_on
+
+pub returns-then-not-sight-clause-phase : goal.returns-then-not-sight-clause-phase
+returns-then-not-sight-clause-phase g c =
+    c.phase-phase.ensures.phase ∙ ap phase_of (sym c.look_on-sight.ensures.stays)
+
+pub work-answer-requires-clause-ending : goal.work-answer-requires-clause-ending
+work-answer-requires-clause-ending g c =
+    λ _. subst (λ (s : StationView Asked). SawEnding s.post.last) (sym c.look_on-sight.ensures.looks.looks.1)
+    (not-false _ c.if-not-sight.false)
+
+pub returns-clause-keeps : goal.returns-clause-keeps
+returns-clause-keeps g c = c.work-answer.ensures.live
+
+pub returns-clause-runs : goal.returns-clause-runs
+returns-clause-runs g c =
+    runs-after (live_of c.look_on-sight.new.self c.self.inside.found)
+    (live_of c.work-answer.new.seat c.work-answer.new.found) true c.work-answer.result c.work-answer.ensures.works
+
+pub returns-clause-phase : goal.returns-clause-phase
+returns-clause-phase g c = c.phase-2.ensures.phase

@@ -1,10 +1,15 @@
-use Rattle.std.proofs.Common.{ap, refl, subst}
+use Rattle.std.proofs.Common.{ap, refl, subst, sym, ◌∙◌}
+use Rattle.std.proofs.lemmas.Bool.{false≢true}
 use Rattle.like_core.specs.OpeningLimits.{has_slots}
+use Rattle.like_core.specs.WorkerState.{SawEnding}
+use Rattle.like_seat.specs.StationView.{StationView}
 use Rattle.like_live.specs.declared.answer.TurnAnswer.TheVariants.{Between, Gone}
+use Rattle.like_live.specs.declared.asked.Asked.{Asked}
 use Rattle.like_live.specs.LiveView.{IsLive, LiveView, live_of}
 use Rattle.like_live.specs.Moves.{Moves, Works, is_gone, waits, works}
 use Rattle.like_live.proofs.Looking.{after-waits, after-works, has-looked}
 use Rattle.like_live.proofs.Moving.{Leaves-works}
+use Rattle.like_live.proofs.Showing.{runs-after}
 use Rattle.like_live.proofs.live_seat.LiveSeat.advance_late.Goals as goal
 
 pub returns-then-sight-clause-moves : goal.returns-then-sight-clause-moves
@@ -62,3 +67,33 @@ returns-then-sight-clause-was g c = subst (λ (v : LiveView). IsLive v) c.self.v
 
 pub returns-clause-was : goal.returns-clause-was
 returns-clause-was g c = subst (λ (v : LiveView). IsLive v) c.self.view_is c.self.invariant.live
+
+pub returns-then-is_gone-clause-keeps : goal.returns-then-is_gone-clause-keeps
+returns-then-is_gone-clause-keeps g c =
+    subst (λ (v : LiveView). IsLive v) c.self.view_is c.self.invariant.live
+
+pub returns-then-is_gone-clause-runs : goal.returns-then-is_gone-clause-runs
+returns-then-is_gone-clause-runs g c = λ e. absurd (cc e)
+
+pub returns-then-is_gone-clause-was : goal.returns-then-is_gone-clause-was
+returns-then-is_gone-clause-was g c =
+    subst (λ (v : LiveView). IsLive v) c.self.view_is c.self.invariant.live
+
+pub look_with_slots-sight-requires-clause-here : goal.look_with_slots-sight-requires-clause-here
+look_with_slots-sight-requires-clause-here g c =
+    λ gone. false≢true (sym c.if-is_gone.false ∙ c.is_gone.ensures.1 gone)
+
+pub returns-then-sight-clause-runs : goal.returns-then-sight-clause-runs
+returns-then-sight-clause-runs g c = λ e. absurd (cc e)
+
+pub work-requires-clause-ending : goal.work-requires-clause-ending
+work-requires-clause-ending g c =
+    subst (λ (s : StationView Asked). SawEnding s.post.last) (sym c.look_with_slots-sight.ensures.looks.1)
+
+pub returns-clause-keeps : goal.returns-clause-keeps
+returns-clause-keeps g c = c.work.ensures.live
+
+pub returns-clause-runs : goal.returns-clause-runs
+returns-clause-runs g c =
+    runs-after (live_of c.look_with_slots-sight.new.self c.self.inside.found)
+    (live_of c.work.new.seat c.work.new.found) c.look_with_slots-sight.result.ending c.work.result c.work.ensures.works

@@ -64,3 +64,36 @@ returns-clause-case g c =
     subst (λ (v : LiveView). ComeBackCase v Between after) c.self.view_is
     (between (c.is_gone.ensures.0 c.if-not-is_gone.false) refl
     (ap (λ (t : StationView Asked). live_of t c.self.inside.found) (c.returns.ensures.none c.if-returns.false)))
+
+pub returns-then-not-is_gone-clause-keeps : goal.returns-then-not-is_gone-clause-keeps
+returns-then-not-is_gone-clause-keeps g c = c.turn.ensures.keeps
+
+pub returns-then-not-is_gone-clause-same : goal.returns-then-not-is_gone-clause-same
+returns-then-not-is_gone-clause-same g c = c.turn.ensures.same
+
+pub returns-then-not-is_gone-clause-tallies : goal.returns-then-not-is_gone-clause-tallies
+returns-then-not-is_gone-clause-tallies g c = c.turn.ensures.tallies
+
+pub returns-then-not-is_gone-clause-last : goal.returns-then-not-is_gone-clause-last
+returns-then-not-is_gone-clause-last g c = c.turn.ensures.last
+
+pub returns-requires-clause-gone : goal.returns-requires-clause-gone
+returns-requires-clause-gone g c = c.is_gone.ensures.0 c.if-not-is_gone.false
+
+pub returns-requires-clause-limits : goal.returns-requires-clause-limits
+returns-requires-clause-limits g c = c.self.invariant.live.limits
+
+pub returns-clause-same : goal.returns-clause-same
+returns-clause-same g c =
+    (Leaves-come_back c.args.self.now (live_of c.returns.new.seat c.self.inside.found) Between
+    (subst IsSized c.self.view_is c.self.invariant.live.seat.sized) (returns-clause-case g c)).same
+
+pub returns-clause-tallies : goal.returns-clause-tallies
+returns-clause-tallies g c =
+    (Leaves-come_back c.args.self.now (live_of c.returns.new.seat c.self.inside.found) Between
+    (subst IsSized c.self.view_is c.self.invariant.live.seat.sized) (returns-clause-case g c)).tallies
+
+pub returns-clause-last : goal.returns-clause-last
+returns-clause-last g c =
+    (Leaves-come_back c.args.self.now (live_of c.returns.new.seat c.self.inside.found) Between
+    (subst IsSized c.self.view_is c.self.invariant.live.seat.sized) (returns-clause-case g c)).last

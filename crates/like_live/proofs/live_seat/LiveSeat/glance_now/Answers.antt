@@ -1,10 +1,13 @@
 use Rattle.std.proofs.Common.{◌≡◌, ℕ, refl, ap, sym, subst, ◌∙◌}
+use Rattle.like_core.specs.Post.{slices}
+use Rattle.like_core.specs.WorkerState.{IsRunning}
 use Rattle.like_seat.specs.StationView.{StationView}
 use Rattle.like_seat.specs.Steps.{Glances, Reads}
+use Rattle.like_live.specs.declared.answer.GlanceAnswer.TheVariants.{Refused}
 use Rattle.like_live.specs.declared.asked.Asked.{Asked}
-use Rattle.like_live.specs.Calls.{plain, split}
-use Rattle.like_live.specs.LiveView.{LiveView, with_seat}
-use Rattle.like_live.proofs.Requests.{after-glanced, after-read}
+use Rattle.like_live.specs.Calls.{plain, refused, split}
+use Rattle.like_live.specs.LiveView.{IsLive, LiveView, with_seat}
+use Rattle.like_live.proofs.Requests.{accepted_in, after-glanced, after-read}
 use Rattle.like_live.proofs.live_seat.LiveSeat.glance_now.Goals as goal
 
 pub returns-then-accepted-clause-case : goal.returns-then-accepted-clause-case
@@ -48,3 +51,55 @@ invariant_of-self-2 g c =
 
 pub returns-clause-keeps : goal.returns-clause-keeps
 returns-clause-keeps g c = (invariant_of-self-2 g c).live
+
+pub accepts-requires : goal.accepts-requires
+accepts-requires g c = c.requires
+
+pub returns-in_default-clause-case : goal.returns-in_default-clause-case
+returns-in_default-clause-case g c = refused c.in_default.ensures.refused (ap Refused c.refusal.ensures) refl
+
+pub returns-in_default-clause-keeps : goal.returns-in_default-clause-keeps
+returns-in_default-clause-keeps g c =
+    subst (λ (v : LiveView). IsLive v) c.self.view_is c.self.invariant.live
+
+pub glance-requires-clause-running : goal.glance-requires-clause-running
+glance-requires-clause-running g c =
+    subst (λ (v : LiveView). IsRunning v.seat.post.state) (sym c.self.view_is) c.requires
+
+pub glance-requires-clause-there : goal.glance-requires-clause-there
+glance-requires-clause-there g c =
+    let i = c.self.inside in
+    (accepted_in c.args.self.now i.seat i.seat i.found c.args.user c.args.page c.in-Some.accepted.placed
+    c.self.view_is refl c.in-Some.ensures.accepted).there
+
+pub glance-requires-clause-placed : goal.glance-requires-clause-placed
+glance-requires-clause-placed g c =
+    let i = c.self.inside in
+    (accepted_in c.args.self.now i.seat i.seat i.found c.args.user c.args.page c.in-Some.accepted.placed
+    c.self.view_is refl c.in-Some.ensures.accepted).place_is
+
+pub glance-requires-clause-sliced : goal.glance-requires-clause-sliced
+glance-requires-clause-sliced g c =
+    ap (λ (v : LiveView). slices v.seat.post c.args.page) c.self.view_is
+    ∙ sym c.in-Some.ensures.split ∙ c.if-accepted.true
+
+pub read_at-requires-clause-running : goal.read_at-requires-clause-running
+read_at-requires-clause-running g c =
+    subst (λ (v : LiveView). IsRunning v.seat.post.state) (sym c.self.view_is) c.requires
+
+pub read_at-requires-clause-there : goal.read_at-requires-clause-there
+read_at-requires-clause-there g c =
+    let i = c.self.inside in
+    (accepted_in c.args.self.now i.seat i.seat i.found c.args.user c.args.page c.in-Some.accepted.placed
+    c.self.view_is refl c.in-Some.ensures.accepted).there
+
+pub read_at-requires-clause-placed : goal.read_at-requires-clause-placed
+read_at-requires-clause-placed g c =
+    let i = c.self.inside in
+    (accepted_in c.args.self.now i.seat i.seat i.found c.args.user c.args.page c.in-Some.accepted.placed
+    c.self.view_is refl c.in-Some.ensures.accepted).place_is
+
+pub read_at-requires-clause-plain : goal.read_at-requires-clause-plain
+read_at-requires-clause-plain g c =
+    ap (λ (v : LiveView). slices v.seat.post c.args.page) c.self.view_is
+    ∙ sym c.in-Some.ensures.split ∙ c.if-accepted.false

@@ -36,3 +36,27 @@ returns-in-Gone-clause-tallies g c = λ other. omega (arith, c.turn.ensures.tall
 
 pub returns-in-Gone-clause-case : goal.returns-in-Gone-clause-case
 returns-in-Gone-clause-case g c = gone c.in-Gone.ensures.case refl
+
+pub like_now-requires : goal.like_now-requires
+like_now-requires g c = c.turn.ensures.runs c.in-Runs.is
+
+pub returns-in-Runs-clause-keeps : goal.returns-in-Runs-clause-keeps
+returns-in-Runs-clause-keeps g c = c.like_now.ensures.keeps
+
+pub returns-in-Between-clause-keeps : goal.returns-in-Between-clause-keeps
+returns-in-Between-clause-keeps g c = c.turn.ensures.keeps
+
+pub returns-in-Between-clause-same : goal.returns-in-Between-clause-same
+returns-in-Between-clause-same g c = c.turn.ensures.same
+
+pub returns-in-Between-clause-last : goal.returns-in-Between-clause-last
+returns-in-Between-clause-last g c = c.turn.ensures.last
+
+pub returns-in-Gone-clause-keeps : goal.returns-in-Gone-clause-keeps
+returns-in-Gone-clause-keeps g c = c.turn.ensures.keeps
+
+pub returns-in-Gone-clause-same : goal.returns-in-Gone-clause-same
+returns-in-Gone-clause-same g c = c.turn.ensures.same
+
+pub returns-in-Gone-clause-last : goal.returns-in-Gone-clause-last
+returns-in-Gone-clause-last g c = c.turn.ensures.last

@@ -3,9 +3,9 @@ use Rattle.like_seat.specs.StationView.{StationView, likes_of}
 use Rattle.like_seat.specs.Steps.{CountsLike}
 use Rattle.like_live.specs.declared.asked.Asked.{Asked}
 use Rattle.like_live.specs.Kept.{AreLiveSeatParts}
-use Rattle.like_live.specs.Calls.{liked}
+use Rattle.like_live.specs.Calls.{full, liked}
 use Rattle.like_live.specs.LiveView.{LiveView, with_seat}
-use Rattle.like_live.proofs.Requests.{after-counted, not-full}
+use Rattle.like_live.proofs.Requests.{after-counted, is-full, not-full}
 use Rattle.like_live.proofs.live_seat.LiveSeat.like_late.Goals as goal
 
 pub invariant_of-self : goal.invariant_of-self
@@ -32,3 +32,12 @@ returns-clause-case g c =
     (subst (λ (t : StationView Asked). CountsLike t c.args.placed.user c.args.page c.count_like_at.result c.store.new.seat)
     same counts)
     (ap (λ (w : LiveView). with_seat w c.store.new.seat) c.self.view_is)
+
+pub returns-then-likes-ge-MAX_LIKES-clause-case : goal.returns-then-likes-ge-MAX_LIKES-clause-case
+returns-then-likes-ge-MAX_LIKES-clause-case g c =
+    let s = c.self.inside.seat in
+    let live = c.self.invariant.live in
+    let same : s ≡ c.args.self.now.seat = ap (λ (w : LiveView). w.seat) c.self.view_is in
+    full c.requires.accepted.verdict
+    (subst (λ (t : StationView Asked). likes_of t ≡ t.post.limits.likes) same
+    (is-full s live.seat live.limits (omega (arith, c.likes.ensures.likes, c.if-likes-ge-MAX_LIKES.true)))) refl refl

@@ -1,10 +1,13 @@
 use Rattle.std.proofs.Common.{◌≡◌, ◌<◌, ℕ, None, Some, refl, ap, sym, subst, ◌∙◌}
+use Rattle.like_core.specs.Post.{slices}
+use Rattle.like_core.specs.WorkerState.{IsRunning}
 use Rattle.like_seat.specs.StationView.{StationView, likes_of}
 use Rattle.like_seat.specs.Steps.{CountsLike}
+use Rattle.like_live.specs.declared.answer.LikeAnswer.TheVariants.{Refused}
 use Rattle.like_live.specs.declared.asked.Asked.{Asked}
-use Rattle.like_live.specs.Calls.{LikesNow, liked}
-use Rattle.like_live.specs.LiveView.{LiveView, live_of, with_seat}
-use Rattle.like_live.proofs.Requests.{not-full, after-counted}
+use Rattle.like_live.specs.Calls.{LikesNow, liked, refused}
+use Rattle.like_live.specs.LiveView.{IsLive, LiveView, live_of, with_seat}
+use Rattle.like_live.proofs.Requests.{accepted_in, after-counted, likes-most, not-full}
 use Rattle.like_live.specs.Kept.{AreLiveSeatParts}
 use Rattle.like_live.proofs.live_seat.LiveSeat.like_now.Goals as goal
 
@@ -87,3 +90,91 @@ invariant_of-self-2 g c =
     let i = c.self.inside in
     subst (λ (t : StationView Asked). AreLiveSeatParts t i.found i.home i.pages i.room i.half)
     (sym (c.try_plain_at.ensures.full c.if-try_plain_at.false)) c.self.invariant
+
+pub accepts-requires : goal.accepts-requires
+accepts-requires g c = c.requires
+
+pub returns-in_default-clause-case : goal.returns-in_default-clause-case
+returns-in_default-clause-case g c = refused c.in_default.ensures.refused (ap Refused c.refusal.ensures) refl
+
+pub returns-in_default-clause-keeps : goal.returns-in_default-clause-keeps
+returns-in_default-clause-keeps g c =
+    subst (λ (v : LiveView). IsLive v) c.self.view_is c.self.invariant.live
+
+pub try_sliced_at-requires-clause-running : goal.try_sliced_at-requires-clause-running
+try_sliced_at-requires-clause-running g c =
+    subst (λ (v : LiveView). IsRunning v.seat.post.state) (sym c.self.view_is) c.requires
+
+pub try_sliced_at-requires-clause-there : goal.try_sliced_at-requires-clause-there
+try_sliced_at-requires-clause-there g c =
+    let i = c.self.inside in
+    (accepted_in c.args.self.now i.seat i.seat i.found c.args.user c.args.page c.in-Some.accepted.placed
+    c.self.view_is refl c.in-Some.ensures.accepted).there
+
+pub try_sliced_at-requires-clause-placed : goal.try_sliced_at-requires-clause-placed
+try_sliced_at-requires-clause-placed g c =
+    let i = c.self.inside in
+    (accepted_in c.args.self.now i.seat i.seat i.found c.args.user c.args.page c.in-Some.accepted.placed
+    c.self.view_is refl c.in-Some.ensures.accepted).place_is
+
+pub try_sliced_at-requires-clause-split : goal.try_sliced_at-requires-clause-split
+try_sliced_at-requires-clause-split g c =
+    ap (λ (v : LiveView). slices v.seat.post c.args.page) c.self.view_is
+    ∙ sym c.in-Some.ensures.split ∙ c.if-accepted.true
+
+pub try_sliced_at-requires-clause-most : goal.try_sliced_at-requires-clause-most
+try_sliced_at-requires-clause-most g c =
+    likes-most c.self.inside.seat c.self.invariant.live.limits
+
+pub like_late-requires-clause-running : goal.like_late-requires-clause-running
+like_late-requires-clause-running g c =
+    subst (λ (t : StationView Asked). IsRunning t.post.state) (sym (c.try_sliced_at.ensures.full c.if-try_sliced_at.false))
+    (subst (λ (v : LiveView). IsRunning v.seat.post.state) (sym c.self.view_is) c.requires)
+
+pub like_late-requires-clause-accepted : goal.like_late-requires-clause-accepted
+like_late-requires-clause-accepted g c =
+    let i = c.self.inside in
+    accepted_in c.args.self.now i.seat c.try_sliced_at.new.self i.found c.args.user c.args.page c.in-Some.accepted.placed
+    c.self.view_is (c.try_sliced_at.ensures.full c.if-try_sliced_at.false) c.in-Some.ensures.accepted
+
+pub returns-then-accepted-clause-keeps : goal.returns-then-accepted-clause-keeps
+returns-then-accepted-clause-keeps g c = c.like_late.ensures.keeps
+
+pub try_plain_at-requires-clause-running : goal.try_plain_at-requires-clause-running
+try_plain_at-requires-clause-running g c =
+    subst (λ (v : LiveView). IsRunning v.seat.post.state) (sym c.self.view_is) c.requires
+
+pub try_plain_at-requires-clause-there : goal.try_plain_at-requires-clause-there
+try_plain_at-requires-clause-there g c =
+    let i = c.self.inside in
+    (accepted_in c.args.self.now i.seat i.seat i.found c.args.user c.args.page c.in-Some.accepted.placed
+    c.self.view_is refl c.in-Some.ensures.accepted).there
+
+pub try_plain_at-requires-clause-placed : goal.try_plain_at-requires-clause-placed
+try_plain_at-requires-clause-placed g c =
+    let i = c.self.inside in
+    (accepted_in c.args.self.now i.seat i.seat i.found c.args.user c.args.page c.in-Some.accepted.placed
+    c.self.view_is refl c.in-Some.ensures.accepted).place_is
+
+pub try_plain_at-requires-clause-plain : goal.try_plain_at-requires-clause-plain
+try_plain_at-requires-clause-plain g c =
+    ap (λ (v : LiveView). slices v.seat.post c.args.page) c.self.view_is
+    ∙ sym c.in-Some.ensures.split ∙ c.if-accepted.false
+
+pub try_plain_at-requires-clause-most : goal.try_plain_at-requires-clause-most
+try_plain_at-requires-clause-most g c =
+    likes-most c.self.inside.seat c.self.invariant.live.limits
+
+pub like_late-requires-2-clause-running : goal.like_late-requires-2-clause-running
+like_late-requires-2-clause-running g c =
+    subst (λ (t : StationView Asked). IsRunning t.post.state) (sym (c.try_plain_at.ensures.full c.if-try_plain_at.false))
+    (subst (λ (v : LiveView). IsRunning v.seat.post.state) (sym c.self.view_is) c.requires)
+
+pub like_late-requires-2-clause-accepted : goal.like_late-requires-2-clause-accepted
+like_late-requires-2-clause-accepted g c =
+    let i = c.self.inside in
+    accepted_in c.args.self.now i.seat c.try_plain_at.new.self i.found c.args.user c.args.page c.in-Some.accepted.placed
+    c.self.view_is (c.try_plain_at.ensures.full c.if-try_plain_at.false) c.in-Some.ensures.accepted
+
+pub returns-clause-keeps : goal.returns-clause-keeps
+returns-clause-keeps g c = c.like_late-2.ensures.keeps

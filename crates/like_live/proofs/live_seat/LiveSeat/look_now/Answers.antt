@@ -7,12 +7,12 @@ use Rattle.like_seat.specs.StationView.{StationView, phase_at}
 use Rattle.like_seat.specs.Steps.{Reads, holding}
 use Rattle.like_tables.specs.Share.{owns}
 use Rattle.like_tables.specs.declared.placed.Placed.{Placed}
-use Rattle.like_live.specs.declared.answer.LookAnswer.TheVariants.{Waits}
+use Rattle.like_live.specs.declared.answer.LookAnswer.TheVariants.{Refused, Waits}
 use Rattle.like_live.specs.declared.asked.Asked.{Asked}
-use Rattle.like_live.specs.Calls.{IsAccepted, LooksNow, PutsBy, asked_in, no_room, seen, verdict_at, waits}
-use Rattle.like_live.specs.LiveView.{IsOwn, LiveView, room_of, waiting, with_seat}
+use Rattle.like_live.specs.Calls.{IsAccepted, LooksNow, PutsBy, asked_in, no_room, refused, seen, verdict_at, waits}
+use Rattle.like_live.specs.LiveView.{IsLive, IsOwn, LiveView, room_of, waiting, with_seat}
 use Rattle.like_live.proofs.Finding.{split_since}
-use Rattle.like_live.proofs.Requests.{after-read}
+use Rattle.like_live.proofs.Requests.{accepted_in, after-read}
 use Rattle.like_live.proofs.Showing.{split_phase}
 use Rattle.like_live.proofs.live_seat.LiveSeat.look_now.Goals as goal
 use Rattle.like_live.proofs.live_seat.LiveSeat.look_now.Goals.{then-wait-via-then-wait, then-wait-via-else-wait+then-wait_late}
@@ -123,3 +123,50 @@ returns-clause-case g c =
     (c.wait_late.ensures.full c.if-wait_late.false))
     refl
     (c.wait_late.ensures.none c.if-wait_late.false ∙ same)
+
+pub accepts-requires : goal.accepts-requires
+accepts-requires g c = c.requires.runs
+
+pub returns-in_default-clause-case : goal.returns-in_default-clause-case
+returns-in_default-clause-case g c = refused c.in_default.ensures.refused (ap Refused c.refusal.ensures) refl
+
+pub returns-in_default-clause-keeps : goal.returns-in_default-clause-keeps
+returns-in_default-clause-keeps g c =
+    subst (λ (v : LiveView). IsLive v) c.self.view_is c.self.invariant.live
+
+pub read_at-requires-clause-running : goal.read_at-requires-clause-running
+read_at-requires-clause-running g c =
+    subst (λ (t : StationView Asked). IsRunning t.post.state) (sym c.count_look.ensures)
+    (subst (λ (v : LiveView). IsRunning v.seat.post.state) (sym c.self.view_is) c.requires.runs)
+
+pub read_at-requires-clause-there : goal.read_at-requires-clause-there
+read_at-requires-clause-there g c =
+    let i = c.self.inside in
+    (accepted_in c.args.self.now i.seat c.count_look.new.seat i.found c.args.user c.args.page c.in-Some.accepted.placed
+    c.self.view_is c.count_look.ensures c.in-Some.ensures.accepted).there
+
+pub read_at-requires-clause-placed : goal.read_at-requires-clause-placed
+read_at-requires-clause-placed g c =
+    let i = c.self.inside in
+    (accepted_in c.args.self.now i.seat c.count_look.new.seat i.found c.args.user c.args.page c.in-Some.accepted.placed
+    c.self.view_is c.count_look.ensures c.in-Some.ensures.accepted).place_is
+
+pub read_at-requires-clause-plain : goal.read_at-requires-clause-plain
+read_at-requires-clause-plain g c =
+    ap (λ (t : StationView Asked). slices t.post c.args.page) c.count_look.ensures
+    ∙ ap (λ (v : LiveView). slices v.seat.post c.args.page) c.self.view_is
+    ∙ sym c.in-Some.ensures.split ∙ not-true _ c.if-not-accepted.true
+
+pub wait-requires-clause-phase : goal.wait-requires-clause-phase
+wait-requires-clause-phase g c = c.requires.phase
+
+pub returns-then-wait-clause-keeps : goal.returns-then-wait-clause-keeps
+returns-then-wait-clause-keeps g c =
+    elim c.then-wait.branch [
+      | then-wait-via-then-wait w ↦ subst (λ (v : LiveView). IsLive v) (sym w.self-is) c.wait.ensures.keeps
+      | then-wait-via-else-wait+then-wait_late w ↦
+          subst (λ (v : LiveView). IsLive v) (sym w.self-is) w.wait_late.ensures.keeps
+    ]
+
+pub returns-clause-keeps : goal.returns-clause-keeps
+returns-clause-keeps g c = c.wait_late.ensures.keeps

@@ -1,8 +1,9 @@
-use Rattle.std.proofs.Common.{◌≡◌, ◌+◌, length, ap, sym, subst, ◌∙◌, arith}
+use Rattle.std.proofs.Common.{◌≡◌, ◌+◌, length, refl, ap, sym, subst, ◌∙◌, arith}
+use Rattle.std.proofs.lemmas.Bool.{false≢true}
 use Rattle.like_core.specs.WorkerState.{RunsSplit}
 use Rattle.like_seat.specs.StationView.{phase_at}
 use Rattle.like_live.specs.Calls.{asked_in}
-use Rattle.like_live.specs.LiveView.{IsOwn, LiveView, room_of, waiting}
+use Rattle.like_live.specs.LiveView.{IsLive, IsOwn, LiveView, room_of, waiting}
 use Rattle.like_live.proofs.Requests.{after-held, puts-by}
 use Rattle.like_live.proofs.live_seat.LiveSeat.wait_late.Goals as goal
 
@@ -18,38 +19,37 @@ pub invariant_of-self : goal.invariant_of-self
 invariant_of-self g c =
     let i = c.self.inside in
     let a = asked_in c.args.phase c.args.user c.args.page c.args.tag in
-    after-held i.seat c.put_by.new.self i.found i.home i.pages i.room c.take.new.self i.half a c.self.invariant
+    after-held i.seat c.put_by.new.self i.found i.home i.pages i.room c.plan_ahead.new.room i.half a c.self.invariant
     (subst (λ (w : LiveView). RunsSplit w.seat.post.state) (sym c.self.view_is) c.requires.split)
     (subst (λ (w : LiveView). IsOwn w.seat a) (sym c.self.view_is) c.requires.own)
     (c.requires.phase ∙ ap (λ (w : LiveView). phase_at w.seat) (sym c.self.view_is))
-    c.take.ensures c.put_by.ensures.holds c.put_by.ensures.seat
+    (c.take.ensures ∙ ap (λ n. n + 1) (sym c.plan_ahead.ensures)) c.put_by.ensures.holds c.put_by.ensures.seat
 
-pub invariant_of-self-else-clear-self : goal.invariant_of-self-else-clear-self
-invariant_of-self-else-clear-self g c =
-    let i = c.self.inside in
-    let a = asked_in c.args.phase c.args.user c.args.page c.args.tag in
-    after-held i.seat c.put_by.new.self i.found i.home i.pages i.room c.set_free.new.self i.half a c.self.invariant
-    (subst (λ (w : LiveView). RunsSplit w.seat.post.state) (sym c.self.view_is) c.requires.split)
-    (subst (λ (w : LiveView). IsOwn w.seat a) (sym c.self.view_is) c.requires.own)
-    (c.requires.phase ∙ ap (λ (w : LiveView). phase_at w.seat) (sym c.self.view_is))
-    (c.take.ensures ∙ ap (λ n. n + 1) (sym c.set_free.ensures)) c.put_by.ensures.holds c.put_by.ensures.seat
-
-pub returns-then-clear-self-clause-waits : goal.returns-then-clear-self-clause-waits
-returns-then-clear-self-clause-waits g c = λ _.
+pub returns-clause-waits : goal.returns-clause-waits
+returns-clause-waits g c = λ _.
     let i = c.self.inside in
     puts-by c.args.self.now i.seat c.put_by.new.self i.found i.home i.pages i.room i.half
     (asked_in c.args.phase c.args.user c.args.page c.args.tag) c.self.invariant c.self.view_is
     (omega (arith, c.take.ensures)) c.put_by.ensures.holds
 
-pub returns-then-clear-self-clause-keeps : goal.returns-then-clear-self-clause-keeps
-returns-then-clear-self-clause-keeps g c = (invariant_of-self g c).live
+pub returns-clause-keeps : goal.returns-clause-keeps
+returns-clause-keeps g c = (invariant_of-self g c).live
 
-pub returns-else-clear-self-clause-waits : goal.returns-else-clear-self-clause-waits
-returns-else-clear-self-clause-waits g c = λ _.
-    let i = c.self.inside in
-    puts-by c.args.self.now i.seat c.put_by.new.self i.found i.home i.pages i.room i.half
-    (asked_in c.args.phase c.args.user c.args.page c.args.tag) c.self.invariant c.self.view_is
-    (omega (arith, c.take.ensures)) c.put_by.ensures.holds
+pub returns-clause-full : goal.returns-clause-full
+returns-clause-full g c = λ e. absurd (false≢true (sym e))
 
-pub returns-else-clear-self-clause-keeps : goal.returns-else-clear-self-clause-keeps
-returns-else-clear-self-clause-keeps g c = (invariant_of-self-else-clear-self g c).live
+pub returns-clause-none : goal.returns-clause-none
+returns-clause-none g c = λ e. absurd (false≢true (sym e))
+
+pub returns-then-left-eq0-clause-waits : goal.returns-then-left-eq0-clause-waits
+returns-then-left-eq0-clause-waits g c = λ e. absurd (false≢true e)
+
+pub returns-then-left-eq0-clause-none : goal.returns-then-left-eq0-clause-none
+returns-then-left-eq0-clause-none g c = λ _. refl
+
+pub returns-then-left-eq0-clause-keeps : goal.returns-then-left-eq0-clause-keeps
+returns-then-left-eq0-clause-keeps g c =
+    subst (λ (v : LiveView). IsLive v) c.self.view_is c.self.invariant.live
+
+pub take-requires : goal.take-requires
+take-requires g c = omega (arith, c.left.ensures, c.if-left-eq0.false)

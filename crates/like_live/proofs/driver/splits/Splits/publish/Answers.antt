@@ -2,8 +2,8 @@ use Rattle.std.proofs.Common.{◌≡◌, ℕ, List, length, get_or, sym, ap, ◌
 use Rattle.like_core.specs.OpeningLimits.{has_slots}
 use Rattle.like_core.specs.Slots.{IsChoice}
 use Rattle.like_core.specs.declared.view.CoordSeatView.{CoordSeatView}
-use Rattle.like_choice.specs.Slots.{SlotsView}
-use Rattle.like_seat.specs.Lead.{MayPublishChoice}
+use Rattle.like_choice.specs.Slots.{Chooses, SlotsView}
+use Rattle.like_seat.specs.Lead.{MayPublishChoice, PublishesChoice}
 use Rattle.like_live.specs.Splits.{AreSplitsOf, SplitsView}
 use Rattle.like_live.proofs.driver.splits.Splits.publish.Goals as goal
 
@@ -44,3 +44,29 @@ publish_choice-requires-clause-held g c = ap (λ (s : SplitsView). s.held) c.sel
 pub publish_choice-requires-clause-all : goal.publish_choice-requires-clause-all
 publish_choice-requires-clause-all g c =
     ap (λ (s : SplitsView). length s.held) c.self.view_is ∙ c.requires.splits.all
+
+pub publish_choice-requires-clause-here : goal.publish_choice-requires-clause-here
+publish_choice-requires-clause-here g c = c.requires.here
+
+pub returns-clause-chooses : goal.returns-clause-chooses
+returns-clause-chooses g c =
+    subst (λ (s : SplitsView). Chooses s.slots s.proposed c.choose.new.self) c.self.view_is
+    (subst (λ (xs : List ℕ). Chooses c.self.inside.slots xs c.choose.new.self) c.pages.ensures.pages c.choose.ensures.chooses)
+
+pub returns-clause-lawful : goal.returns-clause-lawful
+returns-clause-lawful g c = c.choose.ensures.lawful
+
+pub returns-clause-publishes : goal.returns-clause-publishes
+returns-clause-publishes g c =
+    let new = c.publish_choice.new.self in
+    subst (λ (xs : List ℕ). PublishesChoice c.args.lead.now xs c.choose.new.self.bits new) c.pages-2.ensures.pages
+    (subst (λ n. PublishesChoice c.args.lead.now c.pages-2.result.now n new) c.bits.ensures.bits c.publish_choice.ensures.publishes)
+
+pub returns-clause-held : goal.returns-clause-held
+returns-clause-held g c = c.publish_choice.ensures.held
+
+pub returns-clause-told : goal.returns-clause-told
+returns-clause-told g c = ap (λ (s : SplitsView). s.told) c.self.view_is
+
+pub returns-clause-proposed : goal.returns-clause-proposed
+returns-clause-proposed g c = ap (λ (s : SplitsView). s.proposed) c.self.view_is
