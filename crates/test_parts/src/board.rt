@@ -321,25 +321,39 @@ fn announces(coord: &mut CoordSeat, board: &Board) -> bool
     true
 }
 
-// The only worker is gone. It comes back while the phase isn't ending, and not while it is.
-fn comes_back<P: Returns>(rt: &impl Abort, board: &Board, coord: &mut CoordSeat, post: &mut P)
+// The only worker is gone. Whether it comes back while the phase isn't ending, and not while it is.
+fn comes_back<P: Returns>(board: &Board, coord: &mut CoordSeat, post: &mut P) -> bool
     requires here { coord_board coord.old ≡ board_id board.now }
     requires gone { (P.view post.old).state ≡ Gone }
     requires lets { LetsReturn (P.view post.old).limits }
 {
-    assert!(rt; coord.look(board).all_gone);
-    assert!(rt; comes_and_goes(post));
-    assert!(rt; announces(coord, board));
-    assert!(rt; post.come_back().is_none());
+    coord.look(board).all_gone
+        && comes_and_goes(post)
+        && announces(coord, board)
+        && post.come_back().is_none()
+}
+
+// The last worker of a board retires and comes back.
+fn last_comes_back(
+    rt: &impl Abort,
+    board: &Board,
+    coord: &mut CoordSeat,
+    seats: &mut Vec<WorkerSeat>,
+    limits: Limits,
+)
+    requires opened { AreOpened (board_id board.now) 1 false limits coord.old seats.old.items }
+    requires lets { LetsReturn limits }
+{
+    let mut post = last_post(rt, seats, board, coord, limits);
+    post.retire();
+    assert!(rt; comes_back(board, coord, &mut post));
 }
 
 #[test]
 fn comes_back_to_a_service(rt: HostRuntime) -> Result<(), Fail> {
     let limits = small_limits();
     let (board, mut coord, mut seats) = opened(rt.alloc(), 1, 1, 10, false, limits)?;
-    let mut post = last_post(&rt, &mut seats, &board, &coord, limits);
-    post.retire();
-    comes_back(&rt, &board, &mut coord, &mut post);
+    last_comes_back(&rt, &board, &mut coord, &mut seats, limits);
     Ok(())
 }
 
@@ -355,17 +369,16 @@ fn likes_by_posts(rt: HostRuntime) -> Result<(), Fail> {
 
 // Whether the last page of the most has the greatest count, and one more after a like.
 fn likes_last_page<P: Post>(walker: &mut Walker<P>) -> bool {
-    walker.answers(OnPost::Like(1_023, 1_000_000_000_000_000_000))
-        && walker.answers(OnPost::Read(1_023, 1_000_000_000_000_000_001))
+    walker.answers(&OnPost::Like(1_023, 1_000_000_000_000_000_000))
+        && walker.answers(&OnPost::Read(1_023, 1_000_000_000_000_000_001))
 }
 
 // The last of sixteen workers likes the last page of a board that has the most.
-fn likes_last(rt: &impl Abort, board: &Board, coord: CoordSeat, mut seats: Vec<WorkerSeat>)
-    requires { AreOpened (board_id board.now) 1_024 true run_limits coord seats.items }
+fn likes_last(rt: &impl Abort, board: &Board, coord: &CoordSeat, seats: &mut Vec<WorkerSeat>)
+    requires { AreOpened (board_id board.now) 1_024 true run_limits coord.now seats.old.items }
 {
     assert!(rt; seats.len() == 16);
-    let limits = Limits::of_run();
-    let mut last = last_walker(rt, &mut seats, board, &coord, limits, 1_024, true);
+    let mut last = last_walker(rt, seats, board, coord, Limits::of_run(), 1_024, true);
     assert!(rt; likes_last_page(&mut last));
 }
 
@@ -373,7 +386,7 @@ fn likes_last(rt: &impl Abort, board: &Board, coord: CoordSeat, mut seats: Vec<W
 #[test]
 fn holds_the_most(rt: HostRuntime) -> Result<(), Fail> {
     let count = 1_000_000_000_000_000_000;
-    let (board, coord, seats) = opened(rt.alloc(), 16, 1_024, count, true, Limits::of_run())?;
-    likes_last(&rt, &board, coord, seats);
+    let (board, coord, mut seats) = opened(rt.alloc(), 16, 1_024, count, true, Limits::of_run())?;
+    likes_last(&rt, &board, &coord, &mut seats);
     Ok(())
 }

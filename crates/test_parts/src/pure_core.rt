@@ -30,8 +30,8 @@ fn core_of(
 // Asserts what a core shows at the steps of a case.
 fn assert_steps(rt: &impl Abort, core: &mut Core, case: &str, steps: &[Step]) {
     for at in 0..steps.len() {
-        let (event, shown) = steps[at];
-        assert_call(rt, core.step(event) == shown, case, at);
+        let (event, shown) = &steps[at];
+        assert_call(rt, core.step(*event) == *shown, case, at);
     }
 }
 
@@ -138,7 +138,7 @@ fn limits_are_these_numbers(rt: HostRuntime) -> Result<(), Fail> {
 }
 
 // Whether a word is made of these parts, and taken apart into them.
-fn is_word(word: LawfulWord) -> bool {
+fn is_word(word: &LawfulWord) -> bool {
     let parts = PhaseWord::new(
         word.kind,
         word.workers,
@@ -156,7 +156,7 @@ fn is_word(word: LawfulWord) -> bool {
 fn packs_and_unpacks_words(rt: HostRuntime) -> Result<(), Fail> {
     let lawful = lawful_words();
     for at in 0..lawful.len() {
-        assert_call(&rt, is_word(lawful[at]), "lawful words", at);
+        assert_call(&rt, is_word(&lawful[at]), "lawful words", at);
     }
     let unlawful = unlawful_words();
     for at in 0..unlawful.len() {

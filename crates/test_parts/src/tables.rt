@@ -1,4 +1,6 @@
-ghost use Rattle.std.specs.Prelude.{◌≡◌};
+ghost use Rattle.std.specs.Prelude.{◌≡◌, ◌^◌};
+ghost use Rattle.like_tables.specs.Share.{share_of};
+ghost use Rattle.like_tables.specs.SplitSlice.{no_slice};
 
 mod calls;
 
@@ -10,19 +12,19 @@ use std::process::Abort;
 use std::test::Fail;
 
 // Makes a call of a table of split pages, and tells whether it may be made and is answered as it says.
-fn answers_splits(splits: &mut SplitPages, call: OnSplits) -> bool {
+fn answers_splits(splits: &mut SplitPages, call: &OnSplits) -> bool {
     match call {
         OnSplits::Put(page) => {
-            if splits.page_in(splits.bucket(page)).is_some() {
+            if splits.page_in(splits.bucket(*page)).is_some() {
                 return false;
             }
-            splits.put(page);
+            splits.put(*page);
             true
         }
-        OnSplits::Has(page, want) => splits.has(page) == want,
-        OnSplits::Bucket(page, want) => splits.bucket(page) == want,
-        OnSplits::PageIn(place, want) => place < 1_024 && splits.page_in(place) == want,
-        OnSplits::Next(from, want) => splits.next(from) == want,
+        OnSplits::Has(page, want) => splits.has(*page) == *want,
+        OnSplits::Bucket(page, want) => splits.bucket(*page) == *want,
+        OnSplits::PageIn(place, want) => *place < 1_024 && splits.page_in(*place) == *want,
+        OnSplits::Next(from, want) => splits.next(*from) == *want,
         OnSplits::Clear => {
             splits.clear();
             true
@@ -33,7 +35,7 @@ fn answers_splits(splits: &mut SplitPages, call: OnSplits) -> bool {
 // Makes the calls of a table of split pages, and asserts their answers.
 fn call_splits(rt: &impl Abort, splits: &mut SplitPages, factor: u32, calls: &[OnSplits]) {
     for at in 0..calls.len() {
-        assert_call_at(rt, answers_splits(splits, calls[at]), factor as usize, at);
+        assert_call_at(rt, answers_splits(splits, &calls[at]), factor as usize, at);
     }
 }
 
@@ -55,17 +57,27 @@ fn a_factor_parts_pages(rt: HostRuntime) {
     assert!(rt; factor_for(&[7, 7]) == None);
 }
 
-#[test]
-fn a_slice_gives_what_was_added(rt: HostRuntime) -> Result<(), Fail> {
-    let mut slice = SplitSlice::new(rt.alloc(), 1 << 22)?;
+// Whether two likes of page 64 come out of a slice in which no page is split.
+fn gives_two_likes(slice: &mut SplitSlice) -> bool
+    requires { slice.old ≡ no_slice (2 ^ 22) }
+{
     slice.put(64);
     slice.add(64);
     slice.add(64);
-    assert!(rt; slice.has(64) && !slice.has(65) && slice.bucket(64) == 64);
-    assert!(rt; slice.likes(64) == 2);
-    assert!(rt; slice.next(64) == Some(64) && slice.next(65) == None);
-    assert!(rt; slice.take(64) == 2);
-    assert!(rt; slice.next(0) == None);
+    slice.has(64)
+        && !slice.has(65)
+        && slice.bucket(64) == 64
+        && slice.likes(64) == 2
+        && slice.next(64) == Some(64)
+        && slice.next(65) == None
+        && slice.take(64) == 2
+        && slice.next(0) == None
+}
+
+#[test]
+fn a_slice_gives_what_was_added(rt: HostRuntime) -> Result<(), Fail> {
+    let mut slice = SplitSlice::new(rt.alloc(), 1 << 22)?;
+    assert!(rt; gives_two_likes(&mut slice));
     Ok(())
 }
 
@@ -81,26 +93,26 @@ fn fills(stash: &mut Stash<Held>, looks: u32) -> bool {
 }
 
 // Makes a call of a stash, and tells whether it may be made and is answered as it says.
-fn answers_stash(stash: &mut Stash<Held>, call: OnStash) -> bool {
+fn answers_stash(stash: &mut Stash<Held>, call: &OnStash) -> bool {
     match call {
         OnStash::Push(submitter) => {
             if stash.is_full() {
                 return false;
             }
-            stash.push(held_of(submitter));
+            stash.push(held_of(*submitter));
             true
         }
-        OnStash::Fill(looks) => fills(stash, looks),
-        OnStash::Pop(want) => stash.pop_front() == want,
-        OnStash::IsFull(want) => stash.is_full() == want,
-        OnStash::Len(want) => stash.len() == want,
+        OnStash::Fill(looks) => fills(stash, *looks),
+        OnStash::Pop(want) => stash.pop_front() == *want,
+        OnStash::IsFull(want) => stash.is_full() == *want,
+        OnStash::Len(want) => stash.len() == *want,
     }
 }
 
 // Makes the calls of a stash with room for this many looks, and asserts their answers.
 fn call_stash(rt: &impl Abort, stash: &mut Stash<Held>, capacity: usize, calls: &[OnStash]) {
     for at in 0..calls.len() {
-        assert_call_at(rt, answers_stash(stash, calls[at]), capacity, at);
+        assert_call_at(rt, answers_stash(stash, &calls[at]), capacity, at);
     }
 }
 
@@ -115,17 +127,17 @@ fn a_stash_gives_what_was_pushed(rt: HostRuntime) -> Result<(), Fail> {
 }
 
 // Makes a call of a table of users, and tells whether it may be made and is answered as it says.
-fn answers_users(users: &mut Users, call: OnUsers) -> bool
+fn answers_users(users: &mut Users, call: &OnUsers) -> bool
     ensures { users.new.share ≡ users.old.share }
 {
     match call {
-        OnUsers::Owns(user, want) => users.owns(user) == want,
-        OnUsers::Last(user, want) => users.owns(user) && users.last(user) == want,
+        OnUsers::Owns(user, want) => users.owns(*user) == *want,
+        OnUsers::Last(user, want) => users.owns(*user) && users.last(*user) == *want,
         OnUsers::Set(user, page) => {
-            if !users.owns(user) || page >= 1_024 {
+            if !users.owns(*user) || *page >= 1_024 {
                 return false;
             }
-            users.set(user, page);
+            users.set(*user, *page);
             true
         }
     }
@@ -136,7 +148,7 @@ fn call_users(rt: &impl Abort, users: &mut Users, calls: &[OnUsers])
     ensures { users.new.share ≡ users.old.share }
 {
     for at in 0..calls.len() {
-        assert_call(rt, answers_users(users, calls[at]), "users", at);
+        assert_call(rt, answers_users(users, &calls[at]), "users", at);
     }
 }
 
@@ -175,16 +187,21 @@ fn users_are_those_of_the_worker(rt: HostRuntime) -> Result<(), Fail> {
     Ok(())
 }
 
+// Whether user 16 is the third of seat 4 of six, and the users 15 and 28 are not found.
+fn finds_one_of_three(users: &Users) -> bool
+    requires { users.now.share ≡ share_of 23 6 6 4 }
+{
+    let home = users.home();
+    matches!(users.find(&home, 16), Some(placed) if placed.user == 16 && placed.place == 2)
+        && users.find(&home, 15).is_none()
+        && users.find(&home, 28).is_none()
+}
+
 // Of 23 users at six seats, those of seat 4 are 4, 10, 16 and 22.
 #[test]
 fn a_user_is_found_at_its_home(rt: HostRuntime) -> Result<(), Fail> {
     let users = Users::new(rt.alloc(), 23, 6, 6, 4)?;
-    let home = users.home();
-    let found = users
-        .find(&home, 16)
-        .map(|placed| (placed.user, placed.place));
-    assert!(rt; found == Some((16, 2)));
-    assert!(rt; users.find(&home, 15).is_none() && users.find(&home, 28).is_none());
+    assert!(rt; finds_one_of_three(&users));
     Ok(())
 }
 

@@ -86,21 +86,27 @@ fn last_number<R: Wait, I: TakeWith<R>>(rt: &R, mut inbox: I) -> u32 {
     unreachable!()
 }
 
+// Sends the next request or the end mark, or waits where the line is full. Says whether the end mark was sent.
+fn sends_end<R: Wait>(rt: &R, end: &mut SendEnd<'_>) -> bool {
+    let is_full = match end.next() {
+        Some(request) => end.push(rt, request).is_err(),
+        None if end.end(rt) == Err(EndRefused::Full) => true,
+        None => return true,
+    };
+    if is_full {
+        end.wait(rt);
+    }
+    false
+}
+
 // Sends a whole plan.
 fn send_all<R: Wait>(rt: &R, line: &Line, pass: SendPass)
     requires { pass.line ≡ line.now }
 {
     let mut end = pass.at(line);
     for _ in rt.forever() {
-        let sent = match end.next() {
-            Some(request) => end.push(rt, request).is_ok(),
-            None => match end.end(rt) {
-                Err(EndRefused::Full) => false,
-                _ => return,
-            },
-        };
-        if !sent {
-            end.wait(rt);
+        if sends_end(rt, &mut end) {
+            return;
         }
     }
     unreachable!()
@@ -203,14 +209,14 @@ fn goes_through<R: Wait>(rt: &R, send: &mut SendEnd<'_>, take: &mut TakeEnd<'_>)
 }
 
 // Makes a call, and tells whether it is answered as it says.
-fn answers<R: Wait>(rt: &R, send: &mut SendEnd<'_>, take: &mut TakeEnd<'_>, call: Call) -> bool {
+fn answers<R: Wait>(rt: &R, send: &mut SendEnd<'_>, take: &mut TakeEnd<'_>, call: &Call) -> bool {
     match call {
-        Call::Next(want) => send.next() == want,
-        Call::Push(first, last) => pushes_each(rt, send, first, last),
+        Call::Next(want) => send.next() == *want,
+        Call::Push(first, last) => pushes_each(rt, send, *first, *last),
         Call::PushFull => pushes(rt, send, Err(PushRefused::Full(LIKE))),
-        Call::End(want) => ends(rt, send, want),
+        Call::End(want) => ends(rt, send, *want),
         Call::EndIsLast => ends_for_good(rt, send),
-        Call::Take(first, last) => takes_each(rt, take, first, last),
+        Call::Take(first, last) => takes_each(rt, take, *first, *last),
         Call::TakeEnd => takes_end(rt, take),
         Call::GoThrough => goes_through(rt, send, take),
     }
@@ -219,7 +225,7 @@ fn answers<R: Wait>(rt: &R, send: &mut SendEnd<'_>, take: &mut TakeEnd<'_>, call
 // Makes the calls of a case, and asserts their answers.
 fn play<R: Wait + Abort>(rt: &R, send: &mut SendEnd<'_>, take: &mut TakeEnd<'_>, case: &Case) {
     for at in 0..case.calls.len() {
-        let answered = answers(rt, send, take, case.calls[at]);
+        let answered = answers(rt, send, take, &case.calls[at]);
         assert_call(rt, answered, case.name, at);
     }
 }
