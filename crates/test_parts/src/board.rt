@@ -13,6 +13,7 @@ mod party;
 mod scripts;
 mod walker;
 
+use crate::asserts::assert_named;
 use crate::pure_core::small_limits;
 use calls::{OnPost, Step};
 use like_board::{Board, BoardPost, CoordSeat, WorkerSeat};
@@ -85,7 +86,7 @@ fn party_at<'a>(
     } else {
         None
     };
-    assert!(rt; seats.len() == 1);
+    assert_named(rt, seats.len() == 1, "one seat is left");
     let first = last_walker(rt, &mut seats, board, &coord, limits, 1, marked);
     Party {
         board,
@@ -109,7 +110,11 @@ fn left_by(rt: &impl Abort, walker: Walker<BoardPost<'_>>) -> Left
     ensures { seat_meaning result.seat ≡ post_meaning walker.entry.post }
 {
     let Walker { post, known } = walker;
-    assert!(rt; known.state == WorkerState::Gone);
+    assert_named(
+        rt,
+        known.state == WorkerState::Gone,
+        "a worker that is gone",
+    );
     Left {
         seat: post.back(),
         likes: known.likes,
@@ -204,11 +209,11 @@ fn walked(
     let (coord, first, second) = walks(rt, &board, coord, seats, marked, parts);
     match second {
         Some(second) => {
-            assert!(rt; workers == 2);
+            assert_named(rt, workers == 2, "two workers");
             end_of_two(alloc, board, coord, first, second)
         }
         None => {
-            assert!(rt; workers == 1);
+            assert_named(rt, workers == 1, "one worker");
             end_of_one(alloc, board, coord, first)
         }
     }
@@ -223,14 +228,14 @@ fn is_end(end: End, count: u64, first: u64, second: u64) -> bool {
 #[test]
 fn walks_through_three_phases(rt: HostRuntime) -> Result<(), Fail> {
     let end = walked(&rt, rt.alloc(), 2, 10, true, three_phases())?;
-    assert!(rt; is_end(end, 13, 3, 0));
+    assert_named(&rt, is_end(end, 13, 3, 0), "the end");
     Ok(())
 }
 
 #[test]
 fn walks_through_a_hot_phase(rt: HostRuntime) -> Result<(), Fail> {
     let end = walked(&rt, rt.alloc(), 1, 5, false, hot_phase())?;
-    assert!(rt; is_end(end, 7, 2, 0));
+    assert_named(&rt, is_end(end, 7, 2, 0), "the end");
     Ok(())
 }
 
@@ -346,7 +351,7 @@ fn last_comes_back(
 {
     let mut post = last_post(rt, seats, board, coord, limits);
     post.retire();
-    assert!(rt; comes_back(board, coord, &mut post));
+    assert_named(rt, comes_back(board, coord, &mut post), "comes back");
 }
 
 #[test]
@@ -369,24 +374,25 @@ fn likes_by_posts(rt: HostRuntime) -> Result<(), Fail> {
 
 // Whether the last page of the most has the greatest count, and one more after a like.
 fn likes_last_page<P: Post>(walker: &mut Walker<P>) -> bool {
-    walker.answers(&OnPost::Like(1_023, 1_000_000_000_000_000_000))
-        && walker.answers(&OnPost::Read(1_023, 1_000_000_000_000_000_001))
+    walker.answers(OnPost::Like(1_023, 1_000_000_000_000_000_000))
+        && walker.answers(OnPost::Read(1_023, 1_000_000_000_000_000_001))
 }
 
 // The last of sixteen workers likes the last page of a board that has the most.
-fn likes_last(rt: &impl Abort, board: &Board, coord: &CoordSeat, seats: &mut Vec<WorkerSeat>)
-    requires { AreOpened (board_id board.now) 1_024 true run_limits coord.now seats.old.items }
+fn likes_last(rt: &impl Abort, board: &Board, coord: CoordSeat, mut seats: Vec<WorkerSeat>)
+    requires { AreOpened (board_id board.now) 1_024 true run_limits coord seats.items }
 {
-    assert!(rt; seats.len() == 16);
-    let mut last = last_walker(rt, seats, board, coord, Limits::of_run(), 1_024, true);
-    assert!(rt; likes_last_page(&mut last));
+    assert_named(rt, seats.len() == 16, "sixteen seats");
+    let limits = Limits::of_run();
+    let mut last = last_walker(rt, &mut seats, board, &coord, limits, 1_024, true);
+    assert_named(rt, likes_last_page(&mut last), "the last page");
 }
 
 // A board of the most workers and pages, with the greatest counts.
 #[test]
 fn holds_the_most(rt: HostRuntime) -> Result<(), Fail> {
     let count = 1_000_000_000_000_000_000;
-    let (board, coord, mut seats) = opened(rt.alloc(), 16, 1_024, count, true, Limits::of_run())?;
-    likes_last(&rt, &board, &coord, &mut seats);
+    let (board, coord, seats) = opened(rt.alloc(), 16, 1_024, count, true, Limits::of_run())?;
+    likes_last(&rt, &board, coord, seats);
     Ok(())
 }

@@ -30,8 +30,8 @@ fn core_of(
 // Asserts what a core shows at the steps of a case.
 fn assert_steps(rt: &impl Abort, core: &mut Core, case: &str, steps: &[Step]) {
     for at in 0..steps.len() {
-        let (event, shown) = &steps[at];
-        assert_call(rt, core.step(*event) == *shown, case, at);
+        let (event, shown) = steps[at];
+        assert_call(rt, core.step(event) == shown, case, at);
     }
 }
 
@@ -79,7 +79,11 @@ fn assert_last_phase(rt: &impl Abort, core: &mut Core, last_phase: u32) {
         let goes = shows_phase(core, phase) && goes_on(core, phase);
         assert_call(rt, goes, "phases", phase as usize);
     }
-    assert!(rt; core.step(Event::Announce) == Err(NotNow::Last));
+    assert_named(
+        rt,
+        core.step(Event::Announce) == Err(NotNow::Last),
+        "the last phase",
+    );
 }
 
 #[test]
@@ -124,7 +128,7 @@ fn limits_are_these_numbers(rt: HostRuntime) -> Result<(), Fail> {
         seats: 16,
         form: Form::Bits,
     };
-    assert!(rt; Limits::of_run() == run);
+    assert_named(&rt, Limits::of_run() == run, "a run");
     let service = Limits {
         last_phase: 281_474_976_710_654,
         likes: 72_057_594_037_927_936,
@@ -133,12 +137,12 @@ fn limits_are_these_numbers(rt: HostRuntime) -> Result<(), Fail> {
         seats: 64,
         form: Form::Counts,
     };
-    assert!(rt; Limits::of_service() == service);
+    assert_named(&rt, Limits::of_service() == service, "a service");
     Ok(())
 }
 
 // Whether a word is made of these parts, and taken apart into them.
-fn is_word(word: &LawfulWord) -> bool {
+fn is_word(word: LawfulWord) -> bool {
     let parts = PhaseWord::new(
         word.kind,
         word.workers,
@@ -156,7 +160,7 @@ fn is_word(word: &LawfulWord) -> bool {
 fn packs_and_unpacks_words(rt: HostRuntime) -> Result<(), Fail> {
     let lawful = lawful_words();
     for at in 0..lawful.len() {
-        assert_call(&rt, is_word(&lawful[at]), "lawful words", at);
+        assert_call(&rt, is_word(lawful[at]), "lawful words", at);
     }
     let unlawful = unlawful_words();
     for at in 0..unlawful.len() {
@@ -182,9 +186,15 @@ fn steps_lead_to_words_of_idle_workers(rt: HostRuntime) -> Result<(), Fail> {
     for more in gone {
         ending = ending.saturating_add(more);
     }
-    assert!(rt; ending == 234_881_297);
-    assert!(rt; PhaseWord::unpack(ending).is_some_and(|word| word.kind == Kind::JoinedEnding));
-    assert!(rt; form.released(234_881_297) == 1_099_746_508_818);
+    assert_named(&rt, ending == 234_881_297, "the end of phase 0");
+    let is_joined =
+        matches!(PhaseWord::unpack(ending), Some(word) if word.kind == Kind::JoinedEnding);
+    assert_named(&rt, is_joined, "the kind of phase 0");
+    assert_named(
+        &rt,
+        form.released(234_881_297) == 1_099_746_508_818,
+        "phase 1",
+    );
     Ok(())
 }
 
@@ -200,9 +210,15 @@ fn counts_64_seats(rt: HostRuntime) -> Result<(), Fail> {
         all_in: true,
         all_gone: false,
     };
-    assert!(rt; form.coord_sight_in(ALL_IN, 64) == sight);
-    assert!(rt; !form.coord_sight_in(ALL_IN - form.answer(63), 64).all_in);
-    assert!(rt; form.sight_in(ALL_IN, 1).waits && !form.sight_in(ALL_IN, 0).waits);
-    assert!(rt; form.released(ALL_IN) == 0xffff_ffff_fffe_0200);
+    assert_named(&rt, form.coord_sight_in(ALL_IN, 64) == sight, "all are in");
+    let one_less = form.coord_sight_in(ALL_IN - form.answer(63), 64);
+    assert_named(&rt, !one_less.all_in, "one is not in");
+    assert_named(&rt, form.sight_in(ALL_IN, 1).waits, "seat 1 waits");
+    assert_named(&rt, !form.sight_in(ALL_IN, 0).waits, "seat 0 does not wait");
+    assert_named(
+        &rt,
+        form.released(ALL_IN) == 0xffff_ffff_fffe_0200,
+        "the last phase",
+    );
     Ok(())
 }

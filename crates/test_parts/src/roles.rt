@@ -80,8 +80,8 @@ fn make_parts<P: Post + Drop>(
 fn make_all<P: Post + Drop>(rt: &impl Abort, scene: &Scene, mut play: Play<'_, P>) {
     let gate = Expecting::new(scene.calls);
     make_parts(rt, &gate, &mut play, scene.parts);
-    let log = play.finish(rt, &gate);
-    assert_named(rt, is_end_of(scene, play.phase(), &log, &gate), scene.name);
+    let (phase, log) = play.finish(rt, &gate);
+    assert_named(rt, is_end_of(scene, phase, &log, &gate), scene.name);
 }
 
 // The board of a scene, with its workers and the coordinator at it, plays the scene.

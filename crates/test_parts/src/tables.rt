@@ -4,7 +4,7 @@ ghost use Rattle.like_tables.specs.SplitSlice.{no_slice};
 
 mod calls;
 
-use crate::asserts::{assert_call, assert_call_at};
+use crate::asserts::{assert_call, assert_call_at, assert_named};
 use calls::{OnSplits, OnStash, OnUsers, held_of, of_a_million, of_five, splits, stashes};
 use like_requests::{Op, PageRef, Request, Verdict};
 use like_tables::{Held, SplitPages, SplitSlice, Stash, Users, factor_for};
@@ -12,19 +12,19 @@ use std::process::Abort;
 use std::test::Fail;
 
 // Makes a call of a table of split pages, and tells whether it may be made and is answered as it says.
-fn answers_splits(splits: &mut SplitPages, call: &OnSplits) -> bool {
+fn answers_splits(splits: &mut SplitPages, call: OnSplits) -> bool {
     match call {
         OnSplits::Put(page) => {
-            if splits.page_in(splits.bucket(*page)).is_some() {
+            if splits.page_in(splits.bucket(page)).is_some() {
                 return false;
             }
-            splits.put(*page);
+            splits.put(page);
             true
         }
-        OnSplits::Has(page, want) => splits.has(*page) == *want,
-        OnSplits::Bucket(page, want) => splits.bucket(*page) == *want,
-        OnSplits::PageIn(place, want) => *place < 1_024 && splits.page_in(*place) == *want,
-        OnSplits::Next(from, want) => splits.next(*from) == *want,
+        OnSplits::Has(page, want) => splits.has(page) == want,
+        OnSplits::Bucket(page, want) => splits.bucket(page) == want,
+        OnSplits::PageIn(place, want) => place < 1_024 && splits.page_in(place) == want,
+        OnSplits::Next(from, want) => splits.next(from) == want,
         OnSplits::Clear => {
             splits.clear();
             true
@@ -35,14 +35,14 @@ fn answers_splits(splits: &mut SplitPages, call: &OnSplits) -> bool {
 // Makes the calls of a table of split pages, and asserts their answers.
 fn call_splits(rt: &impl Abort, splits: &mut SplitPages, factor: u32, calls: &[OnSplits]) {
     for at in 0..calls.len() {
-        assert_call_at(rt, answers_splits(splits, &calls[at]), factor as usize, at);
+        assert_call_at(rt, answers_splits(splits, calls[at]), factor as usize, at);
     }
 }
 
 #[test]
 fn a_page_is_split_that_was_put(rt: HostRuntime) -> Result<(), Fail> {
     for (factor, calls) in splits() {
-        assert!(rt; *factor >= 1 << 22);
+        assert_named(&rt, *factor >= 1 << 22, "a factor");
         let mut splits = SplitPages::new(rt.alloc(), *factor)?;
         call_splits(&rt, &mut splits, *factor, calls);
     }
@@ -52,9 +52,17 @@ fn a_page_is_split_that_was_put(rt: HostRuntime) -> Result<(), Fail> {
 // The pages 0 and 610 share a bucket by the first factor.
 #[test]
 fn a_factor_parts_pages(rt: HostRuntime) {
-    assert!(rt; factor_for(&[0, 1, 2]) == Some(2_654_435_769));
-    assert!(rt; factor_for(&[0, 610]) == Some(2_656_076_303));
-    assert!(rt; factor_for(&[7, 7]) == None);
+    assert_named(
+        &rt,
+        factor_for(&[0, 1, 2]) == Some(2_654_435_769),
+        "the first factor",
+    );
+    assert_named(
+        &rt,
+        factor_for(&[0, 610]) == Some(2_656_076_303),
+        "a later factor",
+    );
+    assert_named(&rt, factor_for(&[7, 7]) == None, "no factor");
 }
 
 // Whether two likes of page 64 come out of a slice in which no page is split.
@@ -77,7 +85,7 @@ fn gives_two_likes(slice: &mut SplitSlice) -> bool
 #[test]
 fn a_slice_gives_what_was_added(rt: HostRuntime) -> Result<(), Fail> {
     let mut slice = SplitSlice::new(rt.alloc(), 1 << 22)?;
-    assert!(rt; gives_two_likes(&mut slice));
+    assert_named(&rt, gives_two_likes(&mut slice), "two likes");
     Ok(())
 }
 
@@ -93,26 +101,26 @@ fn fills(stash: &mut Stash<Held>, looks: u32) -> bool {
 }
 
 // Makes a call of a stash, and tells whether it may be made and is answered as it says.
-fn answers_stash(stash: &mut Stash<Held>, call: &OnStash) -> bool {
+fn answers_stash(stash: &mut Stash<Held>, call: OnStash) -> bool {
     match call {
         OnStash::Push(submitter) => {
             if stash.is_full() {
                 return false;
             }
-            stash.push(held_of(*submitter));
+            stash.push(held_of(submitter));
             true
         }
-        OnStash::Fill(looks) => fills(stash, *looks),
-        OnStash::Pop(want) => stash.pop_front() == *want,
-        OnStash::IsFull(want) => stash.is_full() == *want,
-        OnStash::Len(want) => stash.len() == *want,
+        OnStash::Fill(looks) => fills(stash, looks),
+        OnStash::Pop(want) => stash.pop_front() == want,
+        OnStash::IsFull(want) => stash.is_full() == want,
+        OnStash::Len(want) => stash.len() == want,
     }
 }
 
 // Makes the calls of a stash with room for this many looks, and asserts their answers.
 fn call_stash(rt: &impl Abort, stash: &mut Stash<Held>, capacity: usize, calls: &[OnStash]) {
     for at in 0..calls.len() {
-        assert_call_at(rt, answers_stash(stash, &calls[at]), capacity, at);
+        assert_call_at(rt, answers_stash(stash, calls[at]), capacity, at);
     }
 }
 
@@ -127,17 +135,17 @@ fn a_stash_gives_what_was_pushed(rt: HostRuntime) -> Result<(), Fail> {
 }
 
 // Makes a call of a table of users, and tells whether it may be made and is answered as it says.
-fn answers_users(users: &mut Users, call: &OnUsers) -> bool
+fn answers_users(users: &mut Users, call: OnUsers) -> bool
     ensures { users.new.share ≡ users.old.share }
 {
     match call {
-        OnUsers::Owns(user, want) => users.owns(*user) == *want,
-        OnUsers::Last(user, want) => users.owns(*user) && users.last(*user) == *want,
+        OnUsers::Owns(user, want) => users.owns(user) == want,
+        OnUsers::Last(user, want) => users.owns(user) && users.last(user) == want,
         OnUsers::Set(user, page) => {
-            if !users.owns(*user) || *page >= 1_024 {
+            if !users.owns(user) || page >= 1_024 {
                 return false;
             }
-            users.set(*user, *page);
+            users.set(user, page);
             true
         }
     }
@@ -148,7 +156,7 @@ fn call_users(rt: &impl Abort, users: &mut Users, calls: &[OnUsers])
     ensures { users.new.share ≡ users.old.share }
 {
     for at in 0..calls.len() {
-        assert_call(rt, answers_users(users, &calls[at]), "users", at);
+        assert_call(rt, answers_users(users, calls[at]), "users", at);
     }
 }
 
@@ -182,8 +190,8 @@ fn is_worker_one(users: &Users) -> bool
 fn users_are_those_of_the_worker(rt: HostRuntime) -> Result<(), Fail> {
     let mut users = Users::new(rt.alloc(), 5, 2, 2, 1)?;
     call_users(&rt, &mut users, of_five());
-    assert!(rt; is_worker_one(&users));
-    assert!(rt; users.submitter_at(0) == 1);
+    assert_named(&rt, is_worker_one(&users), "the users of worker 1");
+    assert_named(&rt, users.submitter_at(0) == 1, "its submitter");
     Ok(())
 }
 
@@ -201,7 +209,7 @@ fn finds_one_of_three(users: &Users) -> bool
 #[test]
 fn a_user_is_found_at_its_home(rt: HostRuntime) -> Result<(), Fail> {
     let users = Users::new(rt.alloc(), 23, 6, 6, 4)?;
-    assert!(rt; finds_one_of_three(&users));
+    assert_named(&rt, finds_one_of_three(&users), "three users");
     Ok(())
 }
 

@@ -9,24 +9,24 @@ use like_board::{Board, CoordSeat};
 use like_core::CoordSight;
 
 /// Makes a call, and tells whether it may be made and is answered as it says.
-pub fn lead(coord: &mut CoordSeat, board: &Board, call: &OnCoord) -> bool
+pub fn lead(coord: &mut CoordSeat, board: &Board, call: OnCoord) -> bool
     requires here { coord_board coord.old ≡ board_id board.now }
     requires one_page { length (coord_view coord.old).opening.counts ≡ 1 }
     requires plain { (coord_view coord.old).opening.limits.hot ≡ hot_pages }
     ensures { KeepsSeat coord.old coord.new }
 {
     match call {
-        OnCoord::Look(sight) => coord.look(board) == *sight,
+        OnCoord::Look(sight) => coord.look(board) == sight,
         OnCoord::Announce(number) => {
-            sees(coord, board, *number, false) && announces(coord, board)
+            sees(coord, board, number, false) && announces(coord, board)
         }
         OnCoord::Count(number, count) => {
-            sees(coord, board, *number, true) && counts(coord, board, *count)
+            sees(coord, board, number, true) && counts(coord, board, count)
         }
         OnCoord::Release(number, mask) => {
-            sees(coord, board, *number, true) && releases(coord, board, *mask)
+            sees(coord, board, number, true) && releases(coord, board, mask)
         }
-        OnCoord::IsIn(phase, last) => coord.phase() == *phase && coord.is_last() == *last,
+        OnCoord::IsIn(phase, last) => coord.phase() == phase && coord.is_last() == last,
     }
 }
 

@@ -39,12 +39,12 @@ impl<P: Post> Party<'_, P> {
         ensures { KeepsSeat self.old.coord self.new.coord }
     {
         for at in 0..steps.len() {
-            assert_call_at(rt, self.answers(&steps[at]), part, at);
+            assert_call_at(rt, self.answers(steps[at]), part, at);
         }
     }
 
     // Makes a call, and tells whether it is answered as it says.
-    fn answers(&mut self, step: &Step) -> bool
+    fn answers(&mut self, step: Step) -> bool
         ensures { KeepsSeat self.old.coord self.new.coord }
     {
         match step {

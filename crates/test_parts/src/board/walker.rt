@@ -52,17 +52,17 @@ impl<P: Post> Walker<P> {
     }
 
     /// Makes a call, and tells whether it may be made and is answered as it says.
-    pub fn answers(&mut self, call: &OnPost) -> bool
+    pub fn answers(&mut self, call: OnPost) -> bool
         ensures { KeepsPlace (P.view self.old.post) (P.view self.new.post) }
     {
         match call {
-            OnPost::Look(sight) => self.sees(*sight),
+            OnPost::Look(sight) => self.sees(sight),
             OnPost::Answer => self.stops(),
-            OnPost::Like(page, old) => self.likes(*page, *old),
-            OnPost::Merge(likes, old) => self.merges(*likes, *old),
-            OnPost::Read(page, count) => self.reads(*page, *count),
-            OnPost::Glance(count) => self.glances(*count),
-            OnPost::Hot(mask) => self.learns(*mask),
+            OnPost::Like(page, old) => self.likes(page, old),
+            OnPost::Merge(likes, old) => self.merges(likes, old),
+            OnPost::Read(page, count) => self.reads(page, count),
+            OnPost::Glance(count) => self.glances(count),
+            OnPost::Hot(mask) => self.learns(mask),
             OnPost::Retire => self.retires(),
         }
     }

@@ -4,7 +4,7 @@ ghost use Rattle.like_limits.specs.Limits.{max_requests};
 mod cases;
 
 use super::LIKE;
-use crate::asserts::assert_call;
+use crate::asserts::{assert_call, assert_named};
 use cases::{Call, Case, cases, of_one};
 use like_queue::{
     EndRefused, Line, ListInbox, PushRefused, SendEnd, SendPass, TakeEnd, TakePass, TakeWith,
@@ -86,27 +86,21 @@ fn last_number<R: Wait, I: TakeWith<R>>(rt: &R, mut inbox: I) -> u32 {
     unreachable!()
 }
 
-// Sends the next request or the end mark, or waits where the line is full. Says whether the end mark was sent.
-fn sends_end<R: Wait>(rt: &R, end: &mut SendEnd<'_>) -> bool {
-    let is_full = match end.next() {
-        Some(request) => end.push(rt, request).is_err(),
-        None if end.end(rt) == Err(EndRefused::Full) => true,
-        None => return true,
-    };
-    if is_full {
-        end.wait(rt);
-    }
-    false
-}
-
 // Sends a whole plan.
 fn send_all<R: Wait>(rt: &R, line: &Line, pass: SendPass)
     requires { pass.line ≡ line.now }
 {
     let mut end = pass.at(line);
     for _ in rt.forever() {
-        if sends_end(rt, &mut end) {
-            return;
+        let sent = match end.next() {
+            Some(request) => end.push(rt, request).is_ok(),
+            None => match end.end(rt) {
+                Err(EndRefused::Full) => false,
+                _ => return,
+            },
+        };
+        if !sent {
+            end.wait(rt);
         }
     }
     unreachable!()
@@ -209,14 +203,14 @@ fn goes_through<R: Wait>(rt: &R, send: &mut SendEnd<'_>, take: &mut TakeEnd<'_>)
 }
 
 // Makes a call, and tells whether it is answered as it says.
-fn answers<R: Wait>(rt: &R, send: &mut SendEnd<'_>, take: &mut TakeEnd<'_>, call: &Call) -> bool {
+fn answers<R: Wait>(rt: &R, send: &mut SendEnd<'_>, take: &mut TakeEnd<'_>, call: Call) -> bool {
     match call {
-        Call::Next(want) => send.next() == *want,
-        Call::Push(first, last) => pushes_each(rt, send, *first, *last),
+        Call::Next(want) => send.next() == want,
+        Call::Push(first, last) => pushes_each(rt, send, first, last),
         Call::PushFull => pushes(rt, send, Err(PushRefused::Full(LIKE))),
-        Call::End(want) => ends(rt, send, *want),
+        Call::End(want) => ends(rt, send, want),
         Call::EndIsLast => ends_for_good(rt, send),
-        Call::Take(first, last) => takes_each(rt, take, *first, *last),
+        Call::Take(first, last) => takes_each(rt, take, first, last),
         Call::TakeEnd => takes_end(rt, take),
         Call::GoThrough => goes_through(rt, send, take),
     }
@@ -225,7 +219,7 @@ fn answers<R: Wait>(rt: &R, send: &mut SendEnd<'_>, take: &mut TakeEnd<'_>, call
 // Makes the calls of a case, and asserts their answers.
 fn play<R: Wait + Abort>(rt: &R, send: &mut SendEnd<'_>, take: &mut TakeEnd<'_>, case: &Case) {
     for at in 0..case.calls.len() {
-        let answered = answers(rt, send, take, &case.calls[at]);
+        let answered = answers(rt, send, take, case.calls[at]);
         assert_call(rt, answered, case.name, at);
     }
 }
@@ -242,7 +236,7 @@ fn play_at<R: Wait + Abort>(rt: &R, line: &Line, send: SendPass, take: TakePass,
 fn plan_of(rt: &impl Abort, alloc: Global, size: usize) -> Result<Vec<Request>, AllocError>
     ensures { IfOk result (λ plan. length plan.items ≤ max_requests) }
 {
-    assert!(rt; size <= 1_000_000);
+    assert_named(rt, size <= 1_000_000, "a plan's size");
     Vec::from_elem(alloc, LIKE, size)
 }
 
@@ -280,7 +274,8 @@ fn a_refused_growth_is_told(rt: HostRuntime) -> Result<(), Fail> {
 #[test]
 fn goes_to_another_thread(rt: HostRuntime) -> Result<(), Fail> {
     let plan = plan_of(&rt, rt.alloc(), 10_000)?;
-    assert!(rt; through(&rt, rt.alloc(), plan)? == 10_000);
+    let last = through(&rt, rt.alloc(), plan)?;
+    assert_named(&rt, last == 10_000, "the last number");
     Ok(())
 }
 
@@ -288,6 +283,6 @@ fn goes_to_another_thread(rt: HostRuntime) -> Result<(), Fail> {
 fn takes_from_a_list_as_from_a_line(rt: HostRuntime) -> Result<(), Fail> {
     let mut inbox = ListInbox::new(plan_of(&rt, rt.alloc(), 3)?);
     inbox.open_all();
-    assert!(rt; last_number(&rt, inbox) == 3);
+    assert_named(&rt, last_number(&rt, inbox) == 3, "the last number");
     Ok(())
 }

@@ -1,5 +1,5 @@
 use super::LIKE;
-use crate::asserts::assert_call;
+use crate::asserts::{assert_call, assert_named};
 use like_queue::ListInbox;
 use like_requests::{Numbered, Request, Taken};
 use std::process::Abort;
@@ -45,10 +45,10 @@ fn lists() -> &'static [(&'static [Request], &'static [Call])] {
 }
 
 // Makes a call, and tells whether it is answered as it says.
-fn answers(inbox: &mut ListInbox, call: &Call) -> bool {
+fn answers(inbox: &mut ListInbox, call: Call) -> bool {
     match call {
-        Call::Take(want) => inbox.take() == *want,
-        Call::OpenOne(want) => inbox.open_one() == *want,
+        Call::Take(want) => inbox.take() == want,
+        Call::OpenOne(want) => inbox.open_one() == want,
         Call::OpenAll => {
             inbox.open_all();
             true
@@ -59,7 +59,7 @@ fn answers(inbox: &mut ListInbox, call: &Call) -> bool {
 // Makes the calls of a list's inbox, and asserts their answers.
 fn call_list(rt: &impl Abort, inbox: &mut ListInbox, calls: &[Call]) {
     for at in 0..calls.len() {
-        assert_call(rt, answers(inbox, &calls[at]), "list", at);
+        assert_call(rt, answers(inbox, calls[at]), "list", at);
     }
 }
 
@@ -67,7 +67,7 @@ fn call_list(rt: &impl Abort, inbox: &mut ListInbox, calls: &[Call]) {
 fn hands_over_requests_and_the_end(rt: HostRuntime) -> Result<(), Fail> {
     for (plan, calls) in lists() {
         let plan = Vec::from_slice(rt.alloc(), plan)?;
-        assert!(rt; plan.len() <= 1);
+        assert_named(&rt, plan.len() <= 1, "a plan's size");
         call_list(&rt, &mut ListInbox::new(plan), calls);
     }
     Ok(())

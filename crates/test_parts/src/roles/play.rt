@@ -137,30 +137,32 @@ impl<P: Post + Drop> Play<'_, P> {
     /// Makes the steps of a part, and asserts that they are answered as they say.
     pub fn make(&mut self, rt: &impl Abort, gate: &Expecting, part: usize, steps: &[Step]) {
         for at in 0..steps.len() {
-            assert_call_at(rt, self.answers(gate, &steps[at]), part, at);
+            assert_call_at(rt, self.answers(gate, steps[at]), part, at);
         }
     }
 
     // Makes a step, and tells whether it is answered as it says.
-    fn answers(&mut self, gate: &Expecting, step: &Step) -> bool {
+    fn answers(&mut self, gate: &Expecting, step: Step) -> bool {
         match step {
-            Step::Coord(want) => self.coordinator.turn(self.board) == *want,
-            Step::Worker(worker, want) => match self.players.get_mut(*worker as usize) {
-                Some(player) => player.turn(gate) == *want,
+            Step::Coord(want) => self.coordinator.turn(self.board) == want,
+            Step::Worker(worker, want) => match self.players.get_mut(worker as usize) {
+                Some(player) => player.turn(gate) == want,
                 None => false,
             },
         }
     }
 
-    /// The phase that the coordinator saw last.
-    pub fn phase(&self) -> u32 {
-        self.coordinator.phase()
-    }
-
-    /// What the first worker has done, which is gone.
-    pub fn finish(&mut self, rt: &impl Abort, gate: &Expecting) -> WorkerLog {
-        self.players.truncate(1);
-        let first = self.players.pop().expect(rt, "a worker is there");
-        first.finish(rt, gate)
+    /// The phase that the coordinator saw last, and what the first worker has done, which is gone.
+    pub fn finish(self, rt: &impl Abort, gate: &Expecting) -> (u32, WorkerLog) {
+        let Play {
+            coordinator,
+            mut players,
+            ..
+        } = self;
+        let phase = coordinator.phase();
+        let _seat = coordinator.finish();
+        players.truncate(1);
+        let first = players.pop().expect(rt, "a worker is there");
+        (phase, first.finish(rt, gate))
     }
 }
