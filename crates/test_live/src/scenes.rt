@@ -69,7 +69,7 @@ pub const UNANSWERED: Answer = Answer::Like(LikeAnswer::Gone);
 
 /// The scenes. A function that takes them from here has none of them in its proof.
 pub fn scenes() -> &'static [Scene] {
-    SCENES
+    &SCENES
 }
 
 // A like that is counted.
@@ -254,7 +254,7 @@ const BATCH_ANSWERS: &[Answer; 5] = &[
     UNANSWERED,
 ];
 
-const SCENES: &[Scene] = &[
+static SCENES: [Scene; 10] = [
     Scene {
         seats: 1,
         room: 1,
