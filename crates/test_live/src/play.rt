@@ -1,6 +1,6 @@
 //! One thread that plays a host: it makes the calls of each scene.
 use crate::scenes::{Calls, OnDriver, OnSeat, Step, UNANSWERED, scenes};
-use crate::services::{Numbers, PLAIN, plays_with};
+use crate::services::opened;
 use like_board::SharedPost;
 use like_choice::Choice;
 use like_live::{Answer, Call, Driver, LiveSeat, Service};
@@ -120,12 +120,9 @@ pub fn plays<C: Choice>(rt: &impl Abort, service: &mut Service<C>, calls: &Calls
 #[test]
 fn plays_each_scene(rt: HostRuntime) -> Result<(), Fail> {
     for scene in scenes() {
-        let numbers = Numbers {
-            seats: scene.seats,
-            room: scene.room,
-            ..PLAIN
-        };
-        plays_with(&rt, rt.alloc(), &numbers, &scene.calls)?;
+        let mut service = opened(rt.alloc(), scene.seats, scene.room)?;
+        plays(&rt, &mut service, &scene.calls);
+        drop(service);
     }
     Ok(())
 }

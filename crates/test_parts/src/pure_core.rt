@@ -47,6 +47,7 @@ fn answers_events(rt: HostRuntime) -> Result<(), Fail> {
     for case in cases() {
         let mut core = core_of(&rt, rt.alloc(), case.workers, case.count, case.marks)?;
         assert_case(&rt, &mut core, case);
+        drop(core);
     }
     Ok(())
 }
@@ -90,6 +91,7 @@ fn assert_last_phase(rt: &impl Abort, core: &mut Core, last_phase: u32) {
 fn refuses_announcement_in_last_phase(rt: HostRuntime) -> Result<(), Fail> {
     let mut core = Core::new(rt.alloc(), 1, &[0], &[true])?;
     assert_last_phase(&rt, &mut core, 16_777_214);
+    drop(core);
     Ok(())
 }
 
@@ -115,6 +117,7 @@ pub fn small_limits() -> Limits
 fn stays_in_its_last_phase(rt: HostRuntime) -> Result<(), Fail> {
     let mut core = Core::with_limits(rt.alloc(), 1, &[0], &[true], small_limits())?;
     assert_last_phase(&rt, &mut core, 4);
+    drop(core);
     Ok(())
 }
 

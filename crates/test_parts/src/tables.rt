@@ -45,6 +45,7 @@ fn a_page_is_split_that_was_put(rt: HostRuntime) -> Result<(), Fail> {
         assert_named(&rt, *factor >= 1 << 22, "a factor");
         let mut splits = SplitPages::new(rt.alloc(), *factor)?;
         call_splits(&rt, &mut splits, *factor, calls);
+        drop(splits);
     }
     Ok(())
 }
@@ -86,6 +87,7 @@ fn gives_two_likes(slice: &mut SplitSlice) -> bool
 fn a_slice_gives_what_was_added(rt: HostRuntime) -> Result<(), Fail> {
     let mut slice = SplitSlice::new(rt.alloc(), 1 << 22)?;
     assert_named(&rt, gives_two_likes(&mut slice), "two likes");
+    drop(slice);
     Ok(())
 }
 
@@ -130,6 +132,7 @@ fn a_stash_gives_what_was_pushed(rt: HostRuntime) -> Result<(), Fail> {
         assert!(rt; *capacity >= 1 && *capacity <= 4_096);
         let mut stash = Stash::new(rt.alloc(), *capacity)?;
         call_stash(&rt, &mut stash, *capacity as usize, calls);
+        drop(stash);
     }
     Ok(())
 }
@@ -192,6 +195,7 @@ fn users_are_those_of_the_worker(rt: HostRuntime) -> Result<(), Fail> {
     call_users(&rt, &mut users, of_five());
     assert_named(&rt, is_worker_one(&users), "the users of worker 1");
     assert_named(&rt, users.submitter_at(0) == 1, "its submitter");
+    drop(users);
     Ok(())
 }
 
@@ -210,6 +214,7 @@ fn finds_one_of_three(users: &Users) -> bool
 fn a_user_is_found_at_its_home(rt: HostRuntime) -> Result<(), Fail> {
     let users = Users::new(rt.alloc(), 23, 6, 6, 4)?;
     assert_named(&rt, finds_one_of_three(&users), "three users");
+    drop(users);
     Ok(())
 }
 
@@ -218,5 +223,6 @@ fn a_user_is_found_at_its_home(rt: HostRuntime) -> Result<(), Fail> {
 fn users_are_a_million(rt: HostRuntime) -> Result<(), Fail> {
     let mut users = Users::new(rt.alloc(), 1_000_000, 1, 1, 0)?;
     call_users(&rt, &mut users, of_a_million());
+    drop(users);
     Ok(())
 }
