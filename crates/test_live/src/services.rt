@@ -88,7 +88,7 @@ pub fn plays_with(
 }
 
 // Wrong numbers, and what is told of them. Of several the first is told, in the order of `OpenError`.
-const WRONG: &[(Numbers, OpenError)] = &[
+static WRONG: [(Numbers, OpenError); 13] = [
     (Numbers { seats: 0, ..PLAIN }, OpenError::Seats),
     (Numbers { seats: 65, ..PLAIN }, OpenError::Seats),
     (
@@ -166,7 +166,7 @@ const WRONG_COUNTS: Numbers = Numbers {
 
 // A test that takes them from here has none of them in its proof.
 fn all_wrong() -> &'static [(Numbers, OpenError)] {
-    WRONG
+    &WRONG
 }
 
 #[test]
@@ -180,7 +180,7 @@ fn refuses_wrong_numbers(rt: HostRuntime) -> Result<(), Fail> {
 }
 
 // The least numbers of each kind, and the largest.
-const AT_LIMITS: &[Numbers] = &[
+static AT_LIMITS: [Numbers; 2] = [
     Numbers {
         counts: &[0],
         marks: &[],
@@ -202,7 +202,7 @@ const AT_LIMITS: &[Numbers] = &[
 ];
 
 fn all_at_limits() -> &'static [Numbers] {
-    AT_LIMITS
+    &AT_LIMITS
 }
 
 // Whether a service has as many seats and pages as it was opened with.
