@@ -1,7 +1,6 @@
 //! The last likes that a service tells at its end, and another service that goes on from them and from its counts.
-use crate::play::plays;
 use crate::scenes::{ends_of_three, ends_the_first, goes_on};
-use crate::services::{Numbers, PLAIN, opened_with};
+use crate::services::{Numbers, PLAIN, plays_with};
 use like_live::NO_PAGE;
 use std::test::Fail;
 
@@ -30,19 +29,11 @@ fn going_on() -> &'static Numbers {
 
 #[test]
 fn live_again(rt: HostRuntime) -> Result<(), Fail> {
-    let mut service = opened_with(rt.alloc(), of_three())?;
-    plays(&rt, &mut service, ends_of_three());
-    drop(service);
-    let mut another = opened_with(rt.alloc(), going_on())?;
-    plays(&rt, &mut another, goes_on());
-    drop(another);
-    Ok(())
+    plays_with(&rt, rt.alloc(), of_three(), ends_of_three())?;
+    plays_with(&rt, rt.alloc(), going_on(), goes_on())
 }
 
 #[test]
 fn ends_in_any_case(rt: HostRuntime) -> Result<(), Fail> {
-    let mut service = opened_with(rt.alloc(), of_three())?;
-    plays(&rt, &mut service, ends_the_first());
-    drop(service);
-    Ok(())
+    plays_with(&rt, rt.alloc(), of_three(), ends_the_first())
 }

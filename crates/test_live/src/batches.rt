@@ -1,4 +1,5 @@
 //! A batch that the end of a phase cuts short: a thread runs batches while another ends phases.
+use crate::asserts::assert_named;
 use crate::play::are_last_counts;
 use crate::scenes::UNANSWERED;
 use crate::services::opened;
@@ -63,7 +64,8 @@ fn a_batch_is_cut(rt: HostRuntime) -> Result<(), Fail> {
     let mut service = opened(rt.alloc(), 1, 2)?;
     let liked = cut(&rt, &mut service.seats, &mut service.driver);
     let total = liked.saturating_add(10);
-    assert!(rt; are_last_counts(&mut service.driver, true, [total, 20]));
+    let are_all = are_last_counts(&mut service.driver, true, [total, 20]);
     drop(service);
+    assert_named(&rt, are_all, "the likes of a batch that is cut");
     Ok(())
 }

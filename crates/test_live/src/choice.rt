@@ -1,4 +1,5 @@
 //! Which pages get slots: what is proposed, and what is found by samples. No contract says which pages are popular.
+use crate::asserts::assert_named;
 use like_choice::{Choice, Kind, NoProposal, Proposal, Proposed, Sampler, Samples, Slots};
 use std::alloc::AllocError;
 
@@ -144,14 +145,14 @@ fn are_slots(slots: &Slots, pages: &[u32], bits: u64) -> bool {
 fn slots_of_a_proposal(rt: HostRuntime) {
     // The factor is that of buckets by the page modulo 1,024.
     let mut slots = Slots::new(1 << 22, 5_000, &[7]);
-    assert!(rt; are_slots(&slots, &[7], 1));
+    assert_named(&rt, are_slots(&slots, &[7], 1), "a marked page");
     // 1,031 has the bucket of 7, 1,034 that of 10, and there are no pages from 5,000 on.
     slots.choose(&[10, 1_031, 1_034, 5_000, 20, 10]);
-    assert!(rt; are_slots(&slots, &[7, 10, 20], 7));
+    assert_named(&rt, are_slots(&slots, &[7, 10, 20], 7), "the first choice");
     slots.choose(&[30, 20]);
-    assert!(rt; are_slots(&slots, &[7, 30, 20], 7));
+    assert_named(&rt, are_slots(&slots, &[7, 30, 20], 7), "the second choice");
     slots.choose(&[]);
-    assert!(rt; slots.bits() == 1);
+    assert_named(&rt, slots.bits() == 1, "a choice of no page");
 }
 
 #[test]
@@ -161,9 +162,10 @@ fn proposals_that_are_set(rt: HostRuntime) {
     let mut proposed = Proposed::new();
     proposed.set(&[3, 1, 2]);
     proposed.propose(&slots, &mut proposal);
-    assert!(rt; proposal.pages() == [3, 1, 2].as_slice());
+    let is_set = proposal.pages() == [3, 1, 2].as_slice();
+    assert_named(&rt, is_set, "what was set");
     NoProposal.propose(&slots, &mut proposal);
-    assert!(rt; proposal.pages().is_empty());
+    assert_named(&rt, proposal.pages().is_empty(), "no proposal");
 }
 
 // A seat that only samples its likes.
@@ -205,10 +207,34 @@ impl Counted {
     }
 }
 
-// The likes between two choices, by two seats in turn, which are counted or not.
+// Two seats, which like in turn.
+#[derive(Drop)]
+struct TwoSeats {
+    first: Sampled,
+    second: Sampled,
+}
+
+impl TwoSeats {
+    fn new(samples: &Samples) -> Result<TwoSeats, AllocError> {
+        Ok(TwoSeats {
+            first: Sampled::new(samples.sampler(0)?),
+            second: Sampled::new(samples.sampler(1)?),
+        })
+    }
+
+    fn likes(&mut self, request: u32, page: u32) {
+        if request % 2 == 0 {
+            self.first.likes(page);
+        } else {
+            self.second.likes(page);
+        }
+    }
+}
+
+// The likes between two choices, which are counted or not.
 fn likes_by_two(
     drawn: &mut Drawn,
-    seats: &mut [Sampled; 2],
+    seats: &mut TwoSeats,
     slots: &Slots,
     counted: &mut Counted,
     counts: bool,
@@ -216,7 +242,7 @@ fn likes_by_two(
     for request in 0..REQUESTS {
         let rank = drawn.rank();
         let page = page_at(rank);
-        seats[request as usize % 2].likes(page);
+        seats.likes(request, page);
         if counts {
             counted.add(slots, rank, page);
         }
@@ -224,7 +250,7 @@ fn likes_by_two(
 }
 
 // The likes of the last two of twelve choices.
-fn last_likes(samples: &mut Samples, seats: &mut [Sampled; 2]) -> Counted {
+fn last_likes(samples: &mut Samples, seats: &mut TwoSeats) -> Counted {
     let mut drawn = Drawn { state: 1 };
     let mut slots = Slots::new(0x9e37_79b1, PAGES, &[]);
     let mut proposal = Proposal::new();
@@ -237,17 +263,10 @@ fn last_likes(samples: &mut Samples, seats: &mut [Sampled; 2]) -> Counted {
     counted
 }
 
-// Two seats.
-fn two_seats(samples: &Samples) -> Result<[Sampled; 2], AllocError> {
-    let first = samples.sampler(0)?;
-    let second = samples.sampler(1)?;
-    Ok([Sampled::new(first), Sampled::new(second)])
-}
-
 #[test]
 fn popular_pages_are_found(rt: HostRuntime) -> Result<(), AllocError> {
     let mut samples = Samples::new(rt.alloc(), 2, 512)?;
-    let mut seats = two_seats(&samples)?;
+    let mut seats = TwoSeats::new(&samples)?;
     let Counted { best, sliced } = last_likes(&mut samples, &mut seats);
     assert!(rt; sliced / 95 >= best / 100, "{sliced} of {best}");
     Ok(())
@@ -260,17 +279,26 @@ fn likes_any(drawn: &mut Drawn, seat: &mut Sampled) {
     }
 }
 
-#[test]
-fn pages_that_are_alike_are_not_popular(rt: HostRuntime) -> Result<(), AllocError> {
+// Whether no page is proposed in twelve choices.
+fn proposes_none(samples: &mut Samples, seat: &mut Sampled) -> bool {
     let mut drawn = Drawn { state: 2 };
-    let mut samples = Samples::new(rt.alloc(), 1, 1)?;
     let slots = Slots::new(1 << 22, PAGES, &[]);
     let mut proposal = Proposal::new();
-    let mut seat = Sampled::new(samples.sampler(0)?);
     for _ in 0..12u32 {
-        likes_any(&mut drawn, &mut seat);
+        likes_any(&mut drawn, seat);
         samples.propose(&slots, &mut proposal);
-        assert!(rt; proposal.pages().is_empty());
+        if !proposal.pages().is_empty() {
+            return false;
+        }
     }
+    true
+}
+
+#[test]
+fn pages_that_are_alike_are_not_popular(rt: HostRuntime) -> Result<(), AllocError> {
+    let mut samples = Samples::new(rt.alloc(), 1, 1)?;
+    let mut seat = Sampled::new(samples.sampler(0)?);
+    let is_none = proposes_none(&mut samples, &mut seat);
+    assert_named(&rt, is_none, "pages that are alike");
     Ok(())
 }

@@ -3,6 +3,7 @@ ghost use Rattle.like_live.specs.Driver.{IsSameDriver};
 ghost use Rattle.like_live.specs.LiveView.{IsSameSeat};
 ghost use Rattle.like_live.specs.Service.{AreItsSeats};
 
+use crate::asserts::assert_named;
 use crate::services::{closed, opened};
 use crate::threads::works;
 use like_board::SharedPost;
@@ -16,14 +17,18 @@ use std::thread::Threads;
 fn drives(rt: &impl Abort, driver: &mut Driver<Guided>, wanted: DriverAnswer)
     ensures { IsSameDriver driver.old driver.new }
 {
-    assert!(rt; driver.turn(End::IfItServes) == wanted);
+    assert_named(
+        rt,
+        driver.turn(End::IfItServes) == wanted,
+        "a driver's turn",
+    );
 }
 
 // Answers a phase that ends.
 fn answers(rt: &impl Abort, seat: &mut LiveSeat<SharedPost>)
     ensures { IsSameSeat seat.old seat.new }
 {
-    assert!(rt; seat.turn() == TurnAnswer::Between);
+    assert_named(rt, seat.turn() == TurnAnswer::Between, "a seat's turn");
 }
 
 // Ends a phase, which both seats answer, and releases the next.
@@ -47,13 +52,13 @@ fn change(
 pub fn likes(rt: &impl Abort, seat: &mut LiveSeat<SharedPost>, user: u32)
     ensures { IsSameSeat seat.old seat.new }
 {
-    assert!(rt; seat.like(user, 0) == LikeAnswer::Liked);
+    assert_named(rt, seat.like(user, 0) == LikeAnswer::Liked, "a like");
 }
 
 fn retires(rt: &impl Abort, seat: &mut LiveSeat<SharedPost>)
     ensures { IsSameSeat seat.old seat.new }
 {
-    assert!(rt; seat.retire() == TurnAnswer::Gone);
+    assert_named(rt, seat.retire() == TurnAnswer::Gone, "a seat that retires");
 }
 
 // Two split phases with likes of both seats. Then both retire.
@@ -126,6 +131,6 @@ pub fn closes(
 #[test]
 fn closes_a_service(rt: HostRuntime) -> Result<(), Fail> {
     let end = closes(&rt, opened(rt.alloc(), 2, 2)?, Host::Alone);
-    assert!(rt; end == (true, [13, 20]));
+    assert_named(&rt, end == (true, [13, 20]), "the end of a service");
     Ok(())
 }

@@ -8,6 +8,8 @@
 #[cfg(test)]
 mod again;
 #[cfg(test)]
+mod asserts;
+#[cfg(test)]
 mod batches;
 #[cfg(test)]
 mod choice;

@@ -36,26 +36,31 @@ fn drops(rt: &impl Abort, service: Service<Guided>, is_driver_first: bool) {
     }
 }
 
-// Opens a service of two seats, and drops it.
-fn opens_and_drops(rt: &impl Abort, alloc: Global, is_driver_first: bool) -> Result<(), Fail> {
-    drops(rt, opened(alloc, 2, 2)?, is_driver_first);
+// Opens this many services of two seats, one after another, and drops them.
+fn opens_and_drops(rt: &impl Abort, alloc: Global, services: usize) -> Result<(), Fail> {
+    for service in 0..services {
+        drops(rt, opened(alloc, 2, 2)?, service % 2 == 0);
+    }
     Ok(())
+}
+
+// The first number of a text.
+fn first_number(text: &str) -> Result<usize, Fail> {
+    let first = text.split(' ').next().ok_or("no number")?;
+    Ok(first.parse::<usize>()?)
 }
 
 // The pages of memory that this process has: the first number that the system tells of it.
 fn pages(rt: &(impl Files + Alloc)) -> Result<usize, Fail> {
     let told = fs::read_to_string(rt, "/proc/self/statm")?;
-    let first = told.split(' ').next().ok_or("no number")?;
-    Ok(first.parse::<usize>()?)
+    first_number(&told)
 }
 
 #[test]
 fn memory_is_given_back(rt: HostRuntime) -> Result<(), Fail> {
-    opens_and_drops(&rt, rt.alloc(), true)?;
+    opens_and_drops(&rt, rt.alloc(), 1)?;
     let before = pages(&rt)?;
-    for service in 0..SERVICES {
-        opens_and_drops(&rt, rt.alloc(), service % 2 == 0)?;
-    }
+    opens_and_drops(&rt, rt.alloc(), SERVICES)?;
     let more = pages(&rt)?.saturating_sub(before);
     assert!(rt; more < PAGES, "{more} pages were kept");
     Ok(())

@@ -69,7 +69,7 @@ pub const UNANSWERED: Answer = Answer::Like(LikeAnswer::Gone);
 
 /// The scenes. A function that takes them from here has none of them in its proof.
 pub fn scenes() -> &'static [Scene] {
-    SCENES
+    &SCENES
 }
 
 // A like that is counted.
@@ -254,7 +254,7 @@ const BATCH_ANSWERS: &[Answer; 5] = &[
     UNANSWERED,
 ];
 
-const SCENES: &[Scene] = &[
+static SCENES: [Scene; 10] = [
     Scene {
         seats: 1,
         room: 1,
@@ -497,7 +497,7 @@ const SCENES: &[Scene] = &[
 ];
 
 // Of page 999,999 there are two likes by seat 0 and one by seat 1, and of page 5 one by each.
-const LIVE_SLOTS: &Calls = &Calls {
+static LIVE_SLOTS: Calls = Calls {
     name: "live_slots",
     parts: &[
         CHANGE,
@@ -518,7 +518,7 @@ const LIVE_SLOTS: &Calls = &Calls {
 
 // In phase 1 page 7 is split: three likes of it, and one of page 8. In phase 3 page 8 is, in the same slot: two likes of
 // it, and one of page 7, at which a look is seen at once.
-const LIVE_MOVES: &Calls = &Calls {
+static LIVE_MOVES: Calls = Calls {
     name: "live_moves",
     parts: &[
         CHANGE,
@@ -545,22 +545,22 @@ const LIVE_MOVES: &Calls = &Calls {
     ],
 };
 
-const RUNS: &Calls = &Calls {
+static RUNS: Calls = Calls {
     name: "a phase that goes on",
     parts: &[&[drive!(IfItServes, Running)]],
 };
 
-const SPLITS_500: &Calls = &Calls {
+static SPLITS_500: Calls = Calls {
     name: "live_hot",
     parts: &[CHANGE, &[splits!(500)]],
 };
 
-const SPLITS_999: &Calls = &Calls {
+static SPLITS_999: Calls = Calls {
     name: "none_gets_hot",
     parts: &[CHANGE, &[splits!(999)]],
 };
 
-const ENDS_OF_THREE: &Calls = &Calls {
+static ENDS_OF_THREE: Calls = Calls {
     name: "live_again",
     parts: &[&[
         like!(0, 2, 1),
@@ -578,7 +578,7 @@ const ENDS_OF_THREE: &Calls = &Calls {
     ]],
 };
 
-const GOES_ON: &Calls = &Calls {
+static GOES_ON: Calls = Calls {
     name: "live_again, going on",
     parts: &[&[
         look_at!(0, 0, 1, 0, shown!(Some(0), 22)),
@@ -587,7 +587,7 @@ const GOES_ON: &Calls = &Calls {
     ]],
 };
 
-const ENDS_THE_FIRST: &Calls = &Calls {
+static ENDS_THE_FIRST: Calls = Calls {
     name: "ends_in_any_case",
     parts: &[&[
         drive!(No, Running),
@@ -597,17 +597,17 @@ const ENDS_THE_FIRST: &Calls = &Calls {
     ]],
 };
 
-const ANNOUNCES: &Calls = &Calls {
+static ANNOUNCES: Calls = Calls {
     name: "the end of phase 0",
     parts: &[&[drive!(IfItServes, Announced)]],
 };
 
-const ANSWERS_AND_RELEASES: &Calls = &Calls {
+static ANSWERS_AND_RELEASES: Calls = Calls {
     name: "phase 1",
     parts: &[&[turn!(0, Between), drive!(IfItServes, Released)]],
 };
 
-const LIKES_THE_LAST: &Calls = &Calls {
+static LIKES_THE_LAST: Calls = Calls {
     name: "opens_a_hundred_thousand_pages",
     parts: &[&[
         like!(0, 0, 99_999),
@@ -621,56 +621,56 @@ const LIKES_THE_LAST: &Calls = &Calls {
 
 /// A joined phase with no request, and a split one. All seats retire then.
 pub fn live_slots_calls() -> &'static Calls {
-    LIVE_SLOTS
+    &LIVE_SLOTS
 }
 
 /// Phases 0 to 3. All seats retire then.
 pub fn live_moves_calls() -> &'static Calls {
-    LIVE_MOVES
+    &LIVE_MOVES
 }
 
 /// A phase goes on.
 pub fn runs() -> &'static Calls {
-    RUNS
+    &RUNS
 }
 
 /// Page 500 is split in the next phase.
 pub fn splits_500() -> &'static Calls {
-    SPLITS_500
+    &SPLITS_500
 }
 
 /// Page 999 is split in the next phase.
 pub fn splits_999() -> &'static Calls {
-    SPLITS_999
+    &SPLITS_999
 }
 
 /// Likes of users 2 and 0, and the end of a service of three users whose counts begin at 10 and 20. Each of its seats
 /// tells the last likes of its users, and refuses other users.
 pub fn ends_of_three() -> &'static Calls {
-    ENDS_OF_THREE
+    &ENDS_OF_THREE
 }
 
 /// Looks of users 0 to 2 at page 1 in the service that goes on from there.
 pub fn goes_on() -> &'static Calls {
-    GOES_ON
+    &GOES_ON
 }
 
 /// Nothing is split, so only the host's word ends the first phase.
 pub fn ends_the_first() -> &'static Calls {
-    ENDS_THE_FIRST
+    &ENDS_THE_FIRST
 }
 
 /// The end of a phase is announced.
 pub fn announces() -> &'static Calls {
-    ANNOUNCES
+    &ANNOUNCES
 }
 
 /// The only seat answers the end, and the next phase is released.
 pub fn answers_and_releases() -> &'static Calls {
-    ANSWERS_AND_RELEASES
+    &ANSWERS_AND_RELEASES
 }
 
 /// The last of 100,000 pages gets a like.
 pub fn likes_the_last() -> &'static Calls {
-    LIKES_THE_LAST
+    &LIKES_THE_LAST
 }

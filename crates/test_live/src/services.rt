@@ -2,8 +2,9 @@
 ghost use Rattle.std.specs.Prelude.{IfOk};
 ghost use Rattle.like_live.specs.Service.{AreItsSeats};
 
+use crate::asserts::assert_named;
 use crate::play::plays;
-use crate::scenes::{announces, answers_and_releases, likes_the_last};
+use crate::scenes::{Calls, announces, answers_and_releases, likes_the_last};
 use like_choice::Guided;
 use like_live::{NO_PAGE, OpenError, Opening, PhaseNow, Service};
 use std::alloc::{AllocError, Global};
@@ -73,8 +74,21 @@ pub fn opened(alloc: Global, seats: u32, room: u32) -> Result<Service<Guided>, F
     opened_with(alloc, &numbers)
 }
 
+/// Plays a service that is opened with these numbers.
+pub fn plays_with(
+    rt: &impl Abort,
+    alloc: Global,
+    numbers: &Numbers,
+    calls: &Calls,
+) -> Result<(), Fail> {
+    let mut service = opened_with(alloc, numbers)?;
+    plays(rt, &mut service, calls);
+    drop(service);
+    Ok(())
+}
+
 // Wrong numbers, and what is told of them. Of several the first is told, in the order of `OpenError`.
-const WRONG: &[(Numbers, OpenError)] = &[
+static WRONG: [(Numbers, OpenError); 13] = [
     (Numbers { seats: 0, ..PLAIN }, OpenError::Seats),
     (Numbers { seats: 65, ..PLAIN }, OpenError::Seats),
     (
@@ -152,7 +166,7 @@ const WRONG_COUNTS: Numbers = Numbers {
 
 // A test that takes them from here has none of them in its proof.
 fn all_wrong() -> &'static [(Numbers, OpenError)] {
-    WRONG
+    &WRONG
 }
 
 #[test]
@@ -160,13 +174,13 @@ fn refuses_wrong_numbers(rt: HostRuntime) -> Result<(), Fail> {
     for (numbers, wrong) in all_wrong() {
         let opening = opening_of(rt.alloc(), numbers)?;
         let told = Service::open(rt.alloc(), &opening).err();
-        assert!(rt; told == Some(*wrong));
+        assert_named(&rt, told == Some(*wrong), "a wrong number");
     }
     Ok(())
 }
 
 // The least numbers of each kind, and the largest.
-const AT_LIMITS: &[Numbers] = &[
+static AT_LIMITS: [Numbers; 2] = [
     Numbers {
         counts: &[0],
         marks: &[],
@@ -188,7 +202,7 @@ const AT_LIMITS: &[Numbers] = &[
 ];
 
 fn all_at_limits() -> &'static [Numbers] {
-    AT_LIMITS
+    &AT_LIMITS
 }
 
 // Whether a service has as many seats and pages as it was opened with.
@@ -201,8 +215,9 @@ fn has_its_numbers(service: &Service<Guided>, numbers: &Numbers) -> bool {
 fn opens_at_each_limit(rt: HostRuntime) -> Result<(), Fail> {
     for numbers in all_at_limits() {
         let service = opened_with(rt.alloc(), numbers)?;
-        assert!(rt; has_its_numbers(&service, numbers));
+        let has_numbers = has_its_numbers(&service, numbers);
         drop(service);
+        assert_named(&rt, has_numbers, "its seats and pages");
     }
     Ok(())
 }
@@ -230,8 +245,8 @@ fn opens_with_marks(alloc: Global, many: u32) -> Result<bool, Fail> {
 
 #[test]
 fn opens_with_64_marks_at_most(rt: HostRuntime) -> Result<(), Fail> {
-    assert!(rt; opens_with_marks(rt.alloc(), 64)?);
-    assert!(rt; !opens_with_marks(rt.alloc(), 65)?);
+    assert_named(&rt, opens_with_marks(rt.alloc(), 64)?, "64 marks");
+    assert_named(&rt, !opens_with_marks(rt.alloc(), 65)?, "65 marks");
     Ok(())
 }
 
@@ -256,7 +271,7 @@ fn opened_with_many(alloc: Global) -> Result<Service<Guided>, Fail> {
 #[test]
 fn opens_a_hundred_thousand_pages(rt: HostRuntime) -> Result<(), Fail> {
     let mut service = opened_with_many(rt.alloc())?;
-    assert!(rt; service.driver.pages() == 100_000);
+    assert_named(&rt, service.driver.pages() == 100_000, "100,000 pages");
     plays(&rt, &mut service, likes_the_last());
     drop(service);
     Ok(())
@@ -266,17 +281,22 @@ fn opens_a_hundred_thousand_pages(rt: HostRuntime) -> Result<(), Fail> {
 pub fn closed(rt: &impl Abort, service: Service<Guided>) -> (bool, [u64; 2])
     requires { AreItsSeats service.driver service.seats.items }
 {
-    assert!(rt; service.driver.pages() == 2);
+    assert_named(rt, service.driver.pages() == 2, "two pages");
     let mut counts = [0, 0];
-    let is_closed = service.close(&mut counts).is_ok();
-    (is_closed, counts)
+    match service.close(&mut counts) {
+        Ok(()) => (true, counts),
+        Err(refused) => {
+            drop(refused);
+            (false, counts)
+        }
+    }
 }
 
 // A service is not closed while a seat is there.
 #[test]
 fn closes_no_running_service(rt: HostRuntime) -> Result<(), Fail> {
     let end = closed(&rt, opened(rt.alloc(), 2, 2)?);
-    assert!(rt; end == (false, [0, 0]));
+    assert_named(&rt, end == (false, [0, 0]), "a service that goes on");
     Ok(())
 }
 
@@ -285,8 +305,8 @@ fn closes_no_running_service(rt: HostRuntime) -> Result<(), Fail> {
 fn tells_the_seat_of_a_user(rt: HostRuntime) -> Result<(), Fail> {
     let mut opening = opening_of(rt.alloc(), &PLAIN)?;
     opening.seats = 2;
-    assert!(rt; opening.seat_of(3) == 1);
-    assert!(rt; opening.seat_of(2) == 0);
+    assert_named(&rt, opening.seat_of(3) == 1, "the seat of user 3");
+    assert_named(&rt, opening.seat_of(2) == 0, "the seat of user 2");
     Ok(())
 }
 
@@ -296,9 +316,9 @@ fn for_any_thread<T: Send + Sync>(_value: &T) {}
 // Ends phase 0 of a service with one seat.
 fn ends_the_first(rt: &impl Abort, service: &mut Service<Guided>, phase: &PhaseNow) {
     plays(rt, service, announces());
-    assert!(rt; phase.get() == 0);
+    assert_named(rt, phase.get() == 0, "the first phase");
     plays(rt, service, answers_and_releases());
-    assert!(rt; phase.get() == 1);
+    assert_named(rt, phase.get() == 1, "the next phase");
 }
 
 // The phase of a service that ends its first one, and another owner of it, which sees that.
@@ -320,6 +340,7 @@ fn tells_the_phase_to_another_owner(rt: HostRuntime) -> Result<(), Fail> {
     drop(service);
     let (phase, other) = owners?;
     for_any_thread(&other);
-    assert!(rt; phase.get() == 1 && other.get() == 1);
+    assert_named(&rt, phase.get() == 1, "the phase");
+    assert_named(&rt, other.get() == 1, "the phase of the other owner");
     Ok(())
 }

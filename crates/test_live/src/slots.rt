@@ -1,5 +1,6 @@
 //! Which pages are split: a marked one among a million, two that a choice moves through a slot, and one that gets hot by
 //! itself.
+use crate::asserts::assert_named;
 use crate::play::{is_answer_of, plays};
 use crate::scenes::{OnSeat, live_moves_calls, live_slots_calls, runs, splits_500, splits_999};
 use like_board::SharedPost;
@@ -37,13 +38,28 @@ fn opened<C: Choice + Drop>(
 
 // Writes the last counts, once all seats are gone.
 fn write_last<C: Choice>(rt: &impl Abort, driver: &mut Driver<C>, counts: &mut [u64]) {
-    assert!(rt; driver.has_pages(0, counts.len()) && driver.last_counts(0, counts));
+    assert_named(
+        rt,
+        driver.has_pages(0, counts.len()),
+        "as many pages as counts",
+    );
+    assert_named(rt, driver.last_counts(0, counts), "the last counts");
+}
+
+// How many pages have likes.
+fn liked(counts: &[u64]) -> usize {
+    let mut liked = 0usize;
+    for count in counts {
+        if *count != 0 {
+            liked = liked.saturating_add(1);
+        }
+    }
+    liked
 }
 
 // Whether page 999,999 has three likes and page 5 has two, and no other page has any.
 fn are_likes_of_two(counts: &[u64]) -> bool {
-    let liked = counts.iter().filter(|count| **count != 0).count();
-    counts.len() > 999_999 && counts[999_999] == 3 && counts[5] == 2 && liked == 2
+    counts.len() > 999_999 && counts[999_999] == 3 && counts[5] == 2 && liked(counts) == 2
 }
 
 #[test]
@@ -53,7 +69,7 @@ fn live_slots(rt: HostRuntime) -> Result<(), Fail> {
     plays(&rt, &mut service, live_slots_calls());
     write_last(&rt, &mut service.driver, &mut counts);
     drop(service);
-    assert!(rt; are_likes_of_two(&counts));
+    assert_named(&rt, are_likes_of_two(&counts), "live_slots");
     Ok(())
 }
 
@@ -82,7 +98,7 @@ fn live_moves(rt: HostRuntime) -> Result<(), Fail> {
     let mut counts = [0; 10];
     write_last(&rt, &mut service.driver, &mut counts);
     drop(service);
-    assert!(rt; counts == [0, 0, 0, 0, 0, 0, 0, 4, 3, 0]);
+    assert_named(&rt, counts == [0, 0, 0, 0, 0, 0, 0, 4, 3, 0], "live_moves");
     Ok(())
 }
 
@@ -100,7 +116,11 @@ fn opened_hot(alloc: Global, hot: Option<u32>) -> Result<Service<Guided>, Fail> 
 fn likes_500(rt: &impl Abort, seats: &mut [LiveSeat<SharedPost>], user: u32) {
     for _ in 0..2_000 {
         let call = OnSeat::Like(user, 500, LikeAnswer::Liked);
-        assert!(rt; is_answer_of(seats, user as usize, call));
+        assert_named(
+            rt,
+            is_answer_of(seats, user as usize, call),
+            "a like of page 500",
+        );
     }
 }
 

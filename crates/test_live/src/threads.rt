@@ -3,6 +3,7 @@
 ghost use Rattle.like_live.specs.Driver.{IsSameDriver};
 ghost use Rattle.like_live.specs.LiveView.{IsSameSeat};
 
+use crate::asserts::assert_named;
 use crate::ends::{Host, closes};
 use crate::services::opened;
 use like_board::SharedPost;
@@ -104,24 +105,6 @@ fn work_both(
     join_mut(rt, &mut || work(first, 0), &mut || work(second, 1))
 }
 
-fn in_threads(
-    rt: &(impl Threads + Sync),
-    driver: &mut Driver<Guided>,
-    first: &mut LiveSeat<SharedPost>,
-    second: &mut LiveSeat<SharedPost>,
-) -> (Done, Done)
-    ensures driver { IsSameDriver driver.old driver.new }
-    ensures first { IsSameSeat first.old first.new }
-    ensures second { IsSameSeat second.old second.new }
-{
-    let (_, done) = join_mut(
-        rt,
-        &mut || drive(driver),
-        &mut || work_both(rt, first, second),
-    );
-    done
-}
-
 /// Lets the driver and both seats work in threads, until both seats are gone.
 pub fn works(
     rt: &(impl Abort + Threads + Sync),
@@ -133,14 +116,18 @@ pub fn works(
     ensures first { IsSameSeat first.old first.new }
     ensures second { IsSameSeat second.old second.new }
 {
-    let (first, second) = in_threads(rt, driver, first, second);
-    assert!(rt; first.is_all());
-    assert!(rt; second.is_all());
+    let (_, (by_first, by_second)) = join_mut(
+        rt,
+        &mut || drive(driver),
+        &mut || work_both(rt, first, second),
+    );
+    assert_named(rt, by_first.is_all(), "what seat 0 did");
+    assert_named(rt, by_second.is_all(), "what seat 1 did");
 }
 
 #[test]
 fn live_threads(rt: HostRuntime) -> Result<(), Fail> {
     let end = closes(&rt, opened(rt.alloc(), 2, 2)?, Host::Threads);
-    assert!(rt; end == (true, [20_010, 20]));
+    assert_named(&rt, end == (true, [20_010, 20]), "the end of a service");
     Ok(())
 }

@@ -13,6 +13,7 @@ mod party;
 mod scripts;
 mod walker;
 
+use crate::asserts::assert_named;
 use crate::pure_core::small_limits;
 use calls::{OnPost, Step};
 use like_board::{Board, BoardPost, CoordSeat, WorkerSeat};
@@ -85,7 +86,7 @@ fn party_at<'a>(
     } else {
         None
     };
-    assert!(rt; seats.len() == 1);
+    assert_named(rt, seats.len() == 1, "one seat is left");
     let first = last_walker(rt, &mut seats, board, &coord, limits, 1, marked);
     Party {
         board,
@@ -109,7 +110,11 @@ fn left_by(rt: &impl Abort, walker: Walker<BoardPost<'_>>) -> Left
     ensures { seat_meaning result.seat ≡ post_meaning walker.entry.post }
 {
     let Walker { post, known } = walker;
-    assert!(rt; known.state == WorkerState::Gone);
+    assert_named(
+        rt,
+        known.state == WorkerState::Gone,
+        "a worker that is gone",
+    );
     Left {
         seat: post.back(),
         likes: known.likes,
@@ -204,11 +209,11 @@ fn walked(
     let (coord, first, second) = walks(rt, &board, coord, seats, marked, parts);
     match second {
         Some(second) => {
-            assert!(rt; workers == 2);
+            assert_named(rt, workers == 2, "two workers");
             end_of_two(alloc, board, coord, first, second)
         }
         None => {
-            assert!(rt; workers == 1);
+            assert_named(rt, workers == 1, "one worker");
             end_of_one(alloc, board, coord, first)
         }
     }
@@ -223,14 +228,14 @@ fn is_end(end: End, count: u64, first: u64, second: u64) -> bool {
 #[test]
 fn walks_through_three_phases(rt: HostRuntime) -> Result<(), Fail> {
     let end = walked(&rt, rt.alloc(), 2, 10, true, three_phases())?;
-    assert!(rt; is_end(end, 13, 3, 0));
+    assert_named(&rt, is_end(end, 13, 3, 0), "the end");
     Ok(())
 }
 
 #[test]
 fn walks_through_a_hot_phase(rt: HostRuntime) -> Result<(), Fail> {
     let end = walked(&rt, rt.alloc(), 1, 5, false, hot_phase())?;
-    assert!(rt; is_end(end, 7, 2, 0));
+    assert_named(&rt, is_end(end, 7, 2, 0), "the end");
     Ok(())
 }
 
@@ -321,25 +326,39 @@ fn announces(coord: &mut CoordSeat, board: &Board) -> bool
     true
 }
 
-// The only worker is gone. It comes back while the phase isn't ending, and not while it is.
-fn comes_back<P: Returns>(rt: &impl Abort, board: &Board, coord: &mut CoordSeat, post: &mut P)
+// The only worker is gone. Whether it comes back while the phase isn't ending, and not while it is.
+fn comes_back<P: Returns>(board: &Board, coord: &mut CoordSeat, post: &mut P) -> bool
     requires here { coord_board coord.old ≡ board_id board.now }
     requires gone { (P.view post.old).state ≡ Gone }
     requires lets { LetsReturn (P.view post.old).limits }
 {
-    assert!(rt; coord.look(board).all_gone);
-    assert!(rt; comes_and_goes(post));
-    assert!(rt; announces(coord, board));
-    assert!(rt; post.come_back().is_none());
+    coord.look(board).all_gone
+        && comes_and_goes(post)
+        && announces(coord, board)
+        && post.come_back().is_none()
+}
+
+// The last worker of a board retires and comes back.
+fn last_comes_back(
+    rt: &impl Abort,
+    board: &Board,
+    coord: &mut CoordSeat,
+    seats: &mut Vec<WorkerSeat>,
+    limits: Limits,
+)
+    requires opened { AreOpened (board_id board.now) 1 false limits coord.old seats.old.items }
+    requires lets { LetsReturn limits }
+{
+    let mut post = last_post(rt, seats, board, coord, limits);
+    post.retire();
+    assert_named(rt, comes_back(board, coord, &mut post), "comes back");
 }
 
 #[test]
 fn comes_back_to_a_service(rt: HostRuntime) -> Result<(), Fail> {
     let limits = small_limits();
     let (board, mut coord, mut seats) = opened(rt.alloc(), 1, 1, 10, false, limits)?;
-    let mut post = last_post(&rt, &mut seats, &board, &coord, limits);
-    post.retire();
-    comes_back(&rt, &board, &mut coord, &mut post);
+    last_comes_back(&rt, &board, &mut coord, &mut seats, limits);
     Ok(())
 }
 
@@ -363,10 +382,10 @@ fn likes_last_page<P: Post>(walker: &mut Walker<P>) -> bool {
 fn likes_last(rt: &impl Abort, board: &Board, coord: CoordSeat, mut seats: Vec<WorkerSeat>)
     requires { AreOpened (board_id board.now) 1_024 true run_limits coord seats.items }
 {
-    assert!(rt; seats.len() == 16);
+    assert_named(rt, seats.len() == 16, "sixteen seats");
     let limits = Limits::of_run();
     let mut last = last_walker(rt, &mut seats, board, &coord, limits, 1_024, true);
-    assert!(rt; likes_last_page(&mut last));
+    assert_named(rt, likes_last_page(&mut last), "the last page");
 }
 
 // A board of the most workers and pages, with the greatest counts.

@@ -1,4 +1,7 @@
 //! Tests of the parts of a run: the core, the board, the tables of a worker, the queues and the roles.
+//!
+//! A table or a core is dropped by a call of `drop`: a function at whose end it goes would prove once more how each of
+//! its parts is dropped.
 #![tactic(auto)]
 
 #[cfg(test)]

@@ -47,6 +47,7 @@ fn answers_events(rt: HostRuntime) -> Result<(), Fail> {
     for case in cases() {
         let mut core = core_of(&rt, rt.alloc(), case.workers, case.count, case.marks)?;
         assert_case(&rt, &mut core, case);
+        drop(core);
     }
     Ok(())
 }
@@ -79,13 +80,18 @@ fn assert_last_phase(rt: &impl Abort, core: &mut Core, last_phase: u32) {
         let goes = shows_phase(core, phase) && goes_on(core, phase);
         assert_call(rt, goes, "phases", phase as usize);
     }
-    assert!(rt; core.step(Event::Announce) == Err(NotNow::Last));
+    assert_named(
+        rt,
+        core.step(Event::Announce) == Err(NotNow::Last),
+        "the last phase",
+    );
 }
 
 #[test]
 fn refuses_announcement_in_last_phase(rt: HostRuntime) -> Result<(), Fail> {
     let mut core = Core::new(rt.alloc(), 1, &[0], &[true])?;
     assert_last_phase(&rt, &mut core, 16_777_214);
+    drop(core);
     Ok(())
 }
 
@@ -111,6 +117,7 @@ pub fn small_limits() -> Limits
 fn stays_in_its_last_phase(rt: HostRuntime) -> Result<(), Fail> {
     let mut core = Core::with_limits(rt.alloc(), 1, &[0], &[true], small_limits())?;
     assert_last_phase(&rt, &mut core, 4);
+    drop(core);
     Ok(())
 }
 
@@ -124,7 +131,7 @@ fn limits_are_these_numbers(rt: HostRuntime) -> Result<(), Fail> {
         seats: 16,
         form: Form::Bits,
     };
-    assert!(rt; Limits::of_run() == run);
+    assert_named(&rt, Limits::of_run() == run, "a run");
     let service = Limits {
         last_phase: 281_474_976_710_654,
         likes: 72_057_594_037_927_936,
@@ -133,7 +140,7 @@ fn limits_are_these_numbers(rt: HostRuntime) -> Result<(), Fail> {
         seats: 64,
         form: Form::Counts,
     };
-    assert!(rt; Limits::of_service() == service);
+    assert_named(&rt, Limits::of_service() == service, "a service");
     Ok(())
 }
 
@@ -182,9 +189,15 @@ fn steps_lead_to_words_of_idle_workers(rt: HostRuntime) -> Result<(), Fail> {
     for more in gone {
         ending = ending.saturating_add(more);
     }
-    assert!(rt; ending == 234_881_297);
-    assert!(rt; PhaseWord::unpack(ending).is_some_and(|word| word.kind == Kind::JoinedEnding));
-    assert!(rt; form.released(234_881_297) == 1_099_746_508_818);
+    assert_named(&rt, ending == 234_881_297, "the end of phase 0");
+    let is_joined =
+        matches!(PhaseWord::unpack(ending), Some(word) if word.kind == Kind::JoinedEnding);
+    assert_named(&rt, is_joined, "the kind of phase 0");
+    assert_named(
+        &rt,
+        form.released(234_881_297) == 1_099_746_508_818,
+        "phase 1",
+    );
     Ok(())
 }
 
@@ -200,9 +213,15 @@ fn counts_64_seats(rt: HostRuntime) -> Result<(), Fail> {
         all_in: true,
         all_gone: false,
     };
-    assert!(rt; form.coord_sight_in(ALL_IN, 64) == sight);
-    assert!(rt; !form.coord_sight_in(ALL_IN - form.answer(63), 64).all_in);
-    assert!(rt; form.sight_in(ALL_IN, 1).waits && !form.sight_in(ALL_IN, 0).waits);
-    assert!(rt; form.released(ALL_IN) == 0xffff_ffff_fffe_0200);
+    assert_named(&rt, form.coord_sight_in(ALL_IN, 64) == sight, "all are in");
+    let one_less = form.coord_sight_in(ALL_IN - form.answer(63), 64);
+    assert_named(&rt, !one_less.all_in, "one is not in");
+    assert_named(&rt, form.sight_in(ALL_IN, 1).waits, "seat 1 waits");
+    assert_named(&rt, !form.sight_in(ALL_IN, 0).waits, "seat 0 does not wait");
+    assert_named(
+        &rt,
+        form.released(ALL_IN) == 0xffff_ffff_fffe_0200,
+        "the last phase",
+    );
     Ok(())
 }

@@ -18,6 +18,7 @@ use play::{Play, Step, board_of};
 use scenes::{Scene, addition_scenes, phase_scenes, stash_scenes};
 use std::alloc::Global;
 use std::process::Abort;
+use std::slice;
 use std::test::Fail;
 
 // The settings of a scene.
@@ -101,9 +102,9 @@ fn play_at_board(
 
 // Plays a scene with its settings, within the limits of a run.
 fn play_with(rt: &impl Abort, alloc: Global, scene: &Scene, setup: &Setup) -> Result<(), Fail> {
-    let plans = [Vec::from_slice(alloc, scene.plan)?];
-    check_setup(setup, &plans)?;
-    play_at_board(rt, alloc, scene, setup, plans[0].as_slice())
+    let plan = Vec::from_slice(alloc, scene.plan)?;
+    check_setup(setup, slice::from_ref(&plan))?;
+    play_at_board(rt, alloc, scene, setup, plan.as_slice())
 }
 
 fn play_scene(rt: &impl Abort, alloc: Global, scene: &Scene) -> Result<(), Fail> {

@@ -1,8 +1,10 @@
-ghost use Rattle.std.specs.Prelude.{◌≡◌};
+ghost use Rattle.std.specs.Prelude.{◌≡◌, ◌^◌};
+ghost use Rattle.like_tables.specs.Share.{share_of};
+ghost use Rattle.like_tables.specs.SplitSlice.{no_slice};
 
 mod calls;
 
-use crate::asserts::{assert_call, assert_call_at};
+use crate::asserts::{assert_call, assert_call_at, assert_named};
 use calls::{OnSplits, OnStash, OnUsers, held_of, of_a_million, of_five, splits, stashes};
 use like_requests::{Op, PageRef, Request, Verdict};
 use like_tables::{Held, SplitPages, SplitSlice, Stash, Users, factor_for};
@@ -40,9 +42,10 @@ fn call_splits(rt: &impl Abort, splits: &mut SplitPages, factor: u32, calls: &[O
 #[test]
 fn a_page_is_split_that_was_put(rt: HostRuntime) -> Result<(), Fail> {
     for (factor, calls) in splits() {
-        assert!(rt; *factor >= 1 << 22);
+        assert_named(&rt, *factor >= 1 << 22, "a factor");
         let mut splits = SplitPages::new(rt.alloc(), *factor)?;
         call_splits(&rt, &mut splits, *factor, calls);
+        drop(splits);
     }
     Ok(())
 }
@@ -50,22 +53,41 @@ fn a_page_is_split_that_was_put(rt: HostRuntime) -> Result<(), Fail> {
 // The pages 0 and 610 share a bucket by the first factor.
 #[test]
 fn a_factor_parts_pages(rt: HostRuntime) {
-    assert!(rt; factor_for(&[0, 1, 2]) == Some(2_654_435_769));
-    assert!(rt; factor_for(&[0, 610]) == Some(2_656_076_303));
-    assert!(rt; factor_for(&[7, 7]) == None);
+    assert_named(
+        &rt,
+        factor_for(&[0, 1, 2]) == Some(2_654_435_769),
+        "the first factor",
+    );
+    assert_named(
+        &rt,
+        factor_for(&[0, 610]) == Some(2_656_076_303),
+        "a later factor",
+    );
+    assert_named(&rt, factor_for(&[7, 7]) == None, "no factor");
+}
+
+// Whether two likes of page 64 come out of a slice in which no page is split.
+fn gives_two_likes(slice: &mut SplitSlice) -> bool
+    requires { slice.old ≡ no_slice (2 ^ 22) }
+{
+    slice.put(64);
+    slice.add(64);
+    slice.add(64);
+    slice.has(64)
+        && !slice.has(65)
+        && slice.bucket(64) == 64
+        && slice.likes(64) == 2
+        && slice.next(64) == Some(64)
+        && slice.next(65) == None
+        && slice.take(64) == 2
+        && slice.next(0) == None
 }
 
 #[test]
 fn a_slice_gives_what_was_added(rt: HostRuntime) -> Result<(), Fail> {
     let mut slice = SplitSlice::new(rt.alloc(), 1 << 22)?;
-    slice.put(64);
-    slice.add(64);
-    slice.add(64);
-    assert!(rt; slice.has(64) && !slice.has(65) && slice.bucket(64) == 64);
-    assert!(rt; slice.likes(64) == 2);
-    assert!(rt; slice.next(64) == Some(64) && slice.next(65) == None);
-    assert!(rt; slice.take(64) == 2);
-    assert!(rt; slice.next(0) == None);
+    assert_named(&rt, gives_two_likes(&mut slice), "two likes");
+    drop(slice);
     Ok(())
 }
 
@@ -110,6 +132,7 @@ fn a_stash_gives_what_was_pushed(rt: HostRuntime) -> Result<(), Fail> {
         assert!(rt; *capacity >= 1 && *capacity <= 4_096);
         let mut stash = Stash::new(rt.alloc(), *capacity)?;
         call_stash(&rt, &mut stash, *capacity as usize, calls);
+        drop(stash);
     }
     Ok(())
 }
@@ -170,21 +193,28 @@ fn is_worker_one(users: &Users) -> bool
 fn users_are_those_of_the_worker(rt: HostRuntime) -> Result<(), Fail> {
     let mut users = Users::new(rt.alloc(), 5, 2, 2, 1)?;
     call_users(&rt, &mut users, of_five());
-    assert!(rt; is_worker_one(&users));
-    assert!(rt; users.submitter_at(0) == 1);
+    assert_named(&rt, is_worker_one(&users), "the users of worker 1");
+    assert_named(&rt, users.submitter_at(0) == 1, "its submitter");
+    drop(users);
     Ok(())
+}
+
+// Whether user 16 is the third of seat 4 of six, and the users 15 and 28 are not found.
+fn finds_one_of_three(users: &Users) -> bool
+    requires { users.now.share ≡ share_of 23 6 6 4 }
+{
+    let home = users.home();
+    matches!(users.find(&home, 16), Some(placed) if placed.user == 16 && placed.place == 2)
+        && users.find(&home, 15).is_none()
+        && users.find(&home, 28).is_none()
 }
 
 // Of 23 users at six seats, those of seat 4 are 4, 10, 16 and 22.
 #[test]
 fn a_user_is_found_at_its_home(rt: HostRuntime) -> Result<(), Fail> {
     let users = Users::new(rt.alloc(), 23, 6, 6, 4)?;
-    let home = users.home();
-    let found = users
-        .find(&home, 16)
-        .map(|placed| (placed.user, placed.place));
-    assert!(rt; found == Some((16, 2)));
-    assert!(rt; users.find(&home, 15).is_none() && users.find(&home, 28).is_none());
+    assert_named(&rt, finds_one_of_three(&users), "three users");
+    drop(users);
     Ok(())
 }
 
@@ -193,5 +223,6 @@ fn a_user_is_found_at_its_home(rt: HostRuntime) -> Result<(), Fail> {
 fn users_are_a_million(rt: HostRuntime) -> Result<(), Fail> {
     let mut users = Users::new(rt.alloc(), 1_000_000, 1, 1, 0)?;
     call_users(&rt, &mut users, of_a_million());
+    drop(users);
     Ok(())
 }

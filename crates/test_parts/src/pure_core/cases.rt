@@ -21,7 +21,7 @@ pub type Step = (Event, Result<Shown, NotNow>);
 
 /// The cases. A function that takes them from here has none of them in its proof.
 pub fn cases() -> &'static [Case] {
-    CASES
+    &CASES
 }
 
 /// A phase word and its parts.
@@ -93,7 +93,7 @@ const LONE: Case = Case {
     steps: &[],
 };
 
-const CASES: &[Case] = &[
+static CASES: [Case; 6] = [
     // At the release of phase 2 the first worker has not answered.
     Case {
         name: "refuses_early_release",

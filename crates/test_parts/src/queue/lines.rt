@@ -4,7 +4,7 @@ ghost use Rattle.like_limits.specs.Limits.{max_requests};
 mod cases;
 
 use super::LIKE;
-use crate::asserts::assert_call;
+use crate::asserts::{assert_call, assert_named};
 use cases::{Call, Case, cases, of_one};
 use like_queue::{
     EndRefused, Line, ListInbox, PushRefused, SendEnd, SendPass, TakeEnd, TakePass, TakeWith,
@@ -236,7 +236,7 @@ fn play_at<R: Wait + Abort>(rt: &R, line: &Line, send: SendPass, take: TakePass,
 fn plan_of(rt: &impl Abort, alloc: Global, size: usize) -> Result<Vec<Request>, AllocError>
     ensures { IfOk result (λ plan. length plan.items ≤ max_requests) }
 {
-    assert!(rt; size <= 1_000_000);
+    assert_named(rt, size <= 1_000_000, "a plan's size");
     Vec::from_elem(alloc, LIKE, size)
 }
 
@@ -274,7 +274,8 @@ fn a_refused_growth_is_told(rt: HostRuntime) -> Result<(), Fail> {
 #[test]
 fn goes_to_another_thread(rt: HostRuntime) -> Result<(), Fail> {
     let plan = plan_of(&rt, rt.alloc(), 10_000)?;
-    assert!(rt; through(&rt, rt.alloc(), plan)? == 10_000);
+    let last = through(&rt, rt.alloc(), plan)?;
+    assert_named(&rt, last == 10_000, "the last number");
     Ok(())
 }
 
@@ -282,6 +283,6 @@ fn goes_to_another_thread(rt: HostRuntime) -> Result<(), Fail> {
 fn takes_from_a_list_as_from_a_line(rt: HostRuntime) -> Result<(), Fail> {
     let mut inbox = ListInbox::new(plan_of(&rt, rt.alloc(), 3)?);
     inbox.open_all();
-    assert!(rt; last_number(&rt, inbox) == 3);
+    assert_named(&rt, last_number(&rt, inbox) == 3, "the last number");
     Ok(())
 }

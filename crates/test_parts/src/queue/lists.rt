@@ -1,5 +1,5 @@
 use super::LIKE;
-use crate::asserts::assert_call;
+use crate::asserts::{assert_call, assert_named};
 use like_queue::ListInbox;
 use like_requests::{Numbered, Request, Taken};
 use std::process::Abort;
@@ -67,7 +67,7 @@ fn call_list(rt: &impl Abort, inbox: &mut ListInbox, calls: &[Call]) {
 fn hands_over_requests_and_the_end(rt: HostRuntime) -> Result<(), Fail> {
     for (plan, calls) in lists() {
         let plan = Vec::from_slice(rt.alloc(), plan)?;
-        assert!(rt; plan.len() <= 1);
+        assert_named(&rt, plan.len() <= 1, "a plan's size");
         call_list(&rt, &mut ListInbox::new(plan), calls);
     }
     Ok(())

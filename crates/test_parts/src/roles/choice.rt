@@ -3,6 +3,7 @@ ghost use Rattle.std.specs.Prelude.{◌≡◌, [], ◌∷◌, IfOk};
 ghost use Rattle.like_core.specs.OpeningLimits.{run_limits};
 ghost use Rattle.like_board.specs.Seats.{board_id, coord_board, coord_view};
 
+use crate::asserts::assert_named;
 use like_board::{Board, CoordSeat};
 use like_roles::{CoordTurn, Coordinator, NoCoordinator};
 use std::alloc::Global;
@@ -42,7 +43,7 @@ fn assert_leads(rt: &impl Abort, alloc: Global, board: &Board, coord: CoordSeat)
     requires run { (coord_view coord).opening.limits ≡ run_limits }
 {
     let (coordinator, refused) = coordinator_at(alloc, coord)?;
-    assert!(rt; leads(board, coordinator));
+    assert_named(rt, leads(board, coordinator), "the turns of a coordinator");
     if refused {
         return Err(Fail::new("out of memory, and then right"));
     }

@@ -5,6 +5,7 @@ ghost use Rattle.like_roles.specs.worker.New.{IsNew, IsPostOf};
 ghost use Rattle.test_parts.specs.Playing.{IsNextGiven};
 
 use super::gates::Expecting;
+use crate::asserts::assert_named;
 use like_core::Post;
 use like_requests::{Numbered, Request, Setup, Taken};
 use like_roles::{NoWorker, Turn, Worker, WorkerLog};
@@ -106,8 +107,11 @@ impl<'a, P: Post + Drop> Player<'a, P> {
     /// What the worker has done, which is gone.
     pub fn finish(self, rt: &impl Abort, gate: &Expecting) -> WorkerLog {
         let Player { mut worker, .. } = self;
-        let again = worker.turn(gate);
-        assert!(rt; again == Turn::Retired);
+        assert_named(
+            rt,
+            worker.turn(gate) == Turn::Retired,
+            "a worker that is gone",
+        );
         let (log, _) = worker.finish();
         log
     }

@@ -32,17 +32,17 @@ pub struct Scene {
 
 /// Scenes with a stash. A function that takes scenes from here has none of them in its proof.
 pub fn stash_scenes() -> &'static [Scene] {
-    STASH_SCENES
+    &STASH_SCENES
 }
 
 /// Scenes of the phases and of those that are idle in them.
 pub fn phase_scenes() -> &'static [Scene] {
-    PHASE_SCENES
+    &PHASE_SCENES
 }
 
 /// Scenes of additions.
 pub fn addition_scenes() -> &'static [Scene] {
-    ADDITION_SCENES
+    &ADDITION_SCENES
 }
 
 // A request of user 0.
@@ -168,7 +168,7 @@ const LONE: Scene = Scene {
     last: &[(0, Some(0))],
 };
 
-const STASH_SCENES: &[Scene] = &[
+static STASH_SCENES: [Scene; 3] = [
     Scene {
         name: "splits_and_stashes",
         pages: "name,count,split\na,10,yes\n",
@@ -228,7 +228,7 @@ const STASH_SCENES: &[Scene] = &[
     },
 ];
 
-const PHASE_SCENES: &[Scene] = &[
+static PHASE_SCENES: [Scene; 3] = [
     Scene {
         name: "runs_unsplit_pages_in_a_split_phase",
         pages: "name,count,split\na,7,no\n",
@@ -311,7 +311,7 @@ const PHASE_SCENES: &[Scene] = &[
     },
 ];
 
-const ADDITION_SCENES: &[Scene] = &[
+static ADDITION_SCENES: [Scene; 3] = [
     Scene {
         name: "adds_at_each_like_of_an_unsplit_page",
         pages: "name,count,split\na,10,no\n",

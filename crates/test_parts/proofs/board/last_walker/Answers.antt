@@ -1,9 +1,10 @@
-use Rattle.std.proofs.Common.{[], ◌∷◌, ◌++◌, length, ap, ◌∙◌}
+use Rattle.std.proofs.Common.{[], ◌∷◌, ◌++◌, length, sym, ap, ◌∙◌}
 use Rattle.std.specs.List.{slice_get}
 use Rattle.std.specs.Option.{option_to_list}
 use Rattle.std.proofs.lemmas.Option.{slice_get_within}
 use Rattle.like_core.specs.Phase.{is_marked}
 use Rattle.like_core.specs.Post.{pages_of}
+use Rattle.like_board.specs.Seats.{board_numbers}
 use Rattle.like_promises.proofs.Lists.{slice_get-before}
 use Rattle.test_parts.proofs.Walk.{last_fresh}
 use Rattle.test_parts.proofs.board.last_walker.Goals as goal
@@ -41,6 +42,16 @@ new-requires-clause-first g c =
     let fresh = last_fresh _ _ _ left c.expect-seat.result c.requires.fresh popped in
     ap (λ v. is_marked v.marks 0) c.at.ensures.meaning ∙ ap (λ v. is_marked v.opening.marks 0) fresh.1
     ∙ c.requires.first
+
+pub returns-clause-at : goal.returns-clause-at
+returns-clause-at g c =
+    let left = c.pop.new.self.items in
+    let popped = c.pop.ensures.items ∙ ap (λ o. left ++ option_to_list o) c.expect-seat.ensures in
+    let fresh = last_fresh _ _ _ left c.expect-seat.result c.requires.fresh popped in
+    rw (c.new.ensures, c.at.ensures.meaning) (record {
+      board_is = ap board_numbers (fresh.0 ∙ sym c.requires.here);
+      worker_is = ap (λ v. v.worker) fresh.1 ∙ sym c.pop.new.self.ok.0;
+    })
 
 pub returns-clause-rest : goal.returns-clause-rest
 returns-clause-rest g c =

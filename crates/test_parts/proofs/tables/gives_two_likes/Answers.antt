@@ -4,7 +4,7 @@ use Rattle.like_limits.specs.Buckets.{bucket, buckets}
 use Rattle.like_tables.specs.SplitPages.{beside}
 use Rattle.like_tables.specs.SplitSlice.{SplitSlice, no_slice}
 use Rattle.like_tables.proofs.Tagged.{bucket-lt}
-use Rattle.test_parts.proofs.tables.a_slice_gives_what_was_added.Goals as goal
+use Rattle.test_parts.proofs.tables.gives_two_likes.Goals as goal
 
 -- where no page is split, no bucket holds one
 none-held : (s : SplitSlice) (factor page : ℕ) → s ≡ no_slice factor → (other : ℕ) → beside s.splits page ≡ Some other
@@ -14,4 +14,4 @@ none-held s factor page is other holds =
     ∙ get_or-replicate buckets (bucket factor page) None None (bucket-lt factor page)))
 
 pub put-requires : goal.put-requires
-put-requires g c = none-held c.in_ok-slice.slice _ 64 c.in_ok-slice.ensures.slice
+put-requires c = none-held c.args.slice.now _ 64 c.requires
