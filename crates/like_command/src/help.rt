@@ -175,6 +175,6 @@ Exit statuses. A nonzero status comes with an error line:
   2  wrong words, or not 1 to 64 request files
   3  a file is wrong or can't be read, or the output can't be written
   4  out of memory, or a thread could not be started: use fewer requests at a
-     time, or replay, which starts no threads
+     time, or replay, which needs no threads
   5  a replay is not finished after 1000000 rounds: use more workers, fewer
      requests for each, or run";
