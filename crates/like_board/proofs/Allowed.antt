@@ -9,6 +9,7 @@ use Rattle.atomic_table.specs.Table.{Me, keeps, Allows, Splits, Joins}
 use Rattle.atomic_table.proofs.Lists.{set_again}
 use Rattle.like_core.specs.declared.worker_state.WorkerState.TheVariants.{Gone}
 use Rattle.like_core.specs.declared.event.Event.{Event}
+use Rattle.like_core.specs.declared.form.Form.{Form}
 use Rattle.like_core.specs.declared.event.Event.TheVariants.{Acknowledge, Report, Retire, Read, Glance, Hot, CoordRead, Announce, Release}
 use Rattle.like_core.specs.declared.shown.Shown.TheVariants.{Done, Old, Count, Hot as HotShown}
 use Rattle.like_core.specs.declared.opening.Opening.{Opening}
@@ -19,7 +20,7 @@ use Rattle.like_core.specs.declared.view.View.TheVariants.{Coord, Worker, Spent}
 use Rattle.like_core.specs.OpeningLimits.{has_slots}
 use Rattle.like_core.specs.core.Moves.{LetsReturn}
 use Rattle.like_core.specs.Slots.{IsChoice}
-use Rattle.like_core.specs.word.Forms.{form_of}
+use Rattle.like_core.specs.word.Forms.{WordForm, form_of}
 use Rattle.like_core.specs.Post.{IsFresh, MayAdd, MayRead, MayGlance}
 use Rattle.like_core.specs.WorkerState.{RunsJoined, RunsSplit, SawEnding}
 use Rattle.like_core.specs.views.Views.{MayAnnounce, MayCount, MayPublish, MayPut, MayPublishSlots, MayReadSlot, MayReadSlots, MayRelease, fresh, looked_view, answered_view, retired_view, returned_view, added_view, read_view, glanced_view, masked_view, slotted_view, slots_read, post_of, likes_merged, adding, looked_coord, announced_coord, counted_coord, published_coord, slotted_coord, slots_put, mask_released, released_coord, made_coord, gathered_coord}
@@ -94,25 +95,36 @@ looking {S} key slots id me is there = λ st shows _ at _.
       ),
     )
 
-pub acknowledging : {S : Type 0} (key : Key) (slots id : ℕ) (me : Me S View) (more : ℕ)
-    → more ≡ (form_of (worker_view_of me.0).opening.limits.form).answer (worker_view_of me.0).worker
+-- what a worker puts into a word by the form of its seat, which is the board's
+put_is : (form of_board : Form) (word more : ℕ) (puts : WordForm → ℕ)
+    → form ≡ of_board
+    → more ≡ puts (form_of form)
+    → (form_of form).put word more ≡ (form_of of_board).put word (puts (form_of of_board))
+put_is form of_board word more puts same more_is =
+    let there : more ≡ puts (form_of of_board) = more_is ∙ ap (λ (f : Form). puts (form_of f)) same in
+    λ m. (form_of (same m)).put word (there m)
+
+pub acknowledging : {S : Type 0} (key : Key) (slots id : ℕ) (me : Me S View) (form : Form) (more : ℕ)
+    → form ≡ (worker_view_of me.0).opening.limits.form
+    → more ≡ (form_of form).answer (worker_view_of me.0).worker
     → me ≡ (Worker (worker_view_of me.0), [])
     → RunsJoined (worker_view_of me.0).state
     → SawEnding (worker_view_of me.0).last
-    → Allows (IsShowing key) slots id me 0 (λ n. (n + more) % 2 ^ 64)
+    → Allows (IsShowing key) slots id me 0 (λ n. (form_of form).put n more)
     (λ found after. TellsWorker Acknowledges answered_view me.0 after.0 × (after.1 ≡ []))
-acknowledging {S} key slots id me more more_is is joined saw = λ st shows _ at _.
+acknowledging {S} key slots id me form more form_is more_is is joined saw = λ st shows _ at _.
     let z = opening_of key in
     let v : WorkerSeatView = worker_view_of me.0 in
     let here : get_elem? st.views id ≡ some (Worker v) = at ∙ ap (λ (m : Me S View). some m.0) is in
     let same = worker_opening z st.words st.views id v shows here in
+    let formed : form ≡ z.limits.form = form_is ∙ ap (λ (y : Opening). y.limits.form) same in
     let r = acknowledges z st.words st.views id v shows here joined saw in (
       Worker (answered_view v),
       keeps,
       tt,
-      subst (λ (b : ℕ). ShowsSome z (slice_set st.words 0 ((get_or st.words 0 0 + b) % 2 ^ 64))
+      subst (λ (n : ℕ). ShowsSome z (slice_set st.words 0 n)
           (slice_set st.views id (Worker (answered_view v))))
-          (sym (more_is ∙ ap (λ (y : Opening). (form_of y.limits.form).answer v.worker) same)) r.1,
+          (sym (put_is form z.limits.form (get_or st.words 0 0) more (λ f. f.answer v.worker) formed more_is)) r.1,
       (
         record {
           view =
@@ -124,25 +136,27 @@ acknowledging {S} key slots id me more more_is is joined saw = λ st shows _ at 
       ),
     )
 
-pub reporting : {S : Type 0} (key : Key) (slots id : ℕ) (me : Me S View) (more : ℕ)
-    → more ≡ (form_of (worker_view_of me.0).opening.limits.form).answer (worker_view_of me.0).worker
+pub reporting : {S : Type 0} (key : Key) (slots id : ℕ) (me : Me S View) (form : Form) (more : ℕ)
+    → form ≡ (worker_view_of me.0).opening.limits.form
+    → more ≡ (form_of form).answer (worker_view_of me.0).worker
     → me ≡ (Worker (worker_view_of me.0), [])
     → RunsSplit (worker_view_of me.0).state
     → SawEnding (worker_view_of me.0).last
-    → Allows (IsShowing key) slots id me 0 (λ n. (n + more) % 2 ^ 64)
+    → Allows (IsShowing key) slots id me 0 (λ n. (form_of form).put n more)
     (λ found after. TellsWorker Reports answered_view me.0 after.0 × (after.1 ≡ []))
-reporting {S} key slots id me more more_is is split saw = λ st shows _ at _.
+reporting {S} key slots id me form more form_is more_is is split saw = λ st shows _ at _.
     let z = opening_of key in
     let v : WorkerSeatView = worker_view_of me.0 in
     let here : get_elem? st.views id ≡ some (Worker v) = at ∙ ap (λ (m : Me S View). some m.0) is in
     let same = worker_opening z st.words st.views id v shows here in
+    let formed : form ≡ z.limits.form = form_is ∙ ap (λ (y : Opening). y.limits.form) same in
     let r = reports z st.words st.views id v shows here split saw in (
       Worker (answered_view v),
       keeps,
       tt,
-      subst (λ (b : ℕ). ShowsSome z (slice_set st.words 0 ((get_or st.words 0 0 + b) % 2 ^ 64))
+      subst (λ (n : ℕ). ShowsSome z (slice_set st.words 0 n)
           (slice_set st.views id (Worker (answered_view v))))
-          (sym (more_is ∙ ap (λ (y : Opening). (form_of y.limits.form).answer v.worker) same)) r.1,
+          (sym (put_is form z.limits.form (get_or st.words 0 0) more (λ f. f.answer v.worker) formed more_is)) r.1,
       (
         record {
           view =
@@ -154,24 +168,26 @@ reporting {S} key slots id me more more_is is split saw = λ st shows _ at _.
       ),
     )
 
-pub retiring : {S : Type 0} (key : Key) (slots id : ℕ) (me : Me S View) (more : ℕ)
-    → more ≡ (form_of (worker_view_of me.0).opening.limits.form).retirement (worker_view_of me.0).worker
+pub retiring : {S : Type 0} (key : Key) (slots id : ℕ) (me : Me S View) (form : Form) (more : ℕ)
+    → form ≡ (worker_view_of me.0).opening.limits.form
+    → more ≡ (form_of form).retirement (worker_view_of me.0).worker
     → me ≡ (Worker (worker_view_of me.0), [])
     → RunsJoined (worker_view_of me.0).state
-    → Allows (IsShowing key) slots id me 0 (λ n. (n + more) % 2 ^ 64)
+    → Allows (IsShowing key) slots id me 0 (λ n. (form_of form).put n more)
     (λ found after. TellsWorker Retires retired_view me.0 after.0 × (after.1 ≡ []))
-retiring {S} key slots id me more more_is is joined = λ st shows _ at _.
+retiring {S} key slots id me form more form_is more_is is joined = λ st shows _ at _.
     let z = opening_of key in
     let v : WorkerSeatView = worker_view_of me.0 in
     let here : get_elem? st.views id ≡ some (Worker v) = at ∙ ap (λ (m : Me S View). some m.0) is in
     let same = worker_opening z st.words st.views id v shows here in
+    let formed : form ≡ z.limits.form = form_is ∙ ap (λ (y : Opening). y.limits.form) same in
     let r = retires z st.words st.views id v shows here joined in (
       Worker (retired_view v),
       keeps,
       tt,
-      subst (λ (b : ℕ). ShowsSome z (slice_set st.words 0 ((get_or st.words 0 0 + b) % 2 ^ 64))
+      subst (λ (n : ℕ). ShowsSome z (slice_set st.words 0 n)
           (slice_set st.views id (Worker (retired_view v))))
-          (sym (more_is ∙ ap (λ (y : Opening). (form_of y.limits.form).retirement v.worker) same)) r.1,
+          (sym (put_is form z.limits.form (get_or st.words 0 0) more (λ f. f.retirement v.worker) formed more_is)) r.1,
       (
         record {
           view =

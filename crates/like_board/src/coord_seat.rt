@@ -62,7 +62,8 @@ impl CoordSeat {
         self.phase == self.limits.last_phase
     }
 
-    /// Looks at the phase word. Once it showed all workers in, it shows that until the release.
+    /// Looks at the phase word. Once it showed all workers in, it shows that until the release: in a run from any look
+    /// on, in a service from one that showed the phase ending.
     pub fn look(&mut self, board: &Board) -> CoordSight
         requires { coord_board self.old ≡ board_id board.now }
         ensures board { coord_board self.new ≡ coord_board self.old }

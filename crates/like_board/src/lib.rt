@@ -2,6 +2,7 @@
 //! that change in single atomic steps. The coordinator and each worker step on them with a seat.
 #![tactic(auto)]
 
+mod answer;
 mod board;
 mod closed_board;
 mod coord_seat;

@@ -8,6 +8,7 @@ ghost use Rattle.like_core.specs.WorkerState.{turn_of};
 ghost use Rattle.like_core.specs.views.Layout.{word_of};
 ghost use Rattle.like_board.specs.Known.{worker_view_of};
 
+use crate::answer::put_answer;
 use crate::board::Board;
 use crate::layout::{MASK_WORD, PHASE_WORD, slot_place, word_of};
 use crate::plays::{
@@ -102,10 +103,7 @@ impl WorkerSeat {
         ensures event { Acknowledges (seat_view self.old) (seat_view self.new) }
     {
         let answer = self.form.answer(self.number);
-        board
-            .table
-            .shared
-            .fetch_add::<Acknowledging>(&mut self.seat, PHASE_WORD, answer);
+        put_answer::<Acknowledging>(&mut self.seat, board, self.form, answer);
         self.turn = 0;
     }
 
@@ -118,10 +116,7 @@ impl WorkerSeat {
         ensures event { Reports (seat_view self.old) (seat_view self.new) }
     {
         let answer = self.form.answer(self.number);
-        board
-            .table
-            .shared
-            .fetch_add::<Reporting>(&mut self.seat, PHASE_WORD, answer);
+        put_answer::<Reporting>(&mut self.seat, board, self.form, answer);
         self.turn = 1;
     }
 
@@ -133,10 +128,7 @@ impl WorkerSeat {
         ensures event { Retires (seat_view self.old) (seat_view self.new) }
     {
         let retirement = self.form.retirement(self.number);
-        board
-            .table
-            .shared
-            .fetch_add::<Retiring>(&mut self.seat, PHASE_WORD, retirement);
+        put_answer::<Retiring>(&mut self.seat, board, self.form, retirement);
     }
 
     /// Takes the worker off the count of those gone, if the phase isn't ending and no other step changes the phase word

@@ -1,9 +1,9 @@
-use Rattle.std.proofs.Common.{◌≡◌, ℕ, zero, suc, ◌+◌, ◌-◌, ◌*◌, ◌/◌, ◌%◌, ◌^◌, ◌<◌, ◌==◌, ◌&&◌, ◌||◌, ◌⊎◌, bit_and, bit_or, max, subst, inl, inr, Bool, true, false, ap, sym, ◌∙◌, refl, eq-eqb, arith}
+use Rattle.std.proofs.Common.{◌≡◌, ℕ, zero, suc, ◌+◌, ◌-◌, ◌*◌, ◌/◌, ◌%◌, ◌^◌, ◌<◌, ◌==◌, ◌&&◌, ◌||◌, ◌⊎◌, bit_and, bit_or, max, subst, inl, inr, Bool, true, false, ap, sym, ◌∙◌, refl, eq-eqb, arith, zero-mul}
 use Rattle.std.specs.Int.{bit_at}
 use Rattle.std.proofs.lemmas.Bool.{cases_eq, eqb-true}
 use Rattle.std.proofs.Math.Nat.{mod-add-div'}
-use Rattle.std.proofs.lemmas.Nat.{and_mask, mod_below, pow_pos}
-use Rattle.std.proofs.lemmas.Nat.Bits.{bit_at-lt, bit_at_cat_low, bit_at_or, bit_at_ones, same_from_bits_below}
+use Rattle.std.proofs.lemmas.Nat.{and_mask, mod_below, or_disjoint, pow_pos}
+use Rattle.std.proofs.lemmas.Nat.Bits.{and_pow, bit_at-lt, bit_at_cat_high, bit_at_cat_low, bit_at_or, bit_at_ones, same_from_bits_below}
 use Rattle.like_core.specs.Functions.{each_below, has_bit}
 
 -- both tests say yes
@@ -74,6 +74,26 @@ either_bit a b a_below b_below =
         | inr b_is ↦ subst (λ x. P x b) (sym a_is) (subst (P 1) (sym b_is) refl)
       ]
     ]
+
+-- to set a bit that a number doesn't have is to add it
+pub or_unset : (n k i : ℕ) → has_bit (n / 2 ^ k) i ≡ false → bit_or n (2 ^ (k + i)) ≡ n + 2 ^ (k + i)
+or_unset n k i unset =
+    let high : ℕ = n / 2 ^ k in
+    let low : ℕ = n % 2 ^ k in
+    let parts : n ≡ high * 2 ^ k + low = omega (arith, mod-add-div' n (2 ^ k)) in
+    let none : bit_at high i ≡ 0 =
+    elim (bit_cases (bit_at high i) (bit_at-lt high i)) [
+      | inl is ↦ is
+      | inr is ↦ let clash : true ≡ false = sym (eq-eqb (bit_at high i) 1 is) ∙ unset in absurd (cc)
+    ]
+    in
+    let place : k + i - k ≡ i = omega arith in
+    let none_here : bit_at n (k + i) ≡ 0 =
+    ap (λ (m : ℕ). bit_at m (k + i)) parts ∙
+    bit_at_cat_high high k low (k + i) (mod_below n (2 ^ k) (pow_pos k)) (omega arith) ∙
+    ap (bit_at high) place ∙ none in
+    or_disjoint n (2 ^ (k + i))
+    (and_pow n (k + i) ∙ ap (λ (b : ℕ). b * 2 ^ (k + i)) none_here ∙ zero-mul (2 ^ (k + i)))
 
 -- two masks together have the bits of either
 pub has_bit-or : (a b i : ℕ) → has_bit (bit_or a b) i ≡ (has_bit a i || has_bit b i)

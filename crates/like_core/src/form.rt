@@ -1,4 +1,4 @@
-//! The forms of the phase word: what a board's steps add to it, and what it shows.
+//! The forms of the phase word: what a board's steps put into it, and what it shows.
 ghost use Rattle.std.specs.Prelude.{◌≡◌, ◌^◌, ◌<◌, ◌≤◌};
 ghost use Rattle.like_core.specs.Functions.{each_below, has_bit};
 ghost use Rattle.like_core.specs.OpeningLimits.{most_phase, most_seats};
@@ -55,7 +55,7 @@ impl Form {
         }
     }
 
-    /// What a worker adds to the word where it acknowledges or reports.
+    /// What a worker puts into the word where it acknowledges or reports: its bit, or 1 in the count of answers.
     pub fn answer(self, worker: u32) -> u64
         requires { worker < most_seats self }
         ensures { result ≡ (form_of self).answer worker }
@@ -66,7 +66,7 @@ impl Form {
         }
     }
 
-    /// What it adds where it retires.
+    /// What it puts into it where it retires.
     pub fn retirement(self, worker: u32) -> u64
         requires { worker < most_seats self }
         ensures { result ≡ (form_of self).retirement worker }

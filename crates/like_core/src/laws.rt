@@ -4,7 +4,7 @@ ghost use Rattle.like_core.specs.declared.form.Form.TheVariants.{Bits, Counts};
 ghost use Rattle.like_core.specs.core.Exclusive.{ReachableIsExclusive, ReachedIsExclusive};
 ghost use Rattle.like_core.specs.Slots.{SlotsTell};
 ghost use Rattle.like_core.specs.core.Likes.{LikesStayReachable, LikesStayReached, NoneHoldsWhileJoined};
-ghost use Rattle.like_core.specs.core.Moves.{AllInStays, NobodyReturns};
+ghost use Rattle.like_core.specs.core.Moves.{AllInStays, AllStayIn, NobodyReturns};
 ghost use Rattle.like_core.specs.views.Layout.{WordsStandApart};
 ghost use Rattle.like_core.specs.views.Shows.{CountsAreOfOneMoment};
 ghost use Rattle.like_core.specs.views.SplitPages.{SlicesAreSplit, SlotsAreExact};
@@ -43,6 +43,12 @@ pub fn likes_stay_reached()
 /// In a run no seat comes back: moves reach the states that events reach, and no other.
 pub fn nobody_returns()
     ensures { NobodyReturns }
+{}
+
+/// In every interleaving of a run, once all workers are in they are so until the release, ending or not. In a service
+/// they are so once it is ending.
+pub fn all_stay_in()
+    ensures { AllStayIn }
 {}
 
 /// In every interleaving, once all workers are in at the end of a phase, nothing changes the state before the next is

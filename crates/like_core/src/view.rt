@@ -75,7 +75,7 @@ pub struct CoordSeatView {
     pub looks: u64,
     /// The phase word that it saw last.
     pub word: u64,
-    /// Whether a sight of this phase showed all workers in.
+    /// Whether a sight of this phase showed all workers in: in a service at the phase's ending, in a run at any time.
     pub all_in: bool,
     /// Whether the last sight before this phase's release showed all workers gone.
     pub gone: bool,

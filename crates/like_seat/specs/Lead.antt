@@ -30,9 +30,9 @@ abbrev pub new_lead : BoardId → CoordSeatView → Option ℕ → List ℕ → 
 new_lead board seat hot counts =
     record { board = board; seat = seat; hot = hot; before = of_hot_pages counts }
 
--- what a look can show: the present phase, which is no later than the last; whether it is ending; all in,
--- once a look at this phase showed that; and all gone in a split phase only where the last sight before its release
--- showed that
+-- what a look can show: the present phase, which is no later than the last; whether it is ending; all in, once a look at
+-- this phase showed that, in a service one at its ending; and all gone in a split phase only where the last sight before
+-- its release showed that
 pub record IsSightOf (c : CoordSeatView) (sight : CoordSight) : Type 0 where
   pub number : sight.number ≡ c.phase
   pub within : c.phase ≤ c.opening.limits.last_phase

@@ -76,7 +76,8 @@ impl Lead {
         }
     }
 
-    /// Looks at the phase word. Once it showed all workers in, it shows that until the release.
+    /// Looks at the phase word. Once it showed all workers in, it shows that until the release: in a run from any look
+    /// on, in a service from one that showed the phase ending.
     pub fn look(&mut self, board: &Board) -> CoordSight
         requires { self.old.board ≡ board_id board.now }
         ensures { Sees self.old result self.new }

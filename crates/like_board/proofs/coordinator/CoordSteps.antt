@@ -1,5 +1,5 @@
 -- Each step of the coordinator is the event, and keeps what the board shows.
-use Rattle.std.proofs.Common.{◌≡◌, ℕ, ◌+◌, ◌%◌, ◌^◌, ◌<◌, ◌≤◌, ◌==◌, true, false, cond, inl, inr, List, length, get_or, set, Option, Some, None, IsSome, IfSome, IsSomeAnd, subst, ap, sym, ◌∙◌, refl, eq-eqb, arith}
+use Rattle.std.proofs.Common.{◌≡◌, ℕ, ◌+◌, ◌%◌, ◌^◌, ◌<◌, ◌≤◌, ◌==◌, ◌||◌, not, Bool, true, false, cond, inl, inr, List, length, get_or, set, Option, Some, None, IsSome, IfSome, IsSomeAnd, subst, ap, sym, ◌∙◌, refl, eq-eqb, arith}
 use Rattle.std.specs.Option.{unwrap_or}
 use Rattle.std.proofs.lemmas.Bool.{and_parts, cases_eq, cond-true, cond-false, ne_eqb}
 use Rattle.std.proofs.lemmas.Nat.{pow_pos}
@@ -34,7 +34,17 @@ use Rattle.like_board.proofs.worker.Moves.{moment_of, if_some}
 use Rattle.like_board.proofs.Tallying.{tallied_on}
 use Rattle.like_board.proofs.coordinator.Fitting.{same_seats}
 use Rattle.like_board.proofs.coordinator.Leads.{phased, of_coord, choice_same, choice_forgot, leads_word}
-use Rattle.like_board.proofs.worker.WorkerSteps.{added_word, running_is}
+use Rattle.like_board.proofs.worker.WorkerSteps.{running_is}
+
+-- a sum that is a word does not wrap
+added_word : (n more word : ℕ) → word ≡ n + more → word < 2 ^ 64 → (n + more) % 2 ^ 64 ≡ word
+added_word n more word is below = omega arith
+
+-- who may come back where a sight shows that all stay in does so at no ending
+ends_return : (ending lets : Bool) → (ending || not lets) ≡ true → lets ≡ true → ending ≡ true
+ends_return true lets stay returns = refl
+ends_return false true stay returns = absurd (cc)
+ends_return false false stay returns = returns
 
 -- a look of the coordinator is the event
 pub surveys : (z : Opening) (words : List ℕ) (views : List View) (place : ℕ) (c : CoordSeatView)
@@ -65,7 +75,13 @@ surveys z words views place c some_state at =
         last = (sees.number, sees.ending);
         stays = λ _ _. (sees, sh.board.phase);
         all_in = λ is.
-            let both = and_parts sight.ending sight.all_in is in (sees.all_in.0 both.1, sym sees.ending ∙ both.0);
+            let lets : Bool = (form_of c.opening.limits.form).lets_return in
+            let both = and_parts sight.all_in (sight.ending || not lets) is in (
+              sees.all_in.0 both.0,
+              λ returns.
+                  sym sees.ending ∙ ends_return sight.ending lets both.1
+                  (ap (λ (y : Opening). (form_of y.limits.form).lets_return) old.seats.opening ∙ returns),
+            );
         gone = old.phase.gone;
       };
       choice = record { counted = old.choice.counted; published = tt; masks = old.choice.masks };
@@ -169,7 +185,7 @@ announces z words views place c some_state at may =
         ending = refl;
         last = tt;
         stays = tt;
-        all_in = λ is. ((old.phase.all_in is).0, refl);
+        all_in = λ is. ((old.phase.all_in is).0, λ _. refl);
         gone = old.phase.gone;
       };
       choice = record {

@@ -19,6 +19,7 @@ use Rattle.like_core.specs.Phase.{IsSplit}
 use Rattle.like_core.specs.WorkerState.{IsIn}
 use Rattle.like_core.specs.core.Numbers.{AllIn, CoordSees}
 use Rattle.like_core.specs.core.State.{CoreState, numbers}
+use Rattle.like_core.specs.core.Moves.{NoneReturns}
 use Rattle.like_core.specs.word.ShownWord.{shown_word}
 use Rattle.like_core.specs.Additions.{added_before}
 use Rattle.like_core.specs.views.Views.{seats_of}
@@ -103,15 +104,16 @@ fits_coord_moved : (z : Opening) (s : CoreState) (c : CoordSeatView) (i : ℕ) (
     → i < z.workers
     → i < c.made
     → seats_of i (Coord c) ≡ 0
-    → (s.ending ≡ true → IsIn s.phase (s.state i) → state ≡ s.state i)
+    → (NoneReturns z s → IsIn s.phase (s.state i) → state ≡ s.state i)
     → (IsSplit s.phase → state ≡ Gone → s.state i ≡ Gone)
     → FitsCoord z s c
     → FitsCoord z (moved s i state) c
 fits_coord_moved z s c i state there has_seat none stays gone f =
     let t : CoreState = moved s i state in
-    let same : s.ending ≡ true → AllIn (numbers z s) → t ≡ s =
-    λ ending all. moved_same s i state (stays ending (all i there)) in
-    let P : CoreState → Type 0 = λ u. AllIn (numbers z u) × (u.ending ≡ true) in
+    let same : NoneReturns z s → AllIn (numbers z s) → t ≡ s =
+    λ none all. moved_same s i state (stays none (all i there)) in
+    let P : CoreState → Type 0 = λ u. AllIn (numbers z u) × NoneReturns z u in
+    let R : CoreState → Type 0 = λ u. AllIn (numbers z u) × (u.ending ≡ true) in
     record {
       seats = record {
         opening = f.seats.opening;
@@ -134,7 +136,7 @@ fits_coord_moved z s c i state there has_seat none stays gone f =
             (λ sight before ending all_in.
             let now = before ending all_in in
             let Q : CoreState → Type 0 = λ u. CoordSees (numbers z u) sight × (c.word ≡ shown_word z u) in
-            subst Q (sym (same (sym now.0.ending ∙ ending) (now.0.all_in.0 all_in))) now)
+            subst Q (sym (same (λ _. sym now.0.ending ∙ ending) (now.0.all_in.0 all_in))) now)
             f.phase.stays;
         all_in = λ is. let all = f.phase.all_in is in subst P (sym (same all.1 all.0)) all;
         gone = λ split all.
@@ -150,7 +152,7 @@ fits_coord_moved z s c i state there has_seat none stays gone f =
         counted = λ k d inside.
             let before = f.choice.counted k d inside in (
               before.0,
-              λ now. let all = before.1 now in subst P (sym (same all.1 all.0)) all,
+              λ now. let all = before.1 now in subst R (sym (same (λ _. all.1) all.0)) all,
             );
         published = f.choice.published;
         masks = f.choice.masks;
@@ -167,7 +169,7 @@ worker_other i v none =
 -- another seat's view keeps fitting while a worker moves
 fits_other : (z : Opening) (s : CoreState) (i : ℕ) (state : WorkerState)
     → i < z.workers
-    → (s.ending ≡ true → IsIn s.phase (s.state i) → state ≡ s.state i)
+    → (NoneReturns z s → IsIn s.phase (s.state i) → state ≡ s.state i)
     → (IsSplit s.phase → state ≡ Gone → s.state i ≡ Gone)
     → (u : View)
     → seats_of i u ≡ 0
@@ -318,7 +320,7 @@ pub worker_moves : (z : Opening) (s : CoreState) (words : List ℕ) (views : Lis
     → word ≡ shown_word z (moved s v.worker state)
     → FitsWorker z (moved s v.worker state) w
     → w.slots ≡ take (length w.slots) sh.coord.slots
-    → (s.ending ≡ true → IsIn s.phase (s.state v.worker) → state ≡ s.state v.worker)
+    → (NoneReturns z s → IsIn s.phase (s.state v.worker) → state ≡ s.state v.worker)
     → (IsSplit s.phase → state ≡ Gone → s.state v.worker ≡ Gone)
     → Shows z (moved s v.worker state) (set words 0 word) (set views place (Worker w))
 worker_moves z s words views place v w state word sh at rest word_is fits slots stays gone =

@@ -115,10 +115,6 @@ slots_looked (Runs j) sight slots none not_split = none not_split
 slots_looked (Answered j) sight slots none not_split = none (λ split. split)
 slots_looked Gone sight slots none not_split = none (λ split. split)
 
--- a sum that is a word does not wrap
-pub added_word : (n more word : ℕ) → word ≡ n + more → word < 2 ^ 64 → (n + more) % 2 ^ 64 ≡ word
-added_word n more word is below = omega arith
-
 -- a look of a worker that is not gone is the event
 pub looks : (z : Opening) (words : List ℕ) (views : List View) (place : ℕ) (v : WorkerSeatView)
     → ShowsSome z words views
@@ -196,10 +192,10 @@ looks z words views place v some_state at there =
 
 -- the word after an answer of worker i, and after it retired
 abbrev pub answered_word : Opening → ℕ → ℕ → ℕ
-answered_word z word i = (word + (form_of z.limits.form).answer i) % 2 ^ 64
+answered_word z word i = (form_of z.limits.form).put word ((form_of z.limits.form).answer i)
 
 abbrev pub retired_word : Opening → ℕ → ℕ → ℕ
-retired_word z word i = (word + (form_of z.limits.form).retirement i) % 2 ^ 64
+retired_word z word i = (form_of z.limits.form).put word ((form_of z.limits.form).retirement i)
 
 -- what a worker that runs the present phase makes of the board by its answer
 answers : (z : Opening) (s : CoreState) (words : List ℕ) (views : List View) (place : ℕ) (v : WorkerSeatView)
@@ -209,10 +205,9 @@ answers : (z : Opening) (s : CoreState) (words : List ℕ) (views : List View) (
     → get_elem? views place ≡ some (Worker v)
     → v.state ≡ Runs phase
     → phase ≡ s.phase
-    → Reached z (moved s v.worker (Answered s.phase))
     → Shows z (moved s v.worker (Answered s.phase)) (set words 0 (answered_word z (get_or words 0 0) v.worker))
     (set views place (Worker (answered_view v)))
-answers z s words views place v phase reached sh at runs present reaches =
+answers z s words views place v phase reached sh at runs present =
     let i = v.worker in
     let f = form_of z.limits.form in
     let serving = serves z s sh.opening reached in
@@ -232,9 +227,7 @@ answers z s words views place v phase reached sh at runs present reaches =
     }
     in
     worker_moves z s words views place v (answered_view v) state (answered_word z (get_or words 0 0) i) sh at refl
-    (ap (λ n. (n + f.answer i) % 2 ^ 64) sh.board.phase ∙
-    added_word (shown_word z s) (f.answer i) (shown_word z (moved s i state)) (serving.answers i phase old.there here)
-    (serves z (moved s i state) sh.opening reaches).below)
+    (ap (λ n. f.put n (f.answer i)) sh.board.phase ∙ sym (serving.answers i phase old.there here))
     fits
     refl
     (λ _ is. absurd (subst (IsIn s.phase) here is))
@@ -266,7 +259,7 @@ acknowledges z words views place v some_state at joined saw =
     }
     in
     let reaches = moves_by z s (Acknowledge v.worker) some_state.reachable permits in
-    let after_it = answers z s words views place v runs.0 some_state.reachable sh at runs.1 present reaches in (
+    let after_it = answers z s words views place v runs.0 some_state.reachable sh at runs.1 present in (
       record {
         moment = moment_of z words views some_state;
         place = place;
@@ -320,7 +313,7 @@ reports z words views place v some_state at split saw =
     }
     in
     let reaches = moves_by z s (Report v.worker) some_state.reachable permits in
-    let after_it = answers z s words views place v runs.0 some_state.reachable sh at runs.1 present reaches in (
+    let after_it = answers z s words views place v runs.0 some_state.reachable sh at runs.1 present in (
       record {
         moment = moment_of z words views some_state;
         place = place;
@@ -382,9 +375,7 @@ retires z words views place v some_state at joined =
     let after_it : Shows z (moved s i Gone) (set words 0 (retired_word z (get_or words 0 0) i))
     (set views place (Worker (retired_view v))) =
     worker_moves z s words views place v (retired_view v) Gone (retired_word z (get_or words 0 0) i) sh at refl
-    (ap (λ n. (n + f.retirement i) % 2 ^ 64) sh.board.phase ∙
-    added_word (shown_word z s) (f.retirement i) (shown_word z (moved s i Gone)) (serving.retires i runs.0 old.there here)
-    (serves z (moved s i Gone) sh.opening reaches).below)
+    (ap (λ n. f.put n (f.retirement i)) sh.board.phase ∙ sym (serving.retires i runs.0 old.there here))
     fits
     refl
     (λ _ is. absurd (subst (IsIn s.phase) here is))
@@ -465,7 +456,7 @@ returns z words views place v new some_state at gone lets even new_is =
     (serving.returns i old.there here) new_is sh.board.phase)
     fits
     (sh.seats.slots place v at)
-    (λ ending _. absurd (cc))
+    (λ none _. let ending = none lets in absurd (cc))
     (λ _ gone_now. absurd (cc))
     in
     record {

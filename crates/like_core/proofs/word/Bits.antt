@@ -13,12 +13,13 @@ use Rattle.like_core.specs.OpeningLimits.{most_phase, most_seats}
 use Rattle.like_core.specs.WorkerState.{looked}
 use Rattle.like_core.specs.core.State.{CoreState}
 use Rattle.like_core.specs.core.Exclusive.{IsInPhase}
-use Rattle.like_core.specs.word.Word.{Fields, packed}
+use Rattle.like_core.specs.word.Word.{Fields, packed, answer_bit, retirement_bit}
 use Rattle.like_core.specs.word.Forms.{has_answered, is_gone, bits, bits_fields, kind_in}
+use Rattle.like_core.specs.word.ShownWord.{word_in}
 use Rattle.like_core.specs.views.Shows.{IsOpening}
-use Rattle.like_core.specs.views.Serves.{Serves}
+use Rattle.like_core.specs.views.Serves.{Serves, moved}
 use Rattle.like_core.proofs.Updates.{update-same, update-other}
-use Rattle.like_core.proofs.Below.{below-each, each-below}
+use Rattle.like_core.proofs.Below.{below-each, each-below, or_unset}
 use Rattle.like_core.proofs.word.Masks.{mask-lt, mask_same, mask_none, mask-has_bit, mask_more}
 use Rattle.like_core.proofs.word.States.{weight-lt, looked-has_answered, looked-is_gone, test_same, in_not_next, in_test, test_in, gone_test, kind_released}
 
@@ -109,7 +110,8 @@ bits_serves z s opening form p =
           let same = mask_same (λ j. is_gone (update s.state i st j)) g z.workers
           (λ j _. test_same is_gone s i st (ap is_gone (sym runs)) j) in
           let shifted : 2 ^ (8 + i) ≡ 2 ^ 8 * 2 ^ i = pow-add 2 8 i in
-          omega arith;
+          let added : word_in bits z (moved s i st) ≡ w + answer_bit i = omega arith in
+          added ∙ sym (or_unset w 8 i (answered_is i there ∙ ap (has_answered s.phase) runs));
       retires = λ i phase there runs.
           let more = mask_more g (λ j. is_gone (update s.state i Gone j)) z.workers i there
           (ap is_gone runs)
@@ -118,7 +120,8 @@ bits_serves z s opening form p =
           let same = mask_same (λ j. has_answered s.phase (update s.state i Gone j)) a z.workers
           (λ j _. test_same (has_answered s.phase) s i Gone (ap (has_answered s.phase) (sym runs)) j) in
           let shifted : 2 ^ (24 + i) ≡ 2 ^ 24 * 2 ^ i = pow-add 2 24 i in
-          omega arith;
+          let added : word_in bits z (moved s i Gone) ≡ w + retirement_bit i = omega arith in
+          added ∙ sym (or_unset w 24 i (gone_is i there ∙ ap is_gone runs));
       returns = λ i there gone.
           let st : WorkerState = Runs s.phase in
           let more = mask_more (λ j. is_gone (update s.state i st j)) g z.workers i there

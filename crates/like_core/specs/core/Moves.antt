@@ -3,10 +3,10 @@ use Rattle.std.specs.Prelude.{◌≡◌, ◌≢◌, ℕ, ◌<◌, true, false, L
 use Rattle.like_core.specs.declared.worker_state.WorkerState.TheVariants.{Runs, Gone}
 use Rattle.like_core.specs.declared.event.Event.{Event}
 use Rattle.like_core.specs.declared.event.Event.TheVariants.{Release}
-use Rattle.like_core.specs.declared.form.Form.TheVariants.{Counts}
 use Rattle.like_core.specs.declared.limits.Limits.{Limits}
 use Rattle.like_core.specs.declared.opening.Opening.{Opening}
 use Rattle.like_core.specs.Functions.{update}
+use Rattle.like_core.specs.word.Forms.{form_of}
 use Rattle.like_core.specs.core.Numbers.{AllIn}
 use Rattle.like_core.specs.core.Table.{Permits}
 use Rattle.like_core.specs.core.State.{CoreState, start, after, numbers}
@@ -19,7 +19,7 @@ pub data Move : Type 0 where
 
 -- workers may come back to a board whose word counts who is gone: a service's
 abbrev pub LetsReturn : Limits → Type 0
-LetsReturn l = l.form ≡ Counts
+LetsReturn l = (form_of l.form).lets_return ≡ true
 
 -- the state after worker i came back: it runs the present phase
 abbrev pub after_return : CoreState → ℕ → CoreState
@@ -31,6 +31,10 @@ pub record MayReturn (z : Opening) (s : CoreState) (i : ℕ) : Type 0 where
   pub there : i < z.workers
   pub gone : s.state i ≡ Gone
   pub running : s.ending ≡ false
+
+-- no worker may come back before the next release: none ever does in a run, nor at an ending in a service
+abbrev pub NoneReturns : Opening → CoreState → Type 0
+NoneReturns z s = LetsReturn z.limits → s.ending ≡ true
 
 -- the state after the move
 abbrev pub after_move : Opening → CoreState → Move → CoreState
@@ -68,6 +72,12 @@ NobodyReturns =
 abbrev pub NoneReleases : List Move → Type 0
 NoneReleases [] = Unit {0}
 NoneReleases (move ∷ moves) = ((mask : ℕ) → move ≢ makes (Release mask)) × NoneReleases moves
+
+-- once all are in where none may come back, they are in until the release
+abbrev pub AllStayIn : Type 0
+AllStayIn =
+    (z : Opening) (s : CoreState) (moves : List Move) → NoneReturns z s → AllIn (numbers z s)
+    → MayMoveAll z s moves → NoneReleases moves → AllIn (numbers z (after_moves z s moves))
 
 -- once all are in at an ending, no moves before the release change the state
 abbrev pub AllInStays : Type 0

@@ -25,13 +25,13 @@ pub record Serves (f : WordForm) (z : Opening) (s : CoreState) : Type 0 where
   pub phase : f.phase_in (word_in f z s) ≡ s.phase
   pub all_in : IsTrue (f.all_in z.workers (word_in f z s)) ↔ AllIn (numbers z s)
   pub all_gone : IsTrue (f.all_gone z.workers (word_in f z s)) ↔ AllGone (numbers z s)
-  -- a look leaves it; an answer and a retirement are added
+  -- a look leaves it; an answer and a retirement are put into it
   pub looks : (i : ℕ) → word_in f z (moved s i (looked s.phase (s.state i))) ≡ word_in f z s
   pub answers : (i phase : ℕ) → i < z.workers → s.state i ≡ Runs phase
-      → word_in f z (moved s i (Answered s.phase)) ≡ word_in f z s + f.answer i
+      → word_in f z (moved s i (Answered s.phase)) ≡ f.put (word_in f z s) (f.answer i)
   pub retires : (i phase : ℕ) → i < z.workers → s.state i ≡ Runs phase
-      → word_in f z (moved s i Gone) ≡ word_in f z s + f.retirement i
-  -- a return takes off what a retirement adds
+      → word_in f z (moved s i Gone) ≡ f.put (word_in f z s) (f.retirement i)
+  -- a return takes off what a retirement put into it
   pub returns : (i : ℕ) → i < z.workers → s.state i ≡ Gone
       → word_in f z (after_return s i) + f.retirement i ≡ word_in f z s
   -- an announcement adds 1

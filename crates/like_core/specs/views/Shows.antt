@@ -19,7 +19,7 @@ use Rattle.like_core.specs.core.Numbers.{AllIn, AllGone, CoordSees}
 use Rattle.like_core.specs.core.Table.{Permits, IsShown}
 use Rattle.like_core.specs.core.State.{CoreState, labelled, after, numbers}
 use Rattle.like_core.specs.core.Reachable.{after_all, PermitsAll}
-use Rattle.like_core.specs.core.Moves.{MayReturn, Reached, after_return}
+use Rattle.like_core.specs.core.Moves.{MayReturn, NoneReturns, Reached, after_return}
 use Rattle.like_core.specs.core.Exclusive.{NoneUnmerged}
 use Rattle.like_core.specs.word.ShownWord.{shown_word}
 use Rattle.like_core.specs.WorkerState.{IsRunning, RunsSplit, SawEnding, SawNoLater}
@@ -81,8 +81,8 @@ pub record KnowsPhase (z : Opening) (s : CoreState) (c : CoordSeatView) : Type 0
   -- if that sight showed all in at an ending, a look would show the same now, and the phase word has not changed
   pub stays : IfSome c.last (λ sight. sight.ending ≡ true → sight.all_in ≡ true
       → CoordSees (numbers z s) sight × (c.word ≡ shown_word z s))
-  -- if any sight of the phase showed all in at its ending, they still are
-  pub all_in : c.all_in ≡ true → AllIn (numbers z s) × (s.ending ≡ true)
+  -- if any sight of the phase showed all in where none may come back, they still are
+  pub all_in : c.all_in ≡ true → AllIn (numbers z s) × NoneReturns z s
   -- if all are gone in a split phase, the last sight before its release showed that
   pub gone : IsSplit s.phase → AllGone (numbers z s) → c.gone ≡ true
 

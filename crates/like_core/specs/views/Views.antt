@@ -1,10 +1,11 @@
-use Rattle.std.specs.Prelude.{◌≡◌, ℕ, ◌+◌, ◌==◌, ◌<◌, ◌≤◌, Bool, true, false, ◌&&◌, ◌%◌, ◌^◌, if◌then◌else◌, List, [], ◌∷◌, ◌++◌, length, take, replicate, slice_index, slice_set, count_by, Option, Some, None, IsSome, IsSomeAnd}
+use Rattle.std.specs.Prelude.{◌≡◌, ℕ, ◌+◌, ◌==◌, ◌<◌, ◌≤◌, Bool, true, false, not, ◌&&◌, ◌||◌, ◌%◌, ◌^◌, if◌then◌else◌, List, [], ◌∷◌, ◌++◌, length, take, replicate, slice_index, slice_set, count_by, Option, Some, None, IsSome, IsSomeAnd}
 use Rattle.std.specs.Option.{unwrap_or}
 use Rattle.like_core.specs.declared.worker_state.WorkerState.TheVariants.{Runs, Answered, Gone}
 use Rattle.like_core.specs.declared.sight.Sight.{Sight}
 use Rattle.like_core.specs.declared.sight.CoordSight.{CoordSight}
 use Rattle.like_core.specs.declared.event.Event.{Event}
 use Rattle.like_core.specs.declared.event.Event.TheVariants.{Like, Merge}
+use Rattle.like_core.specs.declared.limits.Limits.{Limits}
 use Rattle.like_core.specs.declared.opening.Opening.{Opening}
 use Rattle.like_core.specs.declared.view.WorkerSeatView.{WorkerSeatView}
 use Rattle.like_core.specs.declared.view.CoordSeatView.{CoordSeatView}
@@ -15,6 +16,7 @@ use Rattle.like_limits.specs.Limits.{hot_pages}
 use Rattle.like_core.specs.Phase.{IsJoined}
 use Rattle.like_core.specs.OpeningLimits.{has_slots}
 use Rattle.like_core.specs.Slots.{IsChoice, mask_of_slots}
+use Rattle.like_core.specs.word.Forms.{form_of}
 use Rattle.like_core.specs.WorkerState.{RunsSplit, phase_of, running_sight, seen}
 use Rattle.like_core.specs.Post.{PostView, slices}
 
@@ -142,13 +144,18 @@ likes_merged v page n = (if slices (post_of v) page then replicate n (Like v.wor
 abbrev pub adding : WorkerSeatView → ℕ → Event
 adding v page = (if slices (post_of v) page then Merge v.worker page else Like v.worker page)
 
+-- whether a sight shows all in, and none may come back before the release: none ever does in a run, nor at an ending in
+-- a service
+abbrev pub shows_all_stay_in : Limits → CoordSight → Bool
+shows_all_stay_in l sight = sight.all_in && (sight.ending || not (form_of l.form).lets_return)
+
 -- the coordinator's view after a look at a word, which is counted
 abbrev pub looked_coord : CoordSeatView → ℕ → CoordSight → CoordSeatView
 looked_coord c word sight = record c {
   last = Some sight;
   looks = c.looks + 1;
   word = word;
-  all_in = sight.ending && sight.all_in;
+  all_in = shows_all_stay_in c.opening.limits sight;
   published = None;
 }
 

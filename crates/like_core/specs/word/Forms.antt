@@ -1,6 +1,6 @@
 -- The two forms of the phase word. A program's word has two bits for each worker; a service's counts how many have
 -- answered and how many are gone.
-use Rattle.std.specs.Prelude.{ℕ, ◌+◌, ◌*◌, ◌/◌, ◌%◌, ◌^◌, ◌==◌, ◌||◌, nat_lt, Bool, true, false, if◌then◌else◌}
+use Rattle.std.specs.Prelude.{ℕ, ◌+◌, ◌*◌, ◌/◌, ◌%◌, ◌^◌, ◌==◌, ◌||◌, nat_lt, bit_or, Bool, true, false, if◌then◌else◌}
 use Rattle.like_core.specs.declared.worker_state.WorkerState.{WorkerState}
 use Rattle.like_core.specs.declared.worker_state.WorkerState.TheVariants.{Runs, Answered, Gone}
 use Rattle.like_core.specs.declared.form.Form.{Form}
@@ -33,9 +33,13 @@ released_kind word = (if word % 4 == 1 then 2 else 0)
 pub record WordForm : Type 0 where
   -- the word of this many workers in a phase, which may be ending, if these are their states
   pub word : ℕ → ℕ → Bool → (ℕ → WorkerState) → ℕ
-  -- what worker i adds to it by an answer, and by retiring
+  -- what worker i puts into it by an answer, and by retiring
   pub answer : ℕ → ℕ
   pub retirement : ℕ → ℕ
+  -- a word after this was put into it
+  pub put : ℕ → ℕ → ℕ
+  -- whether a worker that is gone may come back
+  pub lets_return : Bool
   -- the phase that a word tells
   pub phase_in : ℕ → ℕ
   -- whether a word of this many workers shows all in, and all gone
@@ -60,6 +64,8 @@ bits = record {
   word = λ workers phase ending state. packed (bits_fields workers phase ending state);
   answer = answer_bit;
   retirement = retirement_bit;
+  put = λ word bit. bit_or word bit;
+  lets_return = false;
   phase_in = λ word. word / 2 ^ 40;
   all_in = λ workers word. each_below (λ i. has_bit (word / 2 ^ 8) i || has_bit (word / 2 ^ 24) i) workers;
   all_gone = λ workers word. each_below (λ i. has_bit (word / 2 ^ 24) i) workers;
@@ -82,6 +88,8 @@ counts = record {
       + 2 ^ 16 * phase;
   answer = λ _. 4;
   retirement = λ _. 2 ^ 9;
+  put = λ word more. (word + more) % 2 ^ 64;
+  lets_return = true;
   phase_in = λ word. word / 2 ^ 16;
   all_in = λ workers word. word / 4 % 2 ^ 7 + word / 2 ^ 9 % 2 ^ 7 == workers;
   all_gone = λ workers word. word / 2 ^ 9 % 2 ^ 7 == workers;

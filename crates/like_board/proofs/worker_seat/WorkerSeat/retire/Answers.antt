@@ -1,13 +1,13 @@
-use Rattle.std.proofs.Common.{◌∙◌}
+use Rattle.std.proofs.Common.{ap, ◌∙◌}
 use Rattle.like_core.specs.word.Forms.{form_of}
 use Rattle.like_board.proofs.Allowed.{retiring}
 use Rattle.like_board.proofs.worker_seat.WorkerSeat.retire.Goals as goal
 
-pub fetch_add-requires : goal.fetch_add-requires
-fetch_add-requires c =
-    let seat = c.args.self.now in (
-      c.requires.here,
-      c.args.board.now.some_word,
-      retiring c.args.board.now.table.shared.key _ _ _ _
-          (c.retirement-retirement.ensures ∙ (λ m. (form_of (seat.formed m)).retirement (seat.numbered m))) seat.is_worker c.requires.runs,
-    )
+pub put_answer-requires : goal.put_answer-requires
+put_answer-requires c =
+    let seat = c.args.self.now in
+    record {
+      here = c.requires.here;
+      allowed = retiring c.args.board.now.table.shared.key _ _ _ _ _ seat.formed
+          (c.retirement-retirement.ensures ∙ ap (form_of seat.form).retirement seat.numbered) seat.is_worker c.requires.runs;
+    }
