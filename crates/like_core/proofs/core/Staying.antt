@@ -4,14 +4,14 @@ use Rattle.std.proofs.lemmas.Bool.{cond-false, le-ltb}
 use Rattle.like_core.specs.declared.worker_state.WorkerState.{WorkerState}
 use Rattle.like_core.specs.declared.worker_state.WorkerState.TheVariants.{Runs, Answered, Gone}
 use Rattle.like_core.specs.declared.event.Event.{Event}
-use Rattle.like_core.specs.declared.event.Event.TheVariants.{Look, Acknowledge, Report, Retire, Like, Read, Glance, Merge, Hot, CoordLook, CoordRead, Announce, Release}
+use Rattle.like_core.specs.declared.event.Event.TheVariants.{Look, Acknowledge, Report, Retire, Like, Read, Merge, Hot, CoordLook, CoordRead, Announce, Release}
 use Rattle.like_core.specs.declared.opening.Opening.{Opening}
 use Rattle.like_core.specs.Functions.{update}
 use Rattle.like_core.specs.WorkerState.{IsIn, looked}
 use Rattle.like_core.specs.core.Numbers.{AllIn}
 use Rattle.like_core.specs.core.Table.{Permits}
 use Rattle.like_core.specs.core.State.{CoreState, after, numbers}
-use Rattle.like_core.specs.core.Moves.{AllInStays, MayMove, MayMoveAll, MayReturn, Move, makes, comes_back, after_move, after_moves}
+use Rattle.like_core.specs.core.Moves.{AllInStays, MayMove, MayMoveAll, MayReturn, Move, makes, comes_back, glances, after_move, after_moves}
 use Rattle.like_core.specs.views.Serves.{moved}
 use Rattle.like_core.proofs.Updates.{update_cases}
 
@@ -51,7 +51,6 @@ event_stays z s (Report i) ending all may keeps = absurd (none_runs z s i all ma
 event_stays z s (Retire i) ending all may keeps = absurd (none_runs z s i all may.there may.suits.0)
 event_stays z s (Like i page) ending all may keeps = absurd (none_runs z s i all may.there.0 may.suits)
 event_stays z s (Read i page) ending all may keeps = refl
-event_stays z s (Glance i page) ending all may keeps = refl
 event_stays z s (Merge i page) ending all may keeps = absurd (none_runs z s i all may.there.0 may.suits.0)
 event_stays z s (Hot i) ending all may keeps = refl
 event_stays z s CoordLook ending all may keeps = refl
@@ -72,6 +71,7 @@ move_stays z s (comes_back i) ending all may keeps =
     let back : MayReturn z s i = may in
     let running : s.ending ≡ false = back.running in
     absurd (cc)
+move_stays z s (glances i page) ending all may keeps = refl
 
 pub all_in_stays : AllInStays
 all_in_stays z s [] ending all may none = refl
