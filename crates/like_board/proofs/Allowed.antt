@@ -9,8 +9,8 @@ use Rattle.atomic_table.specs.Table.{Me, keeps, Allows, Splits, Joins}
 use Rattle.atomic_table.proofs.Lists.{set_again}
 use Rattle.like_core.specs.declared.worker_state.WorkerState.TheVariants.{Gone}
 use Rattle.like_core.specs.declared.event.Event.{Event}
-use Rattle.like_core.specs.declared.event.Event.TheVariants.{Acknowledge, Report, Retire, Read, Glance, Hot, CoordRead, Announce, Release}
-use Rattle.like_core.specs.declared.shown.Shown.TheVariants.{Done, Old, Count, Hot as HotShown}
+use Rattle.like_core.specs.declared.event.Event.TheVariants.{Acknowledge, Report, Retire, Read, Hot, CoordRead, Announce, Release}
+use Rattle.like_core.specs.declared.shown.Shown.TheVariants.{Seen, Done, Old, Count, Hot as HotShown}
 use Rattle.like_core.specs.declared.form.Form.{Form}
 use Rattle.like_core.specs.declared.opening.Opening.{Opening}
 use Rattle.like_core.specs.declared.view.WorkerSeatView.{WorkerSeatView}
@@ -18,15 +18,15 @@ use Rattle.like_core.specs.declared.view.CoordSeatView.{CoordSeatView}
 use Rattle.like_core.specs.declared.view.View.{View}
 use Rattle.like_core.specs.declared.view.View.TheVariants.{Coord, Worker, Spent}
 use Rattle.like_core.specs.OpeningLimits.{has_slots}
-use Rattle.like_core.specs.core.Moves.{LetsReturn}
+use Rattle.like_core.specs.core.Moves.{LetsReturn, Move, comes_back, glances as glances_at, makes}
 use Rattle.like_core.specs.Slots.{IsChoice}
 use Rattle.like_core.specs.word.Forms.{WordForm, form_of}
 use Rattle.like_core.specs.Post.{IsFresh, MayAdd, MayRead, MayGlance}
-use Rattle.like_core.specs.WorkerState.{RunsJoined, RunsSplit, SawEnding}
+use Rattle.like_core.specs.WorkerState.{RunsJoined, RunsSplit, SawEnding, running_sight}
 use Rattle.like_core.specs.views.Views.{MayAnnounce, MayCount, MayPublish, MayPut, MayPublishSlots, MayReadSlot, MayReadSlots, MayRelease, fresh, looked_view, answered_view, retired_view, returned_view, added_view, read_view, glanced_view, masked_view, slotted_view, slots_read, post_of, likes_merged, adding, looked_coord, announced_coord, counted_coord, published_coord, slotted_coord, slots_put, mask_released, released_coord, made_coord, gathered_coord}
 use Rattle.like_core.specs.views.Actions.{Acknowledges, Reports, Retires, Reads, Glances, Announces, Releases}
 use Rattle.like_core.specs.views.Layout.{mask_place, slot_place, word_of}
-use Rattle.like_core.specs.views.Shows.{ShowsSome, FitsWorker, FitsCoord, IsKnown, IsReturn, IsStep, IsSteps}
+use Rattle.like_core.specs.views.Shows.{ShowsSome, FitsWorker, FitsCoord, IsKnown, IsMove, IsStep, IsSteps}
 use Rattle.like_core.proofs.views.Apart.{word_of-injective}
 use Rattle.like_core.proofs.views.Posts.{post_fresh}
 use Rattle.like_board.specs.declared.key.Key.{Key}
@@ -227,7 +227,8 @@ returning {S} key slots id me expected new is gone lets even new_is = λ st show
           record {
             within = subst (λ (y : Opening). phase ≤ y.limits.last_phase) (sym same) r.within;
             view = refl;
-            step = subst (λ (y : Opening). IsReturn y v.worker (Worker v) w) (sym same) r.step;
+            step = subst (λ (y : Opening). IsMove y (comes_back v.worker) (Seen (running_sight phase)) (Worker v) w)
+                (sym same) r.step;
           }
           in (
             w,
@@ -485,7 +486,7 @@ adding_page {S} key slots id me page n is may = λ st shows _ at _.
     record {
       view = refl;
       own = r.2;
-      step = subst (λ (y : Opening). IsSteps y (likes_merged v page n) (adding v page) (Old found) (Worker v)
+      step = subst (λ (y : Opening). IsSteps y (likes_merged v page n) (makes (adding v page)) (Old found) (Worker v)
           (Worker w)) (sym same) r.0;
     }
     in (
@@ -510,21 +511,21 @@ adding_to {S} key slots id me page word n word_is is may =
     (λ found after. TellsAddAt i n me.0 found after.0 × (after.1 ≡ []))) (sym word_is)
     (adding_page key slots id me page n is may)
 
--- a step that finds a page's count and is this event
-finding_page : {S : Type 0} (key : Key) (slots id : ℕ) (me : Me S View) (page : ℕ) (event : Event)
+-- a step that finds a page's count and is this move
+finding_page : {S : Type 0} (key : Key) (slots id : ℕ) (me : Me S View) (page : ℕ) (move : Move)
     (next : WorkerSeatView → ℕ → ℕ → WorkerSeatView)
     → me ≡ (Worker (worker_view_of me.0), [])
     → ((z : Opening) (words : List ℕ) (views : List View) → ShowsSome z words views
     → get_elem? views id ≡ some (Worker (worker_view_of me.0))
-    → IsRead z words views id (worker_view_of me.0) page event
+    → IsRead z words views id (worker_view_of me.0) page move
     (next (worker_view_of me.0) page (get_or words (word_of page) 0)))
     → (does : PageAct)
     → ((count : ℕ) (w : WorkerSeatView)
-    → IsStep (worker_view_of me.0).opening event (Count count) (Worker (worker_view_of me.0)) (Worker w)
+    → IsMove (worker_view_of me.0).opening move (Count count) (Worker (worker_view_of me.0)) (Worker w)
     → does (worker_view_of me.0) page count w)
     → Allows (IsShowing key) slots id me (word_of page) (λ k. k)
     (λ found after. TellsReadAt does next (word_of page) me.0 found after.0 × (after.1 ≡ []))
-finding_page {S} key slots id me page event next is reads does act = λ st shows _ at _.
+finding_page {S} key slots id me page move next is reads does act = λ st shows _ at _.
     let z = opening_of key in
     let v : WorkerSeatView = worker_view_of me.0 in
     let found : ℕ = get_or st.words (word_of page) 0 in
@@ -537,7 +538,7 @@ finding_page {S} key slots id me page event next is reads does act = λ st shows
       view = refl;
       own = r.2;
       bounded = r.3;
-      step = act found w (subst (λ (y : Opening). IsStep y event (Count found) (Worker v) (Worker w)) (sym same) r.0);
+      step = act found w (subst (λ (y : Opening). IsMove y move (Count found) (Worker v) (Worker w)) (sym same) r.0);
     }
     in (
       Worker w,
@@ -559,7 +560,7 @@ pub reading : {S : Type 0} (key : Key) (slots id : ℕ) (me : Me S View) (page w
 reading {S} key slots id me page word word_is is may =
     subst (λ (i : ℕ). Allows (IsShowing key) slots id me i (λ k. k)
     (λ found after. TellsReadAt Reads read_view i me.0 found after.0 × (after.1 ≡ []))) (sym word_is)
-    (finding_page key slots id me page (Read (worker_view_of me.0).worker page) read_view is
+    (finding_page key slots id me page (makes (Read (worker_view_of me.0).worker page)) read_view is
     (λ z words views. reads z words views id (worker_view_of me.0) page may) Reads (λ count w step. step))
 
 pub glancing : {S : Type 0} (key : Key) (slots id : ℕ) (me : Me S View) (page word : ℕ)
@@ -571,7 +572,7 @@ pub glancing : {S : Type 0} (key : Key) (slots id : ℕ) (me : Me S View) (page 
 glancing {S} key slots id me page word word_is is may =
     subst (λ (i : ℕ). Allows (IsShowing key) slots id me i (λ k. k)
     (λ found after. TellsReadAt Glances glanced_view i me.0 found after.0 × (after.1 ≡ []))) (sym word_is)
-    (finding_page key slots id me page (Glance (worker_view_of me.0).worker page) glanced_view is
+    (finding_page key slots id me page (glances_at (worker_view_of me.0).worker page) glanced_view is
     (λ z words views. glances z words views id (worker_view_of me.0) page may) Glances (λ count w step. step))
 
 pub reading_mask : {S : Type 0} (key : Key) (slots id : ℕ) (me : Me S View)

@@ -4,7 +4,7 @@ ghost use Rattle.like_core.specs.OpeningLimits.{has_slots};
 use crate::board::Board;
 use crate::holder::HoldsBoard;
 use crate::worker_seat::WorkerSeat;
-use like_core::{Post, Returns, Sight, SlotPost};
+use like_core::{Glances, Post, Returns, Sight, SlotPost};
 use std::sync::Arc;
 
 /// A worker's seat at its board. Each call is one step on one of the board's words, and none waits.
@@ -37,11 +37,10 @@ impl<B: HoldsBoard + Drop> PostAt<B> {
 
 impl<B: HoldsBoard> Post for PostAt<B> {
     ghost use Rattle.like_core.specs.declared.worker_state.WorkerState.TheVariants.{Gone};
-    ghost use Rattle.like_limits.specs.Limits.{total_bound};
     ghost use Rattle.like_core.specs.WorkerState.{RunsJoined, RunsSplit, SawEnding, IsSightOf, SeesEndingStill, phase_of, seen};
-    ghost use Rattle.like_core.specs.Post.{looked_at, answered, retired, added, has_read, has_glanced, with_mask, additions_of, MayAdd, MayRead, MayGlance};
-    ghost use Rattle.like_core.specs.views.Views.{looked_view, answered_view, retired_view, added_view, read_view, glanced_view, masked_view};
-    ghost use Rattle.like_core.specs.views.Actions.{Looks, Acknowledges, Reports, Retires, Adds, Reads, Glances, ReadsMask};
+    ghost use Rattle.like_core.specs.Post.{looked_at, answered, retired, added, has_read, with_mask, additions_of, MayAdd, MayRead};
+    ghost use Rattle.like_core.specs.views.Views.{looked_view, answered_view, retired_view, added_view, read_view, masked_view};
+    ghost use Rattle.like_core.specs.views.Actions.{Looks, Acknowledges, Reports, Retires, Adds, Reads, ReadsMask};
     ghost use Rattle.like_board.specs.Seats.{post_board, post_view, post_meaning};
 
     ghost view = { post_meaning };
@@ -124,6 +123,26 @@ impl<B: HoldsBoard> Post for PostAt<B> {
         self.seat.read(board, page)
     }
 
+    fn hot(&mut self) -> u64
+        requires split { RunsSplit (post_meaning self.old).state }
+        requires plain { has_slots (post_meaning self.old).limits ≡ false }
+        ensures view { post_meaning self.new ≡ with_mask (post_meaning self.old) result }
+        ensures board { post_board self.new ≡ post_board self.old }
+        ensures known { post_view self.new ≡ masked_view (post_view self.old) result }
+        ensures event { ReadsMask (post_view self.old) result (post_view self.new) }
+    {
+        let board = self.board.board();
+        self.seat.hot(board)
+    }
+}
+
+impl<B: HoldsBoard> Glances for PostAt<B> {
+    ghost use Rattle.like_limits.specs.Limits.{total_bound};
+    ghost use Rattle.like_core.specs.Post.{has_glanced, additions_of, MayGlance};
+    ghost use Rattle.like_core.specs.views.Views.{glanced_view};
+    ghost use Rattle.like_core.specs.views.Actions.{Glances};
+    ghost use Rattle.like_board.specs.Seats.{post_board, post_view, post_meaning};
+
     #[inline(always)]
     fn glance(&mut self, page: u32) -> u64
         requires { MayGlance (post_meaning self.old) page }
@@ -136,18 +155,6 @@ impl<B: HoldsBoard> Post for PostAt<B> {
     {
         let board = self.board.board();
         self.seat.glance(board, page)
-    }
-
-    fn hot(&mut self) -> u64
-        requires split { RunsSplit (post_meaning self.old).state }
-        requires plain { has_slots (post_meaning self.old).limits ≡ false }
-        ensures view { post_meaning self.new ≡ with_mask (post_meaning self.old) result }
-        ensures board { post_board self.new ≡ post_board self.old }
-        ensures known { post_view self.new ≡ masked_view (post_view self.old) result }
-        ensures event { ReadsMask (post_view self.old) result (post_view self.new) }
-    {
-        let board = self.board.board();
-        self.seat.hot(board)
     }
 }
 

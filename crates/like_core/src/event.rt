@@ -13,8 +13,6 @@ pub enum Event {
     Like(u32, u32),
     /// The worker reads the count of a page that is not sliced.
     Read(u32, u32),
-    /// The worker reads the count of a page that is sliced. The count lacks what slices still hold.
-    Glance(u32, u32),
     /// The worker adds its slice of a page to the page's count.
     Merge(u32, u32),
     /// The worker, in a split phase, reads the mask of its hot pages.

@@ -6,7 +6,7 @@ ghost use Rattle.like_core.specs.Slots.{SlotsTell};
 ghost use Rattle.like_core.specs.core.Likes.{LikesStayReachable, LikesStayReached, NoneHoldsWhileJoined};
 ghost use Rattle.like_core.specs.core.Moves.{AllInStays, AllStayIn, NobodyReturns};
 ghost use Rattle.like_core.specs.views.Layout.{WordsStandApart};
-ghost use Rattle.like_core.specs.views.Shows.{CountsAreOfOneMoment};
+ghost use Rattle.like_core.specs.views.Shows.{CountsAreOfOneMoment, MomentsAreReachable};
 ghost use Rattle.like_core.specs.views.SplitPages.{SlicesAreSplit, SlotsAreExact};
 ghost use Rattle.like_core.specs.views.Serves.{AllGoneCounts, AllInCounts, AnswersOne, FormServes, RetiresOne, ReturnsOne, WordTellsPhase};
 ghost use Rattle.like_core.specs.word.KindTells.{KindTellsPhase};
@@ -49,6 +49,12 @@ pub fn nobody_returns()
 /// they are so once it is ending.
 pub fn all_stay_in()
     ensures { AllStayIn }
+{}
+
+/// At each moment of a run's board, events alone lead to the state that it shows, since nobody comes back there and a
+/// glance changes no state.
+pub fn moments_are_reachable()
+    ensures { MomentsAreReachable }
 {}
 
 /// In every interleaving, once all workers are in at the end of a phase, nothing changes the state before the next is

@@ -7,6 +7,7 @@
 
 mod event;
 mod form;
+mod glances;
 mod hot;
 pub mod laws;
 mod limits;
@@ -23,6 +24,7 @@ mod worker_state;
 
 pub use event::Event;
 pub use form::Form;
+pub use glances::Glances;
 pub use hot::{HOT_PAGES, is_hot};
 pub use limits::Limits;
 pub use opening::Opening;

@@ -1,9 +1,8 @@
-ghost use Rattle.std.specs.Prelude.{◌≡◌, ◌≢◌, ◌<◌, ◌≤◌, true, false};
+ghost use Rattle.std.specs.Prelude.{◌≡◌, ◌≢◌, ◌≤◌, true, false};
 ghost use Rattle.like_core.specs.declared.worker_state.WorkerState.TheVariants.{Gone};
-ghost use Rattle.like_limits.specs.Limits.{total_bound};
 ghost use Rattle.like_core.specs.OpeningLimits.{has_slots};
 ghost use Rattle.like_core.specs.WorkerState.{RunsJoined, RunsSplit, SawEnding, IsSightOf, SeesEndingStill, phase_of, seen};
-ghost use Rattle.like_core.specs.Post.{PostView, looked_at, answered, retired, added, has_read, has_glanced, with_mask, additions_of, MayAdd, MayRead, MayGlance};
+ghost use Rattle.like_core.specs.Post.{PostView, looked_at, answered, retired, added, has_read, with_mask, additions_of, MayAdd, MayRead};
 
 use crate::sight::Sight;
 
@@ -54,13 +53,6 @@ pub trait Post {
         requires { MayRead (view self.old) page }
         ensures view { view self.new ≡ has_read (view self.old) page result }
         ensures own { additions_of (view self.old) page ≤ result };
-
-    /// The count of a page that is sliced. It lacks what the slices of the present phase have, the worker's own too.
-    fn glance(&mut self, page: u32) -> u64
-        requires { MayGlance (view self.old) page }
-        ensures view { view self.new ≡ has_glanced (view self.old) page result }
-        ensures own { additions_of (view self.old) page ≤ result }
-        ensures bounded { result < total_bound };
 
     /// The mask of the hot pages of the split phase that the worker runs: bit `p` is page `p`'s. A board with slots has
     /// no such mask.

@@ -18,7 +18,7 @@ use crate::answer::{GlanceAnswer, LikeAnswer, LookAnswer, TurnAnswer};
 use crate::asked::{Asked, Found};
 use crate::look_room::LookRoom;
 use crate::signals::Signals;
-use like_core::{Post, Returns, SlotPost};
+use like_core::{Glances, Post, Returns, SlotPost};
 use like_seat::Station;
 use like_tables::{Home, Stash, Users};
 use moves::{returns, work_or_retire};
@@ -158,7 +158,9 @@ impl<P: SlotPost> LiveSeat<P> {
             TurnAnswer::Gone => LookAnswer::Gone,
         }
     }
+}
 
+impl<P: SlotPost + Glances> LiveSeat<P> {
     /// Looks at a page for a user, and never waits. If the page is split now, the count may lack other seats' likes of
     /// this phase.
     #[inline(always)]
@@ -175,7 +177,9 @@ impl<P: SlotPost> LiveSeat<P> {
             TurnAnswer::Gone => GlanceAnswer::Gone,
         }
     }
+}
 
+impl<P: SlotPost> LiveSeat<P> {
     /// Retires, if the seat runs a joined phase, ending or not. What waited is found first. Otherwise this is a turn.
     /// Found looks can still be taken.
     pub fn retire(&mut self) -> TurnAnswer

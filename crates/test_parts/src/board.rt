@@ -17,7 +17,7 @@ use crate::asserts::assert_named;
 use crate::pure_core::small_limits;
 use calls::{OnPost, Step};
 use like_board::{Board, BoardPost, CoordSeat, WorkerSeat};
-use like_core::{Limits, Post, Returns, WorkerState};
+use like_core::{Glances, Limits, Post, Returns, WorkerState};
 use party::Party;
 use scripts::{each_call, five_phases, hot_phase, likes, three_phases};
 use std::alloc::{AllocError, Global};
@@ -373,7 +373,7 @@ fn likes_by_posts(rt: HostRuntime) -> Result<(), Fail> {
 }
 
 // Whether the last page of the most has the greatest count, and one more after a like.
-fn likes_last_page<P: Post>(walker: &mut Walker<P>) -> bool {
+fn likes_last_page<P: Glances>(walker: &mut Walker<P>) -> bool {
     walker.answers(OnPost::Like(1_023, 1_000_000_000_000_000_000))
         && walker.answers(OnPost::Read(1_023, 1_000_000_000_000_000_001))
 }

@@ -19,7 +19,7 @@ use Rattle.like_core.specs.Functions.{update}
 use Rattle.like_core.specs.core.Table.{IsShown}
 use Rattle.like_core.specs.core.State.{CoreState, Label, is_split_now, labelled, after, numbers}
 use Rattle.like_core.specs.core.Reachable.{after_all}
-use Rattle.like_core.specs.core.Moves.{Reached}
+use Rattle.like_core.specs.core.Moves.{Reached, makes}
 use Rattle.like_core.specs.WorkerState.{IsIn, phase_of}
 use Rattle.like_core.specs.Post.{PostView, MayAdd, slices}
 use Rattle.like_core.specs.Additions.{added_to, added_in}
@@ -210,7 +210,7 @@ pub adds : (z : Opening) (words : List ℕ) (views : List View) (place : ℕ) (v
     → ShowsSome z words views
     → get_elem? views place ≡ some (Worker v)
     → MayAdd (post_of v) page n
-    → IsSteps z (likes_merged v page n) (adding v page) (Old (get_or words (word_of page) 0)) (Worker v)
+    → IsSteps z (likes_merged v page n) (makes (adding v page)) (Old (get_or words (word_of page) 0)) (Worker v)
     (Worker (added_view v page (get_or words (word_of page) 0) n))
     × ShowsSome z (set words (word_of page) ((get_or words (word_of page) 0 + n) % 2 ^ 64))
     (set views place (Worker (added_view v page (get_or words (word_of page) 0) n)))

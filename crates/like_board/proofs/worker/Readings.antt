@@ -1,4 +1,5 @@
--- A worker's read of a page's word, or of the mask word, is the event, and keeps what the board shows.
+-- A worker's read of a page's word, or of the mask word, is the event, a glance is the move, and each keeps what the
+-- board shows.
 use Rattle.std.proofs.Common.{◌≡◌, ℕ, ◌+◌, ◌^◌, ◌<◌, ◌≤◌, true, false, inl, List, [], ◌∷◌, ◌++◌, length, take, get_or, slice_index, set, subst, ap, sym, ◌∙◌, refl, arith}
 use Rattle.std.proofs.Math.Seq.{take-length}
 use Rattle.std.proofs.lemmas.List.{length_push, length-take-le, set-get_or, take-take, take_more}
@@ -6,8 +7,7 @@ use Rattle.std.proofs.lemmas.List.Elements.{All-cons, All-get_or}
 use mathlib.Core.Option.{some}
 use lib.ListN.{get_elem?}
 use Rattle.like_core.specs.declared.worker_state.WorkerState.TheVariants.{Runs}
-use Rattle.like_core.specs.declared.event.Event.{Event}
-use Rattle.like_core.specs.declared.event.Event.TheVariants.{Read, Glance, Hot}
+use Rattle.like_core.specs.declared.event.Event.TheVariants.{Read, Hot}
 use Rattle.like_core.specs.declared.shown.Shown.TheVariants.{Count, Hot as HotShown}
 use Rattle.like_core.specs.declared.opening.Opening.{Opening}
 use Rattle.like_core.specs.declared.view.PhaseMask.{PhaseMask}
@@ -17,8 +17,9 @@ use Rattle.like_core.specs.declared.view.View.{View}
 use Rattle.like_core.specs.declared.view.View.TheVariants.{Worker}
 use Rattle.like_limits.specs.Limits.{hot_pages, total_bound}
 use Rattle.like_core.specs.Phase.{IsSplit}
-use Rattle.like_core.specs.core.Table.{Permits, IsShown}
-use Rattle.like_core.specs.core.State.{CoreState, after, is_split_now, numbers}
+use Rattle.like_core.specs.core.Table.{Permits}
+use Rattle.like_core.specs.core.Moves.{IsShownBy, MayMove, Move, after_move, glances as glances_at, makes}
+use Rattle.like_core.specs.core.State.{CoreState, is_split_now, numbers}
 use Rattle.like_core.specs.WorkerState.{phase_of, IsRunning, RunsSplit}
 use Rattle.like_core.specs.Post.{MayRead, MayGlance, KnowsSlices, slices}
 use Rattle.like_core.specs.OpeningLimits.{has_slots}
@@ -29,7 +30,7 @@ use Rattle.like_core.specs.views.Reads.{all_before, HaveBetween, ReadsFit}
 use Rattle.like_core.specs.views.Places.{count_after, PlacesTile}
 use Rattle.like_core.specs.views.Tallies.{paged}
 use Rattle.like_core.specs.views.Layout.{mask_place, slot_in, slot_place, word_of}
-use Rattle.like_core.specs.views.Shows.{Shows, ShowsSome, FitsWorker, IsStep, mask_in}
+use Rattle.like_core.specs.views.Shows.{Shows, ShowsSome, FitsWorker, IsMove, IsStep, mask_in}
 use Rattle.like_core.proofs.core.Moved.{moved_in_phase}
 use Rattle.like_core.proofs.Slots.{choice-same, mask_by-plain, mask_by-slots, mask_of_slots-same}
 use Rattle.like_core.proofs.views.KeptPlaces.{read_keeps_places, glance_keeps_places, places_same}
@@ -49,37 +50,37 @@ taken_before : (front whole : List ℕ) (n : ℕ)
 taken_before front whole n within same =
     ap (take n) same ∙ take-take n (length front) whole within
 
--- a step of a worker that finds a page's count, after which its view is w, is the event and keeps what is shown; and
+-- a step of a worker that finds a page's count, after which its view is w, is the move and keeps what is shown; and
 -- the count has the worker's own additions and is below the bound of all counts
-abbrev pub IsRead : Opening → List ℕ → List View → ℕ → WorkerSeatView → ℕ → Event → WorkerSeatView → Type 0
-IsRead z words views place v page event w =
-    IsStep z event (Count (get_or words (word_of page) 0)) (Worker v) (Worker w)
+abbrev pub IsRead : Opening → List ℕ → List View → ℕ → WorkerSeatView → ℕ → Move → WorkerSeatView → Type 0
+IsRead z words views place v page move w =
+    IsMove z move (Count (get_or words (word_of page) 0)) (Worker v) (Worker w)
     × ShowsSome z (set words (word_of page) (get_or words (word_of page) 0)) (set views place (Worker w))
     × (added_to page v.additions ≤ get_or words (word_of page) 0)
     × (get_or words (word_of page) 0 < total_bound)
 
--- a read or a glance, after which the view has these reads and glances, is the event, if that changes nothing, shows
+-- a read or a glance, after which the view has these reads and glances, is the move, if that changes nothing, shows
 -- the count and is permitted, and if the reads and glances stay between what was added and in their places
 reads_word : (z : Opening) (words : List ℕ) (views : List View) (place : ℕ) (v : WorkerSeatView) (page : ℕ)
-    (event : Event) (rs gs : List PageRead)
+    (move : Move) (rs gs : List PageRead)
     → (some_state : ShowsSome z words views)
     → get_elem? views place ≡ some (Worker v)
     → IsRunning v.state
     → page < length v.opening.marks
     → KnowsSlices (post_of v) page
-    → after z some_state.state event ≡ some_state.state
-    → IsShown (numbers z some_state.state) event
+    → after_move z some_state.state move ≡ some_state.state
+    → IsShownBy z some_state.state move
     (Count (slice_index z.counts page + length (some_state.state.applied page)))
     → (some_state.state.state v.worker ≡ Runs some_state.state.phase → v.worker < z.workers → page < length z.counts
     → is_split_now z some_state.state page ≡ slices (post_of v) page
-    → Permits (numbers z some_state.state) event)
+    → MayMove z some_state.state move)
     → (get_or words (word_of page) 0 ≡ slice_index z.counts page + all_before views (phase_of v.state + 1) page
     → ReadsFit z.counts (phase_of v.state) views
     → ReadsFit z.counts (phase_of v.state) (set views place (Worker (record v { reads = rs; glances = gs }))))
     → (get_or words (word_of page) 0 ≡ count_after z.counts views page → PlacesTile z.counts views
     → PlacesTile z.counts (set views place (Worker (record v { reads = rs; glances = gs }))))
-    → IsRead z words views place v page event (record v { reads = rs; glances = gs })
-reads_word z words views place v page event rs gs some_state at running may_there knows stays shown permitted keep_reads
+    → IsRead z words views place v page move (record v { reads = rs; glances = gs })
+reads_word z words views place v page move rs gs some_state at running may_there knows stays shown permitted keep_reads
     keep_places =
     let s = some_state.state in
     let sh = some_state.shows in
@@ -135,7 +136,7 @@ reads_word z words views place v page event rs gs some_state at running may_ther
         happen = record {
           before = tt;
           permits = permitted (here ∙ ap Runs now) old.there on same;
-          tells = subst (λ (n : ℕ). IsShown (numbers z s) event (Count n)) (sym found) shown;
+          tells = subst (λ (n : ℕ). IsShownBy z s move (Count n)) (sym found) shown;
         };
         changed = word_of page;
         word = count;
@@ -165,30 +166,30 @@ pub reads : (z : Opening) (words : List ℕ) (views : List View) (place : ℕ) (
     → MayRead (post_of v) page
     → ShowsSome z words views
     → get_elem? views place ≡ some (Worker v)
-    → IsRead z words views place v page (Read v.worker page) (read_view v page (get_or words (word_of page) 0))
+    → IsRead z words views place v page (makes (Read v.worker page)) (read_view v page (get_or words (word_of page) 0))
 reads z words views place v page may some_state at =
     let count : ℕ = get_or words (word_of page) 0 in
     let w : WorkerSeatView = read_view v page count in
     reads_word z words views place v page
-    (Read v.worker page) w.reads v.glances some_state at may.runs may.there may.known refl refl
+    (makes (Read v.worker page)) w.reads v.glances some_state at may.runs may.there may.known refl refl
     (λ runs there on
     same. record { there = (there, on); suits = (runs, same ∙ may.plain); leaves_last = tt; room = tt })
     (λ is. read_keeps_reads z.counts views place v page count at is)
     (λ is. read_keeps_places z.counts views place v page count at is)
 
--- a glance is the event
+-- a glance is the move
 pub glances : (z : Opening) (words : List ℕ) (views : List View) (place : ℕ) (v : WorkerSeatView) (page : ℕ)
     → MayGlance (post_of v) page
     → ShowsSome z words views
     → get_elem? views place ≡ some (Worker v)
-    → IsRead z words views place v page (Glance v.worker page) (glanced_view v page (get_or words (word_of page) 0))
+    → IsRead z words views place v page (glances_at v.worker page) (glanced_view v page (get_or words (word_of page) 0))
 glances z words views place v page may some_state at =
     let count : ℕ = get_or words (word_of page) 0 in
     let w : WorkerSeatView = glanced_view v page count in
     reads_word z words views place v page
-    (Glance v.worker page) v.reads w.glances some_state at may.runs may.there may.known refl refl
+    (glances_at v.worker page) v.reads w.glances some_state at may.runs may.there may.known refl refl
     (λ runs there on
-    same. record { there = (there, on); suits = (runs, same ∙ may.sliced); leaves_last = tt; room = tt })
+    same. record { there = there; known = on; runs = runs; sliced = same ∙ may.sliced })
     (λ is. glance_keeps_reads z.counts views place v page count at is)
     (λ is. glance_keeps_places z.counts views place v page count at is)
 

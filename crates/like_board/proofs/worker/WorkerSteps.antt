@@ -7,22 +7,22 @@ use Rattle.like_core.specs.declared.worker_state.WorkerState.{WorkerState}
 use Rattle.like_core.specs.declared.worker_state.WorkerState.TheVariants.{Runs, Answered, Gone}
 use Rattle.like_core.specs.declared.sight.Sight.{Sight}
 use Rattle.like_core.specs.declared.event.Event.TheVariants.{Look, Acknowledge, Report, Retire}
-use Rattle.like_core.specs.declared.shown.Shown.TheVariants.{Done}
+use Rattle.like_core.specs.declared.shown.Shown.TheVariants.{Seen, Done}
 use Rattle.like_core.specs.declared.opening.Opening.{Opening}
 use Rattle.like_core.specs.declared.view.WorkerSeatView.{WorkerSeatView}
 use Rattle.like_core.specs.declared.view.View.{View}
 use Rattle.like_core.specs.declared.view.View.TheVariants.{Worker}
 use Rattle.like_core.specs.Functions.{times}
 use Rattle.like_core.specs.Phase.{IsJoined, IsSplit}
-use Rattle.like_core.specs.WorkerState.{IsIn, looked, RunsSome, IsSightOf, seen, phase_of, IsRunning, RunsJoined, RunsSplit, SawEnding}
+use Rattle.like_core.specs.WorkerState.{IsIn, looked, RunsSome, IsSightOf, seen, phase_of, IsRunning, RunsJoined, RunsSplit, SawEnding, running_sight}
 use Rattle.like_core.specs.word.Forms.{form_of}
 use Rattle.like_core.specs.core.Numbers.{Sees}
 use Rattle.like_core.specs.core.Table.{Permits}
 use Rattle.like_core.specs.core.State.{CoreState, numbers}
-use Rattle.like_core.specs.core.Moves.{LetsReturn, MayReturn, Reached, after_return}
+use Rattle.like_core.specs.core.Moves.{LetsReturn, MayReturn, Reached, after_return, comes_back}
 use Rattle.like_core.specs.word.ShownWord.{shown_word}
 use Rattle.like_core.specs.views.Views.{looked_view, answered_view, retired_view, returned_view}
-use Rattle.like_core.specs.views.Shows.{Shows, ShowsSome, FitsWorker, IsReturn, IsStep}
+use Rattle.like_core.specs.views.Shows.{Shows, ShowsSome, FitsWorker, IsMove, IsStep}
 use Rattle.like_core.specs.views.Serves.{moved}
 use Rattle.like_core.proofs.Updates.{update-same}
 use Rattle.like_core.proofs.core.Moved.{moved_in_phase, moves_back, moves_by}
@@ -411,7 +411,7 @@ taken_word word taken after new found back new_is is = omega arith
 pub record BackAt (z : Opening) (words : List ℕ) (views : List View) (place : ℕ) (v : WorkerSeatView) (new phase : ℕ)
     : Type 0 where
   pub within : phase ≤ z.limits.last_phase
-  pub step : IsReturn z v.worker (Worker v) (Worker (returned_view v phase))
+  pub step : IsMove z (comes_back v.worker) (Seen (running_sight phase)) (Worker v) (Worker (returned_view v phase))
   pub shows : ShowsSome z (set words 0 new) (set views place (Worker (returned_view v phase)))
 
 -- a worker that is gone comes back, where the word is that of a phase that isn't ending
@@ -465,7 +465,11 @@ returns z words views place v new some_state at gone lets even new_is =
         moment = moment_of z words views some_state;
         place = place;
         mine = at;
-        may = may;
+        happen = record {
+          before = tt;
+          permits = may;
+          tells = ap (λ n. Seen (running_sight n)) present;
+        };
         changed = 0;
         word = new;
         shows_after = shows_after;

@@ -3,7 +3,7 @@ use Rattle.std.proofs.lemmas.Bool.{cases_lt, eqb-true, and_parts, cond-false, le
 use Rattle.like_core.specs.declared.worker_state.WorkerState.{WorkerState}
 use Rattle.like_core.specs.declared.worker_state.WorkerState.TheVariants.{Runs, Answered, Gone}
 use Rattle.like_core.specs.declared.event.Event.{Event}
-use Rattle.like_core.specs.declared.event.Event.TheVariants.{Look, Acknowledge, Report, Retire, Like, Read, Glance, Merge, Hot, CoordLook, CoordRead, Announce, Release}
+use Rattle.like_core.specs.declared.event.Event.TheVariants.{Look, Acknowledge, Report, Retire, Like, Read, Merge, Hot, CoordLook, CoordRead, Announce, Release}
 use Rattle.like_core.specs.declared.opening.Opening.{Opening}
 use Rattle.like_core.specs.Functions.{update, times}
 use Rattle.like_core.specs.Phase.{IsJoined, IsSplit, is_hot_by, is_marked, split_by}
@@ -211,7 +211,6 @@ keeps_in_phase z s (Like i page) p may =
       last = p.last;
     })
 keeps_in_phase z s (Read i page) p may = p
-keeps_in_phase z s (Glance i page) p may = p
 keeps_in_phase z s (Merge i page) p may =
     let odd = split_now-IsSplit z s page may.suits.1 in
     let q = moves_likes z s i (without page (s.unmerged i)) p may.suits.0 odd in

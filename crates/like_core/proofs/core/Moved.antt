@@ -5,7 +5,7 @@ use Rattle.like_core.specs.declared.opening.Opening.{Opening}
 use Rattle.like_core.specs.core.Table.{Permits}
 use Rattle.like_core.specs.core.State.{CoreState, start, after, numbers}
 use Rattle.like_core.specs.core.Reachable.{Reachable, after_all, PermitsAll}
-use Rattle.like_core.specs.core.Moves.{Move, makes, comes_back, LetsReturn, MayMove, MayMoveAll, MayReturn, NobodyReturns, Reached, after_move, after_moves, after_return}
+use Rattle.like_core.specs.core.Moves.{Move, makes, comes_back, glances, LetsReturn, MayMove, MayMoveAll, MayReturn, NobodyReturns, Reached, after_move, after_moves, after_return}
 use Rattle.like_core.specs.core.Exclusive.{IsInPhase, ReachedIsExclusive}
 use Rattle.like_core.proofs.core.InPhase.{exclusive, keeps_in_phase, return_in_phase, start_in_phase}
 use Rattle.like_core.proofs.core.Reached.{start_reached, goes_on_by}
@@ -69,6 +69,7 @@ move_in_phase : (z : Opening) (s : CoreState) (move : Move)
     → IsInPhase z (after_move z s move)
 move_in_phase z s (makes event) p may = keeps_in_phase z s event p may
 move_in_phase z s (comes_back i) p may = return_in_phase z s i p may
+move_in_phase z s (glances i page) p may = p
 
 moves_in_phase : (z : Opening) (s : CoreState) (moves : List Move)
     → IsInPhase z s
@@ -87,7 +88,7 @@ moved_in_phase z s r =
 pub reached_is_exclusive : ReachedIsExclusive
 reached_is_exclusive z s r = let p = moved_in_phase z s r in (exclusive z s p, p)
 
--- where nobody comes back, moves are events
+-- where nobody comes back, each move is an event or changes nothing
 events_alone : (z : Opening) (s : CoreState) (moves : List Move)
     → ¬ LetsReturn z.limits
     → Reachable z s
@@ -96,6 +97,7 @@ events_alone : (z : Opening) (s : CoreState) (moves : List Move)
 events_alone z s [] nobody r may = r
 events_alone z s (makes event ∷ moves) nobody r may =
     events_alone z (after z s event) moves nobody (goes_on_by z s event r may.0) may.1
+events_alone z s (glances i page ∷ moves) nobody r may = events_alone z s moves nobody r may.1
 events_alone z s (comes_back i ∷ moves) nobody r may = let back : MayReturn z s i = may.0 in absurd (nobody back.lets)
 
 pub nobody_returns : NobodyReturns

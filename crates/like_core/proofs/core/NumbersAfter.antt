@@ -1,7 +1,7 @@
 use Rattle.std.proofs.Common.{◌≡◌, ℕ, ◌+◌, Bool, true, false, cond, List, [], ◌∷◌, ◌++◌, length, replicate, slice_index, length-append, ap, sym, ◌∙◌, refl, arith}
 use Rattle.std.proofs.lemmas.List.{length-replicate}
 use Rattle.like_core.specs.declared.event.Event.{Event}
-use Rattle.like_core.specs.declared.event.Event.TheVariants.{Look, Acknowledge, Report, Retire, Like, Read, Glance, Merge, Hot, CoordLook, CoordRead, Announce, Release}
+use Rattle.like_core.specs.declared.event.Event.TheVariants.{Look, Acknowledge, Report, Retire, Like, Read, Merge, Hot, CoordLook, CoordRead, Announce, Release}
 use Rattle.like_core.specs.declared.opening.Opening.{Opening}
 use Rattle.like_core.specs.Functions.{update, times}
 use Rattle.like_core.specs.core.Numbers.{with_unmerged, with_count}
@@ -70,7 +70,6 @@ numbers-after z s (Like i page) =
     in
     ap-cond (numbers z) (is_split_now z s page) sliced_like plain_like _ _ in_slice in_count
 numbers-after z s (Read i page) = refl
-numbers-after z s (Glance i page) = refl
 numbers-after z s (Merge i page) =
     let n = numbers z s in
     let likes = times page (s.unmerged i) in

@@ -4,14 +4,14 @@ use Rattle.std.proofs.lemmas.Bool.{cond-false, le-ltb}
 use Rattle.like_core.specs.declared.worker_state.WorkerState.{WorkerState}
 use Rattle.like_core.specs.declared.worker_state.WorkerState.TheVariants.{Runs, Answered, Gone}
 use Rattle.like_core.specs.declared.event.Event.{Event}
-use Rattle.like_core.specs.declared.event.Event.TheVariants.{Look, Acknowledge, Report, Retire, Like, Read, Glance, Merge, Hot, CoordLook, CoordRead, Announce, Release}
+use Rattle.like_core.specs.declared.event.Event.TheVariants.{Look, Acknowledge, Report, Retire, Like, Read, Merge, Hot, CoordLook, CoordRead, Announce, Release}
 use Rattle.like_core.specs.declared.opening.Opening.{Opening}
 use Rattle.like_core.specs.Functions.{update}
 use Rattle.like_core.specs.WorkerState.{IsIn, looked}
 use Rattle.like_core.specs.core.Numbers.{AllIn}
 use Rattle.like_core.specs.core.Table.{Permits}
 use Rattle.like_core.specs.core.State.{CoreState, after, numbers}
-use Rattle.like_core.specs.core.Moves.{AllInStays, AllStayIn, MayMove, MayMoveAll, MayReturn, Move, NoneReturns, makes, comes_back, after_move, after_moves}
+use Rattle.like_core.specs.core.Moves.{AllInStays, AllStayIn, MayMove, MayMoveAll, MayReturn, Move, NoneReturns, makes, comes_back, glances, after_move, after_moves}
 use Rattle.like_core.specs.views.Serves.{moved}
 use Rattle.like_core.proofs.Updates.{update_cases}
 
@@ -54,7 +54,6 @@ event_leaves z s (Report i) all may keeps = absurd (none_runs z s i all may.ther
 event_leaves z s (Retire i) all may keeps = absurd (none_runs z s i all may.there may.suits.0)
 event_leaves z s (Like i page) all may keeps = absurd (none_runs z s i all may.there.0 may.suits)
 event_leaves z s (Read i page) all may keeps = inl refl
-event_leaves z s (Glance i page) all may keeps = inl refl
 event_leaves z s (Merge i page) all may keeps = absurd (none_runs z s i all may.there.0 may.suits.0)
 event_leaves z s (Hot i) all may keeps = inl refl
 event_leaves z s CoordLook all may keeps = inl refl
@@ -76,6 +75,7 @@ move_leaves z s (comes_back i) none all may keeps =
     let ending : s.ending ≡ true = none back.lets in
     let running : s.ending ≡ false = back.running in
     absurd (cc)
+move_leaves z s (glances i page) none all may keeps = inl refl
 
 -- at an ending nothing is announced
 stays : (s t : CoreState) → s.ending ≡ true → Leaves s t → t ≡ s

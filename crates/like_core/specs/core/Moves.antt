@@ -1,21 +1,26 @@
--- The moves of a board: the events, and a worker that was gone and comes back. That is a service's, and no event.
-use Rattle.std.specs.Prelude.{◌≡◌, ◌≢◌, ℕ, ◌<◌, true, false, List, [], ◌∷◌}
+-- The moves of a board: the events, and what only a service's workers do: one that was gone comes back, and one glances
+-- at the count of a page that is sliced. These are no events.
+use Rattle.std.specs.Prelude.{◌≡◌, ◌≢◌, ℕ, ◌<◌, true, false, List, [], ◌∷◌, length}
 use Rattle.like_core.specs.declared.worker_state.WorkerState.TheVariants.{Runs, Gone}
 use Rattle.like_core.specs.declared.event.Event.{Event}
 use Rattle.like_core.specs.declared.event.Event.TheVariants.{Release}
 use Rattle.like_core.specs.declared.limits.Limits.{Limits}
 use Rattle.like_core.specs.declared.opening.Opening.{Opening}
+use Rattle.like_core.specs.declared.shown.Shown.{Shown}
+use Rattle.like_core.specs.declared.shown.Shown.TheVariants.{Seen, Count}
 use Rattle.like_core.specs.Functions.{update}
+use Rattle.like_core.specs.WorkerState.{running_sight}
 use Rattle.like_core.specs.word.Forms.{form_of}
 use Rattle.like_core.specs.core.Numbers.{AllIn}
-use Rattle.like_core.specs.core.Table.{Permits}
-use Rattle.like_core.specs.core.State.{CoreState, start, after, numbers}
+use Rattle.like_core.specs.core.Table.{Permits, IsShown}
+use Rattle.like_core.specs.core.State.{CoreState, start, after, is_split_now, numbers}
 use Rattle.like_core.specs.core.Reachable.{Reachable}
 
--- an event, or this worker comes back
+-- an event, or this worker comes back, or it glances at this page
 pub data Move : Type 0 where
   makes : Event → Move
   comes_back : ℕ → Move
+  glances : ℕ → ℕ → Move
 
 -- workers may come back to a board whose word counts who is gone: a service's
 abbrev pub LetsReturn : Limits → Type 0
@@ -36,15 +41,30 @@ pub record MayReturn (z : Opening) (s : CoreState) (i : ℕ) : Type 0 where
 abbrev pub NoneReturns : Opening → CoreState → Type 0
 NoneReturns z s = LetsReturn z.limits → s.ending ≡ true
 
--- the state after the move
+-- worker i may glance at the page: it runs the present phase, and the page is sliced in it
+pub record MayGlanceAt (z : Opening) (s : CoreState) (i page : ℕ) : Type 0 where
+  pub there : i < z.workers
+  pub known : page < length z.counts
+  pub runs : s.state i ≡ Runs s.phase
+  pub sliced : is_split_now z s page ≡ true
+
+-- the state after the move: a glance changes nothing
 abbrev pub after_move : Opening → CoreState → Move → CoreState
 after_move z s (makes event) = after z s event
 after_move z s (comes_back i) = after_return s i
+after_move z s (glances i page) = s
 
 -- the move may be made
 abbrev pub MayMove : Opening → CoreState → Move → Type 0
 MayMove z s (makes event) = Permits (numbers z s) event
 MayMove z s (comes_back i) = MayReturn z s i
+MayMove z s (glances i page) = MayGlanceAt z s i page
+
+-- what the move shows: a worker that comes back sees the phase running, and a glance shows the page's count
+abbrev pub IsShownBy : Opening → CoreState → Move → Shown → Type 0
+IsShownBy z s (makes event) shown = IsShown (numbers z s) event shown
+IsShownBy z s (comes_back i) shown = shown ≡ Seen (running_sight s.phase)
+IsShownBy z s (glances i page) shown = shown ≡ Count ((numbers z s).count page)
 
 -- the state after a list of moves
 abbrev pub after_moves : Opening → CoreState → List Move → CoreState

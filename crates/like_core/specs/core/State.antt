@@ -2,7 +2,7 @@ use Rattle.std.specs.Prelude.{ℕ, ◌+◌, ◌==◌, nat_lt, Bool, true, false,
 use Rattle.like_core.specs.declared.worker_state.WorkerState.{WorkerState}
 use Rattle.like_core.specs.declared.worker_state.WorkerState.TheVariants.{Runs, Answered, Gone}
 use Rattle.like_core.specs.declared.event.Event.{Event}
-use Rattle.like_core.specs.declared.event.Event.TheVariants.{Look, Acknowledge, Report, Retire, Like, Read, Glance, Merge, Hot, CoordLook, CoordRead, Announce, Release}
+use Rattle.like_core.specs.declared.event.Event.TheVariants.{Look, Acknowledge, Report, Retire, Like, Read, Merge, Hot, CoordLook, CoordRead, Announce, Release}
 use Rattle.like_core.specs.declared.opening.Opening.{Opening}
 use Rattle.like_core.specs.declared.limits.Limits.{Limits}
 use Rattle.like_limits.specs.Buckets.{run_factor}
@@ -84,7 +84,6 @@ after z s (Like i page) =
     else
     record s { applied = update s.applied page (s.applied page ++ label_now s i ∷ []) })
 after z s (Read i page) = s
-after z s (Glance i page) = s
 after z s (Merge i page) = record s {
   unmerged = update s.unmerged i (without page (s.unmerged i));
   applied = update s.applied page

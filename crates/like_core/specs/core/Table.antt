@@ -3,7 +3,7 @@ use Rattle.like_core.specs.declared.worker_state.WorkerState.TheVariants.{Runs, 
 use Rattle.like_core.specs.declared.sight.Sight.{Sight}
 use Rattle.like_core.specs.declared.sight.CoordSight.{CoordSight}
 use Rattle.like_core.specs.declared.event.Event.{Event}
-use Rattle.like_core.specs.declared.event.Event.TheVariants.{Look, Acknowledge, Report, Retire, Like, Read, Glance, Merge, Hot, CoordLook, CoordRead, Announce, Release}
+use Rattle.like_core.specs.declared.event.Event.TheVariants.{Look, Acknowledge, Report, Retire, Like, Read, Merge, Hot, CoordLook, CoordRead, Announce, Release}
 use Rattle.like_core.specs.declared.shown.Shown.{Shown}
 use Rattle.like_core.specs.declared.shown.Shown.TheVariants.{Seen, Coord, Done, Sliced, Old, Count, Hot as HotShown}
 use Rattle.like_core.specs.declared.pure_core.refusal.NotNow.{NotNow}
@@ -21,7 +21,6 @@ NamesWhatIsThere n (Report i) = i < n.workers
 NamesWhatIsThere n (Retire i) = i < n.workers
 NamesWhatIsThere n (Like i page) = (i < n.workers) × (page < n.pages)
 NamesWhatIsThere n (Read i page) = (i < n.workers) × (page < n.pages)
-NamesWhatIsThere n (Glance i page) = (i < n.workers) × (page < n.pages)
 NamesWhatIsThere n (Merge i page) = (i < n.workers) × (page < n.pages)
 NamesWhatIsThere n (Hot i) = i < n.workers
 NamesWhatIsThere n CoordLook = Unit {0}
@@ -39,7 +38,6 @@ Suits n (Report i) =
 Suits n (Retire i) = (n.state i ≡ Runs n.phase) × IsJoined n.phase
 Suits n (Like i page) = n.state i ≡ Runs n.phase
 Suits n (Read i page) = (n.state i ≡ Runs n.phase) × (sliced n page ≡ false)
-Suits n (Glance i page) = (n.state i ≡ Runs n.phase) × (sliced n page ≡ true)
 Suits n (Merge i page) = (n.state i ≡ Runs n.phase) × (sliced n page ≡ true) × (n.ending ≡ true)
 Suits n (Hot i) = (n.state i ≡ Runs n.phase) × IsSplit n.phase
 Suits n CoordLook = Unit {0}
@@ -79,7 +77,6 @@ IsShown n (Report i) shown = shown ≡ Done
 IsShown n (Retire i) shown = shown ≡ Done
 IsShown n (Like i page) shown = shown ≡ (if sliced n page then Sliced else Old (n.count page))
 IsShown n (Read i page) shown = shown ≡ Count (n.count page)
-IsShown n (Glance i page) shown = shown ≡ Count (n.count page)
 IsShown n (Merge i page) shown = shown ≡ Old (n.count page)
 IsShown n (Hot i) shown = shown ≡ HotShown n.hot
 IsShown n CoordLook shown = ((sight : CoordSight) × (shown ≡ Coord sight) × CoordSees n sight)
@@ -96,7 +93,6 @@ next n (Retire i) = with_state n i Gone
 next n (Like i page) =
     (if sliced n page then with_like n i page else with_more n page 1)
 next n (Read i page) = n
-next n (Glance i page) = n
 next n (Merge i page) = with_more (with_unmerged n i page 0) page (n.unmerged i page)
 next n (Hot i) = n
 next n CoordLook = n

@@ -1,14 +1,16 @@
--- What each call at a board does: it takes a seat's view to the next, and is one event, or some likes and their merge.
+-- What each call at a board does: it takes a seat's view to the next, and is one move, or some likes and their merge.
 use Rattle.std.specs.Prelude.{ℕ}
 use Rattle.like_core.specs.declared.sight.Sight.{Sight}
 use Rattle.like_core.specs.declared.sight.CoordSight.{CoordSight}
-use Rattle.like_core.specs.declared.event.Event.TheVariants.{Look, Acknowledge, Report, Retire, Read, Glance, Hot, CoordLook, CoordRead, Announce, Release}
+use Rattle.like_core.specs.declared.event.Event.TheVariants.{Look, Acknowledge, Report, Retire, Read, Hot, CoordLook, CoordRead, Announce, Release}
 use Rattle.like_core.specs.declared.shown.Shown.TheVariants.{Seen, Done, Old, Count, Hot as HotShown, Coord as CoordShown}
 use Rattle.like_core.specs.declared.view.WorkerSeatView.{WorkerSeatView}
 use Rattle.like_core.specs.declared.view.CoordSeatView.{CoordSeatView}
 use Rattle.like_core.specs.declared.view.View.TheVariants.{Coord, Worker}
+use Rattle.like_core.specs.core.Moves.{comes_back, glances, makes}
+use Rattle.like_core.specs.WorkerState.{phase_of, running_sight}
 use Rattle.like_core.specs.views.Views.{likes_merged, adding, mask_released}
-use Rattle.like_core.specs.views.Shows.{IsReturn, IsStep, IsSteps}
+use Rattle.like_core.specs.views.Shows.{IsMove, IsStep, IsSteps}
 
 -- the worker looks at the phase word, and sees this
 abbrev pub Looks : WorkerSeatView → Sight → WorkerSeatView → Type 0
@@ -26,14 +28,16 @@ Reports v w = IsStep v.opening (Report v.worker) Done (Worker v) (Worker w)
 abbrev pub Retires : WorkerSeatView → WorkerSeatView → Type 0
 Retires v w = IsStep v.opening (Retire v.worker) Done (Worker v) (Worker w)
 
--- the worker comes back
+-- the worker comes back, and sees the phase that it then runs
 abbrev pub ComesBack : WorkerSeatView → WorkerSeatView → Type 0
-ComesBack v w = IsReturn v.opening v.worker (Worker v) (Worker w)
+ComesBack v w =
+    IsMove v.opening (comes_back v.worker) (Seen (running_sight (phase_of w.state)))
+    (Worker v) (Worker w)
 
 -- the worker adds n to a page's count, which was this before
 abbrev pub Adds : WorkerSeatView → ℕ → ℕ → ℕ → WorkerSeatView → Type 0
 Adds v page n count w =
-    IsSteps v.opening (likes_merged v page n) (adding v page) (Old count) (Worker v) (Worker w)
+    IsSteps v.opening (likes_merged v page n) (makes (adding v page)) (Old count) (Worker v) (Worker w)
 
 -- the worker reads a page's count, which is this
 abbrev pub Reads : WorkerSeatView → ℕ → ℕ → WorkerSeatView → Type 0
@@ -41,7 +45,7 @@ Reads v page count w = IsStep v.opening (Read v.worker page) (Count count) (Work
 
 -- the worker glances at the count of a page that is sliced, which is this
 abbrev pub Glances : WorkerSeatView → ℕ → ℕ → WorkerSeatView → Type 0
-Glances v page count w = IsStep v.opening (Glance v.worker page) (Count count) (Worker v) (Worker w)
+Glances v page count w = IsMove v.opening (glances v.worker page) (Count count) (Worker v) (Worker w)
 
 -- the worker reads the mask of its phase's hot pages, which is this
 abbrev pub ReadsMask : WorkerSeatView → ℕ → WorkerSeatView → Type 0

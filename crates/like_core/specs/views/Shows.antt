@@ -16,10 +16,9 @@ use Rattle.like_core.specs.OpeningLimits.{AreLimits, has_slots}
 use Rattle.like_core.specs.Slots.{IsChoice, mask_by}
 use Rattle.like_core.specs.PhaseMasks.{mask_of}
 use Rattle.like_core.specs.core.Numbers.{AllIn, AllGone, CoordSees}
-use Rattle.like_core.specs.core.Table.{Permits, IsShown}
-use Rattle.like_core.specs.core.State.{CoreState, labelled, after, numbers}
-use Rattle.like_core.specs.core.Reachable.{after_all, PermitsAll}
-use Rattle.like_core.specs.core.Moves.{MayReturn, NoneReturns, Reached, after_return}
+use Rattle.like_core.specs.core.State.{CoreState, labelled, numbers}
+use Rattle.like_core.specs.core.Reachable.{Reachable, after_all, PermitsAll}
+use Rattle.like_core.specs.core.Moves.{IsShownBy, LetsReturn, MayMove, Move, makes, NoneReturns, Reached, after_move}
 use Rattle.like_core.specs.core.Exclusive.{NoneUnmerged}
 use Rattle.like_core.specs.word.ShownWord.{shown_word}
 use Rattle.like_core.specs.WorkerState.{IsRunning, RunsSplit, SawEnding, SawNoLater}
@@ -205,6 +204,10 @@ pub record IsLastMoment (z : Opening) (c : CoordSeatView) : Type 0 where
   pub mine : get_elem? moment.views 0 ≡ some (Coord c)
   pub gone : AllGone (numbers z moment.state)
 
+-- where nobody comes back, as in a run, events alone lead to the state of each moment
+abbrev pub MomentsAreReachable : Type 0
+MomentsAreReachable = (z : Opening) (m : Moment z) → ¬ LetsReturn z.limits → Reachable z m.state
+
 -- at a moment at which this is what the coordinator knows, each count that it read in its phase is its page's count at
 -- the start and all that the seats have added by then
 abbrev pub CountsAreOfOneMoment : Type 0
@@ -212,42 +215,33 @@ CountsAreOfOneMoment =
     (z : Opening) (c : CoordSeatView) (m : Moment z) → get_elem? m.views 0 ≡ some (Coord c)
     → All (λ r. r.phase ≡ c.phase → r.count ≡ count_after z.counts m.views r.page) c.counted
 
--- these events may happen in the state, one after the other, and then this one, which shows this
-pub record Happen (z : Opening) (s : CoreState) (events : List Event) (event : Event) (shown : Shown)
+-- these events may happen in the state, one after the other, and then this move may be made, which shows this
+pub record Happen (z : Opening) (s : CoreState) (events : List Event) (move : Move) (shown : Shown)
     : Type 0 where
   pub before : PermitsAll z s events
-  pub permits : Permits (numbers z (after_all z s events)) event
-  pub tells : IsShown (numbers z (after_all z s events)) event shown
+  pub permits : MayMove z (after_all z s events) move
+  pub tells : IsShownBy z (after_all z s events) move shown
 
--- one step of a seat, whose view goes from v to w: at some moment these events happen, and this one last. Then at most
--- one word has changed and the seat's view is w, and the words and views show the state after the events
-pub record IsSteps (z : Opening) (events : List Event) (event : Event) (shown : Shown) (v w : View)
+-- one step of a seat, whose view goes from v to w: at some moment these events happen, and this move is made last. Then
+-- at most one word has changed and the seat's view is w, and the words and views show the state after the move
+pub record IsSteps (z : Opening) (events : List Event) (move : Move) (shown : Shown) (v w : View)
     : Type 0 where
   pub moment : Moment z
   -- the seat's place among the views
   pub place : ℕ
   pub mine : get_elem? moment.views place ≡ some v
-  pub happen : Happen z moment.state events event shown
+  pub happen : Happen z moment.state events move shown
   -- the word that may have changed, and what it is now
   pub changed : ℕ
   pub word : ℕ
   pub shows_after :
-      Shows z (after z (after_all z moment.state events) event)
+      Shows z (after_move z (after_all z moment.state events) move)
       (slice_set moment.words changed word) (slice_set moment.views place w)
+
+-- one step of a seat is this move
+abbrev pub IsMove : Opening → Move → Shown → View → View → Type 0
+IsMove z move shown v w = IsSteps z [] move shown v w
 
 -- one step of a seat is this event
 abbrev pub IsStep : Opening → Event → Shown → View → View → Type 0
-IsStep z event shown v w = IsSteps z [] event shown v w
-
--- worker i's seat comes back, and its view goes from v to w: at some moment the worker may come back. Then at most one
--- word has changed and the seat's view is w, and the words and views show the state after
-pub record IsReturn (z : Opening) (i : ℕ) (v w : View) : Type 0 where
-  pub moment : Moment z
-  pub place : ℕ
-  pub mine : get_elem? moment.views place ≡ some v
-  pub may : MayReturn z moment.state i
-  pub changed : ℕ
-  pub word : ℕ
-  pub shows_after :
-      Shows z (after_return moment.state i)
-      (slice_set moment.words changed word) (slice_set moment.views place w)
+IsStep z event shown v w = IsMove z (makes event) shown v w

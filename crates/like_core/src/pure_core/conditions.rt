@@ -46,10 +46,8 @@ impl Core {
             | Event::Report(worker)
             | Event::Retire(worker)
             | Event::Hot(worker) => self.has_worker(worker),
-            Event::Like(worker, page)
-            | Event::Read(worker, page)
-            | Event::Glance(worker, page)
-            | Event::Merge(worker, page) => self.has_worker(worker) && self.has_page(page),
+            Event::Like(worker, page) | Event::Read(worker, page) | Event::Merge(worker, page) =>
+                self.has_worker(worker) && self.has_page(page),
             Event::CoordRead(page) => self.has_page(page),
             Event::Release(mask) => self.has_pages(mask),
             Event::CoordLook | Event::Announce => true,
@@ -122,7 +120,6 @@ impl Core {
             Event::Retire(worker) => self.runs(worker) && joined,
             Event::Like(worker, _) => self.runs(worker),
             Event::Read(worker, page) => self.runs(worker) && !self.is_sliced(page),
-            Event::Glance(worker, page) => self.runs(worker) && self.is_sliced(page),
             Event::Merge(worker, page) => {
                 self.runs(worker) && self.is_sliced(page) && self.ending
             }

@@ -115,9 +115,7 @@ impl Core {
                 Shown::Sliced
             }
             Event::Like(_, page) => Shown::Old(self.add_count(page, 1)),
-            Event::Read(_, page) | Event::Glance(_, page) | Event::CoordRead(page) => {
-                Shown::Count(self.counts.get(page))
-            }
+            Event::Read(_, page) | Event::CoordRead(page) => Shown::Count(self.counts.get(page)),
             Event::Merge(worker, page) => Shown::Old(self.merge(worker, page)),
             Event::Hot(_) => Shown::Hot(self.hot),
             Event::CoordLook => Shown::Coord(self.coord_look()),

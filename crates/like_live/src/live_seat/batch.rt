@@ -5,9 +5,9 @@ ghost use Rattle.like_live.specs.LiveView.{IsLive, IsSameSeat};
 use crate::answer::{GlanceAnswer, LikeAnswer, LookAnswer};
 use crate::call::{Answer, Call};
 use crate::live_seat::LiveSeat;
-use like_core::SlotPost;
+use like_core::{Glances, SlotPost};
 
-impl<P: SlotPost> LiveSeat<P> {
+impl<P: SlotPost + Glances> LiveSeat<P> {
     /// Makes calls one by one, up to the first that is told `Between` or `NoRoom`, and writes their answers. Says how
     /// many were done. The one that stopped it was not: call it again. Its answer and later ones are left as they were.
     pub fn run(&mut self, calls: &[Call], answers: &mut [Answer]) -> usize

@@ -12,7 +12,7 @@ use crate::live_seat::LiveSeat;
 use crate::look_room::LookRoom;
 use crate::signals::{MAX_LIKES, Signals};
 use like_choice::Kind;
-use like_core::Post;
+use like_core::{Glances, Post};
 use like_requests::{Op, PageRef, Request, Verdict};
 use like_seat::Station;
 use like_tables::Placed;
@@ -220,7 +220,9 @@ impl<P: Post> LiveSeat<P> {
         );
         true
     }
+}
 
+impl<P: Glances> LiveSeat<P> {
     // A glance, of a seat that runs a phase.
     #[inline(always)]
     pub(crate) fn glance_now(&mut self, user: u32, page: u32) -> GlanceAnswer

@@ -8,7 +8,7 @@ ghost use Rattle.like_seat.specs.Steps.{CountsLike, CountsOnBoard, Glances, Read
 
 use crate::seen::Seen;
 use crate::station::Station;
-use like_core::Post;
+use like_core::{Glances, Post};
 use like_tables::Placed;
 
 impl<P: Post, W: Copy> Station<P, W> {
@@ -159,7 +159,9 @@ impl<P: Post, W: Copy> Station<P, W> {
             count: self.post.read(page),
         }
     }
+}
 
+impl<P: Glances, W: Copy> Station<P, W> {
     /// Shows a user at once what the seat knows of a sliced page: the page's count with the seat's own slice of it. It
     /// lacks what the slices of others have.
     #[inline(always)]

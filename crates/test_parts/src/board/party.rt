@@ -9,7 +9,7 @@ use super::lead::lead;
 use super::walker::Walker;
 use crate::asserts::assert_call_at;
 use like_board::{Board, CoordSeat};
-use like_core::Post;
+use like_core::{Glances, Post};
 use std::process::Abort;
 
 #[derive(Drop)]
@@ -25,7 +25,7 @@ pub struct Party<'a, P: Post> {
     ghost second_here: { (walker : _) → second ≡ Some walker → IsWorkerAt (coord_board coord) 1 (P.view walker.post) },
 }
 
-impl<P: Post> Party<'_, P> {
+impl<P: Glances> Party<'_, P> {
     /// Makes the calls of all parts, and asserts that each is answered as it says.
     pub fn plays(&mut self, rt: &impl Abort, parts: &[&[Step]])
         ensures { KeepsSeat self.old.coord self.new.coord }

@@ -77,11 +77,15 @@ const TO_SPLIT: &[Step] = &[
     looks!(First, 1, false, false),
 ];
 
-// They report in phase 1, the first with three likes; in phase 2 it reads the page and retires.
-const TO_JOINED: &[Step] = &[
+// The first merges three likes in phase 1.
+const MERGED: &[Step] = &[
     announces!(1),
     looks!(First, 1, true, false),
     Step::First(OnPost::Merge(3, 10)),
+];
+
+// They report; in phase 2 the first reads the page and retires.
+const TO_JOINED: &[Step] = &[
     Step::First(OnPost::Answer),
     looks!(Second, 1, true, false),
     Step::Second(OnPost::Answer),
@@ -93,6 +97,7 @@ const TO_JOINED: &[Step] = &[
 
 const THREE_PHASES: &[&[Step]] = &[
     TO_SPLIT,
+    MERGED,
     TO_JOINED,
     &[
         looks!(Second, 2, false, false),
@@ -109,6 +114,8 @@ const EACH_CALL: &[&[Step]] = &[
         Step::First(OnPost::Hot(0)),
         Step::First(OnPost::Glance(10)),
     ],
+    MERGED,
+    &[Step::First(OnPost::Glance(13))],
     TO_JOINED,
 ];
 

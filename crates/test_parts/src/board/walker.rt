@@ -1,4 +1,4 @@
-//! A worker of a board, which knows the trait `Post` alone.
+//! A worker of a board, which knows the traits `Post` and `Glances` alone.
 ghost use Rattle.std.specs.Prelude.{◌≡◌, ◌^◌, ◌<◌, ◌≤◌, true, IsTrue};
 ghost use Rattle.like_limits.specs.Limits.{hot_pages};
 ghost use Rattle.like_core.specs.Phase.{is_marked};
@@ -8,7 +8,7 @@ ghost use Rattle.test_parts.specs.Walk.{IsKnown, KeepsPlace, SlicesFirst};
 
 use super::calls::OnPost;
 use crate::known::Known;
-use like_core::{Limits, Post, Sight, WorkerState};
+use like_core::{Glances, Limits, Post, Sight, WorkerState};
 
 // The state of a worker after a sight.
 fn state_after(state: WorkerState, sight: Sight) -> WorkerState
@@ -29,7 +29,7 @@ pub struct Walker<P: Post> {
     ghost is: { IsKnown (P.view post) known },
 }
 
-impl<P: Post> Walker<P> {
+impl<P: Glances> Walker<P> {
     /// A worker at a post on which no call was made, at a board with this many pages, whose first is marked or is not.
     pub fn new(post: P, limits: Limits, pages: u32, marked: bool) -> Walker<P>
         requires fresh { IsFresh (P.view post) }

@@ -161,10 +161,8 @@ static CASES: [Case; 6] = [
             (Event::Release(0), Ok(Shown::Done)),
             (Event::Look(0), running!(1)),
             (Event::Like(0, 0), Ok(Shown::Sliced)),
-            (Event::Glance(0, 0), Ok(Shown::Count(11))),
             (Event::Announce, Ok(Shown::Done)),
             (Event::Merge(0, 0), Ok(Shown::Old(11))),
-            (Event::Glance(0, 0), Ok(Shown::Count(12))),
             (Event::Report(0), Ok(Shown::Done)),
             (
                 Event::Look(0),
@@ -177,7 +175,6 @@ static CASES: [Case; 6] = [
             (Event::Release(0), Ok(Shown::Done)),
             (Event::Look(0), running!(2)),
             (Event::Read(0, 0), Ok(Shown::Count(12))),
-            (Event::Glance(0, 0), Err(NotNow::Phase)),
             (Event::Retire(0), Ok(Shown::Done)),
         ],
         ..LONE

@@ -1,0 +1,15 @@
+ghost use Rattle.std.specs.Prelude.{◌≡◌, ◌<◌, ◌≤◌};
+ghost use Rattle.like_limits.specs.Limits.{total_bound};
+ghost use Rattle.like_core.specs.Post.{has_glanced, additions_of, MayGlance};
+
+use crate::post::Post;
+
+/// A post of a service, whose worker can look at a sliced page's count before the end of the phase.
+pub trait Glances: Post {
+    /// The count of a page that is sliced. It lacks what the slices of the present phase have, the worker's own too.
+    fn glance(&mut self, page: u32) -> u64
+        requires { MayGlance (Self.view self.old) page }
+        ensures view { Self.view self.new ≡ has_glanced (Self.view self.old) page result }
+        ensures own { additions_of (Self.view self.old) page ≤ result }
+        ensures bounded { result < total_bound };
+}
