@@ -8,7 +8,6 @@ use lib.ListN.{get_elem?}
 use Rattle.atomic_table.specs.Table.{Me, keeps, Allows, Splits, Joins}
 use Rattle.atomic_table.proofs.Lists.{set_again}
 use Rattle.like_core.specs.declared.worker_state.WorkerState.TheVariants.{Gone}
-use Rattle.like_core.specs.declared.event.Event.{Event}
 use Rattle.like_core.specs.declared.event.Event.TheVariants.{Acknowledge, Report, Retire, Read, Hot, CoordRead, Announce, Release}
 use Rattle.like_core.specs.declared.shown.Shown.TheVariants.{Seen, Done, Old, Count, Hot as HotShown}
 use Rattle.like_core.specs.declared.form.Form.{Form}
