@@ -1,6 +1,7 @@
-use Rattle.std.proofs.Common.{◌≡◌, ap, sym, subst, ◌∙◌}
+use Rattle.std.proofs.Common.{◌≡◌, ap, sym, subst, ◌∙◌, refl}
 use Rattle.std.proofs.lemmas.Bool.{false≢true}
 use Rattle.like_core.specs.OpeningLimits.{has_slots}
+use Rattle.like_core.specs.core.Moves.{LetsReturn}
 use Rattle.like_core.specs.declared.limits.Limits.{Limits}
 use Rattle.like_core.specs.declared.worker_state.WorkerState.TheVariants.{Gone}
 use Rattle.like_seat.specs.StationView.{StationView}
@@ -18,7 +19,8 @@ come_back-requires-clause-slotted g c =
 
 pub come_back-requires-clause-lets : goal.come_back-requires-clause-lets
 come_back-requires-clause-lets g c =
-    ap (λ (s : StationView Asked). s.post.limits.form) c.loop.invariant.same ∙ ap (λ (l : Limits). l.form) c.requires.limits
+    subst (λ (l : Limits). LetsReturn l)
+    (sym (ap (λ (s : StationView Asked). s.post.limits) c.loop.invariant.same ∙ c.requires.limits)) refl
 
 pub come_back-requires-2-clause-gone : goal.come_back-requires-2-clause-gone
 come_back-requires-2-clause-gone g c =
@@ -30,7 +32,8 @@ come_back-requires-2-clause-slotted g c =
 
 pub come_back-requires-2-clause-lets : goal.come_back-requires-2-clause-lets
 come_back-requires-2-clause-lets g c =
-    ap (λ (s : StationView Asked). s.post.limits.form) c.loop.invariant.same ∙ ap (λ (l : Limits). l.form) c.requires.limits
+    subst (λ (l : Limits). LetsReturn l)
+    (sym (ap (λ (s : StationView Asked). s.post.limits) c.loop.invariant.same ∙ c.requires.limits)) refl
 
 pub returns-then-come_back-clause-back : goal.returns-then-come_back-clause-back
 returns-then-come_back-clause-back g c =
