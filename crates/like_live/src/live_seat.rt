@@ -19,7 +19,7 @@ use crate::asked::{Asked, Found};
 use crate::look_room::LookRoom;
 use crate::signals::Signals;
 use like_core::{Glances, Post, Returns, SlotPost};
-use like_seat::Station;
+use like_seat::ServiceStation;
 use like_tables::{Home, Stash, Users};
 use moves::{returns, work_or_retire};
 use std::alloc::{AllocError, Global};
@@ -31,7 +31,7 @@ use std::marker::Model;
 #[derive(Drop)]
 pub struct LiveSeat<P: Post> {
     /// What waits is in its stash.
-    seat: Station<P, Asked>,
+    seat: ServiceStation<P, Asked>,
     found: Stash<Found>,
     /// Where its users have their places.
     home: Home,
@@ -83,7 +83,7 @@ impl<P: Post + Drop> LiveSeat<P> {
     {
         let found = Stash::new(alloc, room)?;
         let home = last.home();
-        match Station::of_service(alloc, post, factor, room, last) {
+        match ServiceStation::of_service(alloc, post, factor, room, last) {
             Ok(seat) => Ok(LiveSeat {
                 seat,
                 found,

@@ -20,7 +20,7 @@ use crate::turn::Turn;
 use like_core::Post;
 use like_promises::WorkerLog;
 use like_requests::{Gate, Setup, Taken};
-use like_seat::Station;
+use like_seat::RunStation;
 use like_tables::{Held, Users};
 use std::alloc::{AllocError, Global};
 use std::marker::Model;
@@ -30,7 +30,7 @@ use std::marker::Model;
 /// Its submitters are `w`, `w + N`, `w + 2 N`, .. for worker `w` of `N`; place `j` belongs to submitter `w + j N`.
 #[derive(Drop)]
 pub struct Worker<P: Post> {
-    seat: Station<P, Held>,
+    seat: RunStation<P, Held>,
     desk: Desk,
 }
 
@@ -137,7 +137,7 @@ impl<P: Post> Worker<P> {
             return Err(NoWorker { post });
         };
         let Parts { marks, last, desk } = parts;
-        match Station::new(alloc, post, marks, setup.stash, last) {
+        match RunStation::new(alloc, post, marks, setup.stash, last) {
             Ok(seat) => Ok(Worker { seat, desk }),
             Err(refused) => Err(NoWorker { post: refused.post }),
         }

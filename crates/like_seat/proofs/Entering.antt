@@ -23,7 +23,7 @@ use Rattle.like_tables.proofs.Sliced.{counts-none}
 use Rattle.like_seat.specs.declared.tables.Tables.{Tables}
 use Rattle.like_seat.specs.Kept.{EntersBy, IsFilled, IsFilledBySlots, IsKept, IsOfRun, IsOfService, MayEnter, SplitsPages, is_split_by, is_split_in_run}
 use Rattle.like_seat.specs.Steps.{masks_entered}
-use Rattle.like_seat.proofs.Filling.{same_tests}
+use Rattle.like_seat.proofs.Filling.{number-kept, same_tests}
 use Rattle.like_seat.proofs.Keeping.{in-split, of-run, of-service, splits-none}
 
 parity : (n : ℕ) → IsSplit n ⊎ IsJoined n
@@ -52,7 +52,7 @@ pub ran-returned : (post looked : PostView) (phase : ℕ) → looked ≡ returne
 ran-returned post looked phase back = subst (λ (p : PostView). p ≡ ran post p phase) (sym back) refl
 
 -- who ran no split phase may enter the phase that it runs
-pub MayEnter-kept : {W : Type 0} (post looked : PostView) (t : Tables W) (phase : ℕ) → IsKept post t
+pub MayEnter-kept : {W C : Type 0} (post looked : PostView) (t : Tables W C) (phase : ℕ) → IsKept post t
     → (RunsSplit post.state → ⊥) → looked ≡ ran post looked phase → MayEnter looked t.slice phase
 MayEnter-kept post looked t phase kept idle look =
     let may : MayEnter (ran post looked phase) t.slice phase = record {
@@ -60,15 +60,16 @@ MayEnter-kept post looked t phase kept idle look =
       limits = kept.seat.limits;
       few_pages = kept.seat.few_pages;
       unsplit = record { slice = kept.slice; factor = kept.factor; none = splits-none post t.slice kept.splits idle };
+      numbers = kept.numbers;
     } in subst (λ (p : PostView). MayEnter p t.slice phase) (sym look) may
 
-pub IsOfRun-ran : {W : Type 0} (post looked : PostView) (t : Tables W) (phase : ℕ) → IsKept post t
+pub IsOfRun-ran : {W C : Type 0} (post looked : PostView) (t : Tables W C) (phase : ℕ) → IsKept post t
     → looked ≡ ran post looked phase → has_slots post.limits ≡ false → IsOfRun looked t.marks.items
 IsOfRun-ran post looked t phase kept look plain =
     subst (λ (p : PostView). IsOfRun p t.marks.items) (sym look)
     (of-run post (ran post looked phase) t.marks.items t.marks.items refl refl refl refl kept.run plain)
 
-pub IsOfService-ran : {W : Type 0} (post looked : PostView) (t : Tables W) (phase : ℕ) → IsKept post t
+pub IsOfService-ran : {W C : Type 0} (post looked : PostView) (t : Tables W C) (phase : ℕ) → IsKept post t
     → looked ≡ ran post looked phase → has_slots post.limits ≡ true → IsOfService looked
 IsOfService-ran post looked t phase kept look slotted =
     subst (λ (p : PostView). IsOfService p) (sym look)
@@ -120,7 +121,7 @@ filled-service post slots word s after service limits few choice f = record {
 }
 
 -- a slice with these numbers, of which no page was split, has no like
-empty : {W : Type 0} (post : PostView) (t : Tables W) (s : SplitSlice) → IsKept post t → (RunsSplit post.state → ⊥)
+empty : {W C : Type 0} (post : PostView) (t : Tables W C) (s : SplitSlice) → IsKept post t → (RunsSplit post.state → ⊥)
     → s.counts ≡ t.slice.counts → by_page s (pages_of post) ≡ by_page t.slice (pages_of post)
 empty post t s kept idle same =
     let n : ℕ = pages_of post in
@@ -177,10 +178,10 @@ pub record IsEntered (post : PostView) (s s' : SplitSlice) : Type 0 where
   pub counts : s'.counts ≡ s.counts
   pub splits : SplitsPages post s'
 
-entered-slice : {W : Type 0} (post looked now : PostView) (t after : Tables W) (phase mask : ℕ)
+entered-slice : {W C : Type 0} (post looked now : PostView) (t after : Tables W C) (phase mask : ℕ)
     → IsKept post t → (RunsSplit post.state → ⊥) → looked ≡ ran post looked phase → EntersBy looked phase mask now t after
     → IsEntered (entered post looked phase mask) t.slice after.slice
-entered-slice {W} post looked now t after phase mask kept idle look e = elim (parity phase) [
+entered-slice {W} {C} post looked now t after phase mask kept idle look e = elim (parity phase) [
   | inl odd ↦
       let filled = e.split odd in
       record {
@@ -208,7 +209,7 @@ entered-slice {W} post looked now t after phase mask kept idle look e = elim (pa
       }
 ]
 
-module _ {W : Type 0} (post looked now : PostView) (t after : Tables W) (phase mask : ℕ)
+module _ {W C : Type 0} (post looked now : PostView) (t after : Tables W C) (phase mask : ℕ)
     (kept : IsKept post t) (idle : RunsSplit post.state → ⊥)
     (look : looked ≡ ran post looked phase) (e : EntersBy looked phase mask now t after) where
   -- its post now
@@ -228,7 +229,7 @@ module _ {W : Type 0} (post looked now : PostView) (t after : Tables W) (phase m
       let n : ℕ = pages_of post in
       let same = empty post t after.slice kept idle s.counts in
       let at : PostView = entered post looked phase mask in
-      let tables : Tables W = record t { state = Runs phase; slice = after.slice } in
+      let tables : Tables W C = record t { state = Runs phase; slice = after.slice } in
       let likes : t.likes ≡ all_added post.additions + sum (by_page after.slice n) =
       kept.likes ∙ ap (λ (xs : List ℕ). all_added post.additions + sum xs) (sym same) in
       let keeps : IsKept at tables = record {
@@ -237,6 +238,9 @@ module _ {W : Type 0} (post looked now : PostView) (t after : Tables W) (phase m
         state = refl;
         slice = s.lawful;
         factor = s.factor;
+        numbers = λ page there.
+            number-kept t.slice after.slice page (s.factor ∙ sym kept.factor) (ap (λ (xs : List ℕ). length xs) s.counts)
+            (kept.numbers page there);
         splits = s.splits;
         sums = ap (λ (xs : List ℕ). sum xs) same ∙ kept.sums ∙ sym (ap (λ (xs : List ℕ). sum xs) s.counts);
         likes = likes;
@@ -252,7 +256,7 @@ module _ {W : Type 0} (post looked now : PostView) (t after : Tables W) (phase m
           waiting = kept.seat.waiting;
         };
       } in
-      subst (λ (p : PostView). IsKept p after) (sym now-entered) (subst (λ (x : Tables W). IsKept at x) (sym e.rest) keeps)
+      subst (λ (p : PostView). IsKept p after) (sym now-entered) (subst (λ (x : Tables W C). IsKept at x) (sym e.rest) keeps)
 
 -- who has not answered stays in its phase
 pub stays : (s : WorkerState) (sight : Sight) → ((k : ℕ) → s ≡ Answered k → ⊥) → seen s sight ≡ s
@@ -261,9 +265,9 @@ stays (state.Answered k) sight runs = absurd (runs k refl)
 stays state.Gone sight runs = refl
 
 -- a look that leaves the phase
-pub IsKept-looked : {W : Type 0} (post now : PostView) (t : Tables W) (sight : Sight) → IsKept post t
+pub IsKept-looked : {W C : Type 0} (post now : PostView) (t : Tables W C) (sight : Sight) → IsKept post t
     → now ≡ looked_at post sight → seen post.state sight ≡ post.state → IsKept now t
-IsKept-looked {W} post now t sight k look same =
+IsKept-looked {W} {C} post now t sight k look same =
     let at : PostView = record post { last = Some sight; looks = (looked_at post sight).looks } in
     let is : now ≡ at =
     look ∙ (λ i. record post { state = same i; last = Some sight; looks = (looked_at post sight).looks }) in
@@ -273,6 +277,7 @@ IsKept-looked {W} post now t sight k look same =
       state = k.state;
       slice = k.slice;
       factor = k.factor;
+      numbers = k.numbers;
       splits = k.splits;
       sums = k.sums;
       likes = k.likes;

@@ -1,9 +1,9 @@
 -- A slice in which pages are split, one after the other, by the factor of a run.
-use Rattle.std.proofs.Common.{◌≡◌, ℕ, ◌+◌, ◌<◌, ◌&&◌, ◌↔◌, nat_lt, Bool, true, false, inl, inr, refl, sym, ap, ◌∙◌, arith}
+use Rattle.std.proofs.Common.{◌≡◌, ℕ, ◌+◌, ◌<◌, ◌&&◌, ◌↔◌, nat_lt, Bool, true, false, length, inl, inr, refl, sym, ap, ◌∙◌, arith}
 use Rattle.std.proofs.lemmas.Bool.{and_from, and_parts, cases_eq, cases_lt, lt-ltb, ltb-true}
 use Rattle.like_limits.specs.Buckets.{bucket, buckets, run_factor}
 use Rattle.like_tables.specs.SplitPages.{MayPut, is_split}
-use Rattle.like_tables.specs.SplitSlice.{IsSplitSlice, SplitSlice, has_split, with_split}
+use Rattle.like_tables.specs.SplitSlice.{IsSplitSlice, SplitSlice, bucket_in, has_split, with_split}
 use Rattle.like_tables.proofs.ByPage.{MayPut-none, is_split-kept, is_split-put, is_split-with_page}
 use Rattle.like_core.specs.Functions.{has_bit}
 use Rattle.like_core.specs.Slots.{IsInSlot}
@@ -13,6 +13,14 @@ use Rattle.like_seat.specs.Kept.{AreSlotsApart, IsFilledBySlots}
 -- in a run page i has bucket i
 pub bucket-run : (page : ℕ) → page < buckets → bucket run_factor page ≡ page
 bucket-run page small = omega arith
+
+-- a page has its number still, where the factor and the many numbers are as before
+pub number-kept : (s after : SplitSlice) (page : ℕ) → after.splits.factor ≡ s.splits.factor
+    → length after.counts ≡ length s.counts → bucket_in s page < length s.counts
+    → bucket_in after page < length after.counts
+number-kept s after page factor long here =
+    let same : bucket_in after page ≡ bucket_in s page = ap (λ f. bucket f page) factor in
+    omega (arith, same, long, here)
 
 -- two tests are one where each implies the other
 pub same_tests : (a b : Bool) → (a ≡ true → b ≡ true) → (b ≡ true → a ≡ true) → a ≡ b

@@ -16,7 +16,7 @@ use Rattle.like_core.specs.WorkerState.{IsRunning, RunsJoined, RunsSplit, phase_
 use Rattle.like_limits.specs.Buckets.{bucket, buckets}
 use Rattle.like_tables.specs.Liked.{AreUnliked}
 use Rattle.like_tables.specs.SplitPages.{SplitPages, is_split}
-use Rattle.like_tables.specs.SplitSlice.{AreUnsliced, IsNextSliced, IsSplitSlice, SplitSlice, bucket_in, by_page, has_split, likes_in, no_slice, with_likes}
+use Rattle.like_tables.specs.SplitSlice.{AreUnsliced, HasNumbers, IsNextSliced, IsSplitSlice, SplitSlice, bucket_in, by_page, has_split, likes_in, no_slice, with_likes}
 use Rattle.like_tables.specs.Waiting.{IsWaiting, Waiting}
 use Rattle.like_tables.proofs.ByPage.{by_page-none, by_page-with_likes, get_or-by_page, is_split-one, length-by_page, liked-split, likes_in-other}
 use Rattle.like_tables.proofs.Sliced.{IsSplitSlice-none, has_split-none}
@@ -25,7 +25,7 @@ use Rattle.like_seat.specs.declared.tables.Tables.{Tables}
 use Rattle.like_seat.specs.Kept.{IsKept, IsOfRun, IsOfService, SplitsPages, view_of}
 use Rattle.like_seat.specs.StationView.{HasPhaseMask, IsSliceInSplit, likes_of}
 use Rattle.like_seat.specs.Steps.{IsNext, NoneFrom}
-use Rattle.like_seat.proofs.Filling.{same_tests}
+use Rattle.like_seat.proofs.Filling.{number-kept, same_tests}
 
 -- who runs an odd phase runs a split one
 runs-split : (s : WorkerState) → IsRunning s → IsSplit (phase_of s) → RunsSplit s
@@ -147,23 +147,24 @@ of-service post now l m was slotted =
     record { slotted = slotted; unmarked = λ page. ap (λ (ms : List Bool). is_marked ms page) m ∙ r.unmarked page }
 
 -- a slice that has no split page has no like
-pub by_page-no_slice : (factor n : ℕ) → by_page (no_slice factor) n ≡ replicate n 0
-by_page-no_slice factor n =
-    by_page-none (no_slice factor) n (λ page. likes_in-other (no_slice factor) page (has_split-none factor page))
+pub by_page-no_slice : (factor many n : ℕ) → by_page (no_slice factor many) n ≡ replicate n 0
+by_page-no_slice factor many n =
+    by_page-none (no_slice factor many) n
+    (λ page. likes_in-other (no_slice factor many) page (has_split-none factor many page))
 
 pub sum-zeros : (n : ℕ) → sum (replicate n 0) ≡ 0
 sum-zeros n = sum_by-replicate (λ x. x) n 0 ∙ omega arith
 
 -- the tables of a post that made a step in its phase, which leaves the split pages
-pub Kept-written : {W : Type 0} (post : PostView) (a : List Addition) (r gl : List PageRead) (t after : Tables W)
+pub Kept-written : {W C : Type 0} (post : PostView) (a : List Addition) (r gl : List PageRead) (t after : Tables W C)
     → IsKept post t
     → after.marks.items ≡ t.marks.items → after.state ≡ t.state → after.held ≡ t.held
-    → after.slice.splits ≡ t.slice.splits → IsSplitSlice after.slice
+    → after.slice.splits ≡ t.slice.splits → length after.slice.counts ≡ length t.slice.counts → IsSplitSlice after.slice
     → sum (by_page after.slice (pages_of post)) ≡ sum after.slice.counts
     → after.likes ≡ likes_of (view_of (record post { additions = a; reads = r; glances = gl }) after)
     → after.likes ≤ post.limits.likes
     → IsKept (record post { additions = a; reads = r; glances = gl }) after
-Kept-written {W} post a r gl t after k marks state_is held splits is sums likes few =
+Kept-written {W} {C} post a r gl t after k marks state_is held splits long is sums likes few =
     let now : PostView = record post { additions = a; reads = r; glances = gl } in
     let split : SplitsPages now after.slice = λ page.
     subst (λ (s : SplitPages). (is_split s page ≡ true)
@@ -174,6 +175,8 @@ Kept-written {W} post a r gl t after k marks state_is held splits is sums likes 
       state = k.state ∙ sym state_is;
       slice = is;
       factor = ap (λ (s : SplitPages). s.factor) splits ∙ k.factor;
+      numbers = λ page there.
+          number-kept t.slice after.slice page (ap (λ (s : SplitPages). s.factor) splits) long (k.numbers page there);
       splits = split;
       sums = sums;
       likes = likes;
@@ -191,22 +194,23 @@ Kept-written {W} post a r gl t after k marks state_is held splits is sums likes 
     }
 
 -- the tables of a post that read or glanced
-pub Kept-read : {W : Type 0} (post now : PostView) (r gl : List PageRead) (t : Tables W) → IsKept post t
+pub Kept-read : {W C : Type 0} (post now : PostView) (r gl : List PageRead) (t : Tables W C) → IsKept post t
     → now ≡ record post { reads = r; glances = gl } → IsKept now t
-Kept-read {W} post now r gl t k is =
+Kept-read {W} {C} post now r gl t k is =
     subst (λ (p : PostView). IsKept p t) (sym is)
-    (Kept-written post post.additions r gl t t k refl refl refl refl k.slice k.sums k.likes
+    (Kept-written post post.additions r gl t t k refl refl refl refl refl k.slice k.sums k.likes
     (omega (arith, k.likes, k.seat.few)))
 
 -- the tables hold other requests that wait
-pub Kept-holding : {W : Type 0} (post : PostView) (t : Tables W) (held : Waiting W) → IsKept post t → IsWaiting held
+pub Kept-holding : {W C : Type 0} (post : PostView) (t : Tables W C) (held : Waiting W) → IsKept post t → IsWaiting held
     → IsKept post (record t { held = held })
-Kept-holding {W} post t held k waits = record {
+Kept-holding {W} {C} post t held k waits = record {
   run = k.run;
   service = k.service;
   state = k.state;
   slice = k.slice;
   factor = k.factor;
+  numbers = k.numbers;
   splits = k.splits;
   sums = k.sums;
   likes = k.likes;
@@ -230,12 +234,12 @@ joined-unsplit (state.Answered k) joined split = split
 joined-unsplit state.Gone joined split = split
 
 -- the tables of a post that left a joined phase: it is in this state, in which it runs none
-pub Kept-left : {W : Type 0} (post now : PostView) (t : Tables W) (s : WorkerState) → IsKept post t
+pub Kept-left : {W C : Type 0} (post now : PostView) (t : Tables W C) (s : WorkerState) → IsKept post t
     → RunsJoined post.state → (RunsSplit s → ⊥) → phase_of s ≤ phase_of post.state → now ≡ record post { state = s }
     → IsKept now (record t { state = s })
-Kept-left {W} post now t s k joined idle within is =
+Kept-left {W} {C} post now t s k joined idle within is =
     let at : PostView = record post { state = s } in
-    let left : Tables W = record t { state = s } in
+    let left : Tables W C = record t { state = s } in
     let unsplit = joined-unsplit post.state joined in
     let keeps : IsKept at left = record {
       run = of-run post at t.marks.items t.marks.items refl refl refl refl k.run;
@@ -243,6 +247,7 @@ Kept-left {W} post now t s k joined idle within is =
       state = refl;
       slice = k.slice;
       factor = k.factor;
+      numbers = k.numbers;
       splits = λ page. (λ has. absurd (unsplit ((k.splits page).0 has).0), λ runs. absurd (idle runs.0));
       sums = k.sums;
       likes = k.likes;
@@ -260,38 +265,40 @@ Kept-left {W} post now t s k joined idle within is =
     } in subst (λ (p : PostView). IsKept p left) (sym is) keeps
 
 -- and those of one that stopped at the end of it
-pub Kept-answered : {W : Type 0} (post now : PostView) (t : Tables W) (n : ℕ) → IsKept post t → RunsJoined post.state
+pub Kept-answered : {W C : Type 0} (post now : PostView) (t : Tables W C) (n : ℕ) → IsKept post t → RunsJoined post.state
     → n ≡ phase_of t.state → now ≡ answered post → IsKept now (record t { state = state.Answered n })
-Kept-answered {W} post now t n k joined is answer =
+Kept-answered {W} {C} post now t n k joined is answer =
     let same : phase_of post.state ≡ n = ap phase_of k.state ∙ sym is in
     Kept-left post now t (state.Answered n) k joined (λ runs. runs) (omega (arith, same))
     (answer ∙ (λ i. record post { state = state.Answered (same i) }))
 
 -- the tables of a post that never looked, or answered: no page is split
-pub Kept-unsplit : {W : Type 0} (post : PostView) (t : Tables W) (factor : ℕ)
-    → (RunsSplit post.state → ⊥) → t.slice ≡ no_slice factor → factor ≡ post.factor → factor < 2 ^ 32
+pub Kept-unsplit : {W C : Type 0} (post : PostView) (t : Tables W C) (factor many : ℕ)
+    → (RunsSplit post.state → ⊥) → t.slice ≡ no_slice factor many → factor ≡ post.factor → factor < 2 ^ 32
+    → HasNumbers (no_slice factor many) (pages_of post)
     → (has_slots post.limits ≡ false → IsOfRun post t.marks.items)
     → (has_slots post.limits ≡ true → IsOfService post) → post.state ≡ t.state
     → t.likes ≡ likes_of (view_of post t) → t.likes ≤ post.limits.likes
     → pages_of post ≤ post.limits.pages → AreLimits post.limits
     → phase_of post.state ≤ post.limits.last_phase → IsWaiting t.held
     → IsKept post t
-Kept-unsplit {W} post t factor not_split slice_is factor_is below run service state_is likes few few_pages limits within held =
+Kept-unsplit {W} {C} post t factor many not_split slice_is factor_is below numbers run service state_is likes few few_pages limits within held =
     let splits : SplitsPages post t.slice = λ page. (
-      λ has. absurd (cc (ap (λ (s : SplitSlice). has_split s page) slice_is, has_split-none factor page, has)),
+      λ has. absurd (cc (ap (λ (s : SplitSlice). has_split s page) slice_is, has_split-none factor many page, has)),
       λ runs. absurd (not_split runs.0),
     ) in
     record {
       run = run;
       service = service;
       state = state_is;
-      slice = subst IsSplitSlice (sym slice_is) (IsSplitSlice-none factor below);
+      slice = subst IsSplitSlice (sym slice_is) (IsSplitSlice-none factor many below);
       factor = ap (λ (s : SplitSlice). s.splits.factor) slice_is ∙ factor_is;
+      numbers = subst (λ (s : SplitSlice). HasNumbers s (pages_of post)) (sym slice_is) numbers;
       splits = splits;
       sums =
           ap (λ (s : SplitSlice). sum (by_page s (pages_of post))) slice_is
-          ∙ ap (λ (xs : List ℕ). sum xs) (by_page-no_slice factor (pages_of post))
-          ∙ sum-zeros (pages_of post) ∙ sym (sum-zeros buckets)
+          ∙ ap (λ (xs : List ℕ). sum xs) (by_page-no_slice factor many (pages_of post))
+          ∙ sum-zeros (pages_of post) ∙ sym (sum-zeros many)
           ∙ sym (ap (λ (s : SplitSlice). sum s.counts) slice_is);
       likes = likes;
       seat = record {

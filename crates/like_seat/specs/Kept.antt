@@ -1,5 +1,5 @@
 -- How a seat is kept.
-use Rattle.std.specs.Prelude.{◌≡◌, ◌↔◌, ℕ, ◌<◌, ◌≤◌, nat_lt, Bool, true, false, ◌&&◌, ◌||◌, List, sum}
+use Rattle.std.specs.Prelude.{◌≡◌, ◌↔◌, ℕ, ◌<◌, ◌≤◌, nat_lt, Bool, true, false, ◌&&◌, ◌||◌, List, [], length, sum}
 use Rattle.like_core.specs.Functions.{has_bit}
 use Rattle.like_core.specs.OpeningLimits.{AreLimits, has_slots}
 use Rattle.like_core.specs.Phase.{IsJoined, IsSplit, is_hot, is_hot_by, is_marked}
@@ -9,13 +9,14 @@ use Rattle.like_core.specs.WorkerState.{RunsSplit}
 use Rattle.like_core.specs.declared.worker_state.WorkerState.TheVariants.{Runs}
 use Rattle.like_limits.specs.Buckets.{bucket, buckets, run_factor}
 use Rattle.like_limits.specs.Limits.{hot_pages}
-use Rattle.like_tables.specs.SplitSlice.{IsSplitSlice, SplitSlice, by_page, has_split}
+use Rattle.like_tables.specs.SplitSlice.{HasNumbers, IsSplitSlice, SplitSlice, bucket_in, by_page, has_split}
+use Rattle.like_tables.specs.UserTable.{UserTable}
 use Rattle.like_seat.specs.StationView.{IsStation, StationView, likes_of}
 use Rattle.like_seat.specs.Steps.{masks_entered}
 use Rattle.like_seat.specs.declared.tables.Tables.{Tables}
 
 -- the seat of a post and what is kept beside it
-abbrev pub view_of : {W : Type 0} → PostView → Tables W → StationView W
+abbrev pub view_of : {W C : Type 0} → PostView → Tables W C → StationView W
 view_of post t = record {
   post = post;
   held = t.held;
@@ -44,16 +45,26 @@ pub record IsOfService (post : PostView) : Type 0 where
   pub unmarked : (page : ℕ) → is_marked post.marks page ≡ false
 
 -- the tables are those of this post
-pub record IsKept {W : Type 0} (post : PostView) (t : Tables W) : Type 0 where
+pub record IsKept {W C : Type 0} (post : PostView) (t : Tables W C) : Type 0 where
   pub run : has_slots post.limits ≡ false → IsOfRun post t.marks.items
   pub service : has_slots post.limits ≡ true → IsOfService post
   pub state : post.state ≡ t.state
   pub slice : IsSplitSlice t.slice
   pub factor : t.slice.splits.factor ≡ post.factor
+  pub numbers : HasNumbers t.slice (pages_of post)
   pub splits : SplitsPages post t.slice
   pub sums : sum (by_page t.slice (pages_of post)) ≡ sum t.slice.counts
   pub likes : t.likes ≡ likes_of (view_of post t)
   pub seat : IsStation (view_of post t)
+
+-- the tables of a seat that has done nothing yet, with this slice, which is empty
+pub record AreNew {W C : Type 0} (empty : SplitSlice) (room : ℕ) (users : UserTable) (t : Tables W C) : Type 0 where
+  pub state : t.state ≡ Runs 0
+  pub held : t.held ≡ record { held = []; capacity = room }
+  pub slice : t.slice ≡ empty
+  pub sliced : t.sliced.likes ≡ []
+  pub likes : t.likes ≡ 0
+  pub last : t.last ≡ users
 
 -- a slice that has no split page, and may get some
 pub record IsUnsplit (s : SplitSlice) (f : ℕ) : Type 0 where
@@ -82,6 +93,11 @@ AreSlotsApart factor slots word =
     (i j : ℕ) → i < hot_pages → j < hot_pages → has_bit word i ≡ true → has_bit word j ≡ true
     → bucket factor (slots i) ≡ bucket factor (slots j) → i ≡ j
 
+-- the slice has a number for the page in each slot in use
+abbrev pub HaveSlotsNumbers : SplitSlice → (ℕ → ℕ) → ℕ → Type 0
+HaveSlotsNumbers s slots word =
+    (i : ℕ) → i < hot_pages → has_bit word i ≡ true → bucket_in s (slots i) < length s.counts
+
 -- just the pages in those of the first n slots that are in use are split now, and the numbers are as before
 pub record IsFilledBySlots (s : SplitSlice) (slots : ℕ → ℕ) (word n : ℕ) (after : SplitSlice) : Type 0 where
   pub slice : IsSplitSlice after
@@ -95,13 +111,14 @@ pub record MayEnter (post : PostView) (s : SplitSlice) (phase : ℕ) : Type 0 wh
   pub limits : AreLimits post.limits
   pub few_pages : pages_of post ≤ post.limits.pages
   pub unsplit : IsUnsplit s post.factor
+  pub numbers : HasNumbers s (pages_of post)
 
 -- it runs the phase that its post runs. Of a split one the mask was read, which is this, and its slice is filled
-pub record EntersBy {W : Type 0} (post : PostView) (phase mask : ℕ) (now : PostView) (t after : Tables W) : Type 0 where
+pub record EntersBy {W C : Type 0} (post : PostView) (phase mask : ℕ) (now : PostView) (t after : Tables W C) : Type 0 where
   pub at_post : now ≡ record post { masks = masks_entered post.masks phase mask }
   pub rest : after ≡ record t { state = Runs phase; slice = after.slice }
   pub split : IsSplit phase → IsFilled t.slice (pages_of post) (is_split_by post mask) after.slice
   pub joined : IsJoined phase → after.slice ≡ t.slice
 
-abbrev pub Enters : {W : Type 0} → PostView → ℕ → PostView → Tables W → Tables W → Type 0
+abbrev pub Enters : {W C : Type 0} → PostView → ℕ → PostView → Tables W C → Tables W C → Type 0
 Enters post phase now t after = (mask : ℕ) × EntersBy post phase mask now t after

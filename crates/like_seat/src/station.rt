@@ -15,23 +15,26 @@ mod waits;
 
 use crate::tables::Tables;
 use like_core::{Post, WorkerState};
-use like_tables::Users;
+use like_tables::{BucketCounts, Counts, Slice, Users};
 use std::alloc::Global;
 use std::marker::Model;
 
-// The factor of a run: page i has bucket i.
-const RUN_FACTOR: u32 = 1 << 22;
-
 /// A worker's station: its post at a board, and what it keeps beside it.
 ///
-/// `W` is what waits for the next joined phase.
+/// `W` is what waits for the next joined phase, and `C` has the likes of its slice.
 #[derive(Drop)]
-pub struct Station<P: Post, W: Copy> {
+pub struct Station<P: Post, W: Copy, C: Counts> {
     post: P,
-    tables: Tables<W>,
+    tables: Tables<W, C>,
 }
 
-impl<P: Post, W: Copy> Model for Station<P, W> {
+/// A station of a run.
+pub type RunStation<P, W> = Station<P, W, Slice>;
+
+/// A station of a service.
+pub type ServiceStation<P, W> = Station<P, W, BucketCounts>;
+
+impl<P: Post, W: Copy, C: Counts> Model for Station<P, W, C> {
     ghost use Rattle.like_seat.specs.StationView.{StationView};
 
     ghost Value = { StationView W };
@@ -49,7 +52,7 @@ pub struct NoStation<P: Post> {
     pub post: P,
 }
 
-impl<P: Post, W: Copy> Station<P, W> {
+impl<P: Post, W: Copy> Station<P, W, Slice> {
     /// A new seat of a run, with these marks of split pages, room for `room` that wait, and these last likes. All
     /// memory is taken here, and none by its steps.
     pub fn new(
@@ -58,7 +61,7 @@ impl<P: Post, W: Copy> Station<P, W> {
         marks: Vec<bool>,
         room: u32,
         last: Users,
-    ) -> Result<Station<P, W>, NoStation<P>>
+    ) -> Result<Self, NoStation<P>>
         requires fresh { IsFresh (P.view post) }
         requires limits { AreLimits (P.view post).limits }
         requires few_pages { pages_of (P.view post) ≤ (P.view post).limits.pages }
@@ -68,12 +71,14 @@ impl<P: Post, W: Copy> Station<P, W> {
         ensures new { IfOk result (IsNewStation (P.view post) room last) }
         ensures post { IfErr result (λ refused. refused.post ≡ post) }
     {
-        match Tables::new(alloc, marks, RUN_FACTOR, room, last) {
+        match Tables::of_run(alloc, marks, room, last) {
             Ok(tables) => Ok(Station { post, tables }),
             Err(_) => Err(NoStation { post }),
         }
     }
+}
 
+impl<P: Post, W: Copy, C: Counts> Station<P, W, C> {
     /// The phase that it runs or has answered, and 0 once it is gone.
     #[inline(always)]
     pub fn phase(&self) -> u64

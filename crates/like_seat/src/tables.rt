@@ -4,18 +4,18 @@ ghost use Rattle.like_core.specs.WorkerState.{phase_of};
 ghost use Rattle.like_core.specs.declared.worker_state.WorkerState.TheVariants.{Runs};
 ghost use Rattle.like_limits.specs.Buckets.{buckets, run_factor};
 ghost use Rattle.like_limits.specs.Limits.{hot_pages, max_stash};
-ghost use Rattle.like_seat.specs.Kept.{AreSlotsApart, Enters, IsFilled, IsFilledBySlots, IsOfRun, IsOfService, IsUnsplit, MayEnter, is_split_in_run};
-ghost use Rattle.like_tables.specs.SplitSlice.{no_slice};
+ghost use Rattle.like_seat.specs.Kept.{AreNew, AreSlotsApart, Enters, HaveSlotsNumbers, IsFilled, IsFilledBySlots, IsOfRun, IsOfService, IsUnsplit, MayEnter, is_split_in_run};
+ghost use Rattle.like_tables.specs.SplitSlice.{HasNumbers, no_slice};
 
 use crate::like_count::LikeCount;
 use crate::slice_log::SliceLog;
 use like_core::{Post, SlotPost, WorkerState, is_hot};
-use like_tables::{SplitSlice, Stash, Users};
+use like_tables::{BucketCounts, Counts, Slice, SplitSlice, Stash, Users};
 use std::alloc::{AllocError, Global};
 
 /// What a seat keeps beside its post.
 #[derive(Drop)]
-pub(crate) struct Tables<W: Copy> {
+pub(crate) struct Tables<W: Copy, C: Counts> {
     /// Of a run: whether each page is marked as split.
     pub marks: Vec<bool>,
     /// The state of its post.
@@ -23,7 +23,7 @@ pub(crate) struct Tables<W: Copy> {
     /// What waits for the next joined phase, and in that phase what is left of it.
     pub held: Stash<W>,
     /// Which pages are split in the phase that it runs, and the likes that it has counted of them.
-    pub slice: SplitSlice,
+    pub slice: SplitSlice<C>,
     /// The likes that went into the slice.
     pub sliced: SliceLog,
     /// How many likes it has counted: what was added on the board, and the slice.
@@ -32,31 +32,25 @@ pub(crate) struct Tables<W: Copy> {
     pub last: Users,
 }
 
-impl<W: Copy> Tables<W> {
-    // The tables of a seat that has done nothing yet. All memory is taken here.
-    pub fn new(
+impl<W: Copy, C: Counts> Tables<W, C> {
+    // The tables of a seat that has done nothing yet, with this slice.
+    fn new(
         alloc: Global,
         marks: Vec<bool>,
-        factor: u32,
+        slice: SplitSlice<C>,
         room: u32,
         last: Users,
-    ) -> Result<Tables<W>, AllocError>
-        requires factor { 2 ^ 22 ≤ factor }
+    ) -> Result<Self, AllocError>
         requires some { 1 ≤ room }
         requires few { room ≤ max_stash }
+        ensures new { IfOk result (AreNew slice room last) }
         ensures marks { IfOk result (λ tables. tables.marks ≡ marks) }
-        ensures state { IfOk result (λ tables. tables.state ≡ Runs 0) }
-        ensures held { IfOk result (λ tables. tables.held ≡ record { held = []; capacity = room }) }
-        ensures slice { IfOk result (λ tables. tables.slice ≡ no_slice factor) }
-        ensures sliced { IfOk result (λ tables. tables.sliced.likes ≡ []) }
-        ensures likes { IfOk result (λ tables. tables.likes ≡ 0) }
-        ensures last { IfOk result (λ tables. tables.last ≡ last) }
     {
         Ok(Tables {
             marks,
             state: WorkerState::Runs(0),
             held: Stash::new(alloc, room)?,
-            slice: SplitSlice::new(alloc, factor)?,
+            slice,
             sliced: SliceLog::new(),
             likes: LikeCount::none(),
             last,
@@ -64,10 +58,48 @@ impl<W: Copy> Tables<W> {
     }
 }
 
+impl<W: Copy> Tables<W, Slice> {
+    // The tables of a seat of a run that has done nothing yet. All memory is taken here.
+    pub fn of_run(
+        alloc: Global,
+        marks: Vec<bool>,
+        room: u32,
+        last: Users,
+    ) -> Result<Self, AllocError>
+        requires small { length marks.items ≤ buckets }
+        requires some { 1 ≤ room }
+        requires few { room ≤ max_stash }
+        ensures new { IfOk result (AreNew (no_slice run_factor (length marks.items)) room last) }
+        ensures marks { IfOk result (λ tables. tables.marks ≡ marks) }
+    {
+        let slice = SplitSlice::of_run(alloc, marks.len() as u32)?;
+        Tables::new(alloc, marks, slice, room, last)
+    }
+}
+
+impl<W: Copy> Tables<W, BucketCounts> {
+    // The same of a service.
+    pub fn of_service(
+        alloc: Global,
+        factor: u32,
+        room: u32,
+        last: Users,
+    ) -> Result<Self, AllocError>
+        requires factor { 2 ^ 22 ≤ factor }
+        requires some { 1 ≤ room }
+        requires few { room ≤ max_stash }
+        ensures { IfOk result (AreNew (no_slice factor buckets) room last) }
+    {
+        let slice = SplitSlice::of_service(alloc, factor)?;
+        Tables::new(alloc, Vec::new(alloc), slice, room, last)
+    }
+}
+
 // Splits each page that is marked, or hot by this mask, in a run.
-fn split_pages(slice: &mut SplitSlice, marks: &[bool], mask: u64)
+fn split_pages<C: Counts>(slice: &mut SplitSlice<C>, marks: &[bool], mask: u64)
     requires few { length marks.now ≤ buckets }
     requires unsplit { IsUnsplit slice.old run_factor }
+    requires numbers { HasNumbers slice.old (length marks.now) }
     ensures { IsFilled slice.old (length marks.now) (is_split_in_run marks.now mask) slice.new }
 {
     for page in 0..marks.len() as u32 {
@@ -86,9 +118,10 @@ fn has_bit(word: u64, bit: usize) -> bool
 }
 
 // Splits the pages in the slots in use, in a service.
-fn split_slots(slice: &mut SplitSlice, pages: &[u32; 64], used: u64)
+fn split_slots<C: Counts>(slice: &mut SplitSlice<C>, pages: &[u32; 64], used: u64)
     requires unsplit { IsUnsplit slice.old slice.old.splits.factor }
     requires apart { AreSlotsApart slice.old.splits.factor (slice_index pages.now) used }
+    requires numbers { HaveSlotsNumbers slice.old (slice_index pages.now) used }
     ensures { IsFilledBySlots slice.old (slice_index pages.now) used hot_pages slice.new }
 {
     for slot in 0..64 {
@@ -98,7 +131,7 @@ fn split_slots(slice: &mut SplitSlice, pages: &[u32; 64], used: u64)
     }
 }
 
-impl<W: Copy> Tables<W> {
+impl<W: Copy, C: Counts> Tables<W, C> {
     // Runs the phase that was released, in a run. In a split one the post reads the mask, and the pages that are marked
     // or hot are split.
     #[cold]

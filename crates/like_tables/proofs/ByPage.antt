@@ -71,7 +71,7 @@ likes_in-here : (s : SplitSlice) (page likes : ℕ) → IsSplitSlice s → has_s
     → likes_in (with_likes s page likes) page ≡ likes
 likes_in-here s page likes is split =
     likes_in-split (with_likes s page likes) page split
-    ∙ get_or-set_same s.counts (bucket_in s page) likes 0 (omega (arith, is.all))
+    ∙ get_or-set_same s.counts (bucket_in s page) likes 0 (is.there (bucket_in s page) page (held-page s.splits page split))
 
 -- after a page's likes are written
 pub by_page-with_likes : (s : SplitSlice) (n page likes : ℕ) → IsSplitSlice s → has_split s page ≡ true → page < n

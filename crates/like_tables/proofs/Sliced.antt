@@ -16,22 +16,22 @@ page_in-none factor b =
     ]
 
 -- the slice that has no split page
-pub IsSplitSlice-none : (factor : ℕ) → factor < 2 ^ 32 → IsSplitSlice (no_slice factor)
-IsSplitSlice-none factor below = record {
+pub IsSplitSlice-none : (factor many : ℕ) → factor < 2 ^ 32 → IsSplitSlice (no_slice factor many)
+IsSplitSlice-none factor many below = record {
   pages = record {
     factor = below;
     all = length-replicate {A = Option ℕ} buckets None;
     own = λ b page is. absurd (cc (page_in-none factor b, is));
   };
-  all = length-replicate {A = ℕ} buckets 0;
-  empty = λ b none. elim (cases_lt b buckets) [
-    | inl within ↦ get_or-replicate buckets b 0 0 within
-    | inr past ↦ get_or_past (replicate buckets 0) b 0 (omega (arith, length-replicate {A = ℕ} buckets 0))
+  there = λ b page is. absurd (cc (page_in-none factor b, is));
+  empty = λ b none. elim (cases_lt b many) [
+    | inl within ↦ get_or-replicate many b 0 0 within
+    | inr past ↦ get_or_past (replicate many 0) b 0 (omega (arith, length-replicate {A = ℕ} many 0))
   ];
 }
 
-pub has_split-none : (factor page : ℕ) → has_split (no_slice factor) page ≡ false
-has_split-none factor page = ap (is_page page) (page_in-none factor (bucket factor page))
+pub has_split-none : (factor many page : ℕ) → has_split (no_slice factor many) page ≡ false
+has_split-none factor many page = ap (is_page page) (page_in-none factor (bucket factor page))
 
 -- a page that a bucket holds is split
 held-split : (s : SplitSlice) (b page : ℕ) → IsSplitSlice s → page_in s.splits b ≡ Some page → has_split s page ≡ true
@@ -52,10 +52,10 @@ counts-none s is none b = by_page_in (page_in s.splits b) refl
 
 -- so it has no like
 pub counts-replicate : (s : SplitSlice) → IsSplitSlice s → ((page : ℕ) → likes_in s page ≡ 0)
-    → s.counts ≡ replicate buckets 0
+    → s.counts ≡ replicate (length s.counts) 0
 counts-replicate s is none =
-    same_lists s.counts (replicate buckets 0) (is.all ∙ sym (length-replicate {A = ℕ} buckets 0))
-    (λ k d less. at_each k d less ∙ sym (get_or-replicate buckets k 0 d (omega (arith, is.all))))
+    same_lists s.counts (replicate (length s.counts) 0) (sym (length-replicate {A = ℕ} (length s.counts) 0))
+    (λ k d less. at_each k d less ∙ sym (get_or-replicate (length s.counts) k 0 d less))
   where
     at_each : (k d : ℕ) → k < length s.counts → get_or s.counts k d ≡ 0
     at_each k d less = get_or_default s.counts k d 0 less ∙ counts-none s is none k

@@ -8,6 +8,7 @@ pub mod Placed
 pub mod Places
 pub mod Ring
 pub mod Share
+pub mod Slice
 pub mod SplitPages
 pub mod SplitSlice
 pub mod Tags

@@ -2,23 +2,29 @@
 //! joined phase, and the last likes of its users.
 #![tactic(auto)]
 
+mod bucket_counts;
 mod buckets;
+mod counts;
 mod held;
 mod home;
 mod last_like;
 mod page_set;
 mod placed;
 mod share;
+mod slice;
 mod split_pages;
 mod split_slice;
 mod stash;
 mod users;
 
+pub use bucket_counts::BucketCounts;
 pub use buckets::{BUCKETS, bucket, factor_for};
+pub use counts::Counts;
 pub use held::Held;
 pub use home::Home;
 pub use last_like::NO_PAGE;
 pub use placed::Placed;
+pub use slice::Slice;
 pub use split_pages::SplitPages;
 pub use split_slice::SplitSlice;
 pub use stash::Stash;

@@ -1,47 +1,67 @@
-ghost use Rattle.std.specs.Prelude.{◌≡◌, ◌+◌, ◌^◌, ◌<◌, ◌≤◌, ℕ, true, IfNone, IfOk, IfSome, sum};
-ghost use Rattle.like_limits.specs.Buckets.{buckets};
+ghost use Rattle.std.specs.Prelude.{◌≡◌, ◌+◌, ◌^◌, ◌<◌, ◌≤◌, ℕ, true, IfNone, IfOk, IfSome, length, sum};
+ghost use Rattle.like_limits.specs.Buckets.{buckets, run_factor};
 ghost use Rattle.like_tables.specs.SplitPages.{MayPut};
 ghost use Rattle.like_tables.specs.SplitSlice.{AreUnsliced, IsNextSliced, IsSplitSlice, bucket_in, has_split, likes_in, no_slice, with_likes, with_split};
 
-use crate::buckets::BUCKETS;
+use crate::bucket_counts::BucketCounts;
+use crate::counts::Counts;
+use crate::slice::Slice;
 use crate::split_pages::SplitPages;
 use std::alloc::{AllocError, Global};
 use std::marker::Model;
 
+// The factor of a run: page i has bucket i.
+const RUN_FACTOR: u32 = 1 << 22;
+
 /// A worker's slice of its split pages: which pages are split in its phase, and how many likes of each it has counted
 /// and not merged yet.
 ///
-/// It has a number for each of 1,024 buckets, whatever the number of pages. A like writes that number and nothing else.
+/// A run's keeps the likes in a `Slice`, a service's in `BucketCounts`.
 #[derive(Drop)]
-pub struct SplitSlice {
+pub struct SplitSlice<C: Counts> {
     splits: SplitPages,
-    // By bucket.
-    counts: [u64; BUCKETS],
+    counts: C,
 }
 
-impl Model for SplitSlice {
+impl<C: Counts> Model for SplitSlice<C> {
     ghost use Rattle.like_tables.specs.SplitSlice.{IsSplitSlice, SplitSlice};
 
     ghost Value = { SplitSlice };
 
-    ghost view = { λ s. record { splits = s.splits; counts = s.counts } };
+    ghost view = { λ s. record { splits = s.splits; counts = C.view s.counts } };
 
-    ghost invariant = { λ s. IsSplitSlice (record { splits = s.splits; counts = s.counts }) };
+    ghost invariant = { λ s. IsSplitSlice (record { splits = s.splits; counts = C.view s.counts }) };
 }
 
-impl SplitSlice {
-    /// A slice in which no page is split. With the factor page 1 is not in bucket 0.
-    pub fn new(alloc: Global, factor: u32) -> Result<Self, AllocError>
+impl SplitSlice<Slice> {
+    /// A slice of a run, which has a number for each of so many pages. No page is split.
+    pub fn of_run(alloc: Global, pages: u32) -> Result<Self, AllocError>
+        ensures slice { IfOk result (λ slice. slice ≡ no_slice run_factor pages) }
+        ensures lawful { IfOk result (λ slice. IsSplitSlice slice) }
+    {
+        Ok(SplitSlice {
+            splits: SplitPages::new(alloc, RUN_FACTOR)?,
+            counts: Slice::new(alloc, pages)?,
+        })
+    }
+}
+
+impl SplitSlice<BucketCounts> {
+    /// A slice of a service, which has a number for each bucket. No page is split. With the factor page 1 is not in
+    /// bucket 0.
+    pub fn of_service(alloc: Global, factor: u32) -> Result<Self, AllocError>
         requires { 2 ^ 22 ≤ factor }
-        ensures slice { IfOk result (λ slice. slice ≡ no_slice factor) }
+        ensures slice { IfOk result (λ slice. slice ≡ no_slice factor buckets) }
         ensures lawful { IfOk result (λ slice. IsSplitSlice slice) }
     {
         Ok(SplitSlice {
             splits: SplitPages::new(alloc, factor)?,
-            counts: [0; BUCKETS],
+            counts: BucketCounts::new(),
         })
     }
+}
 
+impl<C: Counts> SplitSlice<C> {
     /// The bucket of a page.
     #[inline(always)]
     pub fn bucket(&self, page: u32) -> u32
@@ -59,9 +79,10 @@ impl SplitSlice {
         self.splits.has(page)
     }
 
-    /// Splits the page. No other page may be in its bucket.
+    /// Splits the page. It has a number, and no other page may be in its bucket.
     pub fn put(&mut self, page: u32)
-        requires { MayPut self.old.splits page }
+        requires apart { MayPut self.old.splits page }
+        requires number { bucket_in self.old page < length self.old.counts }
         ensures put { self.new ≡ with_split self.old page }
         ensures slice { IsSplitSlice self.new }
     {
@@ -78,7 +99,7 @@ impl SplitSlice {
         ensures slice { IsSplitSlice self.new }
     {
         let bucket = self.bucket(page);
-        self.counts[bucket as usize] += 1;
+        self.counts.add_at(bucket);
     }
 
     /// How many likes it has of the page.
@@ -87,7 +108,7 @@ impl SplitSlice {
         requires { has_split self.now page ≡ true }
         ensures { result ≡ likes_in self.now page }
     {
-        self.counts[self.bucket(page) as usize]
+        self.counts.likes_at(self.bucket(page))
     }
 
     /// Takes the page's likes out.
@@ -98,33 +119,23 @@ impl SplitSlice {
         ensures total { sum self.new.counts + result ≡ sum self.old.counts }
         ensures slice { IsSplitSlice self.new }
     {
-        let bucket = self.bucket(page) as usize;
-        let likes = self.counts[bucket];
-        self.counts[bucket] = 0;
-        likes
+        let bucket = self.bucket(page);
+        self.counts.take_at(bucket)
     }
 
-    /// The page in the first bucket from `from` on whose page has a like. It goes over the split pages.
+    /// The page in the first bucket from `from` on whose page has a like.
     pub fn next(&self, from: u32) -> Option<u32>
         requires { from ≤ buckets }
         ensures next { IfSome result (IsNextSliced self.now from) }
         ensures none { IfNone result (AreUnsliced self.now from buckets) }
     {
-        let mut place = from;
-        while let Some(page) = self.splits.next(place) {
-            let bucket = self.bucket(page);
-            if self.counts[bucket as usize] != 0 {
-                return Some(page);
-            }
-            place = bucket + 1;
-        }
-        None
+        self.counts.next_page(&self.splits, from)
     }
 
     /// Splits no page from now on. It has no like.
     pub fn clear(&mut self)
         requires { (page : ℕ) → likes_in self.old page ≡ 0 }
-        ensures { self.new ≡ no_slice self.old.splits.factor }
+        ensures { self.new ≡ no_slice self.old.splits.factor (length self.old.counts) }
     {
         self.splits.clear();
     }

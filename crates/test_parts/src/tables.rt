@@ -1,13 +1,15 @@
-ghost use Rattle.std.specs.Prelude.{◌≡◌, ◌^◌};
+ghost use Rattle.std.specs.Prelude.{◌≡◌, ◌^◌, length};
 ghost use Rattle.like_tables.specs.Share.{share_of};
 ghost use Rattle.like_tables.specs.SplitSlice.{no_slice};
 
 mod calls;
 
 use crate::asserts::{assert_call, assert_call_at, assert_named};
-use calls::{OnSplits, OnStash, OnUsers, held_of, of_a_million, of_five, splits, stashes};
+use calls::{
+    OnSlice, OnSplits, OnStash, OnUsers, held_of, of_a_million, of_five, slices, splits, stashes,
+};
 use like_requests::{Op, PageRef, Request, Verdict};
-use like_tables::{Held, SplitPages, SplitSlice, Stash, Users, factor_for};
+use like_tables::{Counts, Held, Slice, SplitPages, SplitSlice, Stash, Users, factor_for};
 use std::process::Abort;
 use std::test::Fail;
 
@@ -66,9 +68,50 @@ fn a_factor_parts_pages(rt: HostRuntime) {
     assert_named(&rt, factor_for(&[7, 7]) == None, "no factor");
 }
 
+// Makes a call of a slice of this many pages, and tells whether it may be made and is answered as it says.
+fn answers_slice(slice: &mut Slice, pages: u32, call: OnSlice) -> bool
+    requires { length slice.old ≡ pages }
+    ensures { length slice.new ≡ pages }
+{
+    match call {
+        OnSlice::Add(page) => {
+            if page >= pages || slice.total() >= 64 {
+                return false;
+            }
+            slice.add(page);
+            true
+        }
+        OnSlice::Likes(page, want) => page < pages && slice.likes(page) == want,
+        OnSlice::Take(page, want) => page < pages && slice.take(page) == want,
+        OnSlice::Next(from, want) => from <= pages && slice.next(from) == want,
+        OnSlice::Total(want) => slice.total() == want,
+        OnSlice::IsEmpty(want) => slice.is_empty() == want,
+    }
+}
+
+// Makes the calls of a slice of this many pages, and asserts their answers.
+fn call_slice(rt: &impl Abort, slice: &mut Slice, pages: u32, calls: &[OnSlice])
+    requires { length slice.old ≡ pages }
+{
+    for at in 0..calls.len() {
+        let answered = answers_slice(slice, pages, calls[at]);
+        assert_call_at(rt, answered, pages as usize, at);
+    }
+}
+
+#[test]
+fn a_slice_gives_what_was_added(rt: HostRuntime) -> Result<(), Fail> {
+    for (pages, calls) in slices() {
+        let mut slice = Slice::new(rt.alloc(), *pages)?;
+        call_slice(&rt, &mut slice, *pages, calls);
+        drop(slice);
+    }
+    Ok(())
+}
+
 // Whether two likes of page 64 come out of a slice in which no page is split.
-fn gives_two_likes(slice: &mut SplitSlice) -> bool
-    requires { slice.old ≡ no_slice (2 ^ 22) }
+fn gives_two_likes<C: Counts>(slice: &mut SplitSlice<C>) -> bool
+    requires { slice.old ≡ no_slice (2 ^ 22) 1_024 }
 {
     slice.put(64);
     slice.add(64);
@@ -84,9 +127,12 @@ fn gives_two_likes(slice: &mut SplitSlice) -> bool
 }
 
 #[test]
-fn a_slice_gives_what_was_added(rt: HostRuntime) -> Result<(), Fail> {
-    let mut slice = SplitSlice::new(rt.alloc(), 1 << 22)?;
-    assert_named(&rt, gives_two_likes(&mut slice), "two likes");
+fn a_slice_of_split_pages_gives_what_was_added(rt: HostRuntime) -> Result<(), Fail> {
+    let mut slice = SplitSlice::of_run(rt.alloc(), 1_024)?;
+    assert_named(&rt, gives_two_likes(&mut slice), "a run's");
+    drop(slice);
+    let mut slice = SplitSlice::of_service(rt.alloc(), 1 << 22)?;
+    assert_named(&rt, gives_two_likes(&mut slice), "a service's");
     drop(slice);
     Ok(())
 }

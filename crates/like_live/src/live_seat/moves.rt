@@ -13,7 +13,7 @@ use crate::answer::TurnAnswer;
 use crate::asked::{Asked, Found};
 use crate::live_seat::LiveSeat;
 use like_core::{Post, Returns, SlotPost};
-use like_seat::Station;
+use like_seat::ServiceStation;
 use like_tables::Stash;
 
 impl<P: SlotPost> LiveSeat<P> {
@@ -63,7 +63,7 @@ impl<P: SlotPost> LiveSeat<P> {
 
 // The phase work of a seat that is to retire: in a joined phase it finds what waits, and retires.
 pub(crate) fn work_or_retire<P: Post>(
-    seat: &mut Station<P, Asked>,
+    seat: &mut ServiceStation<P, Asked>,
     found: &mut Stash<Found>,
     ending: bool,
 ) -> TurnAnswer
@@ -86,7 +86,11 @@ pub(crate) fn work_or_retire<P: Post>(
 // The phase work of a seat that runs a phase.
 #[cold]
 #[inline(never)]
-fn work<P: Post>(seat: &mut Station<P, Asked>, found: &mut Stash<Found>, ending: bool) -> TurnAnswer
+fn work<P: Post>(
+    seat: &mut ServiceStation<P, Asked>,
+    found: &mut Stash<Found>,
+    ending: bool,
+) -> TurnAnswer
     requires looked { HasLooked seat.old found.old }
     requires ending { ending ≡ true → SawEnding seat.old.post.last }
     ensures works { Works (live_of seat.old found.old) ending result (live_of seat.new found.new) }
@@ -106,7 +110,7 @@ fn work<P: Post>(seat: &mut Station<P, Asked>, found: &mut Stash<Found>, ending:
 
 // The phase work of a joined phase: all that waits runs first.
 fn joined_work<P: Post>(
-    seat: &mut Station<P, Asked>,
+    seat: &mut ServiceStation<P, Asked>,
     found: &mut Stash<Found>,
     ending: bool,
 ) -> TurnAnswer
@@ -126,7 +130,7 @@ fn joined_work<P: Post>(
 }
 
 // Runs all that waits, one after the other.
-fn find_all<P: Post>(seat: &mut Station<P, Asked>, found: &mut Stash<Found>)
+fn find_all<P: Post>(seat: &mut ServiceStation<P, Asked>, found: &mut Stash<Found>)
     requires looked { HasLooked seat.old found.old }
     requires joined { RunsJoined seat.old.post.state }
     ensures finds { FindsAll (live_of seat.old found.old) (live_of seat.new found.new) }
@@ -150,7 +154,7 @@ fn find_all<P: Post>(seat: &mut Station<P, Asked>, found: &mut Stash<Found>)
 const TRIES: u32 = 64;
 
 // Tries to bring back a seat that is gone, and says whether it did.
-pub(crate) fn returns<P: SlotPost + Returns>(seat: &mut Station<P, Asked>) -> bool
+pub(crate) fn returns<P: SlotPost + Returns>(seat: &mut ServiceStation<P, Asked>) -> bool
     requires gone { seat.old.post.state ≡ Gone }
     requires limits { seat.old.post.limits ≡ service_limits }
     ensures back { IsTrue result → ComesBack seat.old seat.new }

@@ -14,7 +14,7 @@ use crate::signals::{MAX_LIKES, Signals};
 use like_choice::Kind;
 use like_core::{Glances, Post};
 use like_requests::{Op, PageRef, Request, Verdict};
-use like_seat::Station;
+use like_seat::ServiceStation;
 use like_tables::Placed;
 
 // A request that is accepted.
@@ -28,7 +28,7 @@ struct Accepted {
 
 // Counts a look, and stores it if it is a sample.
 #[inline(always)]
-fn count_look<P: Post>(seat: &mut Station<P, Asked>, signals: &mut Signals, page: u32)
+fn count_look<P: Post>(seat: &mut ServiceStation<P, Asked>, signals: &mut Signals, page: u32)
     ensures { seat.new ≡ seat.old }
 {
     if !seat.spend_room() {
@@ -39,7 +39,7 @@ fn count_look<P: Post>(seat: &mut Station<P, Asked>, signals: &mut Signals, page
 // Stores a sample, and gives room for likes up to the next one.
 #[cold]
 #[inline(never)]
-fn store<P: Post>(seat: &mut Station<P, Asked>, signals: &mut Signals, page: u32, kind: Kind)
+fn store<P: Post>(seat: &mut ServiceStation<P, Asked>, signals: &mut Signals, page: u32, kind: Kind)
     ensures { seat.new ≡ seat.old }
 {
     let room = signals.store(page, kind);

@@ -11,7 +11,7 @@ mod turns;
 
 use like_core::Post;
 use like_promises::{Added, Ran, Took};
-use like_seat::Station;
+use like_seat::RunStation;
 use like_tables::Held;
 
 /// What a worker keeps beside its seat, of its submitters' plans and of what it has done.
@@ -35,7 +35,7 @@ pub(crate) struct Desk {
 }
 
 // The phase that a worker runs or has answered, which in a run is below 2^24.
-pub(crate) fn phase_of_run<P: Post>(seat: &Station<P, Held>) -> u32
+pub(crate) fn phase_of_run<P: Post>(seat: &RunStation<P, Held>) -> u32
     requires { seat.now.post.limits ≡ run_limits }
     ensures { result ≡ phase_at seat.now }
 {

@@ -9,9 +9,9 @@ ghost use Rattle.like_seat.specs.Steps.{CountsLike, CountsOnBoard, Glances, Read
 use crate::seen::Seen;
 use crate::station::Station;
 use like_core::{Glances, Post};
-use like_tables::Placed;
+use like_tables::{Counts, Placed};
 
-impl<P: Post, W: Copy> Station<P, W> {
+impl<P: Post, W: Copy, C: Counts> Station<P, W, C> {
     /// Whether a page is split in the phase that it runs. A page that the board doesn't have is not.
     #[inline(always)]
     pub fn is_sliced(&self, page: u32) -> bool
@@ -161,7 +161,7 @@ impl<P: Post, W: Copy> Station<P, W> {
     }
 }
 
-impl<P: Glances, W: Copy> Station<P, W> {
+impl<P: Glances, W: Copy, C: Counts> Station<P, W, C> {
     /// Shows a user at once what the seat knows of a sliced page: the page's count with the seat's own slice of it. It
     /// lacks what the slices of others have.
     #[inline(always)]

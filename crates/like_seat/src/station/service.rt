@@ -12,10 +12,10 @@ ghost use Rattle.like_seat.specs.Steps.{ComesBack, IsNewStation, LooksAndEnters}
 use crate::station::{NoStation, Station};
 use crate::tables::Tables;
 use like_core::{Post, Returns, Sight, SlotPost, WorkerState};
-use like_tables::Users;
+use like_tables::{BucketCounts, Counts, Users};
 use std::alloc::Global;
 
-impl<P: Post, W: Copy> Station<P, W> {
+impl<P: Post, W: Copy> Station<P, W, BucketCounts> {
     /// A seat of a service that has done nothing yet, at a board with this factor for buckets.
     pub fn of_service(
         alloc: Global,
@@ -23,7 +23,7 @@ impl<P: Post, W: Copy> Station<P, W> {
         factor: u32,
         room: u32,
         last: Users,
-    ) -> Result<Station<P, W>, NoStation<P>>
+    ) -> Result<Self, NoStation<P>>
         requires fresh { IsFresh (P.view post) }
         requires limits { AreLimits (P.view post).limits }
         requires few_pages { pages_of (P.view post) ≤ (P.view post).limits.pages }
@@ -35,14 +35,14 @@ impl<P: Post, W: Copy> Station<P, W> {
         ensures new { IfOk result (IsNewStation (P.view post) room last) }
         ensures post { IfErr result (λ refused. refused.post ≡ post) }
     {
-        match Tables::new(alloc, Vec::new(alloc), factor, room, last) {
+        match Tables::of_service(alloc, factor, room, last) {
             Ok(tables) => Ok(Station { post, tables }),
             Err(_) => Err(NoStation { post }),
         }
     }
 }
 
-impl<P: SlotPost, W: Copy> Station<P, W> {
+impl<P: SlotPost, W: Copy, C: Counts> Station<P, W, C> {
     /// Looks at the phase word, in a service. If the next phase was released, it enters that, and reads the slots of a
     /// split one.
     #[inline(always)]
@@ -61,7 +61,7 @@ impl<P: SlotPost, W: Copy> Station<P, W> {
     }
 }
 
-impl<P: SlotPost + Returns, W: Copy> Station<P, W> {
+impl<P: SlotPost + Returns, W: Copy, C: Counts> Station<P, W, C> {
     /// Brings a seat that is gone back into the present phase, which it then runs, a split one with its slots read.
     /// `false`, with nothing done, if that phase is ending or another step changed the phase word meanwhile.
     pub fn come_back(&mut self) -> bool

@@ -1,6 +1,20 @@
-//! The calls of stashes and tables of users as data, each with its answer.
+//! The calls of slices, stashes and tables of users as data, each with its answer.
 use like_requests::{Numbered, Op, PageRef, Request};
 use like_tables::Held;
+
+#[derive(Clone, Copy)]
+pub enum OnSlice {
+    /// A like of this page.
+    Add(u32),
+    /// How many likes this page has.
+    Likes(u32, u64),
+    /// The likes of this page.
+    Take(u32, u64),
+    /// The next page that is liked, from this one on.
+    Next(u32, Option<u32>),
+    Total(u64),
+    IsEmpty(bool),
+}
 
 #[derive(Clone, Copy)]
 pub enum OnStash {
@@ -41,6 +55,11 @@ pub enum OnSplits {
 /// Tables of split pages: the factor of each, and its calls.
 pub fn splits() -> &'static [(u32, &'static [OnSplits])] {
     SPLITS
+}
+
+/// Slices: how many pages each has, and its calls.
+pub fn slices() -> &'static [(u32, &'static [OnSlice])] {
+    SLICES
 }
 
 /// Stashes: how many looks each has room for, and its calls.
@@ -84,6 +103,50 @@ macro_rules! pop {
         }))
     };
 }
+
+const SLICES: &[(u32, &[OnSlice])] = &[
+    (
+        2,
+        &[
+            OnSlice::IsEmpty(true),
+            OnSlice::Add(1),
+            OnSlice::Add(1),
+            OnSlice::Add(1),
+            OnSlice::Total(3),
+            OnSlice::Likes(0, 0),
+            OnSlice::Likes(1, 3),
+            OnSlice::Take(1, 3),
+            OnSlice::Take(1, 0),
+            OnSlice::IsEmpty(true),
+        ],
+    ),
+    // A slice is walked by words of 64 pages.
+    (
+        130,
+        &[
+            OnSlice::Next(0, None),
+            OnSlice::Add(0),
+            OnSlice::Add(64),
+            OnSlice::Add(129),
+            OnSlice::Add(64),
+            OnSlice::Next(0, Some(0)),
+            OnSlice::Next(1, Some(64)),
+            OnSlice::Next(65, Some(129)),
+            OnSlice::Take(64, 2),
+            OnSlice::Next(1, Some(129)),
+            OnSlice::Next(130, None),
+        ],
+    ),
+    // The most pages.
+    (
+        1_024,
+        &[
+            OnSlice::IsEmpty(true),
+            OnSlice::Add(1_023),
+            OnSlice::Take(1_023, 1),
+        ],
+    ),
+];
 
 const SPLITS: &[(u32, &[OnSplits])] = &[
     // By this factor page 0 to 1,023 has the bucket of its number.

@@ -8,13 +8,13 @@ ghost use Rattle.like_roles.specs.worker.Turns.{IsMerged};
 use crate::worker::desk::{Desk, phase_of_run};
 use like_core::Post;
 use like_promises::Added;
-use like_seat::Station;
+use like_seat::RunStation;
 use like_tables::Held;
 
 impl Desk {
     // Adds each page's slice that is not empty to the page's count on the board, in page order, and empties it: in a run
     // a page has the bucket of its number.
-    pub fn merge<P: Post>(&mut self, seat: &mut Station<P, Held>)
+    pub fn merge<P: Post>(&mut self, seat: &mut RunStation<P, Held>)
         requires settled { IsSettled seat.old self.old }
         requires split { RunsSplit seat.old.post.state }
         requires ending { SawEnding seat.old.post.last }

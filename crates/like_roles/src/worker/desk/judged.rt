@@ -7,7 +7,7 @@ ghost use Rattle.like_roles.specs.worker.WorkerView.{is_look_at_sliced};
 
 use like_core::Post;
 use like_requests::{Op, PageRef, Verdict};
-use like_seat::Station;
+use like_seat::RunStation;
 use like_tables::{Held, Users};
 
 /// A judged request: what it asks for if it is accepted, and else why it is not.
@@ -36,7 +36,7 @@ impl Judged {
 
     /// Whether it has to wait for the next joined phase: an accepted look at a page that is split in the phase that the
     /// worker runs.
-    pub fn waits<P: Post>(&self, seat: &Station<P, Held>, held: &Held) -> bool
+    pub fn waits<P: Post>(&self, seat: &RunStation<P, Held>, held: &Held) -> bool
         requires running { IsRunning seat.now.post.state }
         requires judged { IsJudged seat.now.last.share held.now self.now }
         requires there { IsThere (pages_of seat.now.post) held.now.ask.request.page }

@@ -10,12 +10,12 @@ use crate::worker::desk::{Desk, phase_of_run};
 use like_core::Post;
 use like_promises::{Ran, Reply};
 use like_requests::Gate;
-use like_seat::Station;
+use like_seat::RunStation;
 use like_tables::Held;
 
 impl Desk {
     // Counts an accepted like of a page, which is then the user's last, and notes its addition, if it makes one.
-    fn like<P: Post>(&mut self, seat: &mut Station<P, Held>, user: u32, page: u32)
+    fn like<P: Post>(&mut self, seat: &mut RunStation<P, Held>, user: u32, page: u32)
         requires settled { IsSettled seat.old self.old }
         requires room { HasRoomForOne seat.old self.old }
         requires running { IsRunning seat.old.post.state }
@@ -32,7 +32,12 @@ impl Desk {
     }
 
     // Answers a judged request.
-    fn serve<P: Post>(&mut self, seat: &mut Station<P, Held>, held: &Held, judged: Judged) -> Reply
+    fn serve<P: Post>(
+        &mut self,
+        seat: &mut RunStation<P, Held>,
+        held: &Held,
+        judged: Judged,
+    ) -> Reply
         requires settled { IsSettled seat.old self.old }
         requires room { HasRoomForOne seat.old self.old }
         requires can { CanServe seat.old self.old held.now judged }
@@ -60,7 +65,7 @@ impl Desk {
     // Runs a judged request, and notes it.
     pub fn run<P: Post, G: Gate>(
         &mut self,
-        seat: &mut Station<P, Held>,
+        seat: &mut RunStation<P, Held>,
         gate: &G,
         held: Held,
         judged: Judged,

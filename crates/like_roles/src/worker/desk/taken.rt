@@ -8,14 +8,14 @@ use crate::worker::desk::{Desk, phase_of_run};
 use like_core::Post;
 use like_promises::Took;
 use like_requests::{Gate, Numbered, Taken};
-use like_seat::Station;
+use like_seat::RunStation;
 use like_tables::Held;
 
 impl Desk {
     /// Completes a turn by what was taken from the submitter that was tried.
     pub fn give<P: Post, G: Gate>(
         &mut self,
-        seat: &mut Station<P, Held>,
+        seat: &mut RunStation<P, Held>,
         gate: &G,
         taken: Taken,
     ) -> Turn
@@ -53,7 +53,7 @@ impl Desk {
     // Takes a request, and runs it or puts it into the stash.
     fn take<P: Post, G: Gate>(
         &mut self,
-        seat: &mut Station<P, Held>,
+        seat: &mut RunStation<P, Held>,
         gate: &G,
         place: usize,
         ask: Numbered,

@@ -12,12 +12,12 @@ use crate::worker::desk::{Desk, phase_of_run};
 use crate::worker::places::next_place;
 use like_core::{Post, Sight};
 use like_requests::Gate;
-use like_seat::Station;
+use like_seat::RunStation;
 use like_tables::Held;
 
 impl Desk {
     /// Makes the next turn, or the part of it up to the take.
-    pub fn turn<P: Post, G: Gate>(&mut self, seat: &mut Station<P, Held>, gate: &G) -> Turn
+    pub fn turn<P: Post, G: Gate>(&mut self, seat: &mut RunStation<P, Held>, gate: &G) -> Turn
         requires { IsSettled seat.old self.old }
         ensures sound { IsSound seat.new self.new }
         ensures case { let v = view_of seat.old self.old in
@@ -38,7 +38,7 @@ impl Desk {
     }
 
     // Looks at the phase word, and tells the gate of a phase that it enters.
-    fn look<P: Post, G: Gate>(&mut self, seat: &mut Station<P, Held>, gate: &G) -> Sight
+    fn look<P: Post, G: Gate>(&mut self, seat: &mut RunStation<P, Held>, gate: &G) -> Sight
         requires settled { IsSettled seat.old self.old }
         requires there { seat.old.post.state ≢ Gone }
         ensures settled { IsSettled seat.new self.new }
@@ -58,7 +58,7 @@ impl Desk {
     // The turn of a worker that runs a joined phase.
     fn joined_turn<P: Post, G: Gate>(
         &mut self,
-        seat: &mut Station<P, Held>,
+        seat: &mut RunStation<P, Held>,
         gate: &G,
         ending: bool,
     ) -> Turn
@@ -85,7 +85,7 @@ impl Desk {
     }
 
     // The turn of a worker that runs a split phase.
-    fn split_turn<P: Post>(&mut self, seat: &mut Station<P, Held>, ending: bool) -> Turn
+    fn split_turn<P: Post>(&mut self, seat: &mut RunStation<P, Held>, ending: bool) -> Turn
         requires settled { IsSettled seat.old self.old }
         requires split { RunsSplit seat.old.post.state }
         requires ending { ending ≡ true → SawEnding seat.old.post.last }
@@ -107,7 +107,7 @@ impl Desk {
     }
 
     // Tries the submitter at a place. The next one is looked for after it.
-    fn try_next<P: Post>(&mut self, seat: &Station<P, Held>, place: usize) -> Turn
+    fn try_next<P: Post>(&mut self, seat: &RunStation<P, Held>, place: usize) -> Turn
         requires places { HasSubmitters seat.now.last.share self.old }
         requires there { place < length self.old.ended.items }
         ensures tried { self.new ≡ record self.old {

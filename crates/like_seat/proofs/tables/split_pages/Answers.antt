@@ -1,10 +1,10 @@
-use Rattle.std.proofs.Common.{◌≡◌, ℕ, ◌<◌, ◌&&◌, ◌||◌, nat_lt, Bool, true, false, refl, sym, ap, subst, ◌∙◌, arith}
+use Rattle.std.proofs.Common.{◌≡◌, ℕ, ◌<◌, ◌&&◌, ◌||◌, nat_lt, Bool, true, false, List, length, refl, sym, ap, subst, ◌∙◌, arith}
 use Rattle.std.proofs.lemmas.Bool.{le-ltb, or_from, or_left, or_right}
 use Rattle.like_core.specs.Phase.{is_hot, is_marked}
 use Rattle.like_limits.specs.Buckets.{buckets}
 use Rattle.like_tables.specs.SplitSlice.{IsSplitSlice, SplitSlice, has_split}
 use Rattle.like_seat.specs.Kept.{is_split_in_run}
-use Rattle.like_seat.proofs.Filling.{fill-may, fill-put, fill-skip}
+use Rattle.like_seat.proofs.Filling.{fill-may, fill-put, fill-skip, number-kept}
 use Rattle.like_seat.proofs.tables.split_pages.Goals as goal
 use Rattle.like_seat.proofs.tables.split_pages.Goals.{then-marks-page, then-marks-page-via-then-marks-page, then-marks-page-via-else-marks-page+then-is_hot, else-marks-page+else-is_hot}
 
@@ -17,21 +17,27 @@ none_below : (test : ℕ → Bool) (page : ℕ) → (nat_lt page 0 && test page)
 none_below test page = ap (λ b. b && test page) (le-ltb page 0 (omega arith))
 
 pub loop-page-init : goal.loop-page-init
-loop-page-init c = record {
+loop-page-init g c = record {
   slice = c.requires.unsplit.slice;
   factor = refl;
   counts = refl;
   splits = λ page. c.requires.unsplit.none page ∙ sym (none_below (is_split_in_run c.args.marks.now c.args.mask) page);
 }
 
-pub put-requires : goal.put-requires
-put-requires c =
+pub put-requires-clause-apart : goal.put-requires-clause-apart
+put-requires-clause-apart g c =
     let i = c.loop-page.invariant in
     fill-may c.loop-page.slice i.slice (i.factor ∙ c.requires.unsplit.factor)
     (is_split_in_run c.args.marks.now c.args.mask) c.loop-page.page (omega (arith, c.requires.few)) i.splits
 
+pub put-requires-clause-number : goal.put-requires-clause-number
+put-requires-clause-number g c =
+    let i = c.loop-page.invariant in
+    number-kept c.args.slice.now c.loop-page.slice c.loop-page.page i.factor (ap (λ (xs : List ℕ). length xs) i.counts)
+    (c.requires.numbers c.loop-page.page (omega arith))
+
 pub loop-page-preserved : goal.loop-page-preserved
-loop-page-preserved c =
+loop-page-preserved g c =
     let i = c.loop-page.invariant in
     let s = c.loop-page.slice in
     let k : ℕ = c.loop-page.page in

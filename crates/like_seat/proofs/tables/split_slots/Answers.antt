@@ -1,26 +1,33 @@
-use Rattle.std.proofs.Common.{◌≡◌, ℕ, ◌<◌, true, false, refl, sym, ap, subst, ◌∙◌, slice_index, arith}
+use Rattle.std.proofs.Common.{◌≡◌, ℕ, ◌<◌, true, false, List, length, refl, sym, ap, subst, ◌∙◌, slice_index, arith}
 use Rattle.like_core.specs.Functions.{has_bit}
 use Rattle.like_limits.specs.Limits.{hot_pages}
 use Rattle.like_tables.specs.SplitSlice.{IsSplitSlice, SplitSlice, has_split}
-use Rattle.like_seat.proofs.Filling.{slot-may, slot-skips, slot-splits}
+use Rattle.like_seat.proofs.Filling.{number-kept, slot-may, slot-skips, slot-splits}
 use Rattle.like_seat.proofs.tables.split_slots.Goals as goal
 use Rattle.like_seat.proofs.tables.split_slots.Goals.{then-has_bit, else-has_bit}
 
 pub loop-slot-init : goal.loop-slot-init
-loop-slot-init c = record {
+loop-slot-init g c = record {
   slice = c.requires.unsplit.slice;
   factor = refl;
   counts = refl;
   splits = λ page. (λ held. absurd (cc (held, c.requires.unsplit.none page)), λ i. absurd (omega (arith, i.below)));
 }
 
-pub put-requires : goal.put-requires
-put-requires c =
+pub put-requires-clause-apart : goal.put-requires-clause-apart
+put-requires-clause-apart g c =
     slot-may c.args.slice.now c.loop-slot.slice (slice_index c.args.pages.now) c.args.used c.loop-slot.slot (omega arith)
     c.requires.apart c.loop-slot.invariant (sym c.has_bit.ensures ∙ c.if-has_bit.true)
 
+pub put-requires-clause-number : goal.put-requires-clause-number
+put-requires-clause-number g c =
+    let i = c.loop-slot.invariant in
+    number-kept c.args.slice.now c.loop-slot.slice (slice_index c.args.pages.now c.loop-slot.slot) i.factor
+    (ap (λ (xs : List ℕ). length xs) i.counts)
+    (c.requires.numbers c.loop-slot.slot (omega arith) (sym c.has_bit.ensures ∙ c.if-has_bit.true))
+
 pub loop-slot-preserved : goal.loop-slot-preserved
-loop-slot-preserved c =
+loop-slot-preserved g c =
     let i = c.loop-slot.invariant in
     let s = c.loop-slot.slice in
     let k : ℕ = c.loop-slot.slot in

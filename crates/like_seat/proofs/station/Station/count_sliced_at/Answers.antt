@@ -1,7 +1,7 @@
-use Rattle.std.proofs.Common.{◌≡◌, ℕ, ◌+◌, ◌<◌, true, get_or, set, sum, refl, sym, ap, subst, ◌∙◌, arith}
+use Rattle.std.proofs.Common.{◌≡◌, ℕ, ◌+◌, ◌<◌, true, get_or, length, length-set, set, sum, refl, sym, ap, subst, ◌∙◌, arith}
 use Rattle.like_core.specs.Post.{pages_of, slices}
 use Rattle.like_core.specs.WorkerState.{IsRunning}
-use Rattle.like_tables.specs.SplitSlice.{SplitSlice, by_page, has_split, likes_in}
+use Rattle.like_tables.specs.SplitSlice.{SplitSlice, bucket_in, by_page, has_split, likes_in}
 use Rattle.like_tables.proofs.ByPage.{by_page-with_likes, get_or-by_page}
 use Rattle.like_seat.specs.Kept.{view_of}
 use Rattle.like_seat.specs.StationView.{StationView, likes_of}
@@ -30,7 +30,9 @@ invariant_of-self g c =
     ∙ sum-written t.slice n page (likes_in t.slice page + 1) (sum c.add.new.self.counts) k.slice split there k.sums
     (omega (arith, c.add.ensures.total)) in
     Kept-written p p.additions p.reads p.glances t _ k refl refl refl
-    (ap (λ (s : SplitSlice). s.splits) c.add.ensures.counted) c.add.ensures.slice sums
+    (ap (λ (s : SplitSlice). s.splits) c.add.ensures.counted)
+    (ap (λ (s : SplitSlice). length s.counts) c.add.ensures.counted
+    ∙ length-set t.slice.counts (bucket_in t.slice page) (likes_in t.slice page + 1)) c.add.ensures.slice sums
     (omega (arith, k.likes, k.sums, sums, c.add.ensures.total, c.count.ensures)) (omega (arith, k.likes, room, c.count.ensures))
 
 pub returns-clause-counts : goal.returns-clause-counts

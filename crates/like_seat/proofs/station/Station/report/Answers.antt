@@ -12,13 +12,13 @@ use Rattle.like_seat.proofs.Merging.{IsKept-reported}
 use Rattle.like_seat.proofs.station.Station.report.Goals as goal
 
 -- its slice has no like
-unliked : {W : Type 0} (p : PostView) (t : Tables W) (s : StationView W)
+unliked : {W C : Type 0} (p : PostView) (t : Tables W C) (s : StationView W)
     → IsKept p t
     → view_of p t ≡ s
     → AreUnliked s.slice 0 (length s.slice)
     → (page : ℕ)
     → likes_in t.slice page ≡ 0
-unliked {W} p t s k is none =
+unliked {W} {C} p t s k is none =
     likes_in-unliked p t.slice k.splits (subst (λ (v : StationView W). AreUnliked v.slice 0 (length v.slice)) (sym is) none)
 
 pub clear-requires : goal.clear-requires
@@ -34,7 +34,7 @@ invariant_of-self g c =
     subst (λ (s : SplitSlice). IsKept (g.P.Post.view c.report.new.self)
     (record t { state = Answered c.phase.result; slice = s })) (sym c.clear.ensures)
     (subst (λ (q : PostView). IsKept q
-    (record t { state = Answered c.phase.result; slice = no_slice t.slice.splits.factor })) (sym c.report.ensures) kept)
+    (record t { state = Answered c.phase.result; slice = no_slice t.slice.splits.factor (length t.slice.counts) })) (sym c.report.ensures) kept)
 
 pub returns-clause-stops : goal.returns-clause-stops
 returns-clause-stops g c =
@@ -44,7 +44,7 @@ returns-clause-stops g c =
     let f : ℕ = t.slice.splits.factor in
     let slice : by_page c.clear.new.self (pages_of (g.P.Post.view c.report.new.self)) ≡ by_page t.slice n =
     ap (λ (q : PostView). by_page c.clear.new.self (pages_of q)) c.report.ensures
-    ∙ ap (λ (s : SplitSlice). by_page s n) c.clear.ensures ∙ by_page-no_slice f n
+    ∙ ap (λ (s : SplitSlice). by_page s n) c.clear.ensures ∙ by_page-no_slice f (length t.slice.counts) n
     ∙ sym (by_page-none t.slice n (unliked p t _ c.self.invariant c.self.view_is c.requires.merged)) in
     ◌∙◌ {b = record (view_of p t) { post = answered p }}
     (λ m. record (view_of p t) { post = c.report.ensures m; slice = slice m })

@@ -25,7 +25,7 @@ invariant_of-self-2 g c =
     subst (λ (q : PostView). IsKept q (record t { likes = c.try_count.new.self; last = c.set_at.new.self }))
     (sym c.add.ensures.view)
     (Kept-written p (p.additions ++ one ∷ []) p.reads p.glances t (record t { likes = c.try_count.new.self; last = c.set_at.new.self })
-    k refl refl refl refl k.slice k.sums (omega (arith, k.likes, more, one_more)) (omega (arith, few, most, one_more)))
+    k refl refl refl refl refl k.slice k.sums (omega (arith, k.likes, more, one_more)) (omega (arith, few, most, one_more)))
 
 pub invariant_of-self : goal.invariant_of-self
 invariant_of-self g c =

@@ -47,3 +47,7 @@ split_slots-requires-clause-apart g c =
     let slots : ℕ → ℕ = slice_index c.slots-used.new.pages in
     subst (λ (f : ℕ). AreSlotsApart f slots c.slots-used.result) (sym c.requires.may.unsplit.factor)
     c.slots-used.ensures.choice.apart
+
+pub split_slots-requires-clause-numbers : goal.split_slots-requires-clause-numbers
+split_slots-requires-clause-numbers g c = λ i small used.
+    c.requires.may.numbers (slice_index c.slots-used.new.pages i) (c.slots-used.ensures.choice.there i small used)
