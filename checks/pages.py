@@ -12,7 +12,7 @@ import runs
 BLOCK = re.compile(r"(.*?)^```(\w*)\n(.*?)^```$", re.M | re.S)
 
 # The pages that are made, and how many words these and all others have at most.
-MADE, MADE_WORDS, WRITTEN_WORDS = ["docs/LIVE.md", "docs/MODEL.md", "docs/STATEMENT.md"], 14_000, 36_000
+MADE, MADE_WORDS, WRITTEN_WORDS = ["docs/LIVE.md", "docs/MODEL.md", "docs/STATEMENT.md"], 14_000, 37_500
 
 # How many lines README.md has at most.
 README_LINES = 120

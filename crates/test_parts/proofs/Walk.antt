@@ -71,6 +71,7 @@ opened_alike board workers pages count marked limits counts marks coord seats so
     record {
       here = here;
       fresh = rw z fresh;
+      unseen = ap (λ v. v.last) view;
       limits_are = ap (λ o. o.limits) z;
       plain = plain;
       counted = ap (λ o. length o.counts) z ∙ (ap length counts_are ∙ length-replicate pages count);

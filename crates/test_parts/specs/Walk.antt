@@ -1,8 +1,9 @@
 -- What the tests know of a board and of those at it.
-use Rattle.std.specs.Prelude.{◌≡◌, ℕ, ◌+◌, ◌^◌, ◌<◌, ◌≤◌, Bool, true, List, length, Option, Some, IsSomeAnd}
+use Rattle.std.specs.Prelude.{◌≡◌, ℕ, ◌+◌, ◌^◌, ◌<◌, ◌≤◌, Bool, true, List, length, Option, None, Some, IsSome}
 use Rattle.like_limits.specs.Limits.{hot_pages}
 use Rattle.like_core.specs.declared.limits.Limits.{Limits}
 use Rattle.like_core.specs.declared.sight.CoordSight.{CoordSight}
+use Rattle.like_core.specs.declared.view.CoordSeatView.{CoordSeatView}
 use Rattle.like_core.specs.Additions.{added_to, all_added}
 use Rattle.like_core.specs.Phase.{is_hot, is_marked}
 use Rattle.like_core.specs.PhaseMasks.{mask_of, HasMask}
@@ -19,6 +20,7 @@ pub record AreOpened (board : BoardId) (pages : ℕ) (marked : Bool) (limits : L
     (seats : List WorkerSeat) : Type 0 where
   pub here : coord_board coord ≡ board
   pub fresh : AreFresh board (coord_view coord).opening seats
+  pub unseen : (coord_view coord).last ≡ None
   pub limits_are : (coord_view coord).opening.limits ≡ limits
   pub plain : limits.hot ≡ hot_pages
   pub counted : length (coord_view coord).opening.counts ≡ pages
@@ -68,9 +70,14 @@ pub record IsCoordOf (board : BoardId) (workers : ℕ) (coord : CoordSeat) : Typ
   pub workers_are : (coord_view coord).opening.workers ≡ workers
   pub one_count : length (coord_view coord).opening.counts ≡ 1
 
--- the coordinator's last look showed the phase running, or all in at its end
-abbrev pub HasSeen : Option CoordSight → Bool → Type 0
-HasSeen last all_in = IsSomeAnd last (λ sight. (sight.ending ≡ all_in) × (sight.all_in ≡ all_in))
+-- what is known of the seat of a board of one page that has no slots is true: its last sight, if it has neither announced
+-- nor released since, and that it has published a mask since that look
+pub record IsLed (c : CoordSeatView) (saw : Option CoordSight) (published : Bool) : Type 0 where
+  pub one_page : length c.opening.counts ≡ 1
+  pub plain : c.opening.limits.hot ≡ hot_pages
+  pub last : c.last ≡ saw
+  pub within : IsSome saw → c.phase ≤ c.opening.limits.last_phase
+  pub masked : published ≡ true → IsSome c.published
 
 -- the coordinator's seat is still at its board, which began so
 pub record KeepsSeat (old new : CoordSeat) : Type 0 where

@@ -8,7 +8,7 @@ ghost use Rattle.like_board.specs.Seats.{board_id, coord_board, coord_view, post
 ghost use Rattle.test_parts.specs.Walk.{AreOpened, IsCoordOf, IsWorkerAt, KeepsSeat};
 
 mod calls;
-mod lead;
+mod leader;
 mod party;
 mod scripts;
 mod walker;
@@ -16,6 +16,7 @@ mod walker;
 use crate::asserts::assert_named;
 use crate::pure_core::small_limits;
 use calls::{OnPost, Step};
+use leader::Leader;
 use like_board::{Board, BoardPost, CoordSeat, WorkerSeat};
 use like_core::{Glances, Limits, Post, Returns, WorkerState};
 use party::Party;
@@ -79,7 +80,7 @@ fn party_at<'a>(
     marked: bool,
 ) -> Party<'a, BoardPost<'a>>
     requires { AreOpened (board_id board.now) 1 marked limits coord seats.items }
-    ensures { result.coord ≡ coord }
+    ensures { result.leader.seat ≡ coord }
 {
     let second = if seats.len() == 2 {
         Some(last_walker(rt, &mut seats, board, &coord, limits, 1, marked))
@@ -90,7 +91,7 @@ fn party_at<'a>(
     let first = last_walker(rt, &mut seats, board, &coord, limits, 1, marked);
     Party {
         board,
-        coord,
+        leader: Leader::new(coord),
         first,
         second,
     }
@@ -139,7 +140,7 @@ fn walks(
     let mut party = party_at(rt, board, coord, seats, Limits::of_run(), marked);
     party.plays(rt, parts);
     let Party {
-        coord,
+        leader,
         first,
         second,
         ..
@@ -148,7 +149,7 @@ fn walks(
         Some(second) => Some(left_by(rt, second)),
         None => None,
     };
-    (coord, left_by(rt, first), second)
+    (leader.seat, left_by(rt, first), second)
 }
 
 // What a page has at the end, and how many likes each worker added to it.

@@ -25,7 +25,7 @@ use std::test::Fail;
 fn setup_of(alloc: Global, scene: &Scene) -> Result<Setup, Fail> {
     Ok(Setup {
         workers: scene.workers,
-        users: 2,
+        users: scene.users,
         stash: scene.stash,
         turns: scene.turns,
         hot: None,

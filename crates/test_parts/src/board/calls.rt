@@ -19,16 +19,16 @@ pub enum OnPost {
     Retire,
 }
 
-/// A call of the coordinator, with its answer. In each but the last two it looks first.
+/// A call of the coordinator's seat, with its answer.
 #[derive(Clone, Copy)]
 pub enum OnCoord {
     Look(CoordSight),
-    /// It sees this phase running, and announces its end.
-    Announce(u64),
-    /// It sees all workers in at the end of this joined phase, and counts the page.
-    Count(u64, u64),
-    /// It sees all workers in at the end of this phase, and releases the next with this mask.
-    Release(u64, u64),
+    Announce,
+    /// The count of page 0.
+    Count(u64),
+    /// The mask of the phase that comes next.
+    Publish(u64),
+    Release,
     /// The present phase, and whether it is the last.
     IsIn(u64, bool),
 }

@@ -1,34 +1,31 @@
 //! The coordinator of a board of one page and one or two workers, who make calls in turn.
-ghost use Rattle.std.specs.Prelude.{◌≡◌, length, Some};
-ghost use Rattle.like_board.specs.Seats.{board_id, coord_board, coord_view};
-ghost use Rattle.like_limits.specs.Limits.{hot_pages};
+ghost use Rattle.std.specs.Prelude.{◌≡◌, Some};
+ghost use Rattle.like_board.specs.Seats.{board_id, coord_board};
 ghost use Rattle.test_parts.specs.Walk.{IsWorkerAt, KeepsSeat};
 
 use super::calls::Step;
-use super::lead::lead;
+use super::leader::Leader;
 use super::walker::Walker;
 use crate::asserts::assert_call_at;
-use like_board::{Board, CoordSeat};
+use like_board::Board;
 use like_core::{Glances, Post};
 use std::process::Abort;
 
 #[derive(Drop)]
 pub struct Party<'a, P: Post> {
     pub board: &'a Board,
-    pub coord: CoordSeat,
+    pub leader: Leader,
     pub first: Walker<P>,
     pub second: Option<Walker<P>>,
-    ghost here: { coord_board coord ≡ board_id board.now },
-    ghost one_page: { length (coord_view coord).opening.counts ≡ 1 },
-    ghost plain: { (coord_view coord).opening.limits.hot ≡ hot_pages },
-    ghost first_here: { IsWorkerAt (coord_board coord) 0 (P.view first.post) },
-    ghost second_here: { (walker : _) → second ≡ Some walker → IsWorkerAt (coord_board coord) 1 (P.view walker.post) },
+    ghost here: { coord_board leader.seat ≡ board_id board.now },
+    ghost first_here: { IsWorkerAt (coord_board leader.seat) 0 (P.view first.post) },
+    ghost second_here: { (walker : _) → second ≡ Some walker → IsWorkerAt (coord_board leader.seat) 1 (P.view walker.post) },
 }
 
 impl<P: Glances> Party<'_, P> {
     /// Makes the calls of all parts, and asserts that each is answered as it says.
     pub fn plays(&mut self, rt: &impl Abort, parts: &[&[Step]])
-        ensures { KeepsSeat self.old.coord self.new.coord }
+        ensures { KeepsSeat self.old.leader.seat self.new.leader.seat }
     {
         for part in 0..parts.len() {
             self.makes(rt, part, parts[part]);
@@ -36,7 +33,7 @@ impl<P: Glances> Party<'_, P> {
     }
 
     fn makes(&mut self, rt: &impl Abort, part: usize, steps: &[Step])
-        ensures { KeepsSeat self.old.coord self.new.coord }
+        ensures { KeepsSeat self.old.leader.seat self.new.leader.seat }
     {
         for at in 0..steps.len() {
             assert_call_at(rt, self.answers(steps[at]), part, at);
@@ -45,10 +42,10 @@ impl<P: Glances> Party<'_, P> {
 
     // Makes a call, and tells whether it is answered as it says.
     fn answers(&mut self, step: Step) -> bool
-        ensures { KeepsSeat self.old.coord self.new.coord }
+        ensures { KeepsSeat self.old.leader.seat self.new.leader.seat }
     {
         match step {
-            Step::Coord(call) => lead(&mut self.coord, self.board, call),
+            Step::Coord(call) => self.leader.answers(self.board, call),
             Step::First(call) => self.first.answers(call),
             Step::Second(call) => match &mut self.second {
                 Some(second) => second.answers(call),

@@ -38,17 +38,27 @@ macro_rules! looks {
     };
 }
 
-macro_rules! announces {
-    ($number:literal) => {
-        Step::Coord(OnCoord::Announce($number))
+// The coordinator's look at this phase: its end is announced or not, and all workers are in or not.
+macro_rules! surveys {
+    ($number:literal, $ending:literal, $all_in:literal) => {
+        Step::Coord(OnCoord::Look(CoordSight {
+            number: $number,
+            ending: $ending,
+            all_in: $all_in,
+            all_gone: false,
+        }))
     };
 }
 
-macro_rules! releases {
-    ($number:literal, $mask:literal) => {
-        Step::Coord(OnCoord::Release($number, $mask))
+macro_rules! publishes {
+    ($mask:literal) => {
+        Step::Coord(OnCoord::Publish($mask))
     };
 }
+
+const ANNOUNCES: Step = Step::Coord(OnCoord::Announce);
+
+const RELEASES: Step = Step::Coord(OnCoord::Release);
 
 // The coordinator is in a phase, which is the last or isn't.
 macro_rules! is_in {
@@ -67,19 +77,23 @@ const ALL_GONE: Step = Step::Coord(OnCoord::Look(CoordSight {
 
 // Two workers acknowledge phase 0, and the first enters phase 1.
 const TO_SPLIT: &[Step] = &[
-    announces!(0),
+    surveys!(0, false, false),
+    ANNOUNCES,
     looks!(First, 0, true, false),
     Step::First(OnPost::Answer),
     looks!(First, 0, true, true),
     looks!(Second, 0, true, false),
     Step::Second(OnPost::Answer),
-    releases!(0, 0),
+    surveys!(0, true, true),
+    publishes!(0),
+    RELEASES,
     looks!(First, 1, false, false),
 ];
 
 // The first merges three likes in phase 1.
 const MERGED: &[Step] = &[
-    announces!(1),
+    surveys!(1, false, false),
+    ANNOUNCES,
     looks!(First, 1, true, false),
     Step::First(OnPost::Merge(3, 10)),
 ];
@@ -89,7 +103,8 @@ const TO_JOINED: &[Step] = &[
     Step::First(OnPost::Answer),
     looks!(Second, 1, true, false),
     Step::Second(OnPost::Answer),
-    releases!(1, 0),
+    surveys!(1, true, true),
+    RELEASES,
     looks!(First, 2, false, false),
     Step::First(OnPost::Read(0, 13)),
     Step::First(OnPost::Retire),
@@ -127,20 +142,25 @@ const LIKES: &[&[Step]] = &[&[
 
 const HOT_PHASE: &[&[Step]] = &[
     &[
-        announces!(0),
+        surveys!(0, false, false),
+        ANNOUNCES,
         looks!(First, 0, true, false),
         Step::First(OnPost::Answer),
-        Step::Coord(OnCoord::Count(0, 5)),
-        releases!(0, 1),
+        surveys!(0, true, true),
+        Step::Coord(OnCoord::Count(5)),
+        publishes!(1),
+        RELEASES,
     ],
     &[
         looks!(First, 1, false, false),
         Step::First(OnPost::Hot(1)),
-        announces!(1),
+        surveys!(1, false, false),
+        ANNOUNCES,
         looks!(First, 1, true, false),
         Step::First(OnPost::Merge(2, 5)),
         Step::First(OnPost::Answer),
-        releases!(1, 0),
+        surveys!(1, true, true),
+        RELEASES,
     ],
     &[
         looks!(First, 2, false, false),
@@ -150,14 +170,32 @@ const HOT_PHASE: &[&[Step]] = &[
     ],
 ];
 
-// A worker goes on from a phase to the next.
-macro_rules! past {
+// A worker goes on from a joined phase to the next.
+macro_rules! past_joined {
     ($phase:literal, $next:literal) => {
         &[
-            announces!($phase),
+            surveys!($phase, false, false),
+            ANNOUNCES,
             looks!(First, $phase, true, false),
             Step::First(OnPost::Answer),
-            releases!($phase, 0),
+            surveys!($phase, true, true),
+            publishes!(0),
+            RELEASES,
+            looks!(First, $next, false, false),
+        ]
+    };
+}
+
+// The same from a split phase, after which no mask is published.
+macro_rules! past_split {
+    ($phase:literal, $next:literal) => {
+        &[
+            surveys!($phase, false, false),
+            ANNOUNCES,
+            looks!(First, $phase, true, false),
+            Step::First(OnPost::Answer),
+            surveys!($phase, true, true),
+            RELEASES,
             looks!(First, $next, false, false),
         ]
     };
@@ -165,12 +203,12 @@ macro_rules! past {
 
 const FIVE_PHASES: &[&[Step]] = &[
     &[looks!(First, 0, false, false), is_in!(0, false)],
-    past!(0, 1),
+    past_joined!(0, 1),
     &[is_in!(1, false)],
-    past!(1, 2),
+    past_split!(1, 2),
     &[is_in!(2, false)],
-    past!(2, 3),
+    past_joined!(2, 3),
     &[is_in!(3, false)],
-    past!(3, 4),
+    past_split!(3, 4),
     &[is_in!(4, true)],
 ];

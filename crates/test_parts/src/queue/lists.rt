@@ -27,7 +27,6 @@ const LISTS: &[(&[Request], &[Call])] = &[
             Call::Take(Taken::Nothing),
             Call::OpenOne(true),
             Call::Take(FIRST),
-            Call::Take(Taken::Nothing),
             Call::OpenOne(true),
             Call::Take(Taken::End),
             Call::Take(Taken::End),

@@ -6,11 +6,12 @@ use super::play::Step::{Coord, Worker};
 use like_requests::{Op, PageRef, Request};
 use like_roles::{Added, CoordTurn, Ran, Reply, Took, Turn};
 
-/// A run with two users and one submitter, turn by turn, and what its first worker has done at the end.
+/// A run with one submitter, turn by turn, and what its first worker has done at the end.
 #[derive(Clone, Copy)]
 pub struct Scene {
     pub name: &'static str,
     pub workers: u32,
+    pub users: u32,
     pub stash: u32,
     pub turns: u32,
     pub pages: &'static str,
@@ -142,6 +143,13 @@ const ROUNDS: &[Step] = &[
     Coord(CoordTurn::Ended),
 ];
 
+// The workers beside worker 0, of four, retire or are gone.
+const OTHERS: &[Step] = &[
+    Worker(1, Turn::Retired),
+    Worker(2, Turn::Retired),
+    Worker(3, Turn::Retired),
+];
+
 // A joined phase in which worker 0 comes to the end mark, and the run ends.
 const LAST_PHASE: &[Step] = &[
     Worker(0, Turn::TookEnd),
@@ -150,10 +158,11 @@ const LAST_PHASE: &[Step] = &[
     Coord(CoordTurn::Ended),
 ];
 
-// A worker with a stash for 256 looks, which likes page 0 last; a scene names what else it has.
+// A worker with a stash for 256 looks, and a user, who likes page 0 last; a scene names what else it has.
 const LONE: Scene = Scene {
     name: "",
     workers: 1,
+    users: 1,
     stash: 256,
     turns: 0,
     pages: "",
@@ -171,6 +180,7 @@ const LONE: Scene = Scene {
 static STASH_SCENES: [Scene; 3] = [
     Scene {
         name: "splits_and_stashes",
+        users: 2,
         pages: "name,count,split\na,10,yes\n",
         plan: &[ask!(Like, 0), ask!(Look, 0)],
         parts: &[
@@ -252,18 +262,17 @@ static PHASE_SCENES: [Scene; 3] = [
         pages: "name,count,split\na,0,yes\n",
         plan: &[ask!(Like, 0)],
         parts: &[
-            &[
-                Coord(CoordTurn::Announced),
-                Worker(0, Turn::Acknowledged),
-                Worker(1, Turn::Retired),
-                Worker(2, Turn::Retired),
-                Worker(3, Turn::Retired),
-                Coord(CoordTurn::Released),
-                Worker(0, Turn::Ran),
-                Worker(1, Turn::Retired),
-            ],
-            TO_JOINED,
-            LAST_PHASE,
+            &[Coord(CoordTurn::Announced), Worker(0, Turn::Acknowledged)],
+            OTHERS,
+            &[Coord(CoordTurn::Released), Worker(0, Turn::Ran)],
+            OTHERS,
+            &[Coord(CoordTurn::Announced), Worker(0, Turn::Reported)],
+            OTHERS,
+            &[Coord(CoordTurn::Released), Worker(0, Turn::TookEnd)],
+            OTHERS,
+            &[Coord(CoordTurn::Announced), Worker(0, Turn::Retired)],
+            OTHERS,
+            &[Coord(CoordTurn::Ended)],
         ],
         calls: &[
             Phase(0, 0),

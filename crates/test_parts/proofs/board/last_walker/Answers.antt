@@ -62,6 +62,7 @@ returns-clause-rest g c =
       fresh = λ i seat at.
           let still = slice_get-before left (c.expect-seat.result ∷ []) i (slice_get_within left i seat at) in
           c.requires.fresh i seat (ap (λ xs. slice_get xs i) popped ∙ (still ∙ at));
+      unseen = c.requires.unseen;
       limits_are = c.requires.limits_are;
       plain = c.requires.plain;
       counted = c.requires.counted;
