@@ -32,19 +32,20 @@ pub fn collect(alloc: Global, sizes: &[u32], logs: &[WorkerLog]) -> Result<Repli
 }
 
 /// The same in parallel, where the entries of submitter s's requests are in log s mod N, of N logs. Else it collects one
-/// log after the other.
+/// log after the other. It starts at most `starts` threads, and with 0 the calling thread collects all.
 pub fn collect_at_once<T: Threads + Sync>(
     rt: &T,
     alloc: Global,
     sizes: &[u32],
     logs: &[WorkerLog],
+    starts: u32,
 ) -> Result<Replies, CollectFault>
     requires { length sizes.now ≤ max_submitters }
     ensures { MatchResult result
         (λ replies. IsCollected sizes.now (entries_in logs.now) (rows_of replies))
         (IsCollectFault sizes.now (entries_in logs.now)) }
 {
-    match parts_of(rt, alloc, sizes, logs) {
+    match parts_of(rt, alloc, sizes, logs, starts as usize + 1) {
         Ok(parts) if !logs.is_empty() => Ok(join(alloc, sizes.len(), parts)?),
         _ => collect(alloc, sizes, logs),
     }

@@ -4,15 +4,18 @@ ghost use Rattle.like_command.specs.Fault.{line_of, status_of};
 
 use std::alloc::AllocError;
 use std::io::Write;
+use thiserror::Error;
 
 /// The line of memory that ran out.
 pub const OUT_OF_MEMORY: &str = "likes: out of memory\n";
 
 /// Why the words of the command line ask for nothing.
-#[derive(Debug, Drop)]
+#[derive(Debug, Drop, Error)]
 pub enum ParseFault {
     /// The words are wrong, as the text says.
+    #[error("{0}")]
     Usage(String),
+    #[error("out of memory")]
     Memory,
 }
 

@@ -43,7 +43,7 @@ pub fn report_of(
     report_with(alloc, setup, plans, site, ended, collected)
 }
 
-/// The same, with the replies collected in parallel.
+/// The same, with the replies collected in parallel by at most `starts` further threads.
 pub fn report_at_once<T: Threads + Sync>(
     rt: &T,
     alloc: Global,
@@ -51,6 +51,7 @@ pub fn report_at_once<T: Threads + Sync>(
     plans: &Snapshot<Vec<Vec<Request>>>,
     site: Site,
     ended: Ended,
+    starts: u32,
 ) -> Result<Report, AllocError>
     requires within { FitsRun setup.now (lists_of plans.now.value.items) }
     requires site { IsSite setup.now (lists_of plans.now.value.items) site }
@@ -60,7 +61,7 @@ pub fn report_at_once<T: Threads + Sync>(
         → IfOk result (HasRightPlaces setup.now (lists_of plans.now.value.items)) }
     ensures none { site.notes ≡ false → IfOk result HasNoPlaces }
 {
-    let collected = collect_at_once(rt, alloc, &site.sizes, &ended.logs);
+    let collected = collect_at_once(rt, alloc, &site.sizes, &ended.logs, starts);
     report_with(alloc, setup, plans, site, ended, collected)
 }
 

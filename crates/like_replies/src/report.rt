@@ -1,4 +1,5 @@
 mod head;
+mod label;
 mod names;
 mod phase_texts;
 mod rows;

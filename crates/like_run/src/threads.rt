@@ -1,4 +1,4 @@
-ghost use Rattle.std.specs.Prelude.{◌≡◌, ◌+◌, ◌≤◌, false, true, [], All, IfErr, IfOk, OnOk, length, map, vec_capacity};
+ghost use Rattle.std.specs.Prelude.{◌≡◌, ◌+◌, ◌-◌, ◌≤◌, ◌^◌, min, false, true, [], All, IfErr, IfOk, OnOk, length, map, vec_capacity};
 ghost use Rattle.like_requests.specs.Setup.{FitsRun, IsWithinLimits};
 ghost use Rattle.like_promises.specs.WorkloadOf.{lists_of};
 ghost use Rattle.like_crew.specs.Ended.{IsEnded};
@@ -31,7 +31,7 @@ mod submitters;
 mod worker;
 mod workers;
 
-/// Makes a run with as many threads as it needs. Its report has places.
+/// Makes a run that starts a thread for each worker and each submitter, and no other. Its report has places.
 pub fn run<R: Threads + Wait + Sync, G: Gate>(
     rt: &R,
     alloc: Global,
@@ -43,10 +43,20 @@ pub fn run<R: Threads + Wait + Sync, G: Gate>(
     ensures within { OnOk result (IsWithinLimits setup.now (lists_of plans.items)) }
     ensures fault { IfErr result (IsRunFault setup.now (lists_of plans.items)) }
 {
-    run_limited(rt, alloc, setup, plans, gate, u32::MAX)
+    let starts = own_threads(setup, &plans);
+    run_limited(rt, alloc, setup, plans, gate, starts)
 }
 
-/// The same with at most `starts` threads.
+// How many threads a run has: one for each worker and each submitter.
+fn own_threads(setup: &Setup, plans: &[Vec<Request>]) -> u32
+    ensures { result ≡ min (setup.now.workers + length plans.now) (2 ^ 32 - 1) }
+{
+    let submitters = plans.len().min(u32::MAX as usize) as u32;
+    setup.workers.saturating_add(submitters)
+}
+
+/// The same with at most `starts` threads. Those beyond workers and submitters collect the replies; with none beyond, the
+/// calling thread does.
 pub fn run_limited<R: Threads + Wait + Sync, G: Gate>(
     rt: &R,
     alloc: Global,
@@ -65,8 +75,9 @@ pub fn run_limited<R: Threads + Wait + Sync, G: Gate>(
 
 /// Makes a run, as the program does. Each worker and each submitter has a thread of its own, and the coordinator has the
 /// calling thread. A submitter sends its requests to its worker through a line. No thread works until all exist: if one
-/// can't start, or would be one more than `starts`, the others end and no request is taken. If `notes`, the workers note
-/// their additions and the report has places. Else these take no memory. On a fault the lists are dropped.
+/// can't start, or would be one more than `starts`, the others end and no request is taken. Once all have ended, the
+/// replies are collected by as many threads as are left of `starts`, or by the calling thread alone. If `notes`, the
+/// workers note their additions and the report has places. Else these take no memory. On a fault the lists are dropped.
 pub fn run_noting<R: Threads + Wait + Sync, G: Gate>(
     rt: &R,
     alloc: Global,
@@ -82,7 +93,7 @@ pub fn run_noting<R: Threads + Wait + Sync, G: Gate>(
     ensures fault { IfErr result (IsRunFault setup.now (lists_of plans.items)) }
 {
     check_setup(setup, &plans)?;
-    run_within(rt, alloc, setup, plans, gate, starts as usize, notes)
+    run_within(rt, alloc, setup, plans, gate, starts, notes)
 }
 
 // Makes a run within the limits.
@@ -92,7 +103,7 @@ fn run_within<R: Threads + Wait + Sync, G: Gate>(
     setup: &Setup,
     plans: Vec<Vec<Request>>,
     gate: &G,
-    starts: usize,
+    starts: u32,
     notes: bool,
 ) -> Result<Report, RunFault>
     requires { FitsRun setup.now (lists_of plans.items) }
@@ -102,8 +113,9 @@ fn run_within<R: Threads + Wait + Sync, G: Gate>(
 {
     let (site, seats) = Site::new(alloc, setup, &plans, notes)?;
     let lists = Snapshot::of(&plans);
-    let ended = run_at(rt, alloc, setup, &site, seats, plans, gate, starts)?;
-    Ok(report_at_once(rt, alloc, setup, &lists, site, ended)?)
+    let left = starts.saturating_sub(own_threads(setup, &plans));
+    let ended = run_at(rt, alloc, setup, &site, seats, plans, gate, starts as usize)?;
+    Ok(report_at_once(rt, alloc, setup, &lists, site, ended, left)?)
 }
 
 // Runs a crew at a new site, with a line for each submitter. The plans make room for the answers of the report.

@@ -12,22 +12,40 @@ use std::thread::Threads;
 use std::{mem, thread};
 
 /// The part of the replies that is in each log, if that has one entry for each request of its worker's submitters, and
-/// no other. A thread for each log collects it.
+/// no other. Up to this many threads collect them, the calling one among them.
 pub(crate) fn parts_of<T: Threads + Sync>(
     rt: &T,
     alloc: Global,
     sizes: &[u32],
     logs: &[WorkerLog],
+    threads: usize,
 ) -> Result<Vec<Replies>, CollectFault>
-    requires { length sizes.now ≤ max_submitters }
+    requires few { length sizes.now ≤ max_submitters }
+    requires some { 0 < threads }
     ensures { IfOk result (λ parts. AreParts sizes.now logs.now parts.items) }
 {
-    let part = |worker: usize| -> Result<Replies, CollectFault>
+    let mut collected = uncollected(alloc, logs.len())?;
+    let part = |worker: usize, part: &mut Result<Replies, CollectFault>|
         requires { (worker < length logs.now) × (length sizes.now ≤ max_submitters) }
-        ensures { IfOk result (λ part. (log : Log) → slice_get logs.entry.now worker ≡ Some log
+        ensures { IfOk part.new (λ part. (log : Log) → slice_get logs.entry.now worker ≡ Some log
             → IsPart (length logs.entry.now) sizes.entry.now worker log part) }
-    { part_of(alloc, sizes, logs.len(), worker, &logs[worker]) };
-    all_of(alloc, thread::map_indices(rt, alloc, logs.len(), &part)?)
+    { *part = part_of(alloc, sizes, logs.len(), worker, &logs[worker]) };
+    thread::for_each_mut(rt, &mut collected, threads, &part);
+    all_of(alloc, collected)
+}
+
+// A place for each part, with none collected yet.
+fn uncollected(
+    alloc: Global,
+    count: usize,
+) -> Result<Vec<Result<Replies, CollectFault>>, AllocError>
+    ensures { IfOk result (λ places. length places.items ≡ count) }
+{
+    let mut places = Vec::with_capacity(alloc, count)?;
+    for _place in 0..count {
+        places.push(Err(CollectFault::Memory))?;
+    }
+    Ok(places)
 }
 
 // The part in a worker's log.

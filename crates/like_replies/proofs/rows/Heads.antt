@@ -3,7 +3,8 @@ use Rattle.std.proofs.Common.{◌≡◌, ℕ, ◌+◌, ◌<◌, ◌^◌, ◌/◌
 use Rattle.std.specs.Prelude.{decimal}
 use Rattle.std.proofs.lemmas.Bool.{cases_lt}
 use Rattle.std.proofs.lemmas.Fmt.{decimal_digit, decimal_nonempty, decimal_step}
-use Rattle.std.proofs.lemmas.List.{drop_at, get_or_at, length-take-le, set_at, take-append-drop, take_at}
+use Rattle.std.proofs.lemmas.List.{drop_at, get_or_at, length-set, length-take-le, set_at, take-append-drop, take_at}
+use Rattle.std.specs.List.{refill}
 use Rattle.like_replies.specs.RowParts.{RowHead}
 use Rattle.like_replies.proofs.rows.Plain.{field_text-decimal}
 use Rattle.like_replies.proofs.rows.RowTexts.{number_text}
@@ -75,11 +76,16 @@ last_byte start front byte more last d size =
       set_at (start ++ front) byte [] more last long ∙ append_assoc start front (more ∷ []),
     )
 
+-- a text of which one byte was changed in place is as long as before
+pub refill_set : (text : List ℕ) (place byte : ℕ) → refill (length text) text (set text place byte) ≡ set text place byte
+refill_set text place byte =
+    take_at (set text place byte) (drop (length (set text place byte)) text) (length text) (length-set text place byte)
+
 -- raising a last digit below nine gives the next number after the same start
 pub raised : (text : List ℕ) (place number last byte : ℕ)
     → EndsIn text place number
     → last + 1 ≡ length text
-    → byte ≡ get_or text last byte
+    → byte ≡ get_or text last 0
     → byte < 57
     → (take place (set text last (byte + 1)) ≡ take place text)
     × (drop place (set text last (byte + 1)) ≡ number_text (number + 1))
@@ -88,8 +94,8 @@ raised text place number last byte ends size is low =
     let start : List ℕ = take place text in
     let same : text ≡ start ++ (d.front ++ (48 + d.digit) ∷ []) =
     ends.is ∙ ap (λ t. start ++ t) (field_text-decimal number (omega (arith, ends.fits)) ∙ d.is) in
-    let parts = last_byte start d.front (48 + d.digit) (byte + 1) last byte (size ∙ ap length same) in
-    let digit : byte ≡ 48 + d.digit = is ∙ ap (λ t. get_or t last byte) same ∙ parts.0 in
+    let parts = last_byte start d.front (48 + d.digit) (byte + 1) last 0 (size ∙ ap length same) in
+    let digit : byte ≡ 48 + d.digit = is ∙ ap (λ t. get_or t last 0) same ∙ parts.0 in
     let more : byte + 1 ≡ 49 + d.digit = omega (arith, digit) in
     let next : number_text (number + 1) ≡ d.front ++ (byte + 1) ∷ [] =
     field_text-decimal (number + 1) ends.fits ∙ d.next (omega (arith, digit, low))

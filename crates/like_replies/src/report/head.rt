@@ -1,24 +1,22 @@
-ghost use Rattle.std.specs.Prelude.{◌≡◌, ◌+◌, ◌<◌, ◌^◌, IfOk};
+ghost use Rattle.std.specs.Prelude.{◌≡◌, ◌+◌, ◌<◌, ◌≤◌, ◌^◌, ◌++◌, length};
+ghost use Rattle.arrayvec.specs.ArrayVec.{array_vec_len};
 ghost use Rattle.like_replies.specs.RowParts.{head_text};
 
+use arrayvec::ArrayVec;
 use itoa::Buffer;
-use std::alloc::{AllocError, Global};
 use std::marker::Model;
-
-/// The most digits that a number has.
-const DIGITS: usize = 20;
 
 /// How rows with rising numbers begin: a start and then the number in decimal, whose last digit alone mostly changes.
 #[derive(Drop)]
 pub struct Head {
-    text: Vec<u8>,
+    text: ArrayVec<u8, 48>,
     // Where the number begins.
     place: usize,
     number: u64,
 }
 
 impl Model for Head {
-    ghost use Rattle.std.specs.Prelude.{◌≡◌, ◌+◌, ◌≤◌, decimal, drop, take, vec_capacity};
+    ghost use Rattle.std.specs.Prelude.{◌≡◌, ◌+◌, ◌≤◌, decimal, drop, take};
     ghost use Rattle.csv.specs.Writing.{default_writer, field_text};
     ghost use Rattle.like_replies.specs.RowParts.{RowHead};
 
@@ -27,22 +25,23 @@ impl Model for Head {
     ghost view = { λ h. record { start = take h.place h.text.items; number = h.number } };
 
     ghost invariant = { λ h. (drop h.place h.text.items ≡ field_text default_writer (decimal h.number))
-        × (h.place + 20 ≤ vec_capacity h.text) };
+        × (h.place + 20 ≤ 48) };
 }
 
 impl Head {
-    /// The head of the row with this number. It has room for every number.
-    pub fn new(alloc: Global, start: &[u8], number: u64) -> Result<Self, AllocError>
-        ensures { IfOk result (λ head. head ≡ record { start = start.now; number = number }) }
+    /// The head of the row with this number.
+    pub fn new(start: &[u8], number: u64) -> Self
+        requires { length start.now + 20 ≤ 48 }
+        ensures { result ≡ record { start = start.now; number = number } }
     {
-        let mut text = Vec::with_capacity(alloc, start.len() + DIGITS)?;
-        text.extend_from_slice(start)?;
-        text.extend_from_slice(Buffer::new().format(number).as_bytes())?;
-        Ok(Head {
+        let mut text = ArrayVec::new();
+        add(&mut text, start);
+        add(&mut text, Buffer::new().format(number).as_bytes());
+        Head {
             text,
             place: start.len(),
             number,
-        })
+        }
     }
 
     /// The text.
@@ -64,12 +63,16 @@ impl Head {
             return;
         }
         self.text.truncate(self.place);
-        let mut buffer = Buffer::new();
-        let Ok(()) = self
-            .text
-            .extend_from_slice(buffer.format(self.number).as_bytes())
-        else {
-            unreachable!();
-        };
+        add(&mut self.text, Buffer::new().format(self.number).as_bytes());
     }
+}
+
+// Adds text.
+fn add(text: &mut ArrayVec<u8, 48>, more: &[u8])
+    requires { array_vec_len text.old + length more.now ≤ 48 }
+    ensures { text.new.items ≡ text.old.items ++ more.now }
+{
+    let Ok(()) = text.try_extend_from_slice(more) else {
+        unreachable!();
+    };
 }

@@ -47,6 +47,13 @@ impl<'a> Names<'a> {
         self.pages.len()
     }
 
+    /// How many bytes the longest text of a name has.
+    pub fn longest(&self) -> usize {
+        self.texts
+            .iter()
+            .fold(0, |longest: usize, text| longest.max(text.len()))
+    }
+
     /// The text of a page's name, which has quotes where it needs them.
     pub fn text(&self, page: u32) -> &[u8]
         requires { page < length self.now }

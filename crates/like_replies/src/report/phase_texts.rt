@@ -1,10 +1,9 @@
-ghost use Rattle.std.specs.Prelude.{◌≡◌, ◌++◌, List, IfOk, OnOk, codes};
+ghost use Rattle.std.specs.Prelude.{◌≡◌, ◌≤◌, ◌++◌, List, codes, length};
 ghost use Rattle.like_requests.specs.Pages.{Page};
 ghost use Rattle.like_promises.specs.declared.reply.Reply.TheVariants.{Liked};
 ghost use Rattle.like_replies.specs.RowParts.{phase_text, shown_text};
 
-use crate::report::sheet::Sheet;
-use std::alloc::{AllocError, Global};
+use crate::report::label::Label;
 use std::marker::Model;
 
 /// What the rows of the answers of a phase have after their number: the phase alone, with the end of a like's row, and
@@ -12,9 +11,9 @@ use std::marker::Model;
 #[derive(Drop)]
 pub struct PhaseTexts {
     phase: u32,
-    start: Sheet,
-    liked: Sheet,
-    seen: Sheet,
+    start: Label,
+    liked: Label,
+    seen: Label,
 }
 
 impl Model for PhaseTexts {
@@ -31,42 +30,37 @@ impl Model for PhaseTexts {
 }
 
 // A phase as the fourth field of a row, and what comes after it.
-fn phase_and(alloc: Global, phase: u32, rest: &[u8]) -> Result<Sheet, AllocError>
-    ensures { IfOk result (λ text. text ≡ phase_text phase ++ rest.now) }
+fn phase_and(phase: u32, rest: &[u8]) -> Label
+    requires { length rest.now ≤ 20 }
+    ensures { result ≡ phase_text phase ++ rest.now }
 {
-    let mut text = Sheet::new(alloc);
-    add_phase(&mut text, phase, rest)?;
-    Ok(text)
-}
-
-fn add_phase(text: &mut Sheet, phase: u32, rest: &[u8]) -> Result<(), AllocError>
-    ensures { OnOk result (text.new ≡ text.old ++ (phase_text phase ++ rest.now)) }
-{
-    text.add_numbered(b",", u64::from(phase))?;
-    text.add(rest)
+    let mut text = Label::new();
+    text.add(b",");
+    text.add_number(u64::from(phase));
+    text.add(rest);
+    text
 }
 
 impl PhaseTexts {
     /// The texts of this phase.
-    pub fn new(alloc: Global, phase: u32) -> Result<Self, AllocError>
-        ensures { IfOk result (λ texts. texts ≡ phase) }
+    pub fn new(phase: u32) -> Self
+        ensures { result ≡ phase }
     {
-        Ok(PhaseTexts {
+        PhaseTexts {
             phase,
-            start: phase_and(alloc, phase, b"")?,
-            liked: phase_and(alloc, phase, b",liked,,\n")?,
-            seen: phase_and(alloc, phase, b",seen,")?,
-        })
+            start: phase_and(phase, b""),
+            liked: phase_and(phase, b",liked,,\n"),
+            seen: phase_and(phase, b",seen,"),
+        }
     }
 
     /// Goes to this phase, if it isn't there yet.
-    pub fn go_to(&mut self, alloc: Global, phase: u32) -> Result<(), AllocError>
-        ensures { OnOk result (self.new ≡ phase) }
+    pub fn go_to(&mut self, phase: u32)
+        ensures { self.new ≡ phase }
     {
         if self.phase != phase {
-            *self = PhaseTexts::new(alloc, phase)?;
+            *self = PhaseTexts::new(phase);
         }
-        Ok(())
     }
 
     /// The phase.

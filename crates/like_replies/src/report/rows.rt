@@ -1,4 +1,4 @@
-ghost use Rattle.std.specs.Prelude.{◌≡◌, ◌<◌, ◌++◌, ℕ, List, IfOk, OnOk, codes, length};
+ghost use Rattle.std.specs.Prelude.{◌≡◌, ◌<◌, ◌≤◌, ◌++◌, ℕ, List, OnOk, codes, length};
 ghost use Rattle.std.specs.Option.{ForSome};
 ghost use Rattle.csv.specs.Writing.{default_writer, field_text, row_text};
 ghost use Rattle.like_requests.specs.Pages.{Page};
@@ -8,12 +8,13 @@ ghost use Rattle.like_replies.specs.PlaceRows.{place_row};
 ghost use Rattle.like_replies.specs.RowParts.{phase_text, place_start, reply_start, shown_text};
 
 use crate::report::head::Head;
+use crate::report::label::Label;
 use crate::report::names::Names;
 use crate::report::phase_texts::PhaseTexts;
 use crate::report::sheet::Sheet;
 use like_promises::{Answer, Place, Reply};
 use like_requests::Verdict;
-use std::alloc::{AllocError, Global};
+use std::alloc::AllocError;
 
 /// Adds the header row.
 #[tactic(auto, unfolding(csv::specs::Writing::fields_text, csv::specs::Writing::is_blank))]
@@ -24,13 +25,15 @@ pub fn add_header(sheet: &mut Sheet) -> Result<(), AllocError>
 }
 
 /// How each row of a submitter's requests begins.
-pub fn start_reply(alloc: Global, submitter: u64) -> Result<Sheet, AllocError>
-    ensures { IfOk result (λ start. start ≡ reply_start submitter) }
+pub fn start_reply(submitter: u64) -> Label
+    ensures start { result ≡ reply_start submitter }
+    ensures short { length result ≤ 28 }
 {
-    let mut start = Sheet::new(alloc);
-    start.add_numbered(b"reply,", submitter)?;
-    start.add(b",")?;
-    Ok(start)
+    let mut start = Label::new();
+    start.add(b"reply,");
+    start.add_number(submitter);
+    start.add(b",");
+    start
 }
 
 // What a refusal shows, and the end of its row.
@@ -88,7 +91,6 @@ fn add_seen(
 /// Adds the row of a submitter's request, with the texts of an even and of an odd phase at hand: joined and split
 /// phases take turns.
 pub fn add_reply(
-    alloc: Global,
     sheet: &mut Sheet,
     names: &Names,
     head: &Head,
@@ -101,7 +103,7 @@ pub fn add_reply(
         ++ row_text default_writer (reply_row names.now submitter head.now.number answer.now)) }
 {
     let texts = &mut phases[answer.phase as usize % 2];
-    texts.go_to(alloc, answer.phase)?;
+    texts.go_to(answer.phase);
     sheet.add(head.text())?;
     add_shown(sheet, names, texts, answer.reply)
 }

@@ -1,4 +1,4 @@
-ghost use Rattle.std.specs.Prelude.{◌≡◌, ◌<◌, ◌+◌, ◌^◌, ℕ, [], ◌∷◌, ◌++◌, All, IfOk, OnOk, codes, length};
+ghost use Rattle.std.specs.Prelude.{◌≡◌, ◌<◌, ◌+◌, ◌^◌, ℕ, [], ◌∷◌, ◌++◌, All, OnOk, codes, length};
 ghost use Rattle.std.specs.Option.{ForSome};
 ghost use Rattle.like_replies.specs.PlaceRows.{page_place_rows};
 ghost use Rattle.like_replies.specs.RowParts.{reply_start};
@@ -14,7 +14,7 @@ use crate::report::rows::{
 use crate::report::sheet::Sheet;
 use like_core::is_hot;
 use like_promises::{Answer, Chosen, Place};
-use std::alloc::{AllocError, Global};
+use std::alloc::AllocError;
 
 /// A part of the rows, whose text is made in one go.
 #[derive(Drop)]
@@ -42,13 +42,33 @@ pub enum Section<'a> {
     },
 }
 
+// The most bytes that a row has beside a page's name.
+const ROW: usize = 86;
+
+impl Section<'_> {
+    /// Room for its text, if no name of a page takes more bytes than this.
+    pub fn room(&self, name: usize) -> usize {
+        let rows = match self {
+            Section::Header => 1,
+            Section::Answers { answers, .. } => answers.len(),
+            Section::Counts(counts) => counts.len(),
+            Section::Users { last, .. } => last.len(),
+            Section::Hot(hot) => hot_rows(hot),
+            Section::Places { places, .. } => places.len(),
+        };
+        rows.saturating_mul(name.saturating_add(ROW))
+    }
+}
+
+// How many rows show hot pages.
+fn hot_rows(hot: &[Chosen]) -> usize {
+    hot.iter().fold(0, |rows: usize, chosen| {
+        rows.saturating_add(chosen.mask.count_ones() as usize)
+    })
+}
+
 /// Adds the rows of a section.
-pub fn add_section(
-    alloc: Global,
-    sheet: &mut Sheet,
-    names: &Names,
-    section: &Section,
-) -> Result<(), AllocError>
+pub fn add_section(sheet: &mut Sheet, names: &Names, section: &Section) -> Result<(), AllocError>
     requires { HasRows names.now section.now }
     ensures { OnOk result (sheet.new
         ≡ sheet.old ++ rows_text (section_rows names.now section.now)) }
@@ -59,9 +79,9 @@ pub fn add_section(
             submitter,
             before,
             answers,
-        } => add_answers(alloc, sheet, names, submitter, before, answers),
+        } => add_answers(sheet, names, submitter, before, answers),
         Section::Counts(counts) => add_counts(sheet, names, counts),
-        Section::Users { before, last } => add_users(alloc, sheet, names, before, last),
+        Section::Users { before, last } => add_users(sheet, names, before, last),
         Section::Hot(hot) => add_all_hot(sheet, names, hot),
         Section::Places { page, places } => add_places(sheet, names, page, places),
     }
@@ -69,7 +89,6 @@ pub fn add_section(
 
 // Adds the rows of a submitter's requests, after the first `before` of them.
 fn add_answers(
-    alloc: Global,
     sheet: &mut Sheet,
     names: &Names,
     submitter: u64,
@@ -81,14 +100,13 @@ fn add_answers(
     ensures { OnOk result (sheet.new ≡ sheet.old
         ++ rows_text (answer_rows names.now submitter before answers.now)) }
 {
-    let mut head = reply_head(alloc, submitter, before)?;
-    let mut phases = first_phases(alloc)?;
-    add_replies(alloc, sheet, names, &mut head, &mut phases, answers)
+    let mut head = reply_head(submitter, before);
+    let mut phases = [PhaseTexts::new(0), PhaseTexts::new(1)];
+    add_replies(sheet, names, &mut head, &mut phases, answers)
 }
 
 // Adds the rows of requests, from the one of this head on.
 fn add_replies(
-    alloc: Global,
     sheet: &mut Sheet,
     names: &Names,
     head: &mut Head,
@@ -103,25 +121,19 @@ fn add_replies(
         ++ rows_text (answer_rows names.now submitter before answers.now)) }
 {
     for answer in answers {
-        add_reply(alloc, sheet, names, head, phases, answer)?;
+        add_reply(sheet, names, head, phases, answer)?;
         head.next();
     }
     Ok(())
 }
 
 // The head of the first of these rows, whose requests count from 1.
-fn reply_head(alloc: Global, submitter: u64, before: u64) -> Result<Head, AllocError>
+fn reply_head(submitter: u64, before: u64) -> Head
     requires { before + 1 < 2 ^ 64 }
-    ensures { IfOk result (λ head. head
-        ≡ record { start = reply_start submitter; number = before + 1 }) }
+    ensures { result ≡ record { start = reply_start submitter; number = before + 1 } }
 {
-    let start = start_reply(alloc, submitter)?;
-    Head::new(alloc, start.text(), before + 1)
-}
-
-// The texts of the first two phases.
-fn first_phases(alloc: Global) -> Result<[PhaseTexts; 2], AllocError> {
-    Ok([PhaseTexts::new(alloc, 0)?, PhaseTexts::new(alloc, 1)?])
+    let start = start_reply(submitter);
+    Head::new(start.text(), before + 1)
 }
 
 // Adds the rows of the pages.
@@ -137,7 +149,6 @@ fn add_counts(sheet: &mut Sheet, names: &Names, counts: &[u64]) -> Result<(), Al
 
 // Adds the rows of the users from number `before` on that have an accepted like.
 fn add_users(
-    alloc: Global,
     sheet: &mut Sheet,
     names: &Names,
     before: u64,
@@ -148,7 +159,7 @@ fn add_users(
     ensures { OnOk result (sheet.new ≡ sheet.old
         ++ rows_text (liker_rows names.now before last.now)) }
 {
-    let mut head = Head::new(alloc, b"user,", before)?;
+    let mut head = Head::new(b"user,", before);
     for page in last {
         add_last(sheet, names, &head, *page)?;
         head.next();

@@ -1,4 +1,4 @@
-ghost use Rattle.std.specs.Prelude.{◌≡◌, [], ◌++◌, OnOk, decimal};
+ghost use Rattle.std.specs.Prelude.{◌≡◌, [], ◌++◌, IfOk, OnOk, decimal};
 ghost use Rattle.std.specs.Io.KnownBytes.{Appends};
 ghost use Rattle.csv.specs.Writing.{default_writer, field_text};
 
@@ -8,7 +8,7 @@ use std::alloc::{AllocError, Global};
 use std::io::Write;
 use std::marker::Model;
 
-/// The text of rows on its way to a writer.
+/// The text of rows on its way to a writer, in room that was taken before.
 #[derive(Drop)]
 pub struct Sheet {
     text: Vec<u8>,
@@ -23,20 +23,20 @@ impl Model for Sheet {
 }
 
 impl Sheet {
-    /// A sheet with no text.
-    pub fn new(alloc: Global) -> Self
-        ensures { result ≡ [] }
+    /// A sheet with no text, and with room for this many bytes.
+    pub fn with_room(alloc: Global, bytes: usize) -> Result<Self, AllocError>
+        ensures { IfOk result (λ sheet. sheet ≡ []) }
     {
-        Sheet {
-            text: Vec::new(alloc),
-        }
+        Ok(Sheet {
+            text: Vec::with_capacity(alloc, bytes)?,
+        })
     }
 
-    /// The text.
-    pub fn text(&self) -> &[u8]
-        ensures { result.now ≡ self.now }
+    /// Takes all text off, and keeps the room.
+    pub fn clear(&mut self)
+        ensures { self.new ≡ [] }
     {
-        &self.text
+        self.text.clear();
     }
 
     /// Adds text.
@@ -62,15 +62,13 @@ impl Sheet {
         self.add_number(number)
     }
 
-    /// Hands all the text on.
-    pub fn hand_on<W: Write>(&mut self, out: &mut W) -> Result<(), WriteFault>
-        ensures handed { OnOk result (Appends (W.contents out.old) (W.contents out.new) self.old) }
-        ensures emptied { OnOk result (self.new ≡ []) }
+    /// Writes its text.
+    pub fn write<W: Write>(&self, out: &mut W) -> Result<(), WriteFault>
+        ensures { OnOk result (Appends (W.contents out.old) (W.contents out.new) self.now) }
     {
         if out.write_all(&self.text).is_err() {
             return Err(WriteFault::Write);
         }
-        self.text.clear();
         Ok(())
     }
 }

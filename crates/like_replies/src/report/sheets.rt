@@ -1,8 +1,9 @@
-ghost use Rattle.std.specs.Prelude.{◌≡◌, ℕ, All, IfOk, List, Ok, OnOk, map};
+ghost use Rattle.std.specs.Prelude.{◌≡◌, ◌<◌, ◌≤◌, ℕ, All, IfOk, List, Ok, OnOk, Some, length, map, slice_get};
 ghost use Rattle.std.specs.List.{flat_map};
 ghost use Rattle.std.specs.Io.KnownBytes.{Appends, Keeps};
 ghost use Rattle.like_replies.specs.Rows.{rows_text};
-ghost use Rattle.like_replies.specs.Sections.{HasRows, rows_in};
+ghost use Rattle.like_replies.specs.Sections.{HasRows, rows_in, section_rows};
+ghost use Rattle.like_replies.specs.declared.report.section.Section.{Section};
 
 use crate::report::names::Names;
 use crate::report::section::{Section, add_section};
@@ -16,11 +17,38 @@ use std::thread::Threads;
 // How many sections are made in parallel.
 const AT_ONCE: usize = 8;
 
-/// Writes the rows of sections.
-pub fn write_rows<W: Write>(
+/// Room for the text of any of these sections.
+pub fn room_for(names: &Names, sections: &[Section]) -> usize {
+    let longest = names.longest();
+    sections.iter().fold(0, |room: usize, section| {
+        room.max(section.room(longest))
+    })
+}
+
+/// Sheets with this much room, for this many sections: at most eight, and fewer if there is no memory for more.
+pub fn sheets_with(
     alloc: Global,
+    count: usize,
+    room: usize,
+) -> Result<Vec<Result<Sheet, AllocError>>, AllocError>
+    ensures { IfOk result (λ sheets. 0 < length sheets.items) }
+{
+    let mut sheets = Vec::with_capacity(alloc, AT_ONCE)?;
+    sheets.push(Ok(Sheet::with_room(alloc, room)?))?;
+    for _more in 1..count.min(AT_ONCE) {
+        let Ok(sheet) = Sheet::with_room(alloc, room) else {
+            return Ok(sheets);
+        };
+        sheets.push(Ok(sheet))?;
+    }
+    Ok(sheets)
+}
+
+/// Writes the rows of sections by a sheet that has room for each.
+pub fn write_rows<W: Write>(
     names: &Names,
     sections: &[Section],
+    sheet: &mut Sheet,
     out: &mut W,
 ) -> Result<(), WriteFault>
     requires { All (HasRows names.now) sections.now }
@@ -29,30 +57,32 @@ pub fn write_rows<W: Write>(
         (W.contents out.new)
         (rows_text (rows_in names.now sections.now))) }
 {
-    let mut sheet = Sheet::new(alloc);
     for section in sections {
-        add_section(alloc, &mut sheet, names, section)?;
-        sheet.hand_on(out)?;
+        sheet.clear();
+        add_section(sheet, names, section)?;
+        sheet.write(out)?;
     }
     flush(out)
 }
 
-/// The same, with some sections made in parallel.
+/// The same by these sheets, as many sections in parallel as there are sheets.
 pub fn write_rows_at_once<T: Threads + Sync, W: Write>(
     rt: &T,
-    alloc: Global,
     names: &Names,
     sections: &[Section],
+    sheets: &mut [Result<Sheet, AllocError>],
     out: &mut W,
 ) -> Result<(), WriteFault>
     requires has { All (HasRows names.now) sections.now }
-    ensures { OnOk result (Appends
+    requires some { 0 < length sheets.old }
+    ensures written { OnOk result (Appends
         (W.contents out.old)
         (W.contents out.new)
         (rows_text (rows_in names.now sections.now))) }
+    ensures sheets { length sheets.new ≡ length sheets.old }
 {
-    for group in sections.chunks(AT_ONCE) {
-        write_group(rt, alloc, names, group, out)?;
+    for group in sections.chunks(sheets.len()) {
+        write_group(rt, names, group, sheets, out)?;
     }
     flush(out)
 }
@@ -60,47 +90,53 @@ pub fn write_rows_at_once<T: Threads + Sync, W: Write>(
 // Writes the rows of a few sections, which are made in parallel.
 fn write_group<T: Threads + Sync, W: Write>(
     rt: &T,
-    alloc: Global,
     names: &Names,
     group: &[Section],
+    sheets: &mut [Result<Sheet, AllocError>],
     out: &mut W,
 ) -> Result<(), WriteFault>
     requires has { All (HasRows names.now) group.now }
-    ensures { OnOk result (Appends
+    requires enough { length group.now ≤ length sheets.old }
+    ensures written { OnOk result (Appends
         (W.contents out.old)
         (W.contents out.new)
         (rows_text (rows_in names.now group.now))) }
+    ensures sheets { length sheets.new ≡ length sheets.old }
 {
-    let made = |_at: usize, part: &[Section]| -> Result<Sheet, AllocError>
-        requires { All (HasRows names.now) part.now }
-        ensures { IfOk result (λ sheet. sheet
-            ≡ rows_text (rows_in names.entry.now part.entry.now)) }
-    { sheet_of(alloc, names, part) };
-    hand_on_all(out, thread::map_chunks(rt, alloc, group, 1, &made)?)
+    let made = |at: usize, sheet: &mut Result<Sheet, AllocError>|
+        requires { (at < length group.now) × All (HasRows names.now) group.now }
+        ensures { (section : Section) → slice_get group.entry.now at ≡ Some section
+            → IfOk sheet.new (λ text. text ≡ rows_text (section_rows names.entry.now section)) }
+    { make(sheet, names, &group[at]) };
+    let (sheets, _) = sheets.split_at_mut(group.len());
+    thread::for_each_mut(rt, sheets, AT_ONCE, &made);
+    write_all(out, sheets)
 }
 
-// The text of sections.
-fn sheet_of(alloc: Global, names: &Names, sections: &[Section]) -> Result<Sheet, AllocError>
-    requires { All (HasRows names.now) sections.now }
-    ensures { IfOk result (λ sheet. sheet ≡ rows_text (rows_in names.now sections.now)) }
+// Makes the text of a section on a sheet, or leaves none where there is no room for it.
+fn make(sheet: &mut Result<Sheet, AllocError>, names: &Names, section: &Section)
+    requires { HasRows names.now section.now }
+    ensures { IfOk sheet.new (λ text. text ≡ rows_text (section_rows names.now section.now)) }
 {
-    let mut sheet = Sheet::new(alloc);
-    for section in sections {
-        add_section(alloc, &mut sheet, names, section)?;
+    let Ok(text) = sheet else {
+        return;
+    };
+    text.clear();
+    if add_section(text, names, section).is_err() {
+        *sheet = Err(AllocError);
     }
-    Ok(sheet)
 }
 
-// Hands the text of the sheets on, in their order, up to the first that could not be made.
-fn hand_on_all<W: Write>(
-    out: &mut W,
-    sheets: Vec<Result<Sheet, AllocError>>,
-) -> Result<(), WriteFault>
-    ensures { OnOk result ((texts : List (List ℕ)) × (sheets.items ≡ map Ok texts)
+// Writes the text of the sheets, in their order, up to the first that could not be made.
+fn write_all<W: Write>(out: &mut W, sheets: &[Result<Sheet, AllocError>]) -> Result<(), WriteFault>
+    ensures { OnOk result ((texts : List (List ℕ)) × (sheets.now ≡ map Ok texts)
         × Appends (W.contents out.old) (W.contents out.new) (flat_map (λ text. text) texts)) }
 {
     for sheet in sheets {
-        sheet?.hand_on(out)?;
+        match sheet {
+            Ok(sheet) => sheet.write(out)?,
+            Err(_) => return Err(WriteFault::Memory),
+        }
     }
     Ok(())
 }

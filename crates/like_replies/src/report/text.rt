@@ -10,7 +10,8 @@ use crate::extent::Extent;
 use crate::report::names::Names;
 use crate::report::section::Section;
 use crate::report::sections::{asked_sections, place_sections, report_sections};
-use crate::report::sheets::{write_rows, write_rows_at_once};
+use crate::report::sheet::Sheet;
+use crate::report::sheets::{room_for, sheets_with, write_rows, write_rows_at_once};
 use crate::write_fault::WriteFault;
 use like_promises::{Answer, Report};
 use like_requests::Pages;
@@ -63,12 +64,13 @@ impl<'a> Text<'a> {
         })
     }
 
-    /// Writes it, one section after the other.
+    /// Writes it, one section after the other. All memory is taken before the first byte is written.
     pub fn write<W: Write>(&self, alloc: Global, out: &mut W) -> Result<(), WriteFault>
         ensures { OnOk result (Appends (W.contents out.old) (W.contents out.new) self.now) }
     {
-        write_rows(alloc, &self.names, &self.report, out)?;
-        write_rows(alloc, &self.names, &self.places, out)
+        let mut sheet = Sheet::with_room(alloc, self.room())?;
+        write_rows(&self.names, &self.report, &mut sheet, out)?;
+        write_rows(&self.names, &self.places, &mut sheet, out)
     }
 
     /// The same, with sections made in parallel. A thread that can't be started is no fault: the caller's own does its
@@ -81,8 +83,15 @@ impl<'a> Text<'a> {
     ) -> Result<(), WriteFault>
         ensures { OnOk result (Appends (W.contents out.old) (W.contents out.new) self.now) }
     {
-        write_rows_at_once(rt, alloc, &self.names, &self.report, out)?;
-        write_rows_at_once(rt, alloc, &self.names, &self.places, out)
+        let count = self.report.len().max(self.places.len());
+        let mut sheets = sheets_with(alloc, count, self.room())?;
+        write_rows_at_once(rt, &self.names, &self.report, &mut sheets, out)?;
+        write_rows_at_once(rt, &self.names, &self.places, &mut sheets, out)
+    }
+
+    // Room for the text of any of its sections.
+    fn room(&self) -> usize {
+        room_for(&self.names, &self.report).max(room_for(&self.names, &self.places))
     }
 }
 
@@ -132,5 +141,6 @@ pub fn write_places<W: Write>(
 {
     let names = Names::new(alloc, pages)?;
     let sections = place_sections(alloc, names.len(), &report.places)?;
-    write_rows(alloc, &names, &sections, out)
+    let mut sheet = Sheet::with_room(alloc, room_for(&names, &sections))?;
+    write_rows(&names, &sections, &mut sheet, out)
 }

@@ -135,7 +135,7 @@ fn entries_and_faults(rt: HostRuntime) {
     }
 }
 
-// Stops the test unless logs are collected to this, one after the other and in parallel.
+// Stops the test unless logs are collected to this, one after the other and in parallel, on few threads and on many.
 fn assert_collected<R: Abort + Threads + Sync>(
     rt: &R,
     alloc: Global,
@@ -146,11 +146,10 @@ fn assert_collected<R: Abort + Threads + Sync>(
     assert!(rt; sizes.len() <= 64);
     let logs = logs(rt, alloc, workers);
     assert_text(rt, shown(rt, alloc, collect(alloc, sizes, &logs)), wanted);
-    assert_text(
-        rt,
-        shown(rt, alloc, collect_at_once(rt, alloc, sizes, &logs)),
-        wanted,
-    );
+    for starts in [0, 1, 64] {
+        let replies = collect_at_once(rt, alloc, sizes, &logs, starts);
+        assert_text(rt, shown(rt, alloc, replies), wanted);
+    }
     drop(logs);
 }
 

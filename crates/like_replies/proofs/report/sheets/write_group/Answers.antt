@@ -1,4 +1,4 @@
-use Rattle.std.proofs.Common.{◌≡◌, ℕ, List, length, arith}
+use Rattle.std.proofs.Common.{◌≡◌, ℕ, List, IfOk, Result, length, arith, subst}
 use Rattle.std.proofs.lemmas.Result.{on_ok_weaker}
 use Rattle.std.specs.List.{flat_map}
 use Rattle.like_replies.specs.declared.report.section.Section.{Section}
@@ -7,18 +7,19 @@ use Rattle.like_replies.specs.Sections.{rows_in}
 use Rattle.like_replies.proofs.AtOnce.{texts-at_once}
 use Rattle.like_replies.proofs.report.sheets.write_group.Goals as goal
 
-pub returns : goal.returns
-returns g c =
+pub returns-clause-written : goal.returns-clause-written
+returns-clause-written g c =
     let pages = c.args.names.now in
     let group : List Section = c.args.group.now in
-    let sheets = c.in_ok-map_chunks.field-0 in
-    let same : length sheets.items ≡ length group = omega (arith, sheets.ok.0, c.in_ok-map_chunks.ensures.len) in
-    on_ok_weaker c.hand_on_all.result
+    let sheets = c.for_each_mut.new.s in
+    let same : length sheets ≡ length group =
+    omega (arith, c.for_each_mut.auto.s, c.split_at_mut-sheets.ensures.front_len, c.requires.enough) in
+    on_ok_weaker c.write_all.result
     (λ made.
     let texts : List (List ℕ) = made.0 in
     let text : flat_map (λ t. t) texts ≡ rows_text (rows_in pages group) =
-    texts-at_once pages group sheets.items texts same
-    (λ i d there. let given = (c.in_ok-map_chunks.ensures.each i d there).1 in
-    record { part = given.argument.now; is_part = given.argument_is.value; text = given.call }) made.1 in
+    texts-at_once pages group sheets texts same
+    (λ i s d at there. let given = (c.for_each_mut.ensures i d (omega (arith, there, c.for_each_mut.auto.s))).1 in
+    rw (← given.left) (given.call s at)) made.1 in
     rw text at made.2)
-    c.hand_on_all.ensures
+    c.write_all.ensures

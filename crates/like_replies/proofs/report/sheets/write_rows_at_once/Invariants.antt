@@ -1,4 +1,4 @@
-use Rattle.std.proofs.Common.{◌≡◌, ◌++◌, List}
+use Rattle.std.proofs.Common.{◌≡◌, ◌++◌, List, length}
 use Rattle.std.specs.Io.KnownBytes.{Appends}
 use Rattle.std.specs.Slice.Iter.{chunks_rest}
 use Rattle.like_replies.specs.declared.report.section.Section.{Section}
@@ -9,5 +9,5 @@ use Rattle.like_replies.proofs.report.sheets.write_rows_at_once.Given as goal
 abbrev pub invariant-loop-group : goal.invariant-loop-group
 invariant-loop-group g l =
     (goal.iterator-loop-group g).can_next l.group-iterator × (goal.iterator-loop-group g).is_finite l.group-iterator
-    × (done : List Section) × (l.sections ≡ done ++ chunks_rest l.group-iterator)
+    × (length l.sheets ≡ length l.initial.sheets) × (done : List Section) × (l.sections ≡ done ++ chunks_rest l.group-iterator)
     × Appends (g.W.Write.contents l.initial.out) (g.W.Write.contents l.out) (rows_text (rows_in l.names done))
