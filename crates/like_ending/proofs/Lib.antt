@@ -1,0 +1,11 @@
+pub mod States
+pub mod WorkerFacts
+pub mod Sums
+pub mod CrewFacts
+pub mod Falls
+pub mod Rests
+pub mod Served
+pub mod Lower
+pub mod Ends
+pub mod Stretches
+pub mod Turning

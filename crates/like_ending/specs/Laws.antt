@@ -1,0 +1,68 @@
+-- The laws: rounds end, and so do fair schedules.
+use Rattle.std.specs.Prelude.{ℕ, ◌+◌, ◌*◌, ◌≤◌, Bool, false, true, List, length}
+use Rattle.like_core.specs.Phase.{last_phase}
+use Rattle.like_ending.specs.Progress.{AllAreGone, CrewProgress, IsStart, items_in, remaining_in}
+use Rattle.like_ending.specs.InPhase.{IsCrewInPhase}
+use Rattle.like_ending.specs.Schedules.{TakeTurns, IsFairRound, IsFairStretch, IsFreshRound, HasTurn, Participant, TakesPart, Unended}
+use Rattle.like_ending.specs.Measures.{changes_in, distance, measure}
+
+-- a start is in phase
+abbrev pub StartsInPhase : Type 0
+StartsInPhase = (c : CrewProgress) → IsStart c → IsCrewInPhase c
+
+-- a crew in phase stays so with each turn, whether all lists are open or not
+abbrev pub StaysInPhase : Type 0
+StaysInPhase =
+    (all_open : Bool) (who : Participant) (c d : CrewProgress)
+    → IsCrewInPhase c → HasTurn all_open who c d → IsCrewInPhase d
+
+-- and no turn raises what is left
+abbrev pub NoTurnRaises : Type 0
+NoTurnRaises =
+    (all_open : Bool) (who : Participant) (c d : CrewProgress)
+    → IsCrewInPhase c → HasTurn all_open who c d → remaining_in d ≤ remaining_in c
+
+-- a round that doesn't find all workers gone lowers the measure by more than the turns of a phase
+abbrev pub RoundsLower : Type 0
+RoundsLower =
+    (c d : CrewProgress) → IsCrewInPhase c → ¬ AllAreGone c → IsFreshRound c d → measure d + (c.turns + 1) ≤ measure c
+
+-- n rounds are within the bound for so many turns in a phase, items and workers
+abbrev pub MayLast : ℕ → ℕ → ℕ → ℕ → Type 0
+MayLast turns items workers n =
+    (turns + 1) * n ≤ (2 * turns + 4) * (items + workers) + (turns + 1) * (turns + 3)
+
+-- from a start, after any turns, n rounds one after another, none of which begins with all workers gone, are within the
+-- bound
+abbrev pub RoundsEnd : Type 0
+RoundsEnd =
+    (before : List Participant) (n : ℕ) (start c d : CrewProgress)
+    → IsStart start → TakeTurns false before start c → Unended IsFreshRound n c d
+    → MayLast start.turns (items_in start) (length start.workers) n
+
+-- so are n fair rounds, and with them the next turn of the coordinator, if that doesn't find all workers gone either
+abbrev pub FairRoundsEnd : Type 0
+FairRoundsEnd =
+    (before : List Participant) (n : ℕ) (start c d : CrewProgress)
+    → IsStart start → TakeTurns false before start c → Unended IsFairRound n c d
+    → MayLast start.turns (items_in start) (length start.workers) n
+    × (¬ AllAreGone d → MayLast start.turns (items_in start) (length start.workers) (n + 1))
+
+-- each fair stretch that doesn't begin with all workers gone lowers the distance
+abbrev pub FairStretchesLower : Type 0
+FairStretchesLower =
+    (c d : CrewProgress) → IsCrewInPhase c → ¬ AllAreGone c → IsFairStretch c d → distance d + 1 ≤ distance c
+
+-- from a start, after any turns, n fair stretches one after another, none of which begins with all workers gone, are no
+-- more than the turns that change anything in all phases up to the last, and two for each item
+abbrev pub FairSchedulesEnd : Type 0
+FairSchedulesEnd =
+    (before : List Participant) (n : ℕ) (start c d : CrewProgress)
+    → IsStart start → TakeTurns false before start c → Unended IsFairStretch n c d
+    → n ≤ (last_phase + 1) * changes_in start + 2 * items_in start
+
+-- everybody can have a turn, with all lists open
+abbrev pub AllCanTurn : Type 0
+AllCanTurn =
+    (who : Participant) (c : CrewProgress)
+    → IsCrewInPhase c → TakesPart c who → (d : CrewProgress) × HasTurn true who c d
