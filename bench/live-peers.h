@@ -3,7 +3,7 @@
 #ifndef LIVE_PEERS_H
 #define LIVE_PEERS_H
 
-#include <likes_helpers.h>
+#include "../checks/live-time.h"
 
 #include "live-options.h"
 
@@ -43,8 +43,7 @@ struct player {
     user_record *users; /* in place of `last`, for transactions */
     uint64_t *shard;
     uint64_t done, rows, *began, worked; /* the processor time that it took, in nanoseconds */
-    likes_request (*buffers)[ROW]; /* a row for each seat, with so many likes */
-    uint32_t buffered[MOST_THREADS];
+    likes_seat *seat; /* where the thread holds it */
     waits waits;
     pthread_t thread;
     char apart[128];

@@ -3,7 +3,7 @@
  *
  * It prints a line for each wrong answer, and then exits with status 1. checks/live builds and runs it. With a number
  * as its argument it also makes that many million calls, and requires that memory stays as it was. */
-#include "likes_helpers.h"
+#include "live-time.h"
 
 #include <malloc.h>
 #include <signal.h>
@@ -1173,8 +1173,8 @@ static const struct {
     NAMED(NO_MEMORY),    NAMED(UNKNOWN_USER),  NAMED(OTHER_SEAT),     NAMED(UNKNOWN_PAGE), NAMED(UNKNOWN_OP),
     NAMED(UNKNOWN_END),  NAMED(WRONG_RANGE),   NAMED(WRONG_RESERVED), NAMED(WRONG_PAGES),  NAMED(WRONG_MARKS),
     NAMED(WRONG_COUNT),  NAMED(WRONG_SEATS),   NAMED(WRONG_USERS),    NAMED(WRONG_ROOM),   NAMED(WRONG_HOT),
-    NAMED(WRONG_LASTS),  NAMED(NO_THREAD),     NAMED(WRONG_PERIOD),   NAMED(NOT_STARTED),  NAMED(MOVED),
-    NAMED(UNKNOWN_SEAT), NAMED(LOOK_LOST),    NAMED(LATE),
+    NAMED(WRONG_LASTS),  NAMED(NO_THREAD),     NAMED(WRONG_PERIOD),   NAMED(NOT_STARTED),  NAMED(UNKNOWN_SEAT),
+    NAMED(LOOK_LOST),    NAMED(LATE),
 };
 enum { NAMES = sizeof named / sizeof *named, OUTCOMES = 18, ERRORS = 18 };
 

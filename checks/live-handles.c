@@ -3,7 +3,7 @@
  * handle, likes with handles side by side would take longer.
  *
  * It exits with status 1 if a count is wrong. */
-#include "likes_helpers.h"
+#include "live-time.h"
 
 enum { LIKES = 4000000, TIMES = 9 };
 

@@ -93,7 +93,7 @@ static void *driver, *seats[4], *phase;
 static uint32_t open_by(const row *options) {
     memset(lasts, 0xff, sizeof lasts);
     lasts[7] = 4;
-    return likes_open_nonnull((const likes_options *)options, counts, 7, marks, 1, lasts, 30, (likes_driver *)&driver);
+    return likes_open((const likes_options *)options, counts, 7, marks, 1, lasts, 30, (likes_driver *)&driver);
 }
 
 static row right_options(void) {
@@ -153,7 +153,7 @@ static row run(int seat, uint64_t tag, uint32_t user, uint32_t page, uint32_t op
     put32(&request, PAGE, page);
     put32(&request, OP, op);
     put32(&request, REQUEST_RESERVED, reserved);
-    size_t done = likes_seat_run_nonnull((likes_seat *)&seats[seat], (const likes_request *)&request, 1,
+    size_t done = likes_seat_run((likes_seat *)&seats[seat], (const likes_request *)&request, 1,
                                          (likes_answer *)&answer, 1);
     IS(done, get32(&answer, STATUS) == 6 ? 0 : 1); /* LIKES_NO_ROOM */
     for (size_t place = ANSWER; place < sizeof answer; place++)
@@ -216,7 +216,7 @@ static void arrays(void) {
         memcpy(at + PAGE, &pages[n], 4);
         memcpy(at + OP, &op, 4);
     }
-    size_t done = likes_seat_run_nonnull((likes_seat *)&seats[1], (const likes_request *)requests, 4,
+    size_t done = likes_seat_run((likes_seat *)&seats[1], (const likes_request *)requests, 4,
                                          (likes_answer *)answers, 4);
     IS(done, 4);
     for (int n = 0; n < 4; n++) {
@@ -267,7 +267,7 @@ static void last_likes(void) {
     static const uint32_t shown[] = {UINT32_MAX, 4, 6, 3, 5};
     uint32_t pages[7];
     memset(pages, 0xa5, sizeof pages);
-    IS(likes_seat_lasts_nonnull((likes_seat *)&seats[1], 1, pages + 1, 5), 0);
+    IS(likes_seat_lasts((likes_seat *)&seats[1], 1, pages + 1, 5), 0);
     IS(pages[0], 0xa5a5a5a5);
     IS(pages[6], 0xa5a5a5a5);
     for (uint32_t n = 0; n < 5; n++) {
@@ -285,26 +285,26 @@ static void split_pages(void) {
     static const uint32_t proposed[] = {UINT32_MAX, 5, UINT32_MAX};
     uint32_t pages[4];
     memset(pages, 0xa5, sizeof pages);
-    IS(likes_driver_split_pages_nonnull((likes_driver *)&driver, pages + 1, 2), 1);
+    IS(likes_driver_split_pages((likes_driver *)&driver, pages + 1, 2), 1);
     IS(pages[0], 0xa5a5a5a5);
     IS(pages[1], 2);
     IS(pages[2], 0xa5a5a5a5);
     void *other_driver = NULL, *seat = NULL;
     row it = right_options();
     put32(&it, SEATS, 1);
-    IS(likes_open_nonnull((likes_options *)&it, counts, 7, marks, 0, lasts, 0, (likes_driver *)&other_driver), 0);
+    IS(likes_open((likes_options *)&it, counts, 7, marks, 0, lasts, 0, (likes_driver *)&other_driver), 0);
     IS(likes_driver_take_seat((likes_driver *)&other_driver, (likes_seat *)&seat), 0);
-    IS(likes_driver_propose_nonnull((likes_driver *)&other_driver, proposed, 1), 0);
+    IS(likes_driver_propose((likes_driver *)&other_driver, proposed, 1), 0);
     IS(likes_driver_turn((likes_driver *)&other_driver, 1), 9); /* LIKES_GOES_ON */
-    IS(likes_driver_propose_nonnull((likes_driver *)&other_driver, proposed, 3), 0);
+    IS(likes_driver_propose((likes_driver *)&other_driver, proposed, 3), 0);
     IS(likes_driver_turn((likes_driver *)&other_driver, 1), 10); /* LIKES_ANNOUNCED */
     IS(likes_seat_turn((likes_seat *)&seat), 5);                 /* LIKES_BETWEEN */
     IS(likes_driver_turn((likes_driver *)&other_driver, 0), 12); /* LIKES_RELEASED */
-    IS(likes_driver_split_pages_nonnull((likes_driver *)&other_driver, pages + 1, 2), 1);
+    IS(likes_driver_split_pages((likes_driver *)&other_driver, pages + 1, 2), 1);
     IS(pages[1], 5);
     IS(pages[2], 0xa5a5a5a5);
-    likes_seat_free_nonnull((likes_seat *)&seat);
-    likes_driver_free_nonnull((likes_driver *)&other_driver);
+    likes_seat_free((likes_seat *)&seat);
+    likes_driver_free((likes_driver *)&other_driver);
 }
 
 /* Makes many likes of page 1 and one of page 0, of a service in which so many make a page hot. Whether one gets hot. */
@@ -314,7 +314,7 @@ static bool gets_hot(uint32_t likes) {
     uint32_t turn = 9; /* LIKES_GOES_ON */
     put32(&it, SEATS, 1);
     put32(&it, HOT, likes);
-    IS(likes_open_nonnull((likes_options *)&it, counts, 7, marks, 0, lasts, 0, (likes_driver *)&hot_driver), 0);
+    IS(likes_open((likes_options *)&it, counts, 7, marks, 0, lasts, 0, (likes_driver *)&hot_driver), 0);
     IS(likes_driver_take_seat((likes_driver *)&hot_driver, (likes_seat *)&seat), 0);
     IS(likes_seat_like((likes_seat *)&seat, 0, 0), 1); /* LIKES_LIKED */
     for (int choice = 0; choice < 20 && turn == 9; choice++) {
@@ -331,17 +331,17 @@ static bool gets_hot(uint32_t likes) {
         IS(likes_seat_look((likes_seat *)&seat, 0, 1, 0, (likes_answer *)&answer), 3); /* LIKES_WAITS */
         ANSWERS(0, 0, 3);
     }
-    likes_seat_free_nonnull((likes_seat *)&seat);
-    likes_driver_free_nonnull((likes_driver *)&hot_driver);
+    likes_seat_free((likes_seat *)&seat);
+    likes_driver_free((likes_driver *)&hot_driver);
     IS(seat == NULL && hot_driver == NULL, true);
     return turn != 9;
 }
 
 static void end(void) {
     for (int i = 0; i < 3; i++)
-        likes_seat_free_nonnull((likes_seat *)&seats[i]);
-    likes_driver_free_nonnull((likes_driver *)&driver);
-    likes_phase_free_nonnull((likes_phase *)&phase);
+        likes_seat_free((likes_seat *)&seats[i]);
+    likes_driver_free((likes_driver *)&driver);
+    likes_phase_free((likes_phase *)&phase);
     IS(driver == NULL && seats[0] == NULL && seats[1] == NULL && seats[2] == NULL && phase == NULL, true);
 }
 

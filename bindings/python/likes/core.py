@@ -79,7 +79,7 @@ class Seat(Held):
 
     def run_on(self, row: Row) -> List[Told]:
         """Runs what is left of a row, and gives the answers of what was done."""
-        return row.note(self.call(self.library.likes_seat_run_nonnull, *row.left()))
+        return row.note(self.call(self.library.likes_seat_run, *row.left()))
 
     def take_found(self) -> Optional[Found]:
         """The next found look, in the order of asking, or None."""
@@ -99,7 +99,7 @@ class Seat(Held):
         """The last likes of the seat's users number start, start + 1 and so on."""
         start, length = whole("start", start), whole("length", length)
         pages = (c_uint32 * (length + 1))()
-        check(self.call(self.library.likes_seat_lasts_nonnull, start, pages, length), Status.OK)
+        check(self.call(self.library.likes_seat_lasts, start, pages, length), Status.OK)
         return [last_of(page) for page in pages[:length]]
 
     def turn(self) -> Status:
@@ -119,7 +119,7 @@ class Seat(Held):
         return int(self.call(self.library.likes_seat_phase))
 
     def free(self) -> None:
-        self._free(self.library.likes_seat_free_nonnull)
+        self._free(self.library.likes_seat_free)
 
 
 def seen_or_outcome(answer: Any) -> Told:
@@ -134,7 +134,7 @@ class Phase(Held):
         return int(self.call(self.library.likes_phase_now))
 
     def free(self) -> None:
-        self._free(self.library.likes_phase_free_nonnull)
+        self._free(self.library.likes_phase_free)
 
 
 class Driver(Held):
@@ -157,7 +157,7 @@ class Driver(Held):
         options = Options(whole("seats", seats), whole("users", users), whole("room", room), whole("hot", hot))
         row = (c_uint64 * (self.pages + 1))(*(whole("count", it, MOST_64) for it in counts))
         marked, last = row_of("mark", marks), row_of("last like", [number_of(it) for it in lasts])
-        opened = self.library.likes_open_nonnull(
+        opened = self.library.likes_open(
             options, row, self.pages, marked, len(marks), last, len(lasts), self._at
         )
         check(opened, Status.OK)
@@ -196,12 +196,12 @@ class Driver(Held):
 
     def snapshot(self, start: int = 0, length: Optional[int] = None) -> Optional[List[int]]:
         """The counts of the pages from start on, at the end of a joined phase that every seat has answered; or None."""
-        return self._counts(self.library.likes_driver_snapshot_nonnull, start, length)
+        return self._counts(self.library.likes_driver_snapshot, start, length)
 
     def last_counts(self, start: int = 0, length: Optional[int] = None) -> Optional[List[int]]:
         """The final counts of the pages from start on, where all seats are gone; or None. Then make turns with
         IF_IT_SERVES until ENDED, and try again."""
-        return self._counts(self.library.likes_driver_last_counts_nonnull, start, length)
+        return self._counts(self.library.likes_driver_last_counts, start, length)
 
     def _counts(self, call: Any, start: int, length: Optional[int]) -> Optional[List[int]]:
         start = whole("start", start)
@@ -214,17 +214,17 @@ class Driver(Held):
         """The pages that are split in the present split phase, or were in the last one."""
         most = whole("most", most)
         pages = (c_uint32 * (most + 1))()
-        told = self.call(self.library.likes_driver_split_pages_nonnull, pages, most)
+        told = self.call(self.library.likes_driver_split_pages, pages, most)
         return list(pages[:told])
 
     def propose(self, pages: Sequence[int]) -> None:
         """Proposes pages to be split, the first 64, in place of those that the library finds by itself. If there are
         none, it finds them again."""
         row = row_of("page", pages)
-        check(self.call(self.library.likes_driver_propose_nonnull, row, len(pages)), Status.OK)
+        check(self.call(self.library.likes_driver_propose, row, len(pages)), Status.OK)
 
     def close(self) -> None:
         """Frees the seats, the phase and the driver."""
         for owned in self.owned:
             owned.free()
-        self._free(self.library.likes_driver_free_nonnull)
+        self._free(self.library.likes_driver_free)

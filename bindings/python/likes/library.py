@@ -1,5 +1,4 @@
-"""The library by ctypes: its structures and its calls. Where likes.h has a call that takes NULL, the library has one
-that takes none, with _nonnull in its name."""
+"""The library by ctypes: its structures and its calls."""
 
 import ctypes
 import operator
@@ -10,8 +9,8 @@ from typing import Any, Optional, Sequence
 
 from .statuses import NO_PAGE
 
-VERSION = 4  # LIKES_VERSION of the likes.h that this package is written for
-SHARED = "liblikes.so.0.4"
+VERSION = 5  # LIKES_VERSION of the likes.h that this package is written for
+SHARED = "liblikes.so.0.5"
 MOST = 2**32 - 1
 
 
@@ -46,30 +45,30 @@ HANDLE, COUNTS, PAGES = POINTER(Handle), POINTER(c_uint64), POINTER(c_uint32)
 # What each call takes and gives.
 CALLS: Any = {
     "version": ([], c_uint32),
-    "open_nonnull": ([POINTER(Options), COUNTS, c_size_t, PAGES, c_size_t, PAGES, c_size_t, HANDLE], c_uint32),
+    "open": ([POINTER(Options), COUNTS, c_size_t, PAGES, c_size_t, PAGES, c_size_t, HANDLE], c_uint32),
     "driver_take_seat": ([HANDLE, HANDLE], c_uint32),
     "driver_take_phase": ([HANDLE, HANDLE], c_uint32),
     "driver_turn": ([HANDLE, c_uint32], c_uint32),
     "driver_phase": ([HANDLE], c_uint64),
-    "driver_snapshot_nonnull": ([HANDLE, c_uint32, COUNTS, c_size_t], c_uint32),
-    "driver_last_counts_nonnull": ([HANDLE, c_uint32, COUNTS, c_size_t], c_uint32),
-    "driver_split_pages_nonnull": ([HANDLE, PAGES, c_size_t], c_size_t),
-    "driver_propose_nonnull": ([HANDLE, PAGES, c_size_t], c_uint32),
-    "driver_free_nonnull": ([HANDLE], None),
+    "driver_snapshot": ([HANDLE, c_uint32, COUNTS, c_size_t], c_uint32),
+    "driver_last_counts": ([HANDLE, c_uint32, COUNTS, c_size_t], c_uint32),
+    "driver_split_pages": ([HANDLE, PAGES, c_size_t], c_size_t),
+    "driver_propose": ([HANDLE, PAGES, c_size_t], c_uint32),
+    "driver_free": ([HANDLE], None),
     "seat_like": ([HANDLE, c_uint32, c_uint32], c_uint32),
     "seat_look": ([HANDLE, c_uint32, c_uint32, c_uint64, POINTER(Answer)], c_uint32),
     "seat_glance": ([HANDLE, c_uint32, c_uint32, POINTER(Answer)], c_uint32),
-    "seat_run_nonnull": ([HANDLE, c_void_p, c_size_t, c_void_p, c_size_t], c_size_t),
+    "seat_run": ([HANDLE, c_void_p, c_size_t, c_void_p, c_size_t], c_size_t),
     "seat_take_found": ([HANDLE, POINTER(FoundLook)], c_bool),
     "seat_last": ([HANDLE, c_uint32, PAGES], c_uint32),
-    "seat_lasts_nonnull": ([HANDLE, c_uint32, PAGES, c_size_t], c_uint32),
+    "seat_lasts": ([HANDLE, c_uint32, PAGES, c_size_t], c_uint32),
     "seat_turn": ([HANDLE], c_uint32),
     "seat_retire": ([HANDLE], c_uint32),
     "seat_come_back": ([HANDLE], c_uint32),
     "seat_phase": ([HANDLE], c_uint64),
-    "seat_free_nonnull": ([HANDLE], None),
+    "seat_free": ([HANDLE], None),
     "phase_now": ([HANDLE], c_uint64),
-    "phase_free_nonnull": ([HANDLE], None),
+    "phase_free": ([HANDLE], None),
 }
 
 

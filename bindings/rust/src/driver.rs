@@ -45,7 +45,7 @@ impl Driver {
         // SAFETY: each slice has the length that is told, and the handle is empty.
         let told = unsafe {
             assert_eq!(ffi::likes_version(), ffi::VERSION, "the version of the library");
-            ffi::likes_open_nonnull(
+            ffi::likes_open(
                 &numbers,
                 counts.as_ptr(),
                 counts.len(),
@@ -94,7 +94,7 @@ impl Driver {
     pub fn snapshot(&mut self, from: u32, counts: &mut [u64]) -> Result<Snapshot, Error> {
         let (at, length) = (counts.as_mut_ptr(), counts.len());
         // SAFETY: the driver is borrowed for this call, and the slice has the length that is told.
-        let number = unsafe { ffi::likes_driver_snapshot_nonnull(&mut self.handle, from, at, length) };
+        let number = unsafe { ffi::likes_driver_snapshot(&mut self.handle, from, at, length) };
         Snapshot::of(number).ok_or_else(|| error(number))
     }
 
@@ -106,7 +106,7 @@ impl Driver {
     pub fn last_counts(&mut self, from: u32, counts: &mut [u64]) -> Result<LastCounts, Error> {
         let (at, length) = (counts.as_mut_ptr(), counts.len());
         // SAFETY: the driver is borrowed for this call, and the slice has the length that is told.
-        let number = unsafe { ffi::likes_driver_last_counts_nonnull(&mut self.handle, from, at, length) };
+        let number = unsafe { ffi::likes_driver_last_counts(&mut self.handle, from, at, length) };
         LastCounts::of(number).ok_or_else(|| error(number))
     }
 
@@ -114,7 +114,7 @@ impl Driver {
     /// slice of [`MAX_SPLIT`](crate::MAX_SPLIT) has room for all.
     pub fn split_pages<'a>(&mut self, pages: &'a mut [u32]) -> &'a [u32] {
         // SAFETY: the driver is borrowed for this call, and the slice has the length that is told.
-        let told = unsafe { ffi::likes_driver_split_pages_nonnull(&mut self.handle, pages.as_mut_ptr(), pages.len()) };
+        let told = unsafe { ffi::likes_driver_split_pages(&mut self.handle, pages.as_mut_ptr(), pages.len()) };
         &pages[..told]
     }
 
@@ -122,7 +122,7 @@ impl Driver {
     /// that the library finds by itself. If there are none, it finds them again. Numbers that are no pages do nothing.
     pub fn propose(&mut self, pages: &[u32]) {
         // SAFETY: the driver is borrowed for this call, and the slice has the length that is told.
-        let told = unsafe { ffi::likes_driver_propose_nonnull(&mut self.handle, pages.as_ptr(), pages.len()) };
+        let told = unsafe { ffi::likes_driver_propose(&mut self.handle, pages.as_ptr(), pages.len()) };
         if told != status::OK {
             unlisted(told);
         }
@@ -147,6 +147,6 @@ fn is_taken(told: u32) -> bool {
 impl Drop for Driver {
     fn drop(&mut self) {
         // SAFETY: nobody else has the handle.
-        unsafe { ffi::likes_driver_free_nonnull(&mut self.handle) }
+        unsafe { ffi::likes_driver_free(&mut self.handle) }
     }
 }

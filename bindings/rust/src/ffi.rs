@@ -8,7 +8,7 @@ use crate::answers::Last;
 use crate::rows::{Answer, Found, Request};
 
 /// `LIKES_VERSION` of the `likes.h` that this crate is written for.
-pub const VERSION: u32 = 4;
+pub const VERSION: u32 = 5;
 
 /// A driver, a seat or a phase. NULL: it is empty.
 #[repr(C)]
@@ -44,7 +44,7 @@ const _: () = {
 
 extern "C" {
     pub fn likes_version() -> u32;
-    pub fn likes_open_nonnull(
+    pub fn likes_open(
         options: *const Numbers,
         counts: *const u64,
         pages: usize,
@@ -59,17 +59,17 @@ extern "C" {
     pub fn likes_driver_take_phase(driver: *mut Handle, phase: *mut Handle) -> u32;
     pub fn likes_driver_turn(driver: *mut Handle, end: u32) -> u32;
     pub fn likes_driver_phase(driver: *mut Handle) -> u64;
-    pub fn likes_driver_snapshot_nonnull(driver: *mut Handle, from: u32, counts: *mut u64, counts_len: usize) -> u32;
-    pub fn likes_driver_last_counts_nonnull(driver: *mut Handle, from: u32, counts: *mut u64, counts_len: usize)
+    pub fn likes_driver_snapshot(driver: *mut Handle, from: u32, counts: *mut u64, counts_len: usize) -> u32;
+    pub fn likes_driver_last_counts(driver: *mut Handle, from: u32, counts: *mut u64, counts_len: usize)
         -> u32;
-    pub fn likes_driver_split_pages_nonnull(driver: *mut Handle, pages: *mut u32, pages_len: usize) -> usize;
-    pub fn likes_driver_propose_nonnull(driver: *mut Handle, pages: *const u32, pages_len: usize) -> u32;
-    pub fn likes_driver_free_nonnull(driver: *mut Handle);
+    pub fn likes_driver_split_pages(driver: *mut Handle, pages: *mut u32, pages_len: usize) -> usize;
+    pub fn likes_driver_propose(driver: *mut Handle, pages: *const u32, pages_len: usize) -> u32;
+    pub fn likes_driver_free(driver: *mut Handle);
 
     pub fn likes_seat_like(seat: *mut Handle, user: u32, page: u32) -> u32;
     pub fn likes_seat_look(seat: *mut Handle, user: u32, page: u32, tag: u64, answer: *mut Answer) -> u32;
     pub fn likes_seat_glance(seat: *mut Handle, user: u32, page: u32, answer: *mut Answer) -> u32;
-    pub fn likes_seat_run_nonnull(
+    pub fn likes_seat_run(
         seat: *mut Handle,
         requests: *const Request,
         requests_len: usize,
@@ -78,13 +78,13 @@ extern "C" {
     ) -> usize;
     pub fn likes_seat_take_found(seat: *mut Handle, found: *mut Found) -> bool;
     pub fn likes_seat_last(seat: *mut Handle, user: u32, page: *mut Last) -> u32;
-    pub fn likes_seat_lasts_nonnull(seat: *mut Handle, from: u32, pages: *mut Last, pages_len: usize) -> u32;
+    pub fn likes_seat_lasts(seat: *mut Handle, from: u32, pages: *mut Last, pages_len: usize) -> u32;
     pub fn likes_seat_turn(seat: *mut Handle) -> u32;
     pub fn likes_seat_retire(seat: *mut Handle) -> u32;
     pub fn likes_seat_come_back(seat: *mut Handle) -> u32;
     pub fn likes_seat_phase(seat: *mut Handle) -> u64;
-    pub fn likes_seat_free_nonnull(seat: *mut Handle);
+    pub fn likes_seat_free(seat: *mut Handle);
 
     pub fn likes_phase_now(phase: *const Handle) -> u64;
-    pub fn likes_phase_free_nonnull(phase: *mut Handle);
+    pub fn likes_phase_free(phase: *mut Handle);
 }

@@ -53,5 +53,5 @@ statuses! {
     WRONG_LASTS = 117, "wrong lasts";
     NO_THREAD = 1000, "no thread";
     WRONG_PERIOD = 1001, "wrong period";
-    UNKNOWN_SEAT = 1004, "unknown seat";
+    UNKNOWN_SEAT = 1003, "unknown seat";
 }

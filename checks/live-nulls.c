@@ -1,8 +1,8 @@
-/* The inline functions of likes.h, without the library: the calls that the library has are defined here, and see what
- * they are passed. An array of no entries must come as a pointer that isn't NULL, and everything else as it was.
+/* The calls of library/core.c, without the library: the proved calls below them are defined here, and see what they are
+ * passed. An array of no entries must come as a pointer that isn't NULL, and everything else as it was.
  *
  * If something else is passed, it prints a line and exits with status 1. */
-#include "likes.h"
+#include "../library/core.c"
 
 #include <stdio.h>
 #include <stdlib.h>
@@ -15,7 +15,7 @@ static struct {
     int calls;
 } seen;
 
-uint32_t likes_open_nonnull(const likes_options *options, const uint64_t *counts, size_t pages, const uint32_t *marks,
+uint32_t likes_proved_open(const likes_options *options, const uint64_t *counts, size_t pages, const uint32_t *marks,
                             size_t marks_len, const uint32_t *lasts, size_t lasts_len, likes_driver *driver) {
     seen.calls += driver != NULL && options != NULL;
     seen.first = counts;
@@ -28,7 +28,7 @@ uint32_t likes_open_nonnull(const likes_options *options, const uint64_t *counts
     return 41;
 }
 
-uint32_t likes_seat_lasts_nonnull(likes_seat *seat, uint32_t from, uint32_t *pages, size_t pages_len) {
+uint32_t likes_proved_seat_lasts(likes_seat *seat, uint32_t from, uint32_t *pages, size_t pages_len) {
     seen.calls += seat != NULL;
     seen.from = from;
     seen.first = pages;
@@ -36,7 +36,7 @@ uint32_t likes_seat_lasts_nonnull(likes_seat *seat, uint32_t from, uint32_t *pag
     return 45;
 }
 
-size_t likes_seat_run_nonnull(likes_seat *seat, const likes_request *requests, size_t requests_len,
+size_t likes_proved_seat_run(likes_seat *seat, const likes_request *requests, size_t requests_len,
                               likes_answer *answers, size_t answers_len) {
     seen.calls += seat != NULL;
     seen.first = requests;
@@ -54,11 +54,11 @@ static uint32_t see_counts(const likes_driver *driver, uint32_t from, const uint
     return 43;
 }
 
-uint32_t likes_driver_snapshot_nonnull(likes_driver *driver, uint32_t from, uint64_t *counts, size_t counts_len) {
+uint32_t likes_proved_driver_snapshot(likes_driver *driver, uint32_t from, uint64_t *counts, size_t counts_len) {
     return see_counts(driver, from, counts, counts_len);
 }
 
-uint32_t likes_driver_last_counts_nonnull(likes_driver *driver, uint32_t from, uint64_t *counts, size_t counts_len) {
+uint32_t likes_proved_driver_last_counts(likes_driver *driver, uint32_t from, uint64_t *counts, size_t counts_len) {
     return see_counts(driver, from, counts, counts_len) + 1;
 }
 
@@ -68,27 +68,27 @@ static void see_pages(const likes_driver *driver, const uint32_t *pages, size_t 
     seen.first_len = pages_len;
 }
 
-size_t likes_driver_split_pages_nonnull(likes_driver *driver, uint32_t *pages, size_t pages_len) {
+size_t likes_proved_driver_split_pages(likes_driver *driver, uint32_t *pages, size_t pages_len) {
     see_pages(driver, pages, pages_len);
     return 46;
 }
 
-uint32_t likes_driver_propose_nonnull(likes_driver *driver, const uint32_t *pages, size_t pages_len) {
+uint32_t likes_proved_driver_propose(likes_driver *driver, const uint32_t *pages, size_t pages_len) {
     see_pages(driver, pages, pages_len);
     return 47;
 }
 
-void likes_seat_free_nonnull(likes_seat *seat) {
+void likes_proved_seat_free(likes_seat *seat) {
     seen.calls++;
     seen.first = seat;
 }
 
-void likes_driver_free_nonnull(likes_driver *driver) {
+void likes_proved_driver_free(likes_driver *driver) {
     seen.calls++;
     seen.first = driver;
 }
 
-void likes_phase_free_nonnull(likes_phase *phase) {
+void likes_proved_phase_free(likes_phase *phase) {
     seen.calls++;
     seen.first = phase;
 }

@@ -1,0 +1,45 @@
+/* Single calls, each with a seat's lock. */
+#include "service.h"
+
+uint32_t likes_service_like(likes_service *service, uint32_t user, uint32_t page) {
+    uint32_t fault = likes_service_fault(service);
+    if (fault != LIKES_OK)
+        return fault;
+    likes_place *place = likes_place_of(service, user);
+    likes_place_take(place, UINT64_MAX);
+    uint32_t status = likes_seat_like(&place->seat, user, page);
+    if (status == LIKES_BETWEEN) {
+        likes_request request = likes_request_of(LIKES_LIKE, user, page, 0);
+        likes_answer answer;
+        likes_place_retry(service, place, &request, UINT64_MAX, &answer);
+        status = answer.status;
+    }
+    likes_add(&place->tally.likes, status == LIKES_LIKED);
+    likes_place_give(service, place);
+    return status;
+}
+
+uint32_t likes_service_glance(likes_service *service, uint32_t user, uint32_t page, likes_answer *answer) {
+    uint32_t fault = likes_service_fault(service);
+    if (fault != LIKES_OK)
+        return likes_refuse(answer, fault);
+    likes_place *place = likes_place_of(service, user);
+    likes_place_take(place, UINT64_MAX);
+    if (likes_seat_glance(&place->seat, user, page, answer) == LIKES_BETWEEN) {
+        likes_request request = likes_request_of(LIKES_GLANCE, user, page, 0);
+        likes_place_retry(service, place, &request, UINT64_MAX, answer);
+    }
+    likes_place_give(service, place);
+    return answer->status;
+}
+
+uint32_t likes_service_last(likes_service *service, uint32_t user, uint32_t *page) {
+    uint32_t fault = likes_service_fault(service);
+    if (fault != LIKES_OK)
+        return fault;
+    likes_place *place = likes_place_of(service, user);
+    likes_lock_take(&place->lock, UINT64_MAX);
+    uint32_t status = likes_seat_last(&place->seat, user, page);
+    likes_place_give(service, place);
+    return status;
+}
