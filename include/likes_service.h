@@ -28,10 +28,16 @@ enum likes_service_status {
     LIKES_NOT_STARTED = 1002,  /* the service is NULL, or it was stopped */
     LIKES_UNKNOWN_SEAT = 1003, /* the service has fewer seats */
     LIKES_LOOK_LOST = 1004,    /* the look was made, but somebody took its result with likes_seat_take_found */
-    LIKES_LATE = 1005          /* the look had no answer in time. If it was made, its answer is thrown away */
+    LIKES_LATE = 1005,         /* the look had no answer in time. If it was made, its answer is thrown away */
+    LIKES_HOLDS_SEAT = 1006,   /* the calling thread holds a seat of the service, and could wait for itself */
+    LIKES_NOT_LOCKED = 1007,   /* the calling thread doesn't hold the seat */
+    LIKES_OPEN_WRITER = 1008   /* a writer of the service is open */
 };
 
 typedef struct likes_service likes_service;
+
+/* Likes of one thread, kept for a while. */
+typedef struct likes_writer likes_writer;
 
 /* What a service has done since it was started. */
 typedef struct likes_statistics {
@@ -56,13 +62,15 @@ uint32_t likes_service_open(const likes_options *options, const uint64_t *counts
                             size_t marks_len, const uint32_t *lasts, size_t lasts_len, uint32_t period,
                             likes_service **service);
 
-/* Ends a service that isn't stopped yet, and gives its memory back. All threads are done with it. NULL does nothing. */
-void likes_service_close(likes_service *service);
+/* Ends a service that isn't stopped yet, and gives its memory back: LIKES_OK, also for NULL. All threads are done with
+ * it. Or LIKES_HOLDS_SEAT, and nothing is done. */
+uint32_t likes_service_close(likes_service *service);
 
 /* What is wrong with a service: LIKES_NOT_STARTED, or LIKES_OK. */
 uint32_t likes_service_fault(const likes_service *service);
 
-/* The same, or LIKES_UNKNOWN_SEAT. */
+/* Why likes_service_lock gives NULL: the same, or LIKES_UNKNOWN_SEAT, or LIKES_HOLDS_SEAT, where the calling thread holds
+ * a seat of the service. */
 uint32_t likes_service_seat_fault(const likes_service *service, uint32_t number);
 
 /* Adds one like: an answer of likes_seat_like, but never LIKES_BETWEEN. Any thread may call it. */
@@ -81,6 +89,38 @@ uint32_t likes_service_look_within(likes_service *service, uint32_t user, uint32
 
 /* Looks at once: an answer of likes_seat_glance, but never LIKES_BETWEEN. Any thread may call it. */
 uint32_t likes_service_glance(likes_service *service, uint32_t user, uint32_t page, likes_answer *answer);
+
+/* Writers
+ *
+ * A writer is one thread's, for likes at full speed: it keeps them in rows, one for each seat, and hands a row over as a
+ * whole. Till then others miss its likes. A row is handed over when it has 64 likes, at the latest by the writer's first
+ * call after a period has passed since it was begun, and by likes_writer_flush, look and close. Without calls there is no
+ * bound in time, so a thread flushes before it rests. The likes of a user by one writer are counted in their order. */
+
+/* Opens a writer: LIKES_OK, and then `writer` points to it. Else it stays as it is: LIKES_NOT_STARTED, LIKES_IN_USE,
+ * where it doesn't point to NULL before, or LIKES_NO_MEMORY. A writer takes 1.5 KB for each seat. */
+uint32_t likes_writer_open(likes_service *service, likes_writer **writer);
+
+/* Keeps a like, which will be counted: LIKES_OK. Or nothing is kept: LIKES_NOT_STARTED, where the writer is NULL, or
+ * the first that applies of LIKES_HOLDS_SEAT, UNKNOWN_USER, UNKNOWN_PAGE, and, where 64 likes are kept for a seat that
+ * doesn't take them, LIKES_GONE and LIKE_LIMIT. */
+uint32_t likes_writer_like(likes_writer *writer, uint32_t user, uint32_t page);
+
+/* Hands over the row of a user's seat, and looks as likes_service_look does: so the look shows what this writer was told
+ * before. Where likes stay kept it answers LIKES_GONE or LIKE_LIMIT. */
+uint32_t likes_writer_look(likes_writer *writer, uint32_t user, uint32_t page, likes_answer *answer);
+
+/* Hands over all rows: LIKES_OK, each like is counted. LIKES_GONE or LIKE_LIMIT: those of a seat that has left, or that
+ * has had 2^56 likes, stay kept. Or LIKES_HOLDS_SEAT or LIKES_NOT_STARTED, and nothing is done. */
+uint32_t likes_writer_flush(likes_writer *writer);
+
+/* Forgets the likes that are kept, and gives their number. They are not counted. */
+size_t likes_writer_drop(likes_writer *writer);
+
+/* Flushes, and gives the memory back: LIKES_OK, also for NULL. Where likes stay kept, and of any other answer of
+ * likes_writer_flush, the writer stays open: bring the seat back, or drop them. A service is not ended while a writer is
+ * open. */
+uint32_t likes_writer_close(likes_writer *writer);
 
 /* Writes the page of a user's last like: an answer of likes_seat_last. Any thread may call it. */
 uint32_t likes_service_last(likes_service *service, uint32_t user, uint32_t *page);
@@ -119,15 +159,17 @@ uint32_t likes_service_propose(likes_service *service, const uint32_t *pages, si
 size_t likes_service_split_pages(likes_service *service, uint32_t *pages, size_t pages_len);
 
 /* Takes a seat's lock. Until likes_service_unlock, the seat is this thread's, which may make any call on it. NULL, and
- * nothing is done, where likes_service_seat_fault isn't LIKES_OK. */
+ * nothing is done, where likes_service_seat_fault isn't LIKES_OK: a thread holds one seat of a service at a time. While
+ * it does, it makes no call that takes locks: those answer LIKES_HOLDS_SEAT. */
 likes_seat *likes_service_lock(likes_service *service, uint32_t number);
 
-/* Gives the lock back. A thread does so before it waits for anything. */
+/* Gives the lock back. The thread that took it does so, before it waits for anything. Of a seat that it doesn't hold it
+ * does nothing. */
 void likes_service_unlock(likes_service *service, uint32_t number);
 
 /* Runs requests at a seat that is awake, through changes of phases, and gives the number of those done. It stops early
- * only at a look that has no room: take found looks, and go on with that request. Where likes_service_seat_fault isn't
- * LIKES_OK, it is the status of the first answer, and no request is done. */
+ * only at a look that has no room: take found looks, and go on with that request. At a seat that the thread doesn't hold
+ * no request is done, and the first answer is LIKES_NOT_STARTED, UNKNOWN_SEAT or NOT_LOCKED. */
 size_t likes_service_run(likes_service *service, uint32_t number, const likes_request *requests, size_t length,
                          likes_answer *answers);
 
@@ -149,6 +191,14 @@ void likes_service_tick(likes_service *service);
 
 /* Does the phase work of the seats that rest. */
 void likes_service_seat_turns(likes_service *service);
+
+/* Has a seat leave, in a few phases at any period: LIKES_OK, once it is gone, also if it was before. Then likes and looks
+ * of its users answer LIKES_GONE, but for last likes and found looks. All seats may leave. */
+uint32_t likes_service_retire_seat(likes_service *service, uint32_t number);
+
+/* Brings a seat back that has left: LIKES_OK, once it runs a phase, also if it wasn't gone. LIKES_GONE: all seats have
+ * left for good, by likes_service_retire. */
+uint32_t likes_service_bring_back_seat(likes_service *service, uint32_t number);
 
 /* Ends the driver's thread, has all seats retire, and makes the driver's turns until it answers LIKES_ENDED: LIKES_OK.
  * No thread holds a seat, and no call of the service is begun any more but likes_service_lock, likes_seat_take_found,

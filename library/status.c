@@ -2,19 +2,24 @@
 #include "likes_service.h"
 
 static const char *const outcomes[] = {
-    /* 0 */ "ok", "liked", "seen", "waits", "runs", "between", "no room", "like limit", "gone",
-    /* 9 */ "goes on", "announced", "not all in", "released", "ended", "counted", "no moment", "not ended",
+    /* 0 */ "ok",         "liked",     "seen",       "waits",    "runs",  "between", "no room",
+    "like limit",         "gone",
+    /* 9 */ "goes on",    "announced", "not all in", "released", "ended", "counted", "no moment",
+    "not ended",
     /* 17 */ "all taken",
 };
 
 static const char *const errors[] = {
-    /* 100 */ "empty", "in use", "no memory", "unknown user", "other seat", "unknown page", "unknown op",
-    /* 107 */ "unknown end", "wrong range", "wrong reserved", "wrong pages", "wrong marks", "wrong count",
-    /* 113 */ "wrong seats", "wrong users", "wrong room", "wrong hot", "wrong lasts",
+    /* 100 */ "empty",       "in use",      "no memory",      "unknown user", "other seat",
+    "unknown page",          "unknown op",
+    /* 107 */ "unknown end", "wrong range", "wrong reserved", "wrong pages",  "wrong marks",
+    "wrong count",
+    /* 113 */ "wrong seats", "wrong users", "wrong room",     "wrong hot",    "wrong lasts",
 };
 
 static const char *const of_services[] = {
-    /* 1000 */ "no thread", "wrong period", "not started", "unknown seat", "look lost", "late",
+    /* 1000 */ "no thread",  "wrong period", "not started", "unknown seat", "look lost", "late",
+    /* 1006 */ "holds seat", "not locked",   "open writer",
 };
 
 /* The text of a status among some, of which the first has a number. NULL: it is none of them. */

@@ -1,8 +1,8 @@
 /* Single calls, each with a seat's lock. */
-#include "service.h"
+#include "held.h"
 
 uint32_t likes_service_like(likes_service *service, uint32_t user, uint32_t page) {
-    uint32_t fault = likes_service_fault(service);
+    uint32_t fault = likes_call_fault(service);
     if (fault != LIKES_OK)
         return fault;
     likes_place *place = likes_place_of(service, user);
@@ -20,7 +20,7 @@ uint32_t likes_service_like(likes_service *service, uint32_t user, uint32_t page
 }
 
 uint32_t likes_service_glance(likes_service *service, uint32_t user, uint32_t page, likes_answer *answer) {
-    uint32_t fault = likes_service_fault(service);
+    uint32_t fault = likes_call_fault(service);
     if (fault != LIKES_OK)
         return likes_refuse(answer, fault);
     likes_place *place = likes_place_of(service, user);
@@ -34,7 +34,7 @@ uint32_t likes_service_glance(likes_service *service, uint32_t user, uint32_t pa
 }
 
 uint32_t likes_service_last(likes_service *service, uint32_t user, uint32_t *page) {
-    uint32_t fault = likes_service_fault(service);
+    uint32_t fault = likes_call_fault(service);
     if (fault != LIKES_OK)
         return fault;
     likes_place *place = likes_place_of(service, user);

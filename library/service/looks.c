@@ -1,5 +1,5 @@
 /* Looks, which may have to wait for a phase. */
-#include "service.h"
+#include "held.h"
 
 /* Looks at a place, with its lock held: the seat's answer, but not LIKES_BETWEEN. A look that waits is given, and its
  * answer will go to `to`. */
@@ -92,7 +92,7 @@ static uint32_t count_look(likes_service *service, uint32_t user, const likes_an
 }
 
 uint32_t likes_service_look(likes_service *service, uint32_t user, uint32_t page, likes_answer *answer) {
-    uint32_t fault = likes_service_fault(service);
+    uint32_t fault = likes_call_fault(service);
     if (fault != LIKES_OK)
         return likes_refuse(answer, fault);
     look_until(service, user, page, UINT64_MAX, answer);
@@ -101,7 +101,7 @@ uint32_t likes_service_look(likes_service *service, uint32_t user, uint32_t page
 
 uint32_t likes_service_look_within(likes_service *service, uint32_t user, uint32_t page, uint32_t microseconds,
                                    likes_answer *answer) {
-    uint32_t fault = likes_service_fault(service);
+    uint32_t fault = likes_call_fault(service);
     if (fault != LIKES_OK)
         return likes_refuse(answer, fault);
     look_until(service, user, page, likes_clock() + UINT64_C(1000) * microseconds, answer);

@@ -1,5 +1,5 @@
 /* How a service begins and ends. */
-#include "service.h"
+#include "held.h"
 
 #include <stdlib.h>
 
@@ -9,13 +9,16 @@ static likes_service *made(uint32_t seats) {
     if (service == NULL)
         return NULL;
     service->seats = seats;
+    service->inverse = UINT64_MAX / seats + 1;
     pthread_mutex_init(&service->driving.mutex, NULL);
     pthread_mutex_init(&service->changing, NULL);
     pthread_mutex_init(&service->napping, NULL);
     likes_condition_init(&service->changed);
     likes_condition_init(&service->woken);
-    for (uint32_t i = 0; i < seats; i++)
+    for (uint32_t i = 0; i < seats; i++) {
         likes_place_init(&service->places[i]);
+        service->places[i].service = service;
+    }
     return service;
 }
 
@@ -84,17 +87,14 @@ uint32_t likes_service_open(const likes_options *options, const uint64_t *counts
     return status;
 }
 
-void likes_service_close(likes_service *service) {
-    if (likes_service_retire(service) == LIKES_OK)
-        likes_service_end(service);
-    free(service);
-}
-
 /* Has all seats leave, if they can, and makes a turn of the driver. */
 static uint32_t leave(likes_service *service) {
     for (uint32_t i = 0; i < service->seats; i++) {
-        likes_seat_retire(likes_service_lock(service, i));
-        likes_service_unlock(service, i);
+        likes_place *place = &service->places[i];
+        likes_place_take(place, UINT64_MAX);
+        place->is_leaving = true;
+        likes_place_work(place);
+        likes_place_give(service, place);
     }
     likes_lock_take(&service->driving, UINT64_MAX);
     uint32_t status = likes_service_turn(service, LIKES_END_IF_IT_SERVES);
@@ -102,8 +102,16 @@ static uint32_t leave(likes_service *service) {
     return status;
 }
 
+/* Why a service can't be ended, or LIKES_OK. */
+static uint32_t end_fault(const likes_service *service) {
+    uint32_t fault = likes_call_fault(service);
+    if (fault == LIKES_OK && __atomic_load_n(&service->writers, __ATOMIC_SEQ_CST) > 0)
+        return LIKES_OPEN_WRITER;
+    return fault;
+}
+
 uint32_t likes_service_retire(likes_service *service) {
-    uint32_t fault = likes_service_fault(service);
+    uint32_t fault = end_fault(service);
     if (fault != LIKES_OK)
         return fault;
     __atomic_store_n(&service->is_stopping, true, __ATOMIC_SEQ_CST);
@@ -117,7 +125,7 @@ uint32_t likes_service_retire(likes_service *service) {
 }
 
 uint32_t likes_service_stop(likes_service *service, uint64_t *counts, size_t pages) {
-    uint32_t fault = likes_service_fault(service);
+    uint32_t fault = end_fault(service);
     if (fault != LIKES_OK)
         return fault;
     if (pages != service->pages)
@@ -125,5 +133,15 @@ uint32_t likes_service_stop(likes_service *service, uint64_t *counts, size_t pag
     likes_service_retire(service);
     likes_driver_last_counts(&service->driver, 0, counts, pages);
     likes_service_end(service);
+    return LIKES_OK;
+}
+
+uint32_t likes_service_close(likes_service *service) {
+    uint32_t status = likes_service_retire(service);
+    if (status == LIKES_OK)
+        likes_service_end(service);
+    if (status != LIKES_OK && status != LIKES_NOT_STARTED)
+        return status;
+    free(service);
     return LIKES_OK;
 }

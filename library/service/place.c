@@ -131,11 +131,18 @@ bool likes_place_take_found(likes_place *place, likes_found *found) {
     return true;
 }
 
+uint32_t likes_place_work(likes_place *place) {
+    uint32_t status = place->is_leaving ? likes_seat_retire(&place->seat) : likes_seat_turn(&place->seat);
+    if (status == LIKES_GONE)
+        place->is_leaving = false;
+    likes_place_deliver(place);
+    return status;
+}
+
 bool likes_place_turn(likes_place *place) {
     bool is_missed = true, could = false;
     while (is_missed && likes_lock_try(&place->lock)) {
-        likes_seat_turn(&place->seat);
-        likes_place_deliver(place);
+        likes_place_work(place);
         is_missed = likes_place_unlock(place);
         could = true;
     }

@@ -30,8 +30,9 @@ typedef struct likes_tally {
 /* 128 bytes of padding prevent false sharing. */
 typedef struct likes_place {
     likes_lock lock;
-    bool is_lent;             /* a thread that waits for a phase has the seat, and sleeps */
-    bool has_found, has_back; /* threads have to be woken once the lock is given back */
+    bool is_lent;              /* a thread that waits for a phase has the seat, and sleeps */
+    bool is_leaving;           /* the seat retires in the next joined phase, by whoever does its phase work */
+    bool has_found, has_back;  /* threads have to be woken once the lock is given back */
     likes_wait *first, **last; /* the looks of likes_service_look that wait, in the order of asking */
     likes_tally tally;
     pthread_cond_t back; /* the seat isn't lent any more */
@@ -39,8 +40,10 @@ typedef struct likes_place {
     likes_ring others;
     pthread_mutex_t asleep; /* for those that wait for looks. It may be taken with `lock` held */
     pthread_cond_t found;
-    uint64_t founds; /* how often looks were found. Read under one of the two locks, written under both */
+    uint64_t founds;               /* how often looks were found. Read under one of the two locks, written under both */
     uint64_t row_phase, row_waits; /* about how many looks of rows wait in that phase */
+    const struct likes_service *service;
+    struct likes_place *next_held; /* for the thread that holds the seat (held.h) */
     char apart[128];
     likes_seat seat;
     char apart_too[128];
@@ -89,6 +92,9 @@ static inline void likes_place_deliver(likes_place *place) {
 
 /* Takes the next found look with a tag of the host's, with the place's lock held. */
 bool likes_place_take_found(likes_place *place, likes_found *found);
+
+/* Does the phase work of a place's seat with its lock held, which retires if it is to leave, and gives its answer. */
+uint32_t likes_place_work(likes_place *place);
 
 /* Does the phase work of a place's seat, or leaves it to the thread that has the lock. Whether it could. */
 bool likes_place_turn(likes_place *place);

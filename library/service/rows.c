@@ -1,18 +1,35 @@
 /* Seats that a thread locks for rows of requests. */
-#include "service.h"
+#include "held.h"
+
+_Thread_local likes_place *likes_held;
+
+uint32_t likes_held_fault(const likes_service *service, uint32_t number) {
+    uint32_t fault = likes_service_fault(service);
+    if (fault == LIKES_OK && number >= service->seats)
+        return LIKES_UNKNOWN_SEAT;
+    return fault == LIKES_OK && !likes_holds(&service->places[number]) ? (uint32_t)LIKES_NOT_LOCKED : fault;
+}
 
 likes_seat *likes_service_lock(likes_service *service, uint32_t number) {
     if (likes_service_seat_fault(service, number) != LIKES_OK)
         return NULL;
-    likes_place_take(&service->places[number], UINT64_MAX);
+    likes_place *place = &service->places[number];
+    likes_place_take(place, UINT64_MAX);
+    place->next_held = likes_held;
+    likes_held = place;
     if (__atomic_load_n(&service->is_resting, __ATOMIC_SEQ_CST))
         likes_service_call(service);
-    return &service->places[number].seat;
+    return &place->seat;
 }
 
 void likes_service_unlock(likes_service *service, uint32_t number) {
-    if (likes_service_seat_fault(service, number) == LIKES_OK)
-        likes_place_give(service, &service->places[number]);
+    if (likes_held_fault(service, number) != LIKES_OK)
+        return;
+    likes_place *place = &service->places[number], **at = &likes_held;
+    while (*at != place)
+        at = &(*at)->next_held;
+    *at = place->next_held;
+    likes_place_give(service, place);
 }
 
 /* Counts the likes of a row, for statistics. */
@@ -53,7 +70,7 @@ size_t likes_place_run(likes_service *service, likes_place *place, const likes_r
 
 size_t likes_service_run(likes_service *service, uint32_t number, const likes_request *requests, size_t length,
                          likes_answer *answers) {
-    uint32_t fault = likes_service_seat_fault(service, number);
+    uint32_t fault = likes_held_fault(service, number);
     if (fault != LIKES_OK) {
         if (length > 0)
             likes_refuse(answers, fault);
@@ -69,7 +86,7 @@ size_t likes_service_run(likes_service *service, uint32_t number, const likes_re
 }
 
 bool likes_service_take_found(likes_service *service, uint32_t number, likes_found *found) {
-    if (likes_service_seat_fault(service, number) != LIKES_OK)
+    if (likes_held_fault(service, number) != LIKES_OK)
         return false;
     return likes_place_take_found(&service->places[number], found);
 }

@@ -34,6 +34,9 @@
 /* After this many rounds without a call, phases stop changing. */
 #define LIKES_QUIET_ROUNDS 2u
 
+/* How many pulses a period has while writers are open. A row is kept for two of them. */
+#define LIKES_PULSES 3u
+
 /* How long likes_service_snapshot waits for a seat that a thread holds, in nanoseconds. */
 #define LIKES_MOMENT UINT64_C(100000000)
 
@@ -41,18 +44,22 @@ struct likes_service {
     bool is_open;
     uint32_t seats, users;
     size_t pages;
-    uint64_t period; /* in nanoseconds */
-    bool may_find;   /* pages get hot by themselves */
+    uint64_t period;  /* in nanoseconds */
+    uint64_t inverse; /* of `seats`, for likes_remainder */
+    bool may_find;    /* pages get hot by themselves */
     char apart[128];
+    uint64_t pulse;    /* goes up LIKES_PULSES times in a period while writers are open, or 0 while the service rests; atomic */
     bool is_resting;   /* the driver's thread sleeps until a call comes; atomic */
     uint64_t due;      /* when the phase may end, by likes_clock; atomic */
     uint64_t next;     /* when the driver's next turn is worth making, by likes_clock; atomic */
     uint64_t released; /* the phase that was last released; atomic, written under `changing` */
     char apart_too[128];
+    uint32_t writers;  /* how many are open; atomic */
     uint32_t starving; /* how many threads have missed phases, and wait for the next one to make a call; atomic */
     uint32_t was_held; /* LIKES_HELD_NAP, LIKES_HELD_ROUND: a seat's lock was taken when somebody tried it; atomic */
     likes_lock driving;
     likes_driver driver;      /* used under `driving` */
+    uint64_t pulses, pulsed;  /* under `driving`: how many pulses there were, and when the last one */
     bool is_ending;           /* under `driving`: the end of the present phase was announced */
     uint32_t quiet;           /* under `driving`: how many rounds had no call, one after the other */
     uint64_t calls;           /* under `driving`: how many calls there had been when the last round ended */
@@ -71,8 +78,15 @@ struct likes_service {
 #define LIKES_HELD_NAP 1u
 #define LIKES_HELD_ROUND 2u
 
+/* The remainder of a division by a divisor whose inverse is UINT64_MAX / divisor + 1, without the division
+ * (D. Lemire, O. Kaser, N. Kurz, "Faster Remainder by Direct Computation", 2019). */
+static inline uint32_t likes_remainder(uint32_t number, uint64_t inverse, uint32_t divisor) {
+    __extension__ typedef unsigned __int128 wide;
+    return (uint32_t)(((wide)(inverse * number) * divisor) >> 64);
+}
+
 static inline likes_place *likes_place_of(likes_service *service, uint32_t user) {
-    return &service->places[user % service->seats];
+    return &service->places[likes_remainder(user, service->inverse, service->seats)];
 }
 
 /* turns.c: the driver's turns, and the phase work of seats. */
@@ -83,8 +97,8 @@ uint32_t likes_service_turn(likes_service *service, uint32_t end);
 /* Whether the present phase, which is split, has to go on for threads that missed others. With `driving` held. */
 bool likes_service_starves(const likes_service *service);
 
-/* Makes turns of the driver and of the seats that nobody holds, until nothing is left that can be done now. It gives the
- * last answer of the driver. */
+/* Makes turns of the driver and of the seats that nobody holds, until nothing is left that can be done now. It gives
+ * the last answer of the driver. */
 uint32_t likes_service_advance(likes_service *service);
 
 /* Makes the next round count as one with a call, with `driving` held. So the next two split phases come. */
@@ -92,6 +106,12 @@ void likes_service_stir(likes_service *service);
 
 /* Makes a turn of the driver due at once. */
 void likes_service_hurry(likes_service *service);
+
+/* Notes that the driver's thread sleeps until it is called. Then there is no pulse. */
+static inline void likes_service_rest(likes_service *service) {
+    __atomic_store_n(&service->is_resting, true, __ATOMIC_SEQ_CST);
+    __atomic_store_n(&service->pulse, 0, __ATOMIC_SEQ_CST);
+}
 
 /* thread.c: the driver's thread. */
 void *likes_service_thread(void *service);

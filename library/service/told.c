@@ -1,5 +1,5 @@
 /* What a service tells of itself, and the pages that are proposed to it. */
-#include "service.h"
+#include "held.h"
 
 uint32_t likes_service_fault(const likes_service *service) {
     return service != NULL && service->is_open ? LIKES_OK : LIKES_NOT_STARTED;
@@ -7,7 +7,9 @@ uint32_t likes_service_fault(const likes_service *service) {
 
 uint32_t likes_service_seat_fault(const likes_service *service, uint32_t number) {
     uint32_t fault = likes_service_fault(service);
-    return fault == LIKES_OK && number >= service->seats ? (uint32_t)LIKES_UNKNOWN_SEAT : fault;
+    if (fault == LIKES_OK && number >= service->seats)
+        return LIKES_UNKNOWN_SEAT;
+    return fault == LIKES_OK ? likes_call_fault(service) : fault;
 }
 
 uint64_t likes_service_phase(likes_service *service) {
@@ -38,7 +40,7 @@ uint32_t likes_service_statistics(likes_service *service, likes_statistics *stat
 }
 
 uint32_t likes_service_propose(likes_service *service, const uint32_t *pages, size_t pages_len) {
-    uint32_t fault = likes_service_fault(service);
+    uint32_t fault = likes_call_fault(service);
     if (fault != LIKES_OK)
         return fault;
     likes_lock_take(&service->driving, UINT64_MAX);
@@ -52,7 +54,7 @@ uint32_t likes_service_propose(likes_service *service, const uint32_t *pages, si
 }
 
 size_t likes_service_split_pages(likes_service *service, uint32_t *pages, size_t pages_len) {
-    if (likes_service_fault(service) != LIKES_OK)
+    if (likes_call_fault(service) != LIKES_OK)
         return 0;
     likes_lock_take(&service->driving, UINT64_MAX);
     size_t written = likes_driver_split_pages(&service->driver, pages, pages_len);

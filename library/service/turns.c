@@ -39,7 +39,7 @@ void likes_service_hurry(likes_service *service) {
  * was made before this thread has had that lock, and is seen here, or it sees that the driver rests. */
 static void begin_rest(likes_service *service) {
     bool is_quiet = true;
-    __atomic_store_n(&service->is_resting, true, __ATOMIC_SEQ_CST);
+    likes_service_rest(service);
     for (uint32_t i = 0; i < service->seats && is_quiet; i++) {
         is_quiet = pthread_mutex_trylock(&service->places[i].lock.mutex) == 0;
         if (is_quiet && likes_place_unlock(&service->places[i]))
@@ -78,6 +78,8 @@ static uint32_t split_turn(likes_service *service, uint64_t now) {
     uint32_t status = LIKES_GOES_ON;
     if (!likes_service_starves(service))
         status = likes_service_turn(service, left > 0 ? LIKES_NO_END : LIKES_END_IF_IT_SERVES);
+    if (status == LIKES_ENDED) /* all seats have left, but the phase goes on */
+        status = likes_service_turn(service, LIKES_END_IF_IT_SERVES);
     if (status == LIKES_ANNOUNCED) {
         likes_set_time(&service->due, now + service->period);
         end_round(service);
@@ -113,12 +115,22 @@ static uint32_t joined_turn(likes_service *service, uint64_t now, bool is_new) {
     return status;
 }
 
+/* Goes on to the next pulse, if that is due, with `driving` held. */
+static void pulse(likes_service *service, uint64_t now) {
+    bool is_due = now - service->pulsed >= service->period / LIKES_PULSES || service->pulse == 0;
+    if (!is_due || __atomic_load_n(&service->is_resting, __ATOMIC_SEQ_CST))
+        return;
+    service->pulsed = now;
+    __atomic_store_n(&service->pulse, ++service->pulses, __ATOMIC_SEQ_CST);
+}
+
 /* The driver's turn, with `driving` held. `has_work` is set where seats have phase work to do, and `has_news` where the
  * threads have to be told that sleep until a phase is released. They sleep on in a joined phase that ends at once, and
  * their seats are lent meanwhile. */
 static uint32_t driver_turn(likes_service *service, bool *has_work, bool *has_news) {
     uint64_t now = likes_clock();
     uint32_t status;
+    pulse(service, now);
     if (likes_driver_phase(&service->driver) % 2 == 0) {
         status = joined_turn(service, now, false);
         *has_work |= status == LIKES_ANNOUNCED;
