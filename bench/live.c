@@ -103,31 +103,12 @@ static void single(player *it, const likes_request *row, likes_answer *answers) 
     after_row(it, true);
 }
 
-/* The user in whose name a request is made where a thread serves all users: in turn one of each seat. */
-static uint32_t any_user(const player *it, const likes_request *request, size_t i) {
-    return request->user - it->number + (uint32_t)(i % it->threads);
-}
-
-/* An atomic number for each page, and a table of all users' last likes that all threads write. */
-static void relaxed_any(player *it, const likes_request *row, likes_answer *answers) {
-    for (size_t i = 0; i < ROW; i++) {
-        uint32_t user = any_user(it, &row[i], i), *last = &players[user % it->threads].last[user / it->threads];
-        if (row[i].op == LIKES_LIKE) {
-            __atomic_fetch_add(&counts.words[WORD(row[i].page)], 1, __ATOMIC_RELAXED);
-            __atomic_store_n(last, row[i].page, __ATOMIC_RELAXED);
-        } else {
-            answers[i].count = __atomic_load_n(&counts.words[WORD(row[i].page)], __ATOMIC_RELAXED);
-            answers[i].last = __atomic_load_n(last, __ATOMIC_RELAXED);
-        }
-    }
-}
-
 /* One request by a call of the service, which takes the seat's lock. */
-static void locked_call(uint32_t user, const likes_request *request, likes_answer *answer) {
+static void locked_call(const likes_request *request, likes_answer *answer) {
     if (request->op == LIKES_LIKE)
-        likes_service_like(service, user, request->page);
+        likes_service_like(service, request->user, request->page);
     else
-        likes_service_glance(service, user, request->page, answer);
+        likes_service_glance(service, request->user, request->page, answer);
 }
 
 static void tick_after(player *it) {
@@ -135,33 +116,40 @@ static void tick_after(player *it) {
         likes_service_tick(service);
 }
 
-static void locked_own(player *it, const likes_request *row, likes_answer *answers) {
+static void locked(player *it, const likes_request *row, likes_answer *answers) {
     for (size_t i = 0; i < ROW; i++)
-        locked_call(row[i].user, &row[i], &answers[i]);
+        locked_call(&row[i], &answers[i]);
     tick_after(it);
 }
 
-static void locked_any(player *it, const likes_request *row, likes_answer *answers) {
-    for (size_t i = 0; i < ROW; i++)
-        locked_call(any_user(it, &row[i], i), &row[i], &answers[i]);
-    tick_after(it);
+/* Likes by a writer, which ticks by itself. */
+static void written(player *it, const likes_request *row, likes_answer *answers) {
+    for (size_t i = 0; i < ROW; i++) {
+        if (row[i].op == LIKES_LIKE)
+            likes_writer_like(it->writer, row[i].user, row[i].page);
+        else
+            likes_service_glance(service, row[i].user, row[i].page, &answers[i]);
+    }
 }
 
 static const kind kinds[] = {
-    {"atomic", relaxed, 0, LIKES_LOOK, false, false},
-    {"atomic,any", relaxed_any, 0, LIKES_LOOK, false, false},
-    {"seqcst", sequential, 0, LIKES_LOOK, false, false},
-    {"mutex", mutex, 0, LIKES_LOOK, false, false},
-    {"sharded", sharded, 0, LIKES_LOOK, false, false},
-    {"2pl", locking, 0, LIKES_LOOK, false, false},
-    {"occ", optimistic, 0, LIKES_LOOK, false, false},
-    {"look", live, 1000, LIKES_LOOK, true, false},
-    {"look,thread", live, 1000, LIKES_LOOK, false, false},
-    {"glance", live, 1000, LIKES_GLANCE, true, false},
-    {"glance,20ms", live, 20000, LIKES_GLANCE, true, false},
-    {"look,single", single, 1000, LIKES_LOOK, true, false},
-    {"locked", locked_own, 1000, LIKES_GLANCE, true, true},
-    {"locked,any", locked_any, 1000, LIKES_GLANCE, true, true},
+    {"atomic", relaxed, 0, LIKES_LOOK, false, false, false},
+    {"seqcst", sequential, 0, LIKES_LOOK, false, false, false},
+    {"mutex", mutex, 0, LIKES_LOOK, false, false, false},
+    {"sharded", sharded, 0, LIKES_LOOK, false, false, false},
+    {"2pl", locking, 0, LIKES_LOOK, false, false, false},
+    {"occ", optimistic, 0, LIKES_LOOK, false, false, false},
+    {"look", live, 1000, LIKES_LOOK, true, false, false},
+    {"look,thread", live, 1000, LIKES_LOOK, false, false, false},
+    {"glance", live, 1000, LIKES_GLANCE, true, false, false},
+    {"glance,20ms", live, 20000, LIKES_GLANCE, true, false, false},
+    {"look,single", single, 1000, LIKES_LOOK, true, false, false},
+    {"locked", locked, 1000, LIKES_GLANCE, true, true, false},
+    {"atomic,any", relaxed_any, 0, LIKES_LOOK, false, false, true},
+    {"seqcst,any", sequential_any, 0, LIKES_LOOK, false, false, true},
+    {"sharded,any", sharded_any, 0, LIKES_LOOK, false, false, true},
+    {"locked,any", locked, 1000, LIKES_GLANCE, true, true, true},
+    {"writer,any", written, 1000, LIKES_GLANCE, true, true, true},
 };
 enum { KINDS = sizeof kinds / sizeof *kinds };
 
@@ -191,7 +179,7 @@ static uint32_t page_of(uint32_t rank) {
     return asked.is_scattered ? (uint32_t)((rank + 1) * UINT64_C(2654435761) % asked.pages) : rank;
 }
 
-/* Draws the requests of all threads. */
+/* Draws the requests of all threads, each with users of its own. */
 static void draw(const load *of, uint32_t threads) {
     double *shares = (double *)malloc(asked.pages * sizeof *shares), sum = 0;
     if (shares == NULL)
@@ -225,6 +213,8 @@ static void *play(void *at) {
     pthread_barrier_wait(&begin);
     if (is_held)
         it->seat = likes_service_lock(service, it->number);
+    if (it->of->row == written && likes_writer_open(service, &it->writer) != LIKES_OK)
+        fail("no writer was opened");
     uint64_t done = 0, before = worked();
     while (!__atomic_load_n(&is_over, __ATOMIC_RELAXED)) {
         it->of->row(it, &it->ring[done & (ring - 1)], answers);
@@ -232,24 +222,38 @@ static void *play(void *at) {
     }
     if (is_held)
         likes_service_unlock(service, it->number);
+    if (likes_writer_close(it->writer) != LIKES_OK)
+        fail("a writer was not closed");
+    it->writer = NULL;
     it->worked = worked() - before;
     it->done = done;
     return NULL;
 }
 
-/* Makes all looks such as a system has. */
-static void set_looks(const kind *of, uint32_t threads) {
-    for (uint32_t i = 0; i < threads; i++)
-        for (uint32_t n = 0; n < ring; n++)
-            if (players[i].ring[n].op != LIKES_LIKE)
-                players[i].ring[n].op = of->look;
+/* Makes all looks such as a system has, and all users those of their threads, or in turn of all threads. */
+static void set_requests(const kind *of, uint32_t threads) {
+    for (uint32_t i = 0; i < threads; i++) {
+        for (uint32_t n = 0; n < ring; n++) {
+            likes_request *request = &players[i].ring[n];
+            request->user += (of->is_any ? n % threads : i) - request->user % threads;
+            if (request->op != LIKES_LIKE)
+                request->op = of->look;
+        }
+    }
+}
+
+/* What a service without a number of seats would have. */
+static uint32_t default_seats(void) {
+    long processors = sysconf(_SC_NPROCESSORS_ONLN);
+    return processors > 4 ? LIKES_MAX_SEATS : 16 * (uint32_t)processors;
 }
 
 /* Makes a system ready: counts of 0, and nobody has liked anything. The period is in microseconds. */
 static void start(const kind *of, uint32_t threads, uint32_t period) {
     static const uint64_t none[MOST_PAGES];
     /* A page is hot that gets a like each 10 microseconds. */
-    likes_options options = {.seats = threads, .users = asked.users, .room = 4096, .hot = of->period / 10};
+    uint32_t seats = of->is_free ? default_seats() : threads;
+    likes_options options = {.seats = seats, .users = asked.users, .room = 4096, .hot = of->period / 10};
     size_t words = PADDED * STRIDE + asked.pages;
     clear_counts(of, asked.pages);
     if (of->period > 0 &&
@@ -268,7 +272,7 @@ static void start(const kind *of, uint32_t threads, uint32_t period) {
         if (has_records(of))
             memset(it->users, 0, (asked.users / threads + 1) * sizeof *it->users);
     }
-    set_looks(of, threads);
+    set_requests(of, threads);
 }
 
 static uint64_t likes_of(const uint64_t *made, const uint32_t *pages, size_t many) {
@@ -484,11 +488,13 @@ static void count_rows(const kind *of, const load *at, uint64_t rows) {
     start(of, COUNTED_THREADS, UINT32_MAX);
     if (of->period > 0 && !of->is_free)
         players[0].seat = likes_service_lock(service, 0);
+    if (of->row == written && likes_writer_open(service, &players[0].writer) != LIKES_OK)
+        fail("no writer was opened");
     do
         go_through(&players[0], ring / ROW);
     while (of->period > 0 && likes_service_phase(service) % 2 == 0);
     draw(at, COUNTED_THREADS);
-    set_looks(of, COUNTED_THREADS);
+    set_requests(of, COUNTED_THREADS);
     counted_rows(&players[0], rows);
 }
 
