@@ -257,7 +257,7 @@ static void start(const kind *of, uint32_t threads, uint32_t period) {
     size_t words = PADDED * STRIDE + asked.pages;
     clear_counts(of, asked.pages);
     if (of->period > 0 &&
-        likes_service_open(&options, none, asked.pages, NULL, 0, NULL, 0, period, &service) != LIKES_OK)
+        open_shared(options, none, asked.pages, NULL, 0, NULL, 0, period, &service) != LIKES_OK)
         fail("no service was started");
     for (uint32_t i = 0; i < threads; i++) {
         player *it = &players[i];

@@ -97,7 +97,7 @@ int main(int count, char **words) {
     const uint32_t marks[] = {0};
     uint64_t totals[PAGES], phases, likes = 0, looks = 0;
     likes_options options = {.seats = SEATS, .users = USERS, .room = LIKES_MAX_ROOM, .hot = 1000};
-    uint32_t status = likes_service_open(&options, counts, PAGES, marks, 1, NULL, 0, 1000, &service);
+    uint32_t status = open_shared(options, counts, PAGES, marks, 1, NULL, 0, 1000, &service);
     hold(status == LIKES_OK, "no service was started");
     until = clock_now() + strtoull(words[1], NULL, 10) * UINT64_C(1000000000);
     for (uint32_t i = 0; i < SEATS; i++) {

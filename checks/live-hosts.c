@@ -483,7 +483,7 @@ static void draw_record(record *it, uint64_t *random) {
 static void open_game(game *it, const schedule *plan, uint64_t *random) {
     record *of = &it->record;
     const uint32_t *lasts = of->last_len == 0 ? NULL : of->last;
-    if (likes_open(&of->options, of->counts, of->pages, of->marks, of->marks_len, lasts, of->last_len, &it->driver))
+    if (open_core(of->options, of->counts, of->pages, of->marks, of->marks_len, lasts, of->last_len, &it->driver))
         fail(of, "the service was not opened");
     if (likes_driver_take_phase(&it->driver, &it->phase) != LIKES_OK)
         fail(of, "the phase was not handed out");

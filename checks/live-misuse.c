@@ -38,7 +38,7 @@ static uint32_t start(uint32_t seats, uint32_t room, uint32_t period) {
     static const uint64_t counts[] = {10, 20};
     static const uint32_t marks[] = {0};
     likes_options options = {.seats = seats, .users = 100, .room = room, .hot = 0};
-    return likes_service_open(&options, counts, 2, marks, 1, NULL, 0, period, &service);
+    return open_shared(options, counts, 2, marks, 1, NULL, 0, period, &service);
 }
 
 /* Every call of a service answers this. */
@@ -75,6 +75,11 @@ static void all_refused(likes_service *it, uint32_t status) {
     IS(likes_service_lasts(it, &last, 1), status);
     IS(likes_service_propose(it, &last, 1), status);
     IS(likes_service_split_pages(it, &last, 1), 0);
+    IS(likes_service_seats(it), 0);
+    IS(likes_service_retire_seat(it, 0), status);
+    IS(likes_service_bring_back_seat(it, 0), status);
+    IS(likes_service_fault(it), status);
+    IS(likes_service_seat_fault(it, 0), status);
     IS(last, 7);
     IS(likes_service_retire(it), status);
     IS(likes_service_stop(it, counts, 2), status);
@@ -95,7 +100,7 @@ static void not_started(void) {
     all_refused(service, LIKES_NOT_STARTED);
     IS(start(LIKES_MAX_SEATS + 1, 4, 1000), LIKES_WRONG_SEATS);
     all_refused(service, LIKES_NOT_STARTED);
-    IS(start(2, 4, 0), LIKES_WRONG_PERIOD);
+    IS(start(2, 4, LIKES_MAX_PERIOD_US + 1), LIKES_WRONG_PERIOD);
     all_refused(service, LIKES_NOT_STARTED);
     IS(start(2, 4, 1), LIKES_OK);
     IS(start(2, 4, 1), LIKES_IN_USE);
@@ -124,7 +129,7 @@ static void proposals(void) {
     uint64_t totals[3];
     uint32_t split[LIKES_MAX_SPLIT];
     likes_options options = {.seats = 2, .users = 2, .room = 1};
-    IS(likes_service_open(&options, counts, 3, NULL, 0, NULL, 0, 100, &service), LIKES_OK);
+    IS(open_shared(options, counts, 3, NULL, 0, NULL, 0, 100, &service), LIKES_OK);
     IS(likes_service_split_pages(service, NULL, 0), 0);
     IS(likes_service_split_pages(service, split, LIKES_MAX_SPLIT), 0);
     for (uint32_t page = 0; page < 3; page++) {
@@ -242,6 +247,68 @@ static void tagged(void) {
     stop(totals, 2);
 }
 
+/* Looks with tags of the service are refused, wherever they stand in a row, and the others are done. */
+static void wrong_tags(void) {
+    static const uint64_t tags[] = {UINT64_C(1) << 63, 7, UINT64_MAX, UINT64_MAX - 1, (UINT64_C(1) << 63) - 1};
+    enum { TAGS = sizeof tags / sizeof *tags };
+    likes_request row[TAGS], like = {.tag = UINT64_MAX, .page = 1}; /* a like has no tag */
+    likes_answer answers[TAGS];
+    likes_found found;
+    uint64_t totals[2], taken = 0;
+    IS(start(1, 8, 100), LIKES_OK);
+    for (size_t i = 0; i < TAGS; i++)
+        row[i] = (likes_request){.tag = tags[i], .op = LIKES_LOOK};
+    likes_seat *seat = likes_service_lock(service, 0);
+    for (int times = 0; times < 100; times++) {
+        uint64_t waits = 0;
+        IS(likes_service_run(service, 0, row, TAGS, answers), TAGS);
+        for (size_t i = 0; i < TAGS; i++) {
+            if (tags[i] >> 63 == 1)
+                IS(answers[i].status, LIKES_WRONG_TAG);
+            else
+                IS(answers[i].status == LIKES_SEEN || answers[i].status == LIKES_WAITS, true);
+            waits += answers[i].status == LIKES_WAITS;
+        }
+        IS(likes_service_run(service, 0, &like, 1, answers), 1);
+        IS(answers[0].status, LIKES_LIKED);
+        while (waits > 0) {
+            likes_service_drive(service);
+            likes_seat_turn(seat);
+            for (; likes_service_take_found(service, 0, &found); taken++, waits--)
+                IS(found.tag == tags[1] || found.tag == tags[4], true);
+        }
+    }
+    likes_service_unlock(service, 0);
+    stop(totals, 2);
+    IS(totals[1], 120);
+}
+
+/* A service has the defaults of likes_open, and a period of its own. */
+static void defaults(void) {
+    static const uint64_t counts[] = {10, 20};
+    long processors = sysconf(_SC_NPROCESSORS_ONLN);
+    likes_options options = {.counts = counts, .pages = 2, .users = 100};
+    likes_answer answer;
+    uint64_t totals[2];
+    IS(likes_service_open(&options, &service), LIKES_OK);
+    IS(likes_service_seats(service), processors < 4 ? 16 * (uint64_t)processors : 64);
+    IS(likes_service_like(service, 99, 1), LIKES_LIKED);
+    IS(likes_service_look(service, 99, 1, &answer), LIKES_SEEN);
+    IS(answer.count, 21);
+    stop(totals, 2);
+    options.period_us = LIKES_MAX_PERIOD_US + 1;
+    IS(likes_service_open(&options, &service), LIKES_WRONG_PERIOD);
+    options.period_us = UINT32_MAX;
+    IS(likes_service_open(&options, &service), LIKES_WRONG_PERIOD);
+    options.period_us = LIKES_MAX_PERIOD_US;
+    options.hot = LIKES_NO_HOT;
+    IS(likes_service_open(&options, &service), LIKES_OK);
+    stop(totals, 2);
+    options.hot = LIKES_NO_HOT - 1;
+    IS(likes_service_open(&options, &service), LIKES_WRONG_HOT);
+    IS(service == NULL, true);
+}
+
 /* Asks likes_service_look again and again, and counts how often the answer was taken by somebody. */
 static void *ask(void *at) {
     uint64_t *taken = (uint64_t *)at;
@@ -329,8 +396,8 @@ static void phases(void) {
 static void no_entries(void) {
     uint64_t totals[1];
     likes_options options = {.seats = 1, .users = 1, .room = 1};
-    IS(likes_service_open(&options, NULL, 0, NULL, 0, NULL, 0, 1000, &service), LIKES_WRONG_PAGES);
-    IS(likes_service_open(&options, (const uint64_t[]){5}, 1, NULL, 0, NULL, 0, 1000, &service), LIKES_OK);
+    IS(open_shared(options, NULL, 0, NULL, 0, NULL, 0, 1000, &service), LIKES_WRONG_PAGES);
+    IS(open_shared(options, (const uint64_t[]){5}, 1, NULL, 0, NULL, 0, 1000, &service), LIKES_OK);
     likes_seat *seat = likes_service_lock(service, 0);
     IS(likes_service_run(service, 0, NULL, 0, NULL), 0);
     IS(likes_seat_take_all_found(seat, NULL, 0), 0);
@@ -369,9 +436,9 @@ static void last_likes(void) {
         IS(lasts[user], user % 3 == 0 ? user % 2 : LIKES_NO_PAGE);
     stop(totals, 2);
     lasts[1] = 2;
-    IS(likes_service_open(&options, counts, 2, NULL, 0, lasts, 100, 1000, &service), LIKES_WRONG_LASTS);
+    IS(open_shared(options, counts, 2, NULL, 0, lasts, 100, 1000, &service), LIKES_WRONG_LASTS);
     lasts[1] = 1;
-    IS(likes_service_open(&options, counts, 2, NULL, 0, lasts, 100, 1000, &service), LIKES_OK);
+    IS(open_shared(options, counts, 2, NULL, 0, lasts, 100, 1000, &service), LIKES_OK);
     for (uint32_t user = 0; user < 100; user++) {
         IS(likes_service_last(service, user, &last), LIKES_OK);
         IS(last, lasts[user]);
@@ -387,6 +454,8 @@ int main(void) {
     unknown_seats();
     all_gone();
     tagged();
+    wrong_tags();
+    defaults();
     taken(1);
     taken(2);
     phases();

@@ -29,7 +29,7 @@ static void start(uint32_t period) {
     static const uint64_t counts[PAGES] = {10, 20};
     static const uint32_t marks[] = {0};
     likes_options options = {.seats = SEATS, .users = USERS, .room = 8};
-    IS(likes_service_open(&options, counts, PAGES, marks, 1, NULL, 0, period, &service), LIKES_OK);
+    IS(open_shared(options, counts, PAGES, marks, 1, NULL, 0, period, &service), LIKES_OK);
     is_over = false;
 }
 
@@ -276,7 +276,7 @@ static void other_service(void) {
     static const uint64_t counts[1];
     likes_service *other = NULL;
     likes_options options = {.seats = 1, .users = 1, .room = 1};
-    IS(likes_service_open(&options, counts, 1, NULL, 0, NULL, 0, 1000, &other), LIKES_OK);
+    IS(open_shared(options, counts, 1, NULL, 0, NULL, 0, 1000, &other), LIKES_OK);
     IS(likes_service_like(other, 0, 0), LIKES_LIKED);
     IS(likes_service_lock(other, 0) != NULL, true);
     IS(likes_service_like(other, 0, 0), LIKES_HOLDS_SEAT);

@@ -137,7 +137,7 @@ static void play(uint64_t seed, uint32_t room, uint32_t period) {
     const uint64_t counts[PAGES] = {1, 2, 3, 4, 5};
     uint64_t totals[PAGES];
     likes_options options = {.seats = SEATS, .users = USERS, .room = room, .hot = 50};
-    uint32_t status = likes_service_open(&options, counts, PAGES, marks, 2, NULL, 0, period, &service);
+    uint32_t status = open_shared(options, counts, PAGES, marks, 2, NULL, 0, period, &service);
     hold(status == LIKES_OK, "no service was started");
     for (uint32_t i = 0; i < THREADS; i++) {
         memset(&workers[i], 0, sizeof workers[i]);
@@ -168,12 +168,12 @@ static void play(uint64_t seed, uint32_t room, uint32_t period) {
 static void refused(void) {
     const uint64_t counts[1] = {0};
     likes_options options = {.seats = LIKES_MAX_SEATS + 1, .users = 1, .room = 1, .hot = 0};
-    uint32_t status = likes_service_open(&options, counts, 1, NULL, 0, NULL, 0, 1000, &service);
+    uint32_t status = open_shared(options, counts, 1, NULL, 0, NULL, 0, 1000, &service);
     hold(status == LIKES_WRONG_SEATS, "a seat too many was opened");
     options.seats = 1;
-    status = likes_service_open(&options, NULL, 0, NULL, 0, NULL, 0, 1000, &service);
+    status = open_shared(options, NULL, 0, NULL, 0, NULL, 0, 1000, &service);
     hold(status == LIKES_WRONG_PAGES, "no pages were opened");
-    status = likes_service_open(&options, counts, 1, NULL, 0, NULL, 0, 1000, &service);
+    status = open_shared(options, counts, 1, NULL, 0, NULL, 0, 1000, &service);
     hold(status == LIKES_OK, "one page was refused");
     hold(likes_service_like(service, 1, 0) == LIKES_UNKNOWN_USER, "an unknown user has liked");
     hold(likes_service_like(service, 0, 1) == LIKES_UNKNOWN_PAGE, "an unknown page was liked");

@@ -24,7 +24,7 @@ static void start(uint32_t room, uint32_t period, uint32_t hot) {
     static const uint64_t counts[PAGES];
     static const uint32_t marks[] = {0};
     likes_options options = {.seats = SEATS, .users = USERS, .room = room, .hot = hot};
-    IS(likes_service_open(&options, counts, PAGES, marks, 1, NULL, 0, period, &service), LIKES_OK);
+    IS(open_shared(options, counts, PAGES, marks, 1, NULL, 0, period, &service), LIKES_OK);
     is_over = false;
 }
 
@@ -243,15 +243,15 @@ static void deadlines(uint32_t room, uint32_t period) {
 static void openings(void) {
     static const uint64_t counts[] = {5};
     likes_options options = {.seats = 1, .users = 1, .room = 1};
-    IS(likes_service_open(&options, counts, 1, NULL, 0, NULL, 0, 0, &service), LIKES_WRONG_PERIOD);
+    IS(open_shared(options, counts, 1, NULL, 0, NULL, 0, LIKES_MAX_PERIOD_US + 1, &service), LIKES_WRONG_PERIOD);
     IS(service == NULL, true);
-    IS(likes_service_open(&options, NULL, 0, NULL, 0, NULL, 0, 1000, &service), LIKES_WRONG_PAGES);
+    IS(open_shared(options, NULL, 0, NULL, 0, NULL, 0, 1000, &service), LIKES_WRONG_PAGES);
     IS(service == NULL, true);
     likes_service_close(NULL);
-    IS(likes_service_open(&options, counts, 1, NULL, 0, NULL, 0, 1000, &service), LIKES_OK);
+    IS(open_shared(options, counts, 1, NULL, 0, NULL, 0, 1000, &service), LIKES_OK);
     likes_service_close(service);
     service = NULL;
-    IS(likes_service_open(&options, counts, 1, NULL, 0, NULL, 0, 1000, &service), LIKES_OK);
+    IS(open_shared(options, counts, 1, NULL, 0, NULL, 0, 1000, &service), LIKES_OK);
     IS(likes_service_like(service, 0, 0), LIKES_LIKED);
     IS(likes_service_retire(service), LIKES_OK);
     likes_service_close(service);

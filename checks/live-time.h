@@ -15,7 +15,7 @@
 #include <time.h>
 #include <unistd.h>
 
-#include "likes_service.h"
+#include "live-opening.h"
 
 static inline uint64_t clock_of(clockid_t id) {
     struct timespec now;

@@ -49,7 +49,7 @@ static void start(uint32_t room, uint32_t microseconds) {
     static const uint64_t counts[PAGES];
     static const uint32_t marks[] = {0};
     likes_options options = {.seats = SEATS, .users = USERS, .room = room, .hot = 512};
-    uint32_t status = likes_service_open(&options, counts, PAGES, marks, 1, NULL, 0, microseconds, &service);
+    uint32_t status = open_shared(options, counts, PAGES, marks, 1, NULL, 0, microseconds, &service);
     hold(status == LIKES_OK, "no service was started");
     is_over = false;
 }

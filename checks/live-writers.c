@@ -39,7 +39,7 @@ static uint32_t open_service(uint32_t seats, uint32_t period) {
     static const uint32_t marks[] = {0};
     likes_options options = {.seats = seats, .users = USERS, .room = 8, .hot = 512};
     is_over = false;
-    return likes_service_open(&options, counts, PAGES, marks, 1, NULL, 0, period, &service);
+    return open_shared(options, counts, PAGES, marks, 1, NULL, 0, period, &service);
 }
 
 static likes_writer *start(uint32_t seats, uint32_t period) {

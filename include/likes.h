@@ -45,6 +45,7 @@ uint32_t likes_version(void);
 /* The coordinator of a service: it ends and releases phases. */
 typedef struct likes_driver {
     void *at;
+    uint64_t seats; /* how many it has: likes_driver_seats */
 } likes_driver;
 
 /* A worker of a service. */
@@ -63,20 +64,33 @@ typedef struct likes_phase {
 #define LIKES_MAX_SPLIT 64u /* how many pages are split at a time, marked ones among them */
 #define LIKES_MAX_ROOM 4096u
 #define LIKES_MAX_HOT 1000000u
+#define LIKES_MAX_PERIOD_US 1000000000u
 #define LIKES_MAX_COUNT UINT64_C(1000000000000000000)
 
 /* Instead of a page number: the user has no last like. */
 #define LIKES_NO_PAGE UINT32_MAX
 
+/* Instead of `hot`: the library finds no hot pages. */
+#define LIKES_NO_HOT UINT32_MAX
+
+/* What a service is opened with. A field that is left out is 0, and that means its default, if it has one. */
 typedef struct likes_options {
-    uint32_t seats;       /* 1 to LIKES_MAX_SEATS */
-    uint32_t users;       /* 1 to 2^32 - 1. Users are numbered from 0, and take 4 bytes each. */
-    uint32_t room;        /* how many looks a seat keeps, waiting and found ones together: 1 to LIKES_MAX_ROOM */
-    uint32_t hot;         /* 1 to LIKES_MAX_HOT: about how many likes between two choices make a page hot; earlier likes
-                             count too, but less ("Hot pages" of docs/EMBEDDING.md). The library finds these pages by
-                             samples; 1 to 511 act as 512. 0: it finds none, and only marked pages and those of
-                             likes_driver_propose are split. */
-    uint64_t reserved[6]; /* 0 */
+    const uint64_t *counts; /* the initial count of each page, at most LIKES_MAX_COUNT */
+    size_t pages;           /* how many: 1 to LIKES_MAX_PAGES. Pages are numbered from 0, and take 8 bytes each. */
+    const uint32_t *marks;  /* the pages that are split in every split phase, in any order, no two alike */
+    size_t marks_len;       /* 0 to LIKES_MAX_MARKS */
+    const uint32_t *lasts;  /* the page of each user's last like, by user number, or LIKES_NO_PAGE */
+    size_t lasts_len;       /* as many as users; 0: no user has a last like */
+    uint32_t users;         /* how many: 1 to 2^32 - 1. Users are numbered from 0, and take 4 bytes each. */
+    uint32_t seats;         /* 1 to LIKES_MAX_SEATS; 0: 16 for each processor, and at most 64 */
+    uint32_t room;          /* how many looks a seat keeps, waiting and found ones together: 1 to LIKES_MAX_ROOM; 0: 64 */
+    uint32_t hot;           /* about how many likes between two choices make a page hot; earlier likes count too, but less
+                               ("Hot pages" of docs/EMBEDDING.md): 1 to LIKES_MAX_HOT, of which 1 to 511 act as 512; 0:
+                               512. LIKES_NO_HOT: only marked and proposed pages are split. */
+    uint32_t period_us;     /* of a service of likes_service.h: from the end of one split phase to that of the next, in
+                               microseconds: 1 to LIKES_MAX_PERIOD_US; 0: 1,000 */
+    uint32_t reserved;      /* 0 */
+    uint64_t reserved_too[5]; /* 0 */
 } likes_options;
 
 /* What calls answer. Errors begin at LIKES_FIRST_ERROR. */
@@ -128,21 +142,20 @@ enum likes_status {
 
 #define LIKES_FIRST_ERROR 100u
 
-/* Whether a status is an error: a wrong use, or no memory. Statuses of likes_service.h are errors too. */
-static inline bool likes_is_error(uint32_t status) {
-    return status >= LIKES_FIRST_ERROR;
+/* Whether a status says that what was asked for is done: LIKES_OK, LIKED, SEEN and COUNTED. The others below
+ * LIKES_FIRST_ERROR are outcomes, which each call lists, and those from there on are errors. */
+static inline bool likes_is_success(uint32_t status) {
+    return status <= LIKES_SEEN || status == LIKES_COUNTED;
 }
 
-/* Opens a service.
- *
- * counts has the initial count of each page. marks has the numbers of the pages that are split in every split phase, at
- * most LIKES_MAX_MARKS, in any order and no two alike. lasts has the page of each user's last like, by user number, or
- * LIKES_NO_PAGE; if its length is 0, no user has one. The counts and the last likes of an earlier service, opened
- * again, go on where it ended. LIKES_OK fills the driver. Else the handle stays as it was, and the answer is the first
- * of these that applies: LIKES_IN_USE, WRONG_RESERVED, WRONG_PAGES, WRONG_MARKS, WRONG_COUNT, WRONG_SEATS, WRONG_USERS,
- * WRONG_LASTS, WRONG_ROOM, WRONG_HOT, NO_MEMORY. */
-uint32_t likes_open(const likes_options *options, const uint64_t *counts, size_t pages, const uint32_t *marks,
-                    size_t marks_len, const uint32_t *lasts, size_t lasts_len, likes_driver *driver);
+/* Opens a service. The counts and the last likes of an earlier one, opened again, go on where it ended. LIKES_OK fills
+ * the driver. Else the handle stays as it was, and the answer is the first of these that applies: LIKES_IN_USE,
+ * WRONG_RESERVED, WRONG_PAGES, WRONG_MARKS, WRONG_COUNT, WRONG_SEATS, WRONG_USERS, WRONG_LASTS, WRONG_ROOM, WRONG_HOT,
+ * NO_MEMORY. */
+uint32_t likes_open(const likes_options *options, likes_driver *driver);
+
+/* How many seats a service has, and 0 of an empty handle. */
+uint32_t likes_driver_seats(const likes_driver *driver);
 
 /* Hands out the seats, at the first call seat 0, then 1 and so on: LIKES_OK, or the first that applies of LIKES_IN_USE,
  * EMPTY and ALL_TAKEN. A phase changes only when every seat has answered, so take them all. */
@@ -309,10 +322,14 @@ const char *likes_status_text(uint32_t status);
 #define LIKES_PIN(holds) _Static_assert(holds, "a size, a place or the order of bytes is not that of the library")
 #endif
 LIKES_PIN(__BYTE_ORDER__ == __ORDER_LITTLE_ENDIAN__);
-LIKES_PIN(sizeof(likes_driver) == 8 && sizeof(likes_seat) == 8 && sizeof(likes_phase) == 8);
-LIKES_PIN(sizeof(likes_options) == 64 && offsetof(likes_options, seats) == 0 && offsetof(likes_options, users) == 4);
-LIKES_PIN(offsetof(likes_options, room) == 8 && offsetof(likes_options, hot) == 12);
-LIKES_PIN(offsetof(likes_options, reserved) == 16);
+LIKES_PIN(sizeof(likes_driver) == 16 && sizeof(likes_seat) == 8 && sizeof(likes_phase) == 8);
+LIKES_PIN(sizeof(likes_options) == 112 && offsetof(likes_options, counts) == 0 && offsetof(likes_options, pages) == 8);
+LIKES_PIN(offsetof(likes_options, marks) == 16 && offsetof(likes_options, marks_len) == 24);
+LIKES_PIN(offsetof(likes_options, lasts) == 32 && offsetof(likes_options, lasts_len) == 40);
+LIKES_PIN(offsetof(likes_options, users) == 48 && offsetof(likes_options, seats) == 52);
+LIKES_PIN(offsetof(likes_options, room) == 56 && offsetof(likes_options, hot) == 60);
+LIKES_PIN(offsetof(likes_options, period_us) == 64 && offsetof(likes_options, reserved) == 68);
+LIKES_PIN(offsetof(likes_options, reserved_too) == 72);
 LIKES_PIN(sizeof(likes_request) == 24 && offsetof(likes_request, tag) == 0 && offsetof(likes_request, user) == 8);
 LIKES_PIN(offsetof(likes_request, page) == 12 && offsetof(likes_request, op) == 16);
 LIKES_PIN(offsetof(likes_request, reserved) == 20);

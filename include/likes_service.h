@@ -20,18 +20,18 @@
 extern "C" {
 #endif
 
-/* What these calls answer, beside the statuses of likes.h. They are errors: likes_is_error holds of them, and
- * likes_status_text has their texts. But for LIKES_LOOK_LOST and LIKES_LATE, nothing was done. */
+/* What these calls answer, beside the statuses of likes.h. They are errors: likes_status_text has their texts. But for LIKES_LOOK_LOST and LIKES_LATE, nothing was done. */
 enum likes_service_status {
     LIKES_NO_THREAD = 1000,    /* the driver's thread can't be started */
-    LIKES_WRONG_PERIOD = 1001, /* the period is 0 */
+    LIKES_WRONG_PERIOD = 1001, /* period_us is over LIKES_MAX_PERIOD_US */
     LIKES_NOT_STARTED = 1002,  /* the service is NULL, or it was stopped */
     LIKES_UNKNOWN_SEAT = 1003, /* the service has fewer seats */
     LIKES_LOOK_LOST = 1004,    /* the look was made, but somebody took its result with likes_seat_take_found */
     LIKES_LATE = 1005,         /* the look had no answer in time. If it was made, its answer is thrown away */
     LIKES_HOLDS_SEAT = 1006,   /* the calling thread holds a seat of the service, and could wait for itself */
     LIKES_NOT_LOCKED = 1007,   /* the calling thread doesn't hold the seat */
-    LIKES_OPEN_WRITER = 1008   /* a writer of the service is open */
+    LIKES_OPEN_WRITER = 1008,  /* a writer of the service is open */
+    LIKES_WRONG_TAG = 1009     /* the tag of a look in a row is 2^63 or more */
 };
 
 typedef struct likes_service likes_service;
@@ -51,16 +51,16 @@ typedef struct likes_statistics {
     uint64_t reserved[9];  /* 0 */
 } likes_statistics;
 
-/* Opens a service and starts its driver's thread. options, counts, marks and lasts are those of likes_open. period is
- * the time from the end of one split phase to that of the next, in microseconds, 1 or more: no look waits much longer.
- * 1000 suits most hosts. Where no calls are made, no phases change.
+/* Opens a service and starts its driver's thread. No look waits much longer than the period. Where no calls are made, no
+ * phases change.
  *
- * `service` points to NULL. LIKES_OK: now it points to the service. Else it stays as it is, and the answer is
- * LIKES_IN_USE, where it isn't NULL, LIKES_WRONG_PERIOD, an answer of likes_open, LIKES_NO_MEMORY or LIKES_NO_THREAD.
- */
-uint32_t likes_service_open(const likes_options *options, const uint64_t *counts, size_t pages, const uint32_t *marks,
-                            size_t marks_len, const uint32_t *lasts, size_t lasts_len, uint32_t period,
-                            likes_service **service);
+ * `service` points to NULL. LIKES_OK: now it points to the service. Else it stays as it is, and the answer is the first
+ * that applies of LIKES_IN_USE, where it isn't NULL, LIKES_WRONG_PERIOD, an answer of likes_open, LIKES_NO_MEMORY and
+ * LIKES_NO_THREAD. */
+uint32_t likes_service_open(const likes_options *options, likes_service **service);
+
+/* How many seats it has: 0 where likes_service_fault isn't LIKES_OK. User u belongs to seat u % seats. */
+uint32_t likes_service_seats(const likes_service *service);
 
 /* Ends a service that isn't stopped yet, and gives its memory back: LIKES_OK, also for NULL. All threads are done with
  * it. Or LIKES_HOLDS_SEAT, and nothing is done. */
@@ -169,7 +169,8 @@ void likes_service_unlock(likes_service *service, uint32_t number);
 
 /* Runs requests at a seat that is awake, through changes of phases, and gives the number of those done. It stops early
  * only at a look that has no room: take found looks, and go on with that request. At a seat that the thread doesn't hold
- * no request is done, and the first answer is LIKES_NOT_STARTED, UNKNOWN_SEAT or NOT_LOCKED. */
+ * no request is done, and the first answer is LIKES_NOT_STARTED, UNKNOWN_SEAT or NOT_LOCKED. Tags of looks are below
+ * 2^63: another is answered LIKES_WRONG_TAG, and is none of those that wait. */
 size_t likes_service_run(likes_service *service, uint32_t number, const likes_request *requests, size_t length,
                          likes_answer *answers);
 

@@ -1,15 +1,43 @@
-/* The calls of likes.h that take NULL for an array of no entries, or for a handle, over the proved ones, which take
- * none. All other calls of likes.h are the proved ones themselves. */
+/* The calls of likes.h that have defaults, or take NULL for an array of no entries or for a handle, over the proved ones,
+ * which don't. All other calls of likes.h are the proved ones themselves. */
+#include "defaults.h"
 #include "proved.h"
 
 static const uint64_t no_count;
 static const uint32_t no_page;
 static const likes_request no_request;
 
-uint32_t likes_open(const likes_options *options, const uint64_t *counts, size_t pages, const uint32_t *marks,
-                    size_t marks_len, const uint32_t *lasts, size_t lasts_len, likes_driver *driver) {
-    return likes_proved_open(options, pages == 0 ? &no_count : counts, pages, marks_len == 0 ? &no_page : marks,
-                             marks_len, lasts_len == 0 ? &no_page : lasts, lasts_len, driver);
+/* The numbers for the proved call, with defaults. There `hot` 0 means that no page gets hot by itself. */
+static likes_proved_options numbers_of(const likes_options *options) {
+    likes_proved_options made = {options->seats, options->users, options->room, options->hot, {options->reserved}};
+    if (made.seats == 0)
+        made.seats = likes_default_seats();
+    if (made.room == 0)
+        made.room = LIKES_DEFAULT_ROOM;
+    if (made.hot == 0)
+        made.hot = LIKES_DEFAULT_HOT;
+    else if (made.hot == LIKES_NO_HOT)
+        made.hot = 0;
+    for (size_t i = 0; i < 5; i++)
+        made.reserved[i + 1] = options->reserved_too[i];
+    return made;
+}
+
+uint32_t likes_open(const likes_options *options, likes_driver *driver) {
+    likes_proved_options numbers = numbers_of(options);
+    const uint64_t *counts = options->counts != NULL ? options->counts : &no_count;
+    size_t pages = options->counts != NULL ? options->pages : 0;
+    const uint32_t *marks = options->marks_len > 0 ? options->marks : &no_page;
+    const uint32_t *lasts = options->lasts_len > 0 ? options->lasts : &no_page;
+    uint32_t status =
+        likes_proved_open(&numbers, counts, pages, marks, options->marks_len, lasts, options->lasts_len, driver);
+    if (status == LIKES_OK)
+        driver->seats = numbers.seats;
+    return status;
+}
+
+uint32_t likes_driver_seats(const likes_driver *driver) {
+    return (uint32_t)driver->seats;
 }
 
 uint32_t likes_seat_of(uint32_t user, uint32_t seats) {
@@ -53,8 +81,10 @@ void likes_seat_free(likes_seat *seat) {
 }
 
 void likes_driver_free(likes_driver *driver) {
-    if (driver != NULL)
-        likes_proved_driver_free(driver);
+    if (driver == NULL)
+        return;
+    likes_proved_driver_free(driver);
+    driver->seats = 0;
 }
 
 void likes_phase_free(likes_phase *phase) {

@@ -1,25 +1,61 @@
-/* The texts of statuses. */
+/* The texts of statuses. Those of wrong numbers say what is right. */
 #include "likes_service.h"
 
 static const char *const outcomes[] = {
-    /* 0 */ "ok",         "liked",     "seen",       "waits",    "runs",  "between", "no room",
-    "like limit",         "gone",
-    /* 9 */ "goes on",    "announced", "not all in", "released", "ended", "counted", "no moment",
+    "ok",
+    "liked",
+    "seen",
+    "waits",
+    "runs",
+    "between",
+    "no room",
+    "like limit",
+    "gone",
+    "goes on",
+    "announced",
+    "not all in",
+    "released",
+    "ended",
+    "counted",
+    "no moment",
     "not ended",
-    /* 17 */ "all taken",
+    "all taken",
 };
 
+/* From LIKES_EMPTY on. */
 static const char *const errors[] = {
-    /* 100 */ "empty",       "in use",      "no memory",      "unknown user", "other seat",
-    "unknown page",          "unknown op",
-    /* 107 */ "unknown end", "wrong range", "wrong reserved", "wrong pages",  "wrong marks",
-    "wrong count",
-    /* 113 */ "wrong seats", "wrong users", "wrong room",     "wrong hot",    "wrong lasts",
+    "empty",
+    "in use",
+    "no memory",
+    "unknown user",
+    "other seat",
+    "unknown page",
+    "unknown op",
+    "unknown end",
+    "the range goes past the end",
+    "a reserved field is not 0",
+    "pages is 1 to 16777216, with a count for each",
+    "marks are at most 64 pages, no two alike",
+    "an initial count is at most 1000000000000000000",
+    "seats is 1 to 64",
+    "users is 1 to 4294967295",
+    "room is 1 to 4096",
+    "hot is 1 to 1000000",
+    "last likes are one for each user, of a page or none",
 };
 
+/* From LIKES_NO_THREAD on. */
 static const char *const of_services[] = {
-    /* 1000 */ "no thread",  "wrong period", "not started", "unknown seat", "look lost", "late",
-    /* 1006 */ "holds seat", "not locked",   "open writer",
+    "no thread",
+    "period_us is 1 to 1000000000",
+    "not started",
+    "unknown seat",
+    "look lost",
+    "late",
+    "the thread holds a seat",
+    "the thread does not hold the seat",
+    "a writer is open",
+    "a tag is below 9223372036854775808",
 };
 
 /* The text of a status among some, of which the first has a number. NULL: it is none of them. */

@@ -57,12 +57,10 @@ class Service {
 public:
     // The period is in microseconds.
     Service(const Options &options, const std::vector<std::uint64_t> &counts, std::uint32_t period = 1000)
-        : totals_(counts.size()), lasts_(options.users), seats_(options.seats) {
-        likes_options numbers = options.numbers();
-        const std::vector<std::uint32_t> &marks = options.marks, &lasts = options.lasts;
-        check(likes_service_open(&numbers, counts.data(), counts.size(), marks.data(), marks.size(), lasts.data(),
-                                 lasts.size(), period, &service_),
-              LIKES_OK);
+        : totals_(counts.size()), lasts_(options.users) {
+        likes_options numbers = options.numbers(counts, period);
+        check(likes_service_open(&numbers, &service_), LIKES_OK);
+        seats_ = likes_service_seats(service_);
     }
     ~Service() {
         end();
@@ -178,7 +176,7 @@ private:
     likes_service *service_ = nullptr;
     std::vector<std::uint64_t> totals_;
     std::vector<std::uint32_t> lasts_;
-    std::uint32_t seats_;
+    std::uint32_t seats_ = 0;
 };
 
 } // namespace likes

@@ -10,6 +10,19 @@ package likes
 #cgo pkg-config: likes
 #include <likes_service.h>
 
+// Opens a service. C may not be given pointers in memory of Go, so arrays are told apart from the numbers.
+static uint32_t open_service(const likes_options *numbers, const uint64_t *counts, size_t pages, const uint32_t *marks,
+                             size_t marks_len, const uint32_t *lasts, size_t lasts_len, likes_service **service) {
+	likes_options options = *numbers;
+	options.counts = counts;
+	options.pages = pages;
+	options.marks = marks;
+	options.marks_len = marks_len;
+	options.lasts = lasts;
+	options.lasts_len = lasts_len;
+	return likes_service_open(&options, service);
+}
+
 // Runs a row at a seat, and takes found looks. The seat is locked no longer than that.
 static size_t run_row(likes_service *service, uint32_t number, const likes_request *requests, size_t length,
                       likes_answer *answers, likes_found *found, size_t room, size_t *taken) {
@@ -53,8 +66,8 @@ type call struct {
 func Open(options Options, counts []uint64) (*Service, error) {
 	service := &Service{pages: len(counts), users: int(options.Users)}
 	numbers := options.numbers()
-	told := C.likes_service_open(&numbers, countsAt(counts), C.size_t(len(counts)), pagesAt(options.Marks),
-		C.size_t(len(options.Marks)), pagesAt(options.Lasts), C.size_t(len(options.Lasts)), options.period(), &service.c)
+	told := C.open_service(&numbers, countsAt(counts), C.size_t(len(counts)), pagesAt(options.Marks),
+		C.size_t(len(options.Marks)), pagesAt(options.Lasts), C.size_t(len(options.Lasts)), &service.c)
 	if err := wanted(told, OK); err != nil {
 		return nil, err
 	}

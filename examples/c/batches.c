@@ -73,9 +73,10 @@ int main(int count, char **words) {
     likes_service *service = NULL;
     const uint64_t counts[PAGES] = {0};
     uint64_t totals[PAGES], sum = 0, liked = 0, asked = 0, answered = 0;
-    likes_options options = {.seats = threads, .users = USERS, .room = 4096, .hot = 1000};
-    uint32_t status = likes_service_open(&options, counts, PAGES, NULL, 0, NULL, 0, 1000, &service);
-    if (status != LIKES_OK) {
+    const likes_options options = {
+        .counts = counts, .pages = PAGES, .users = USERS, .seats = threads, .room = 4096, .hot = 1000};
+    uint32_t status = likes_service_open(&options, &service);
+    if (!likes_is_success(status)) {
         fprintf(stderr, "not opened: %s\n", likes_status_text(status));
         return 1;
     }

@@ -5,14 +5,14 @@
 #include <stdio.h>
 
 int main(void) {
-    const uint64_t counts[] = {10, 0};                                         /* two pages, and what they have */
-    likes_options options = {.seats = 2, .users = 1000, .room = 64, .hot = 512}; /* users 0 to 999 */
+    const uint64_t counts[] = {10, 0};                                          /* two pages, and what they have */
+    const likes_options options = {.counts = counts, .pages = 2, .users = 1000}; /* users 0 to 999 */
     likes_service *service = NULL;
     likes_answer answer;
     uint64_t totals[2];
 
-    uint32_t status = likes_service_open(&options, counts, 2, NULL, 0, NULL, 0, 1000, &service);
-    if (status != LIKES_OK) {
+    uint32_t status = likes_service_open(&options, &service);
+    if (!likes_is_success(status)) {
         fprintf(stderr, "not opened: %s\n", likes_status_text(status));
         return 1;
     }

@@ -12,7 +12,7 @@ static likes_wait *look_at(likes_service *service, likes_place *place, uint32_t 
         likes_refuse(to, LIKES_NO_ROOM);
         return NULL;
     }
-    uint64_t tag = (uint64_t)(uintptr_t)wait;
+    uint64_t tag = likes_tag_of(wait);
     place->unused = wait->next;
     if (likes_seat_look(&place->seat, user, page, tag, to) == LIKES_BETWEEN) {
         likes_request request = likes_request_of(LIKES_LOOK, user, page, tag);

@@ -1,4 +1,5 @@
 /* How a service begins and ends. */
+#include "../defaults.h"
 #include "held.h"
 
 #include <stdlib.h>
@@ -47,37 +48,35 @@ static uint32_t take_all(likes_service *service, uint32_t room) {
 }
 
 /* Starts the driver's thread of a service whose driver is open. */
-static uint32_t begin(likes_service *service, const likes_options *options, size_t pages, uint32_t period) {
-    uint32_t status = take_all(service, options->room);
+static uint32_t begin(likes_service *service, const likes_options *options) {
+    uint32_t status = take_all(service, options->room > 0 ? options->room : LIKES_DEFAULT_ROOM);
     if (status != LIKES_OK)
         return status;
     service->users = options->users;
-    service->pages = pages;
-    service->period = (uint64_t)period * 1000;
-    service->may_find = options->hot > 0;
+    service->pages = options->pages;
+    service->period = UINT64_C(1000) * (options->period_us > 0 ? options->period_us : 1000);
+    service->may_find = options->hot != LIKES_NO_HOT;
     service->is_open = true;
     service->has_thread = pthread_create(&service->thread, NULL, likes_service_thread, service) == 0;
     return service->has_thread ? LIKES_OK : LIKES_NO_THREAD;
 }
 
-uint32_t likes_service_open(const likes_options *options, const uint64_t *counts, size_t pages, const uint32_t *marks,
-                            size_t marks_len, const uint32_t *lasts, size_t lasts_len, uint32_t period,
-                            likes_service **service) {
+uint32_t likes_service_open(const likes_options *options, likes_service **service) {
     likes_driver driver = {0};
     if (*service != NULL)
         return LIKES_IN_USE;
-    if (period == 0)
+    if (options->period_us > LIKES_MAX_PERIOD_US)
         return LIKES_WRONG_PERIOD;
-    uint32_t status = likes_open(options, counts, pages, marks, marks_len, lasts, lasts_len, &driver);
+    uint32_t status = likes_open(options, &driver);
     if (status != LIKES_OK)
         return status;
-    likes_service *opened = made(options->seats);
+    likes_service *opened = made(likes_driver_seats(&driver));
     if (opened == NULL) {
         likes_driver_free(&driver);
         return LIKES_NO_MEMORY;
     }
     opened->driver = driver;
-    status = begin(opened, options, pages, period);
+    status = begin(opened, options);
     if (status == LIKES_OK) {
         *service = opened;
     } else {

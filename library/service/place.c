@@ -55,7 +55,7 @@ static void take(likes_ring *ring, likes_found *found) {
 /* The look that waits at a place with this tag, or NULL. */
 static likes_wait *wait_of(const likes_place *place, uint64_t tag) {
     likes_wait *wait = place->first;
-    while (wait != NULL && (uint64_t)(uintptr_t)wait != tag)
+    while (wait != NULL && likes_tag_of(wait) != tag)
         wait = wait->next;
     return wait;
 }
@@ -85,7 +85,7 @@ static void drop_before(likes_place *place, const likes_wait *wait) {
 
 /* Hands a found look to the thread that waits for it, or keeps it if its tag is the host's. */
 static void hand(likes_place *place, const likes_found *found) {
-    likes_wait *wait = wait_of(place, found->tag);
+    likes_wait *wait = found->tag >= LIKES_OWN_TAGS ? wait_of(place, found->tag) : NULL;
     if (wait == NULL) {
         put(&place->others, found);
         return;

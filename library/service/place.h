@@ -8,7 +8,10 @@
 
 #include "lock.h"
 
-/* A look of likes_service_look that waits at a seat. Its tag is its address. */
+/* The tags of looks of likes_service_look begin here, and those of the host's are below. */
+#define LIKES_OWN_TAGS (UINT64_C(1) << 63)
+
+/* A look of likes_service_look that waits at a seat. */
 typedef struct likes_wait {
     struct likes_wait *next;
     uint64_t asked;   /* the phase in which it was asked */
@@ -48,6 +51,11 @@ typedef struct likes_place {
     likes_seat seat;
     char apart_too[128];
 } likes_place;
+
+/* A look's tag is its address, with the bit of such tags. */
+static inline uint64_t likes_tag_of(const likes_wait *wait) {
+    return LIKES_OWN_TAGS | (uint64_t)(uintptr_t)wait;
+}
 
 /* Adds to a number that one thread writes at a time, and others read. */
 static inline void likes_add(uint64_t *at, uint64_t by) {

@@ -68,6 +68,30 @@ size_t likes_place_run(likes_service *service, likes_place *place, const likes_r
     return done;
 }
 
+/* How many requests come before the first look whose tag isn't the host's. */
+static size_t count_tagged(const likes_request *requests, size_t length) {
+    size_t right = 0;
+    while (right < length && (requests[right].tag < LIKES_OWN_TAGS || requests[right].op != LIKES_LOOK))
+        right++;
+    return right;
+}
+
+/* Runs requests, but for looks with wrong tags. */
+static size_t run_tagged(likes_service *service, likes_place *place, const likes_request *requests, size_t length,
+                         likes_answer *answers) {
+    size_t done = 0;
+    while (done < length) {
+        size_t right = count_tagged(requests + done, length - done);
+        size_t ran = likes_place_run(service, place, requests + done, right, answers + done);
+        done += ran;
+        if (ran < right)
+            break;
+        if (done < length)
+            likes_refuse(&answers[done++], LIKES_WRONG_TAG);
+    }
+    return done;
+}
+
 size_t likes_service_run(likes_service *service, uint32_t number, const likes_request *requests, size_t length,
                          likes_answer *answers) {
     uint32_t fault = likes_held_fault(service, number);
@@ -77,7 +101,7 @@ size_t likes_service_run(likes_service *service, uint32_t number, const likes_re
         return 0;
     }
     likes_place *place = &service->places[number];
-    size_t done = likes_place_run(service, place, requests, length, answers);
+    size_t done = run_tagged(service, place, requests, length, answers);
     likes_place_deliver(place);
     count_row(place, answers, done);
     if (is_half_full(place, answers, done) || done < length)

@@ -12,6 +12,10 @@ uint32_t likes_service_seat_fault(const likes_service *service, uint32_t number)
     return fault == LIKES_OK ? likes_call_fault(service) : fault;
 }
 
+uint32_t likes_service_seats(const likes_service *service) {
+    return likes_service_fault(service) == LIKES_OK ? service->seats : 0;
+}
+
 uint64_t likes_service_phase(likes_service *service) {
     return likes_service_fault(service) == LIKES_OK ? likes_phase_now(&service->phase) : 0;
 }

@@ -8,7 +8,7 @@ from ctypes import byref, c_uint32, c_uint64
 from typing import Any, List, NamedTuple, Optional, Sequence
 
 from .errors import Closed, check, outcome
-from .library import Answer, FoundLook, Handle, Options, last_of, load, number_of, row_of, whole
+from .library import NO_HOT, Answer, DriverHandle, FoundLook, Handle, Options, last_of, load, number_of, row_of, whole
 from .rows import Asked, Row, Seen, Told, seen
 from .statuses import MAX_SPLIT, End, Status
 
@@ -30,8 +30,8 @@ class Found(NamedTuple):
 class Held:
     """A handle, for one call at a time."""
 
-    def __init__(self) -> None:
-        self.library, self._handle, self._lock = load(), Handle(), threading.Lock()
+    def __init__(self, handle: Any = None) -> None:
+        self.library, self._handle, self._lock = load(), handle or Handle(), threading.Lock()
         self._at = byref(self._handle)
 
     def call(self, call: Any, *words: Any) -> Any:
@@ -151,16 +151,16 @@ class Driver(Held):
         marks: Sequence[int] = (),
         lasts: Sequence[Optional[int]] = (),
     ) -> None:
-        super().__init__()
+        super().__init__(DriverHandle())
         self.pages = len(counts)
         self.owned: List[Any] = []
-        options = Options(whole("seats", seats), whole("users", users), whole("room", room), whole("hot", hot))
+        numbers = {"seats": whole("seats", seats), "users": whole("users", users), "room": whole("room", room)}
         row = (c_uint64 * (self.pages + 1))(*(whole("count", it, MOST_64) for it in counts))
         marked, last = row_of("mark", marks), row_of("last like", [number_of(it) for it in lasts])
-        opened = self.library.likes_open(
-            options, row, self.pages, marked, len(marks), last, len(lasts), self._at
-        )
-        check(opened, Status.OK)
+        arrays = {"counts": row, "marks": marked, "lasts": last}
+        lengths = {"pages": self.pages, "marks_len": len(marks), "lasts_len": len(lasts)}
+        options = Options(**arrays, **lengths, **numbers, hot=whole("hot", hot) or NO_HOT)
+        check(self.library.likes_open(options, self._at), Status.OK)
 
     def __enter__(self) -> "Driver":
         return self

@@ -3,7 +3,7 @@
 import ctypes
 import operator
 import os
-from ctypes import POINTER, Structure, c_bool, c_size_t, c_uint32, c_uint64, c_void_p
+from ctypes import POINTER, Structure, c_bool, c_char_p, c_size_t, c_uint32, c_uint64, c_void_p
 from functools import lru_cache
 from typing import Any, Optional, Sequence
 
@@ -11,17 +11,30 @@ from .statuses import NO_PAGE
 
 VERSION = 5  # LIKES_VERSION of the likes.h that this package is written for
 SHARED = "liblikes.so.0.5"
+NO_HOT = 2**32 - 1
 MOST = 2**32 - 1
 
 
 class Handle(Structure):
+    """Of a seat or a phase."""
+
     _fields_ = [("at", c_void_p)]
+
+
+class DriverHandle(Structure):
+    _fields_ = [("at", c_void_p), ("seats", c_uint64)]
 
 
 class Options(Structure):
     _fields_ = [
-        *((name, c_uint32) for name in ("seats", "users", "room", "hot")),
-        ("reserved", c_uint64 * 6),
+        ("counts", POINTER(c_uint64)),
+        ("pages", c_size_t),
+        ("marks", POINTER(c_uint32)),
+        ("marks_len", c_size_t),
+        ("lasts", POINTER(c_uint32)),
+        ("lasts_len", c_size_t),
+        *((name, c_uint32) for name in ("users", "seats", "room", "hot", "period_us", "reserved")),
+        ("reserved_too", c_uint64 * 5),
     ]
 
 
@@ -40,12 +53,15 @@ class FoundLook(Structure):
     ]
 
 
-HANDLE, COUNTS, PAGES = POINTER(Handle), POINTER(c_uint64), POINTER(c_uint32)
+HANDLE, COUNTS, PAGES = c_void_p, POINTER(c_uint64), POINTER(c_uint32)
 
 # What each call takes and gives.
 CALLS: Any = {
     "version": ([], c_uint32),
-    "open": ([POINTER(Options), COUNTS, c_size_t, PAGES, c_size_t, PAGES, c_size_t, HANDLE], c_uint32),
+    "status_text": ([c_uint32], c_char_p),
+    "seat_of": ([c_uint32, c_uint32], c_uint32),
+    "open": ([POINTER(Options), HANDLE], c_uint32),
+    "driver_seats": ([HANDLE], c_uint32),
     "driver_take_seat": ([HANDLE, HANDLE], c_uint32),
     "driver_take_phase": ([HANDLE, HANDLE], c_uint32),
     "driver_turn": ([HANDLE, c_uint32], c_uint32),

@@ -40,21 +40,26 @@ impl Driver {
     /// If the library is of another version than this crate.
     pub fn open(options: &Options, counts: &[u64]) -> Result<Self, Error> {
         let Options { seats, users, room, hot, marks, lasts } = *options;
-        let numbers = Numbers { seats, users, room, hot, reserved: [0; 6] };
+        let numbers = Numbers {
+            counts: counts.as_ptr(),
+            pages: counts.len(),
+            marks: marks.as_ptr(),
+            marks_len: marks.len(),
+            lasts: lasts.as_ptr(),
+            lasts_len: lasts.len(),
+            users,
+            seats,
+            room,
+            hot: if hot == 0 { ffi::NO_HOT } else { hot },
+            period_us: 0,
+            reserved: 0,
+            reserved_too: [0; 5],
+        };
         let mut handle = Handle::default();
         // SAFETY: each slice has the length that is told, and the handle is empty.
         let told = unsafe {
             assert_eq!(ffi::likes_version(), ffi::VERSION, "the version of the library");
-            ffi::likes_open(
-                &numbers,
-                counts.as_ptr(),
-                counts.len(),
-                marks.as_ptr(),
-                marks.len(),
-                lasts.as_ptr(),
-                lasts.len(),
-                &mut handle,
-            )
+            ffi::likes_open(&numbers, &mut handle)
         };
         check(told)?;
         Ok(Self { handle, leaving: Arc::default() })

@@ -1,6 +1,6 @@
 //! The calls of `likes.h` as the library exports them, and its structures.
 
-use std::ffi::c_void;
+use std::ffi::{c_char, c_void};
 use std::mem::{offset_of, size_of};
 use std::ptr;
 
@@ -10,15 +10,16 @@ use crate::rows::{Answer, Found, Request};
 /// `LIKES_VERSION` of the `likes.h` that this crate is written for.
 pub const VERSION: u32 = 5;
 
-/// A driver, a seat or a phase. NULL: it is empty.
+/// A driver, a seat or a phase. NULL: it is empty. Only a driver has the number of its seats beside.
 #[repr(C)]
 pub struct Handle {
     at: *mut c_void,
+    seats: u64,
 }
 
 impl Default for Handle {
     fn default() -> Self {
-        Self { at: ptr::null_mut() }
+        Self { at: ptr::null_mut(), seats: 0 }
     }
 }
 
@@ -28,32 +29,35 @@ unsafe impl Send for Handle {}
 /// `likes_options`.
 #[repr(C)]
 pub struct Numbers {
-    pub seats: u32,
+    pub counts: *const u64,
+    pub pages: usize,
+    pub marks: *const u32,
+    pub marks_len: usize,
+    pub lasts: *const Last,
+    pub lasts_len: usize,
     pub users: u32,
+    pub seats: u32,
     pub room: u32,
     pub hot: u32,
-    pub reserved: [u64; 6],
+    pub period_us: u32,
+    pub reserved: u32,
+    pub reserved_too: [u64; 5],
 }
+
+/// `LIKES_NO_HOT`: no page gets hot by itself.
+pub const NO_HOT: u32 = u32::MAX;
 
 const _: () = {
     assert!(cfg!(target_endian = "little"));
-    assert!(size_of::<Handle>() == 8 && size_of::<Last>() == 4);
-    assert!(size_of::<Numbers>() == 64 && offset_of!(Numbers, hot) == 12 && offset_of!(Numbers, reserved) == 16);
+    assert!(size_of::<Handle>() == 16 && size_of::<Last>() == 4);
+    assert!(size_of::<Numbers>() == 112 && offset_of!(Numbers, hot) == 60 && offset_of!(Numbers, reserved_too) == 72);
     assert!(size_of::<Request>() == 24 && size_of::<Answer>() == 16 && size_of::<Found>() == 48);
 };
 
 extern "C" {
     pub fn likes_version() -> u32;
-    pub fn likes_open(
-        options: *const Numbers,
-        counts: *const u64,
-        pages: usize,
-        marks: *const u32,
-        marks_len: usize,
-        lasts: *const Last,
-        lasts_len: usize,
-        driver: *mut Handle,
-    ) -> u32;
+    pub fn likes_status_text(status: u32) -> *const c_char;
+    pub fn likes_open(options: *const Numbers, driver: *mut Handle) -> u32;
 
     pub fn likes_driver_take_seat(driver: *mut Handle, seat: *mut Handle) -> u32;
     pub fn likes_driver_take_phase(driver: *mut Handle, phase: *mut Handle) -> u32;
