@@ -34,8 +34,8 @@ type Options struct {
 	Period                  time.Duration
 }
 
-// numbers is what C takes of the options, but for arrays. Of a period that is too short or too long it is one that is
-// refused.
+// numbers is what C takes of the options, but for arrays. A period that is too long is the longest one, and one below a
+// microsecond is refused.
 func (o *Options) numbers() C.likes_options {
 	made := C.likes_options{
 		users:     C.uint32_t(o.Users),
@@ -47,7 +47,9 @@ func (o *Options) numbers() C.likes_options {
 	if o.Hot == 0 {
 		made.hot = C.LIKES_NO_HOT
 	}
-	if length := o.Period.Microseconds(); length > 0 && length <= C.LIKES_MAX_PERIOD_US {
+	if length := o.Period.Microseconds(); length > C.LIKES_MAX_PERIOD_US {
+		made.period_us = C.LIKES_MAX_PERIOD_US
+	} else if length > 0 || o.Period == 0 {
 		made.period_us = C.uint32_t(length)
 	}
 	return made

@@ -71,7 +71,7 @@ func Open(options Options, counts []uint64) (*Service, error) {
 	if err := wanted(told, OK); err != nil {
 		return nil, err
 	}
-	for number := uint32(0); number < options.Seats; number++ {
+	for number := uint32(0); number < uint32(C.likes_service_seats(service.c)); number++ {
 		it := &seat{calls: make(chan call, 4*row), waits: map[uint64]chan<- C.likes_answer{}}
 		service.seats = append(service.seats, it)
 		service.all.Add(1)

@@ -31,9 +31,10 @@ static void openings() {
         return thrown([&] { likes::Service service(options, counts, period); });
     };
     hold(open({2, 9, 4, 0}, {}, 1000) == LIKES_WRONG_PAGES, "no pages");
-    hold(open({2, 9, 4, 0}, {0}, 0) == LIKES_WRONG_PERIOD, "period 0");
-    hold(open({0, 9, 4, 0}, {0}, 1000) == LIKES_WRONG_SEATS, "no seats");
+    hold(open({2, 9, 4, 0}, {0}, LIKES_MAX_PERIOD_US + 1) == LIKES_WRONG_PERIOD, "a period too long");
+    hold(open({65, 9, 4, 0}, {0}, 1000) == LIKES_WRONG_SEATS, "65 seats");
     hold(open({2, 9, 4, 0}, {0}, 1000) == LIKES_OK, "a right opening");
+    hold(open({0, 9, 0, 0}, {0}, 0) == LIKES_OK, "an opening with defaults");
     hold(open({2, 9}, {0}, 1000) == LIKES_OK, "an opening with the usual room");
 }
 

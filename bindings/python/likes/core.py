@@ -8,7 +8,7 @@ from ctypes import byref, c_uint32, c_uint64
 from typing import Any, List, NamedTuple, Optional, Sequence
 
 from .errors import Closed, check, outcome
-from .library import NO_HOT, Answer, DriverHandle, FoundLook, Handle, Options, last_of, load, number_of, row_of, whole
+from .library import MOST, NO_HOT, Answer, DriverHandle, FoundLook, Handle, Options, last_of, load, number_of, row_of, whole
 from .rows import Asked, Row, Seen, Told, seen
 from .statuses import MAX_SPLIT, End, Status
 
@@ -154,12 +154,13 @@ class Driver(Held):
         super().__init__(DriverHandle())
         self.pages = len(counts)
         self.owned: List[Any] = []
-        numbers = {"seats": whole("seats", seats), "users": whole("users", users), "room": whole("room", room)}
+        # In C, 0 seats or no room would be the default.
+        numbers = {"seats": whole("seats", seats) or MOST, "room": whole("room", room) or MOST}
         row = (c_uint64 * (self.pages + 1))(*(whole("count", it, MOST_64) for it in counts))
         marked, last = row_of("mark", marks), row_of("last like", [number_of(it) for it in lasts])
         arrays = {"counts": row, "marks": marked, "lasts": last}
         lengths = {"pages": self.pages, "marks_len": len(marks), "lasts_len": len(lasts)}
-        options = Options(**arrays, **lengths, **numbers, hot=whole("hot", hot) or NO_HOT)
+        options = Options(**arrays, **lengths, **numbers, users=whole("users", users), hot=whole("hot", hot) or NO_HOT)
         check(self.library.likes_open(options, self._at), Status.OK)
 
     def __enter__(self) -> "Driver":

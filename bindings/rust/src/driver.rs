@@ -48,8 +48,8 @@ impl Driver {
             lasts: lasts.as_ptr(),
             lasts_len: lasts.len(),
             users,
-            seats,
-            room,
+            seats: given(seats),
+            room: given(room),
             hot: if hot == 0 { ffi::NO_HOT } else { hot },
             period_us: 0,
             reserved: 0,
@@ -153,5 +153,14 @@ impl Drop for Driver {
     fn drop(&mut self) {
         // SAFETY: nobody else has the handle.
         unsafe { ffi::likes_driver_free(&mut self.handle) }
+    }
+}
+
+/// A number that has to be given: in C, 0 would be its default.
+const fn given(number: u32) -> u32 {
+    if number == 0 {
+        u32::MAX
+    } else {
+        number
     }
 }

@@ -64,8 +64,7 @@ extern "C" {
     pub fn likes_driver_turn(driver: *mut Handle, end: u32) -> u32;
     pub fn likes_driver_phase(driver: *mut Handle) -> u64;
     pub fn likes_driver_snapshot(driver: *mut Handle, from: u32, counts: *mut u64, counts_len: usize) -> u32;
-    pub fn likes_driver_last_counts(driver: *mut Handle, from: u32, counts: *mut u64, counts_len: usize)
-        -> u32;
+    pub fn likes_driver_last_counts(driver: *mut Handle, from: u32, counts: *mut u64, counts_len: usize) -> u32;
     pub fn likes_driver_split_pages(driver: *mut Handle, pages: *mut u32, pages_len: usize) -> usize;
     pub fn likes_driver_propose(driver: *mut Handle, pages: *const u32, pages_len: usize) -> u32;
     pub fn likes_driver_free(driver: *mut Handle);
