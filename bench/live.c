@@ -485,7 +485,7 @@ static void count_rows(const kind *of, const load *at, uint64_t rows) {
     load likes = *at;
     likes.looks = 0;
     draw(&likes, COUNTED_THREADS);
-    start(of, COUNTED_THREADS, UINT32_MAX);
+    start(of, COUNTED_THREADS, LIKES_MAX_PERIOD_US);
     if (of->period > 0 && !of->is_free)
         players[0].seat = likes_service_lock(service, 0);
     if (of->row == written && likes_writer_open(service, &players[0].writer) != LIKES_OK)

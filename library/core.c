@@ -1,5 +1,5 @@
-/* The calls of likes.h that have defaults, or take NULL for an array of no entries or for a handle, over the proved ones,
- * which don't. All other calls of likes.h are the proved ones themselves. */
+/* The calls of likes.h that have defaults, or take NULL for an array of no entries or for a handle, over the proved
+ * ones, which don't. All other calls of likes.h are the proved ones themselves. */
 #include "defaults.h"
 #include "proved.h"
 

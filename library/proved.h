@@ -10,8 +10,9 @@ typedef struct likes_proved_options {
     uint64_t reserved[6];
 } likes_proved_options;
 
-uint32_t likes_proved_open(const likes_proved_options *options, const uint64_t *counts, size_t pages, const uint32_t *marks,
-                           size_t marks_len, const uint32_t *lasts, size_t lasts_len, likes_driver *driver);
+uint32_t likes_proved_open(const likes_proved_options *options, const uint64_t *counts, size_t pages,
+                           const uint32_t *marks, size_t marks_len, const uint32_t *lasts, size_t lasts_len,
+                           likes_driver *driver);
 uint32_t likes_proved_seat_lasts(likes_seat *seat, uint32_t from, uint32_t *pages, size_t pages_len);
 size_t likes_proved_seat_run(likes_seat *seat, const likes_request *requests, size_t requests_len,
                              likes_answer *answers, size_t answers_len);

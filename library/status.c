@@ -2,24 +2,8 @@
 #include "likes_service.h"
 
 static const char *const outcomes[] = {
-    "ok",
-    "liked",
-    "seen",
-    "waits",
-    "runs",
-    "between",
-    "no room",
-    "like limit",
-    "gone",
-    "goes on",
-    "announced",
-    "not all in",
-    "released",
-    "ended",
-    "counted",
-    "no moment",
-    "not ended",
-    "all taken",
+    "ok",      "liked",     "seen",       "waits",    "runs",  "between", "no room",   "like limit", "gone",
+    "goes on", "announced", "not all in", "released", "ended", "counted", "no moment", "not ended",  "all taken",
 };
 
 /* From LIKES_EMPTY on. */

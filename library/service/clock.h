@@ -6,6 +6,9 @@
 #include <stdint.h>
 #include <time.h>
 
+/* Of a function that is called seldom, by one that is called often: it stays apart. */
+#define LIKES_SELDOM __attribute__((noinline, cold))
+
 /* A clock that never goes back. */
 static inline uint64_t likes_clock(void) {
     struct timespec now;

@@ -90,15 +90,18 @@ static void notice_time(likes_writer *writer) {
         writer->since = now;
 }
 
+/* Whether nothing may be due: the writer has seen the pulse. */
+static inline bool has_seen_pulse(const likes_writer *writer) {
+    return __atomic_load_n(&writer->service->pulse, __ATOMIC_RELAXED) == writer->pulse;
+}
+
 /* Hands over what is due. */
-static inline void notice(likes_writer *writer) {
+static void notice(likes_writer *writer) {
     uint64_t pulse = __atomic_load_n(&writer->service->pulse, __ATOMIC_RELAXED);
-    if (pulse == writer->pulse)
-        return;
-    if (pulse != 0)
-        notice_pulse(writer, pulse);
-    else
+    if (pulse == 0)
         notice_time(writer);
+    else if (pulse != writer->pulse)
+        notice_pulse(writer, pulse);
 }
 
 /* Why a call of a writer is refused, or LIKES_OK. */
@@ -128,7 +131,24 @@ uint32_t likes_writer_open(likes_service *service, likes_writer **writer) {
     return LIKES_OK;
 }
 
-uint32_t likes_writer_like(likes_writer *writer, uint32_t user, uint32_t page) {
+/* Hands over a row that has become full. Now and then the writer makes the driver's turn, if one is due. */
+LIKES_SELDOM static uint32_t hand_over_full(likes_writer *writer, uint32_t seat) {
+    if (hand_over(writer, seat) == LIKES_OK && ++writer->handed % 4 == 0)
+        likes_service_tick(writer->service);
+    return LIKES_OK;
+}
+
+/* Keeps a like in a row that has room. */
+static inline uint32_t keep(likes_writer *writer, uint32_t seat, uint32_t user, uint32_t page) {
+    likes_request *at = &writer->rows[seat][writer->lengths[seat]];
+    at->user = user;
+    at->page = page;
+    writer->begun |= UINT64_C(1) << seat;
+    return ++writer->lengths[seat] < ROW ? (uint32_t)LIKES_OK : hand_over_full(writer, seat);
+}
+
+/* What likes_writer_like does where rows may be due, and where it may be refused. */
+LIKES_SELDOM static uint32_t like_with_care(likes_writer *writer, uint32_t user, uint32_t page) {
     uint32_t fault = fault_of(writer);
     if (fault != LIKES_OK)
         return fault;
@@ -138,18 +158,16 @@ uint32_t likes_writer_like(likes_writer *writer, uint32_t user, uint32_t page) {
         return LIKES_UNKNOWN_PAGE;
     notice(writer);
     uint32_t seat = likes_remainder(user, writer->inverse, writer->seats);
-    if (writer->lengths[seat] == ROW) {
-        uint32_t status = hand_over(writer, seat);
-        if (writer->lengths[seat] == ROW)
-            return status;
-    }
-    likes_request *at = &writer->rows[seat][writer->lengths[seat]];
-    at->user = user;
-    at->page = page;
-    writer->begun |= UINT64_C(1) << seat;
-    if (++writer->lengths[seat] == ROW && hand_over(writer, seat) == LIKES_OK && ++writer->handed % 4 == 0)
-        likes_service_tick(writer->service);
-    return LIKES_OK;
+    uint32_t status = writer->lengths[seat] == ROW ? hand_over(writer, seat) : (uint32_t)LIKES_OK;
+    return writer->lengths[seat] == ROW ? status : keep(writer, seat, user, page);
+}
+
+uint32_t likes_writer_like(likes_writer *writer, uint32_t user, uint32_t page) {
+    if (writer == NULL || likes_held != NULL || user >= writer->users || page >= writer->pages ||
+        !has_seen_pulse(writer))
+        return like_with_care(writer, user, page);
+    uint32_t seat = likes_remainder(user, writer->inverse, writer->seats);
+    return writer->lengths[seat] < ROW ? keep(writer, seat, user, page) : like_with_care(writer, user, page);
 }
 
 uint32_t likes_writer_look(likes_writer *writer, uint32_t user, uint32_t page, likes_answer *answer) {
