@@ -368,7 +368,8 @@ static void end(void) {
         likes_seat_free((likes_seat *)&seats[i]);
     likes_driver_free((likes_driver *)driver);
     likes_phase_free((likes_phase *)&phase);
-    IS(driver[0] == NULL && driver[1] == NULL && seats[0] == NULL && seats[1] == NULL && seats[2] == NULL && phase == NULL, true);
+    IS(driver[0] == NULL && driver[1] == NULL && phase == NULL, true);
+    IS(seats[0] == NULL && seats[1] == NULL && seats[2] == NULL, true);
 }
 
 int main(void) {

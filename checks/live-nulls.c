@@ -25,8 +25,9 @@ static struct {
     int calls;
 } seen;
 
-uint32_t likes_proved_open(const likes_proved_options *options, const uint64_t *counts, size_t pages, const uint32_t *marks,
-                            size_t marks_len, const uint32_t *lasts, size_t lasts_len, likes_driver *driver) {
+uint32_t likes_proved_open(const likes_proved_options *options, const uint64_t *counts, size_t pages,
+                           const uint32_t *marks, size_t marks_len, const uint32_t *lasts, size_t lasts_len,
+                           likes_driver *driver) {
     seen.calls += driver != NULL && options != NULL;
     seen.first = counts;
     seen.first_len = pages;

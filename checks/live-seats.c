@@ -10,14 +10,14 @@ enum { SEATS = 4, USERS = 8, PAGES = 2, ROUNDS = 20, LEAVERS = 2 };
 static likes_service *service;
 static bool is_over;
 
-#define IS(call, expected)                                                                                      \
-    do {                                                                                                        \
-        uint64_t is = (uint64_t)(call), should = (uint64_t)(expected);                                          \
-        if (is != should) {                                                                                     \
-            printf("line %d: %s is %llu (%s), not %llu\n", __LINE__, #call, (unsigned long long)is,              \
-                   likes_status_text((uint32_t)is), (unsigned long long)should);                                \
-            exit(1);                                                                                            \
-        }                                                                                                       \
+#define IS(call, expected)                                                                                             \
+    do {                                                                                                               \
+        uint64_t is = (uint64_t)(call), should = (uint64_t)(expected);                                                 \
+        if (is != should) {                                                                                            \
+            printf("line %d: %s is %llu (%s), not %llu\n", __LINE__, #call, (unsigned long long)is,                    \
+                   likes_status_text((uint32_t)is), (unsigned long long)should);                                       \
+            exit(1);                                                                                                   \
+        }                                                                                                              \
     } while (0)
 
 static bool is_on(void) {

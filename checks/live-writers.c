@@ -1,6 +1,6 @@
 /* Writers: a row is handed over when it has 64 likes, at the first call after a period, by flush, look and close; likes
- * for a seat that has left stay kept, until it is back or they are dropped; a service isn't ended while a writer is open;
- * likes of a user are counted in their order; totals and last likes of many threads; wrong uses; and no memory.
+ * for a seat that has left stay kept, until it is back or they are dropped; a service isn't ended while a writer is
+ * open; likes of a user are counted in their order; totals and last likes of many threads; wrong uses; and no memory.
  *
  * usage: live-writers SEED SECONDS
  *
@@ -24,14 +24,14 @@ void *__wrap_calloc(size_t number, size_t size) {
     return refused > 0 && --refused == 0 ? NULL : __real_calloc(number, size);
 }
 
-#define IS(call, expected)                                                                                      \
-    do {                                                                                                        \
-        uint64_t is = (uint64_t)(call), should = (uint64_t)(expected);                                          \
-        if (is != should) {                                                                                     \
-            printf("line %d: %s is %llu (%s), not %llu\n", __LINE__, #call, (unsigned long long)is,              \
-                   likes_status_text((uint32_t)is), (unsigned long long)should);                                \
-            exit(1);                                                                                            \
-        }                                                                                                       \
+#define IS(call, expected)                                                                                             \
+    do {                                                                                                               \
+        uint64_t is = (uint64_t)(call), should = (uint64_t)(expected);                                                 \
+        if (is != should) {                                                                                            \
+            printf("line %d: %s is %llu (%s), not %llu\n", __LINE__, #call, (unsigned long long)is,                    \
+                   likes_status_text((uint32_t)is), (unsigned long long)should);                                       \
+            exit(1);                                                                                                   \
+        }                                                                                                              \
     } while (0)
 
 static uint32_t open_service(uint32_t seats, uint32_t period) {

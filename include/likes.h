@@ -83,13 +83,13 @@ typedef struct likes_options {
     size_t lasts_len;       /* as many as users; 0: no user has a last like */
     uint32_t users;         /* how many: 1 to 2^32 - 1. Users are numbered from 0, and take 4 bytes each. */
     uint32_t seats;         /* 1 to LIKES_MAX_SEATS; 0: 16 for each processor, and at most 64 */
-    uint32_t room;          /* how many looks a seat keeps, waiting and found ones together: 1 to LIKES_MAX_ROOM; 0: 64 */
-    uint32_t hot;           /* about how many likes between two choices make a page hot; earlier likes count too, but less
-                               ("Hot pages" of docs/EMBEDDING.md): 1 to LIKES_MAX_HOT, of which 1 to 511 act as 512; 0:
-                               512. LIKES_NO_HOT: only marked and proposed pages are split. */
-    uint32_t period_us;     /* of a service of likes_service.h: from the end of one split phase to that of the next, in
-                               microseconds: 1 to LIKES_MAX_PERIOD_US; 0: 1,000 */
-    uint32_t reserved;      /* 0 */
+    uint32_t room;      /* how many looks a seat keeps, waiting and found ones together: 1 to LIKES_MAX_ROOM; 0: 64 */
+    uint32_t hot;       /* about how many likes between two choices make a page hot; earlier likes count too, but less
+                           ("Hot pages" of docs/EMBEDDING.md): 1 to LIKES_MAX_HOT, of which 1 to 511 act as 512; 0:
+                           512. LIKES_NO_HOT: only marked and proposed pages are split. */
+    uint32_t period_us; /* of a service of likes_service.h: from the end of one split phase to that of the next, in
+                           microseconds: 1 to LIKES_MAX_PERIOD_US; 0: 1,000 */
+    uint32_t reserved;  /* 0 */
     uint64_t reserved_too[5]; /* 0 */
 } likes_options;
 

@@ -20,15 +20,21 @@
 extern "C" {
 #endif
 
-/* What these calls answer, beside the statuses of likes.h. They are errors: likes_status_text has their texts. But for LIKES_LOOK_LOST and LIKES_LATE, nothing was done. */
+/* What these calls answer, beside the statuses of likes.h. They are errors, and likes_status_text has their texts. But
+ * for LIKES_LOOK_LOST and LIKES_LATE, nothing was done.
+ *
+ * A call of a service or a writer that is NULL, or of a service that was stopped, answers LIKES_NOT_STARTED. Calls that
+ * take locks answer LIKES_HOLDS_SEAT to a thread that holds a seat of the service: they could wait for the thread
+ * itself. These are all but likes_service_unlock, run, take_found, drive, tick, seat_turns, phase, seats, statistics
+ * and fault. */
 enum likes_service_status {
     LIKES_NO_THREAD = 1000,    /* the driver's thread can't be started */
     LIKES_WRONG_PERIOD = 1001, /* period_us is over LIKES_MAX_PERIOD_US */
-    LIKES_NOT_STARTED = 1002,  /* the service is NULL, or it was stopped */
+    LIKES_NOT_STARTED = 1002,  /* the service or the writer is NULL, or the service was stopped */
     LIKES_UNKNOWN_SEAT = 1003, /* the service has fewer seats */
     LIKES_LOOK_LOST = 1004,    /* the look was made, but somebody took its result with likes_seat_take_found */
     LIKES_LATE = 1005,         /* the look had no answer in time. If it was made, its answer is thrown away */
-    LIKES_HOLDS_SEAT = 1006,   /* the calling thread holds a seat of the service, and could wait for itself */
+    LIKES_HOLDS_SEAT = 1006,   /* the calling thread holds a seat of the service */
     LIKES_NOT_LOCKED = 1007,   /* the calling thread doesn't hold the seat */
     LIKES_OPEN_WRITER = 1008,  /* a writer of the service is open */
     LIKES_WRONG_TAG = 1009     /* the tag of a look in a row is 2^63 or more */
@@ -51,8 +57,8 @@ typedef struct likes_statistics {
     uint64_t reserved[9];  /* 0 */
 } likes_statistics;
 
-/* Opens a service and starts its driver's thread. No look waits much longer than the period. Where no calls are made, no
- * phases change.
+/* Opens a service and starts its driver's thread. No look waits much longer than the period. Where no calls are made,
+ * no phases change.
  *
  * `service` points to NULL. LIKES_OK: now it points to the service. Else it stays as it is, and the answer is the first
  * that applies of LIKES_IN_USE, where it isn't NULL, LIKES_WRONG_PERIOD, an answer of likes_open, LIKES_NO_MEMORY and
@@ -63,14 +69,14 @@ uint32_t likes_service_open(const likes_options *options, likes_service **servic
 uint32_t likes_service_seats(const likes_service *service);
 
 /* Ends a service that isn't stopped yet, and gives its memory back: LIKES_OK, also for NULL. All threads are done with
- * it. Or LIKES_HOLDS_SEAT, and nothing is done. */
+ * it. Or nothing is done: LIKES_HOLDS_SEAT or LIKES_OPEN_WRITER. */
 uint32_t likes_service_close(likes_service *service);
 
 /* What is wrong with a service: LIKES_NOT_STARTED, or LIKES_OK. */
 uint32_t likes_service_fault(const likes_service *service);
 
-/* Why likes_service_lock gives NULL: the same, or LIKES_UNKNOWN_SEAT, or LIKES_HOLDS_SEAT, where the calling thread holds
- * a seat of the service. */
+/* Why likes_service_lock gives NULL: the same, or LIKES_UNKNOWN_SEAT, or LIKES_HOLDS_SEAT, where the calling thread
+ * holds a seat of the service. */
 uint32_t likes_service_seat_fault(const likes_service *service, uint32_t number);
 
 /* Adds one like: an answer of likes_seat_like, but never LIKES_BETWEEN. Any thread may call it. */
@@ -92,13 +98,14 @@ uint32_t likes_service_glance(likes_service *service, uint32_t user, uint32_t pa
 
 /* Writers
  *
- * A writer is one thread's, for likes at full speed: it keeps them in rows, one for each seat, and hands a row over as a
- * whole. Till then others miss its likes. A row is handed over when it has 64 likes, at the latest by the writer's first
- * call after a period has passed since it was begun, and by likes_writer_flush, look and close. Without calls there is no
- * bound in time, so a thread flushes before it rests. The likes of a user by one writer are counted in their order. */
+ * A writer is one thread's, for likes at full speed: it keeps them in rows, one for each seat, and hands a row over as
+ * a whole. Till then others miss its likes. A row is handed over when it has 64 likes, at the latest by the writer's
+ * first call after a period has passed since it was begun, and by likes_writer_flush, look and close. Without calls
+ * there is no bound in time, so a thread flushes before it rests. The likes of a user by one writer are counted in
+ * their order. */
 
-/* Opens a writer: LIKES_OK, and then `writer` points to it. Else it stays as it is: LIKES_NOT_STARTED, LIKES_IN_USE,
- * where it doesn't point to NULL before, or LIKES_NO_MEMORY. A writer takes 1.5 KB for each seat. */
+/* Opens a writer: LIKES_OK, and then `writer`, which pointed to NULL, points to it. Else that stays as it is:
+ * LIKES_NOT_STARTED, IN_USE or NO_MEMORY. A writer takes 1.5 KB for each seat. */
 uint32_t likes_writer_open(likes_service *service, likes_writer **writer);
 
 /* Keeps a like, which will be counted: LIKES_OK. Or nothing is kept: LIKES_NOT_STARTED, where the writer is NULL, or
@@ -106,8 +113,8 @@ uint32_t likes_writer_open(likes_service *service, likes_writer **writer);
  * doesn't take them, LIKES_GONE and LIKE_LIMIT. */
 uint32_t likes_writer_like(likes_writer *writer, uint32_t user, uint32_t page);
 
-/* Hands over the row of a user's seat, and looks as likes_service_look does: so the look shows what this writer was told
- * before. Where likes stay kept it answers LIKES_GONE or LIKE_LIMIT. */
+/* Hands over the row of a user's seat, and looks as likes_service_look does: so the look shows what this writer was
+ * told before. Where likes stay kept it answers LIKES_GONE or LIKE_LIMIT. */
 uint32_t likes_writer_look(likes_writer *writer, uint32_t user, uint32_t page, likes_answer *answer);
 
 /* Hands over all rows: LIKES_OK, each like is counted. LIKES_GONE or LIKE_LIMIT: those of a seat that has left, or that
@@ -118,8 +125,8 @@ uint32_t likes_writer_flush(likes_writer *writer);
 size_t likes_writer_drop(likes_writer *writer);
 
 /* Flushes, and gives the memory back: LIKES_OK, also for NULL. Where likes stay kept, and of any other answer of
- * likes_writer_flush, the writer stays open: bring the seat back, or drop them. A service is not ended while a writer is
- * open. */
+ * likes_writer_flush, the writer stays open: bring the seat back, or drop them. A service is not ended while a writer
+ * is open. */
 uint32_t likes_writer_close(likes_writer *writer);
 
 /* Writes the page of a user's last like: an answer of likes_seat_last. Any thread may call it. */
@@ -127,18 +134,17 @@ uint32_t likes_service_last(likes_service *service, uint32_t user, uint32_t *pag
 
 /* Writes the pages of all users' last likes, by user number, as likes_open takes them: LIKES_OK, or LIKES_WRONG_RANGE,
  * where the array hasn't one entry for each user. Those of one seat are of one moment, and after likes_service_retire
- * all are final: with the counts that likes_service_stop then gives, a new service goes on where this one has ended.
- * The calling thread holds no seat. */
+ * all are final: with the counts that likes_service_stop then gives, a new service goes on where this one has ended. */
 uint32_t likes_service_lasts(likes_service *service, uint32_t *lasts, size_t users);
 
-/* The counts of all pages at one moment, the end of a joined phase, or the final counts where all seats are gone:
- * LIKES_COUNTED. Or LIKES_WRONG_RANGE, where the array hasn't one entry for each page. It takes up to two phases. The
- * calling thread holds no seat. */
+/* The counts of all pages at one moment, the end of a joined phase: LIKES_COUNTED, also where all seats have left. Or
+ * LIKES_WRONG_RANGE, where the array hasn't one entry for each page. It takes up to two phases. (In the last phase of
+ * all, after 2^48, there is no moment: LIKES_NO_MOMENT.) */
 uint32_t likes_service_counts(likes_service *service, uint64_t *counts, size_t pages);
 
 /* The same, and all users' last likes at that moment, by user number: what a new service is opened with to go on from
- * it. All seats stand still until they are written. LIKES_NO_MOMENT: a thread held its seat for a tenth of a second, in
- * no call of the service, and some last likes are not written. */
+ * it. All seats stand still until they are written. LIKES_NO_MOMENT: another thread held its seat for a tenth of a
+ * second, in no call of the service, and some last likes are not written. */
 uint32_t likes_service_snapshot(likes_service *service, uint64_t *counts, size_t pages, uint32_t *lasts, size_t users);
 
 /* The phase that the driver has last released, or 0 where likes_service_fault isn't LIKES_OK. Any thread may call it,
@@ -159,42 +165,41 @@ uint32_t likes_service_propose(likes_service *service, const uint32_t *pages, si
 size_t likes_service_split_pages(likes_service *service, uint32_t *pages, size_t pages_len);
 
 /* Takes a seat's lock. Until likes_service_unlock, the seat is this thread's, which may make any call on it. NULL, and
- * nothing is done, where likes_service_seat_fault isn't LIKES_OK: a thread holds one seat of a service at a time. While
- * it does, it makes no call that takes locks: those answer LIKES_HOLDS_SEAT. */
+ * nothing is done, where likes_service_seat_fault isn't LIKES_OK: a thread holds one seat of a service at a time. */
 likes_seat *likes_service_lock(likes_service *service, uint32_t number);
 
 /* Gives the lock back. The thread that took it does so, before it waits for anything. Of a seat that it doesn't hold it
  * does nothing. */
 void likes_service_unlock(likes_service *service, uint32_t number);
 
-/* Runs requests at a seat that is awake, through changes of phases, and gives the number of those done. It stops early
- * only at a look that has no room: take found looks, and go on with that request. At a seat that the thread doesn't hold
- * no request is done, and the first answer is LIKES_NOT_STARTED, UNKNOWN_SEAT or NOT_LOCKED. Tags of looks are below
- * 2^63: another is answered LIKES_WRONG_TAG, and is none of those that wait. */
+/* Runs requests at a seat that the thread has locked, through changes of phases, and gives the number of those done. It
+ * stops early only at a look that has no room: take found looks, and go on with that request. At a seat that the thread
+ * doesn't hold no request is done, and the first answer is LIKES_NOT_STARTED, UNKNOWN_SEAT or NOT_LOCKED. Tags of looks
+ * are below 2^63: another is answered LIKES_WRONG_TAG, and is none of those that wait. */
 size_t likes_service_run(likes_service *service, uint32_t number, const likes_request *requests, size_t length,
                          likes_answer *answers);
 
-/* Takes the next found look with a tag of the host's, at a seat that is awake, in the order of asking. False: there is
- * none. */
+/* Takes the next found look with a tag of the host's, at a seat that the thread has locked, in the order of asking.
+ * False: there is none. */
 bool likes_service_take_found(likes_service *service, uint32_t number, likes_found *found);
 
 /* Takes up to found_len found looks at once, and gives their number. */
 size_t likes_seat_take_all_found(likes_seat *seat, likes_found *found, size_t found_len);
 
 /* Makes a turn of the driver, and gives its answer. If that begins or ends a phase, it also does what comes of it: the
- * phase work of the seats that rest, and the next turns. Where another thread is making a turn, it is LIKES_NOT_ALL_IN,
- * and that thread makes one more. */
+ * phase work of the seats that nobody holds, and the next turns. Where another thread is making a turn, it is
+ * LIKES_NOT_ALL_IN, and that thread makes one more. */
 uint32_t likes_service_drive(likes_service *service);
 
 /* The same, but only if a turn is due. A busy thread may call it once in some 256 requests: then no phase waits until
  * the driver's thread gets a processor. */
 void likes_service_tick(likes_service *service);
 
-/* Does the phase work of the seats that rest. */
+/* Does the phase work of the seats that nobody holds. */
 void likes_service_seat_turns(likes_service *service);
 
-/* Has a seat leave, in a few phases at any period: LIKES_OK, once it is gone, also if it was before. Then likes and looks
- * of its users answer LIKES_GONE, but for last likes and found looks. All seats may leave. */
+/* Has a seat leave, in a few phases at any period: LIKES_OK, once it is gone, also if it was before. Then likes and
+ * looks of its users answer LIKES_GONE, but for last likes and found looks. All seats may leave. */
 uint32_t likes_service_retire_seat(likes_service *service, uint32_t number);
 
 /* Brings a seat back that has left: LIKES_OK, once it runs a phase, also if it wasn't gone. LIKES_GONE: all seats have
@@ -202,14 +207,14 @@ uint32_t likes_service_retire_seat(likes_service *service, uint32_t number);
 uint32_t likes_service_bring_back_seat(likes_service *service, uint32_t number);
 
 /* Ends the driver's thread, has all seats retire, and makes the driver's turns until it answers LIKES_ENDED: LIKES_OK.
- * No thread holds a seat, and no call of the service is begun any more but likes_service_lock, likes_seat_take_found,
- * likes_service_take_found, likes_service_unlock, likes_service_last, likes_service_lasts, likes_service_counts,
- * likes_service_snapshot and likes_service_stop. */
+ * Or nothing is done: LIKES_OPEN_WRITER. No thread holds a seat, and no call of the service is begun any more but
+ * likes_service_lock, likes_seat_take_found, likes_service_take_found, likes_service_unlock, likes_service_last,
+ * likes_service_lasts, likes_service_counts, likes_service_snapshot, likes_service_stop and likes_service_close. */
 uint32_t likes_service_retire(likes_service *service);
 
-/* Ends the service and gives the final counts: LIKES_OK, or LIKES_WRONG_RANGE, where nothing was done. All threads are
- * done with it. Found looks that were not taken are lost, and so are last likes: take both between
- * likes_service_retire and this. */
+/* Ends the service and gives the final counts: LIKES_OK. Or nothing is done: LIKES_OPEN_WRITER, or LIKES_WRONG_RANGE,
+ * where the array hasn't one entry for each page. All threads are done with it. Found looks that were not taken are
+ * lost, and so are last likes: take both between likes_service_retire and this. */
 uint32_t likes_service_stop(likes_service *service, uint64_t *counts, size_t pages);
 
 #ifdef __cplusplus

@@ -48,9 +48,8 @@ struct likes_service {
     uint64_t inverse; /* of `seats`, for likes_remainder */
     bool may_find;    /* pages get hot by themselves */
     char apart[128];
-    uint64_t
-        pulse; /* goes up LIKES_PULSES times in a period while writers are open, or 0 while the service rests; atomic */
     bool is_resting;   /* the driver's thread sleeps until a call comes; atomic */
+    uint64_t pulse;    /* for writers: goes up LIKES_PULSES times in a period. 0: the service rests; atomic */
     uint64_t due;      /* when the phase may end, by likes_clock; atomic */
     uint64_t next;     /* when the driver's next turn is worth making, by likes_clock; atomic */
     uint64_t released; /* the phase that was last released; atomic, written under `changing` */

@@ -117,7 +117,8 @@ static uint32_t joined_turn(likes_service *service, uint64_t now, bool is_new) {
 
 /* Goes on to the next pulse, if that is due, with `driving` held. */
 static void pulse(likes_service *service, uint64_t now) {
-    bool is_due = now - service->pulsed >= service->period / LIKES_PULSES || service->pulse == 0;
+    bool is_due = now - service->pulsed >= service->period / LIKES_PULSES;
+    is_due |= __atomic_load_n(&service->pulse, __ATOMIC_RELAXED) == 0;
     if (!is_due || __atomic_load_n(&service->is_resting, __ATOMIC_SEQ_CST))
         return;
     service->pulsed = now;
