@@ -9,7 +9,7 @@
 #include <string.h>
 
 enum { MOST_PAGES = 1000000, MOST_USERS = 16000000, MOST_RING = 1 << 24, MOST_THREADS = 64 };
-enum { MOST_TIMES = 99, MOST_WORDS = 16 };
+enum { MOST_TIMES = 99, MOST_WORDS = 24 };
 
 /* Words in a list, which are separated by spaces. */
 typedef struct {
@@ -42,7 +42,7 @@ static list words_in(const char *text) {
     char *copy = strdup(text), *rest = NULL;
     for (char *word = strtok_r(copy, " ", &rest); word != NULL; word = strtok_r(NULL, " ", &rest)) {
         if (made.length == MOST_WORDS)
-            fail("a list has at most 16 words");
+            fail("a list has at most 24 words");
         made.words[made.length++] = word;
     }
     if (made.length == 0)

@@ -3,7 +3,7 @@
 #ifndef LIVE_PEERS_H
 #define LIVE_PEERS_H
 
-#include <likes_helpers.h>
+#include "../checks/live-time.h"
 
 #include "live-options.h"
 
@@ -21,7 +21,8 @@ typedef struct {
     uint32_t period; /* of the live core: in microseconds, from the end of a split phase to that of the next */
     uint32_t look;   /* what its looks are */
     bool drives;     /* whether its seats make turns of the driver */
-    bool is_free;    /* its threads hold no seats */
+    bool is_free;    /* its threads hold no seats, of which there are 16 for each processor, at most 64 */
+    bool is_any;     /* each of its threads serves all users */
 } kind;
 
 /* What a user liked last, as a record with a version. */
@@ -43,8 +44,8 @@ struct player {
     user_record *users; /* in place of `last`, for transactions */
     uint64_t *shard;
     uint64_t done, rows, *began, worked; /* the processor time that it took, in nanoseconds */
-    likes_request (*buffers)[ROW]; /* a row for each seat, with so many likes */
-    uint32_t buffered[MOST_THREADS];
+    likes_seat *seat; /* where the thread holds it */
+    likes_writer *writer;
     waits waits;
     pthread_t thread;
     char apart[128];
@@ -107,6 +108,31 @@ PEER(sequential, __atomic_fetch_add(&counts.words[WORD(page)], 1, __ATOMIC_SEQ_C
      __atomic_load_n(&counts.words[WORD(page)], __ATOMIC_SEQ_CST))
 PEER(mutex, locked_count(page, 1), locked_count(page, 0))
 PEER(sharded, add_to_shard(it->shard, page), sum_of_shards(page, it->threads))
+
+/* The last likes of all users, which all threads write. */
+static uint32_t lasts[MOST_USERS];
+
+/* A peer whose threads serve all users: how it adds a like to `page`, and how it reads the page's count. */
+#define PEER_OF_ANY(name, order, add, read)                                              \
+    static void name(player *it, const likes_request *row, likes_answer *answers) {      \
+        (void)it;                                                                         \
+        for (size_t i = 0; i < ROW; i++) {                                                \
+            uint32_t page = row[i].page, *last = &lasts[row[i].user];                     \
+            if (row[i].op == LIKES_LIKE) {                                                \
+                add;                                                                      \
+                __atomic_store_n(last, page, order);                                      \
+            } else {                                                                      \
+                answers[i].count = read;                                                  \
+                answers[i].last = __atomic_load_n(last, order);                           \
+            }                                                                             \
+        }                                                                                 \
+    }
+
+PEER_OF_ANY(relaxed_any, __ATOMIC_RELAXED, __atomic_fetch_add(&counts.words[WORD(page)], 1, __ATOMIC_RELAXED),
+            __atomic_load_n(&counts.words[WORD(page)], __ATOMIC_RELAXED))
+PEER_OF_ANY(sequential_any, __ATOMIC_SEQ_CST, __atomic_fetch_add(&counts.words[WORD(page)], 1, __ATOMIC_SEQ_CST),
+            __atomic_load_n(&counts.words[WORD(page)], __ATOMIC_SEQ_CST))
+PEER_OF_ANY(sharded_any, __ATOMIC_SEQ_CST, add_to_shard(it->shard, page), sum_of_shards(page, it->threads))
 
 /* Waits for a record that another thread holds. */
 static void pause_for(unsigned tries) {
@@ -219,9 +245,9 @@ static void clear_counts(const kind *of, uint32_t pages) {
 static uint64_t last_count(const kind *of, uint32_t page, uint32_t threads) {
     if (has_records(of))
         return counts.records[page].count;
-    return of->row == mutex     ? locked_count(page, 0)
-           : of->row == sharded ? sum_of_shards(page, threads)
-                                : counts.words[WORD(page)];
+    if (of->row == sharded || of->row == sharded_any)
+        return sum_of_shards(page, threads);
+    return of->row == mutex ? locked_count(page, 0) : counts.words[WORD(page)];
 }
 
 #endif

@@ -3,7 +3,7 @@
  *
  * It replaces malloc and its kin to count the memory in use, and calls those of the GNU C library by their other names.
  */
-#include <likes_helpers.h>
+#include "../checks/live-time.h"
 
 #include <errno.h>
 #include <malloc.h>
@@ -104,7 +104,7 @@ static void open_service(uint32_t number, uint32_t pages, uint32_t users, uint32
     likes_options options = {.seats = number, .users = users, .room = room, .hot = marks_len == 0 ? 100 : 0};
     for (uint32_t i = 0; i < SPLIT; i++)
         marks[i] = pages - 1 - i;
-    hold(likes_open(&options, counts, pages, marks, marks_len, NULL, 0, &driver) == LIKES_OK, "no service was opened");
+    hold(open_core(options, counts, pages, marks, marks_len, NULL, 0, &driver) == LIKES_OK, "no service was opened");
 }
 
 static void free_service(uint32_t number) {

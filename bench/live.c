@@ -32,24 +32,20 @@ enum { SPLIT_PAGES = 64 };
 
 static options asked;
 static uint64_t ring; /* how many requests a thread goes through, a power of two */
-static likes_service service;
+static likes_service *service;
 static player players[MOST_THREADS];
 static pthread_barrier_t begin;
 static bool is_over;
-
-static likes_seat *seat_of(const player *it) {
-    return &service.places[it->number].seat;
-}
 
 /* Takes found looks, and notes how long they waited where that is measured. */
 static void take(player *it) {
     likes_found found;
     uint64_t now = 0;
-    while (likes_seat_take_found(seat_of(it), &found)) {
+    while (likes_seat_take_found(it->seat, &found)) {
         if (!it->is_timed)
             continue;
         if (now == 0)
-            now = likes_clock();
+            now = clock_now();
         uint64_t wait = now - it->began[found.tag / ROW];
         int power = wait < 16 ? 0 : 60 - __builtin_clzll(wait);
         it->waits.counts[power * 16 + (wait >> power)]++;
@@ -63,35 +59,43 @@ static void take(player *it) {
 static void after_row(player *it, bool is_done) {
     take(it);
     if (!is_done)
-        likes_service_drive(&service);
+        likes_service_drive(service);
     else if (it->of->drives && ++it->rows % 4 == 0)
-        likes_service_tick(&service);
+        likes_service_tick(service);
 }
 
 static void live(player *it, const likes_request *row, likes_answer *answers) {
     if (it->is_timed)
-        it->began[row[0].tag / ROW] = likes_clock();
+        it->began[row[0].tag / ROW] = clock_now();
     for (size_t done = 0; done < ROW; after_row(it, done == ROW))
-        done += likes_service_run(&service, it->number, row + done, ROW - done, answers + done);
+        done += likes_service_run(service, it->number, row + done, ROW - done, answers + done);
 }
 
 /* One request by a call of its own. */
 static uint32_t single_call(player *it, const likes_request *request, likes_answer *answer) {
     if (request->op == LIKES_LIKE)
-        return likes_seat_like(seat_of(it), request->user, request->page);
+        return likes_seat_like(it->seat, request->user, request->page);
     if (request->op == LIKES_LOOK)
-        return likes_seat_look(seat_of(it), request->user, request->page, request->tag, answer);
-    return likes_seat_glance(seat_of(it), request->user, request->page, answer);
+        return likes_seat_look(it->seat, request->user, request->page, request->tag, answer);
+    return likes_seat_glance(it->seat, request->user, request->page, answer);
+}
+
+/* Passes a moment between two tries. */
+static void pause_between(unsigned tries) {
+    if (tries % 8 == 0)
+        likes_service_drive(service);
+    if (tries % 64 == 63)
+        sched_yield();
 }
 
 static void single(player *it, const likes_request *row, likes_answer *answers) {
     if (it->is_timed)
-        it->began[row[0].tag / ROW] = likes_clock();
+        it->began[row[0].tag / ROW] = clock_now();
     for (size_t i = 0; i < ROW; i++) {
         uint32_t status = single_call(it, &row[i], &answers[i]);
         for (unsigned tries = 0; status == LIKES_BETWEEN || status == LIKES_NO_ROOM; tries++) {
             take(it);
-            likes_service_pause(&service, tries);
+            pause_between(tries);
             status = single_call(it, &row[i], &answers[i]);
         }
         answers[i].status = status;
@@ -99,99 +103,53 @@ static void single(player *it, const likes_request *row, likes_answer *answers) 
     after_row(it, true);
 }
 
-/* The user in whose name a request is made where a thread serves all users: in turn one of each seat. */
-static uint32_t any_user(const player *it, const likes_request *request, size_t i) {
-    return request->user - it->number + (uint32_t)(i % it->threads);
-}
-
-/* An atomic number for each page, and a table of all users' last likes that all threads write. */
-static void relaxed_any(player *it, const likes_request *row, likes_answer *answers) {
-    for (size_t i = 0; i < ROW; i++) {
-        uint32_t user = any_user(it, &row[i], i), *last = &players[user % it->threads].last[user / it->threads];
-        if (row[i].op == LIKES_LIKE) {
-            __atomic_fetch_add(&counts.words[WORD(row[i].page)], 1, __ATOMIC_RELAXED);
-            __atomic_store_n(last, row[i].page, __ATOMIC_RELAXED);
-        } else {
-            answers[i].count = __atomic_load_n(&counts.words[WORD(row[i].page)], __ATOMIC_RELAXED);
-            answers[i].last = __atomic_load_n(last, __ATOMIC_RELAXED);
-        }
-    }
-}
-
-/* One request by a call of the helpers, which takes the seat's lock. */
-static void locked_call(player *it, uint32_t user, const likes_request *request, likes_answer *answer) {
+/* One request by a call of the service, which takes the seat's lock. */
+static void locked_call(const likes_request *request, likes_answer *answer) {
     if (request->op == LIKES_LIKE)
-        likes_service_like(&service, user, request->page);
+        likes_service_like(service, request->user, request->page);
     else
-        likes_service_glance(&service, user, request->page, answer);
+        likes_service_glance(service, request->user, request->page, answer);
 }
 
 static void tick_after(player *it) {
     if (it->of->drives && ++it->rows % 4 == 0)
-        likes_service_tick(&service);
+        likes_service_tick(service);
 }
 
-static void locked_own(player *it, const likes_request *row, likes_answer *answers) {
+static void locked(player *it, const likes_request *row, likes_answer *answers) {
     for (size_t i = 0; i < ROW; i++)
-        locked_call(it, row[i].user, &row[i], &answers[i]);
+        locked_call(&row[i], &answers[i]);
     tick_after(it);
 }
 
-static void locked_any(player *it, const likes_request *row, likes_answer *answers) {
-    for (size_t i = 0; i < ROW; i++)
-        locked_call(it, any_user(it, &row[i], i), &row[i], &answers[i]);
-    tick_after(it);
-}
-
-/* Hands over what a thread has kept for a seat. */
-static void hand_over(player *it, uint32_t seat) {
-    likes_answer answers[ROW];
-    if (it->buffered[seat] == 0)
-        return;
-    likes_service_wake(&service, seat);
-    likes_service_run(&service, seat, it->buffers[seat], it->buffered[seat], answers);
-    likes_service_rest(&service, seat);
-    it->buffered[seat] = 0;
-}
-
-/* Likes are kept in a row for each seat, and handed over when it is full, or when the driver has a turn to make. Others
- * miss them until then. */
-static void buffered(player *it, const likes_request *row, likes_answer *answers) {
+/* Likes by a writer, which ticks by itself. */
+static void written(player *it, const likes_request *row, likes_answer *answers) {
     for (size_t i = 0; i < ROW; i++) {
-        uint32_t user = any_user(it, &row[i], i), seat = user % it->threads;
-        if (row[i].op != LIKES_LIKE) {
-            locked_call(it, user, &row[i], &answers[i]);
-            continue;
-        }
-        likes_request *kept = &it->buffers[seat][it->buffered[seat]++];
-        *kept = row[i];
-        kept->user = user;
-        if (it->buffered[seat] == ROW)
-            hand_over(it, seat);
-    }
-    if (++it->rows % 4 == 0 && likes_time_left(&service.next, likes_clock()) == 0) {
-        for (uint32_t seat = 0; seat < it->threads; seat++)
-            hand_over(it, seat);
-        likes_service_drive(&service);
+        if (row[i].op == LIKES_LIKE)
+            likes_writer_like(it->writer, row[i].user, row[i].page);
+        else
+            likes_service_glance(service, row[i].user, row[i].page, &answers[i]);
     }
 }
 
 static const kind kinds[] = {
-    {"atomic", relaxed, 0, LIKES_LOOK, false, false},
-    {"atomic,any", relaxed_any, 0, LIKES_LOOK, false, false},
-    {"seqcst", sequential, 0, LIKES_LOOK, false, false},
-    {"mutex", mutex, 0, LIKES_LOOK, false, false},
-    {"sharded", sharded, 0, LIKES_LOOK, false, false},
-    {"2pl", locking, 0, LIKES_LOOK, false, false},
-    {"occ", optimistic, 0, LIKES_LOOK, false, false},
-    {"look", live, 1000, LIKES_LOOK, true, false},
-    {"look,thread", live, 1000, LIKES_LOOK, false, false},
-    {"glance", live, 1000, LIKES_GLANCE, true, false},
-    {"glance,20ms", live, 20000, LIKES_GLANCE, true, false},
-    {"look,single", single, 1000, LIKES_LOOK, true, false},
-    {"locked", locked_own, 1000, LIKES_GLANCE, true, true},
-    {"locked,any", locked_any, 1000, LIKES_GLANCE, true, true},
-    {"buffered", buffered, 1000, LIKES_GLANCE, true, true},
+    {"atomic", relaxed, 0, LIKES_LOOK, false, false, false},
+    {"seqcst", sequential, 0, LIKES_LOOK, false, false, false},
+    {"mutex", mutex, 0, LIKES_LOOK, false, false, false},
+    {"sharded", sharded, 0, LIKES_LOOK, false, false, false},
+    {"2pl", locking, 0, LIKES_LOOK, false, false, false},
+    {"occ", optimistic, 0, LIKES_LOOK, false, false, false},
+    {"look", live, 1000, LIKES_LOOK, true, false, false},
+    {"look,thread", live, 1000, LIKES_LOOK, false, false, false},
+    {"glance", live, 1000, LIKES_GLANCE, true, false, false},
+    {"glance,20ms", live, 20000, LIKES_GLANCE, true, false, false},
+    {"look,single", single, 1000, LIKES_LOOK, true, false, false},
+    {"locked", locked, 1000, LIKES_GLANCE, true, true, false},
+    {"atomic,any", relaxed_any, 0, LIKES_LOOK, false, false, true},
+    {"seqcst,any", sequential_any, 0, LIKES_LOOK, false, false, true},
+    {"sharded,any", sharded_any, 0, LIKES_LOOK, false, false, true},
+    {"locked,any", locked, 1000, LIKES_GLANCE, true, true, true},
+    {"writer,any", written, 1000, LIKES_GLANCE, true, true, true},
 };
 enum { KINDS = sizeof kinds / sizeof *kinds };
 
@@ -221,7 +179,7 @@ static uint32_t page_of(uint32_t rank) {
     return asked.is_scattered ? (uint32_t)((rank + 1) * UINT64_C(2654435761) % asked.pages) : rank;
 }
 
-/* Draws the requests of all threads. */
+/* Draws the requests of all threads, each with users of its own. */
 static void draw(const load *of, uint32_t threads) {
     double *shares = (double *)malloc(asked.pages * sizeof *shares), sum = 0;
     if (shares == NULL)
@@ -254,38 +212,52 @@ static void *play(void *at) {
     bool is_held = it->of->period > 0 && !it->of->is_free;
     pthread_barrier_wait(&begin);
     if (is_held)
-        likes_service_wake(&service, it->number);
+        it->seat = likes_service_lock(service, it->number);
+    if (it->of->row == written && likes_writer_open(service, &it->writer) != LIKES_OK)
+        fail("no writer was opened");
     uint64_t done = 0, before = worked();
     while (!__atomic_load_n(&is_over, __ATOMIC_RELAXED)) {
         it->of->row(it, &it->ring[done & (ring - 1)], answers);
         done += ROW;
     }
     if (is_held)
-        likes_service_rest(&service, it->number);
-    for (uint32_t seat = 0; seat < it->threads; seat++)
-        hand_over(it, seat);
+        likes_service_unlock(service, it->number);
+    if (likes_writer_close(it->writer) != LIKES_OK)
+        fail("a writer was not closed");
+    it->writer = NULL;
     it->worked = worked() - before;
     it->done = done;
     return NULL;
 }
 
-/* Makes all looks such as a system has. */
-static void set_looks(const kind *of, uint32_t threads) {
-    for (uint32_t i = 0; i < threads; i++)
-        for (uint32_t n = 0; n < ring; n++)
-            if (players[i].ring[n].op != LIKES_LIKE)
-                players[i].ring[n].op = of->look;
+/* Makes all looks such as a system has, and all users those of their threads, or in turn of all threads. */
+static void set_requests(const kind *of, uint32_t threads) {
+    for (uint32_t i = 0; i < threads; i++) {
+        for (uint32_t n = 0; n < ring; n++) {
+            likes_request *request = &players[i].ring[n];
+            request->user += (of->is_any ? n % threads : i) - request->user % threads;
+            if (request->op != LIKES_LIKE)
+                request->op = of->look;
+        }
+    }
 }
 
-/* Makes a system ready: counts of 0, and nobody has liked anything. */
-static void start(const kind *of, uint32_t threads) {
+/* What a service without a number of seats would have. */
+static uint32_t default_seats(void) {
+    long processors = sysconf(_SC_NPROCESSORS_ONLN);
+    return processors > 4 ? LIKES_MAX_SEATS : 16 * (uint32_t)processors;
+}
+
+/* Makes a system ready: counts of 0, and nobody has liked anything. The period is in microseconds. */
+static void start(const kind *of, uint32_t threads, uint32_t period) {
     static const uint64_t none[MOST_PAGES];
     /* A page is hot that gets a like each 10 microseconds. */
-    likes_options options = {.seats = threads, .users = asked.users, .room = 4096, .hot = of->period / 10};
+    uint32_t seats = of->is_free ? default_seats() : threads;
+    likes_options options = {.seats = seats, .users = asked.users, .room = 4096, .hot = of->period / 10};
     size_t words = PADDED * STRIDE + asked.pages;
     clear_counts(of, asked.pages);
     if (of->period > 0 &&
-        likes_service_start(&service, &options, none, asked.pages, NULL, 0, NULL, 0, of->period) != LIKES_OK)
+        open_shared(options, none, asked.pages, NULL, 0, NULL, 0, period, &service) != LIKES_OK)
         fail("no service was started");
     for (uint32_t i = 0; i < threads; i++) {
         player *it = &players[i];
@@ -296,12 +268,11 @@ static void start(const kind *of, uint32_t threads) {
         memset(shards[i], 0, words * sizeof *shards[i]);
         it->rows = 0;
         memset(&it->waits, 0, sizeof it->waits);
-        memset(it->buffered, 0, sizeof it->buffered);
         memset(it->last, 0xff, (asked.users / threads + 1) * sizeof *it->last);
         if (has_records(of))
             memset(it->users, 0, (asked.users / threads + 1) * sizeof *it->users);
     }
-    set_looks(of, threads);
+    set_requests(of, threads);
 }
 
 static uint64_t likes_of(const uint64_t *made, const uint32_t *pages, size_t many) {
@@ -314,7 +285,7 @@ static uint64_t likes_of(const uint64_t *made, const uint32_t *pages, size_t man
 /* What part of so many likes a live service slices, if it splits those pages that it has split last. */
 static parts parts_of(const uint64_t *made) {
     uint32_t split[SPLIT_PAGES], popular[SPLIT_PAGES], many = asked.pages < SPLIT_PAGES ? asked.pages : SPLIT_PAGES;
-    size_t split_pages = likes_service_split_pages(&service, split, SPLIT_PAGES);
+    size_t split_pages = likes_service_split_pages(service, split, SPLIT_PAGES);
     uint64_t all = 0;
     for (uint32_t page = 0; page < asked.pages; page++)
         all += made[page];
@@ -338,8 +309,11 @@ static parts check(const kind *of, uint32_t threads) {
         }
     }
     parts told = of->period > 0 ? parts_of(made) : (parts){0, 0, 0};
-    if (of->period > 0 && likes_service_stop(&service, now, asked.pages) != LIKES_OK)
+    if (of->period > 0 && likes_service_stop(service, now, asked.pages) != LIKES_OK)
         fail("the service was not stopped");
+    if (of->period > 0)
+        likes_service_close(service);
+    service = NULL;
     for (uint32_t page = 0; page < asked.pages; page++) {
         if (of->period == 0)
             now[page] = last_count(of, page, threads);
@@ -352,7 +326,7 @@ static parts check(const kind *of, uint32_t threads) {
 /* Measures a system once, in millions of requests a second, and in nanoseconds of a processor for a request. Where looks
  * are timed, it takes five times as long. */
 static double measure(const kind *of, uint32_t threads, bool is_timed, parts *to, double *nanoseconds) {
-    start(of, threads);
+    start(of, threads, of->period);
     pthread_barrier_init(&begin, NULL, threads + 1);
     is_over = false;
     for (uint32_t i = 0; i < threads; i++) {
@@ -361,10 +335,10 @@ static double measure(const kind *of, uint32_t threads, bool is_timed, parts *to
             fail("no thread was started");
     }
     pthread_barrier_wait(&begin);
-    uint64_t began = likes_clock();
-    likes_sleep((is_timed ? TIMED : 1) * asked.milliseconds * UINT64_C(1000000));
+    uint64_t began = clock_now();
+    sleep_for((is_timed ? TIMED : 1) * asked.milliseconds * UINT64_C(1000000));
     __atomic_store_n(&is_over, true, __ATOMIC_RELAXED);
-    uint64_t took = likes_clock() - began, done = 0, all_worked = 0;
+    uint64_t took = clock_now() - began, done = 0, all_worked = 0;
     for (uint32_t i = 0; i < threads; i++) {
         pthread_join(players[i].thread, NULL);
         done += players[i].done;
@@ -495,27 +469,6 @@ static void write_row(FILE *file, uint32_t threads, const load *at, const measur
     fflush(file);
 }
 
-/* Stops the driver's thread of a live service, so that phases change only where this program says so. */
-static void stop_thread(void) {
-    __atomic_store_n(&service.is_stopping, true, __ATOMIC_SEQ_CST);
-    likes_service_call(&service);
-    pthread_join(service.thread, NULL);
-    service.has_thread = false;
-    likes_set_time(&service.next, UINT64_MAX);
-    likes_service_wake(&service, 0);
-}
-
-/* Goes on to the next split phase. */
-static void go_to_split(void) {
-    uint64_t phase = likes_driver_phase(&service.driver);
-    likes_seat *seat = seat_of(&players[0]);
-    while (likes_seat_phase(seat) <= phase || likes_seat_phase(seat) % 2 == 0) {
-        likes_driver_turn(&service.driver, LIKES_END_IF_IT_SERVES);
-        likes_service_seat_turns(&service);
-        likes_seat_turn(seat);
-    }
-}
-
 static void go_through(player *it, uint64_t rows) {
     likes_answer answers[ROW];
     for (uint64_t row = 0; row < rows; row++)
@@ -526,19 +479,22 @@ __attribute__((noinline)) static void counted_rows(player *it, uint64_t rows) {
     go_through(it, rows);
 }
 
-/* The first thread's rows, once likes have warmed the caches and made pages hot. */
+/* The first thread's rows, once likes have warmed the caches and made pages hot. A live service is then in a split
+ * phase that lasts. */
 static void count_rows(const kind *of, const load *at, uint64_t rows) {
     load likes = *at;
     likes.looks = 0;
     draw(&likes, COUNTED_THREADS);
-    start(of, COUNTED_THREADS);
-    if (of->period > 0)
-        stop_thread();
-    go_through(&players[0], ring / ROW);
-    if (of->period > 0)
-        go_to_split();
+    start(of, COUNTED_THREADS, LIKES_MAX_PERIOD_US);
+    if (of->period > 0 && !of->is_free)
+        players[0].seat = likes_service_lock(service, 0);
+    if (of->row == written && likes_writer_open(service, &players[0].writer) != LIKES_OK)
+        fail("no writer was opened");
+    do
+        go_through(&players[0], ring / ROW);
+    while (of->period > 0 && likes_service_phase(service) % 2 == 0);
     draw(at, COUNTED_THREADS);
-    set_looks(of, COUNTED_THREADS);
+    set_requests(of, COUNTED_THREADS);
     counted_rows(&players[0], rows);
 }
 
@@ -561,10 +517,9 @@ static void make_room(uint32_t threads) {
         players[i].ring = (likes_request *)calloc(ring, sizeof *players[i].ring);
         players[i].began = (uint64_t *)calloc(ring / ROW, sizeof *players[i].began);
         players[i].last = (uint32_t *)calloc(asked.users + 1, sizeof *players[i].last);
-        players[i].buffers = (likes_request(*)[ROW])calloc(threads, sizeof *players[i].buffers);
         players[i].users = (user_record *)calloc(asked.users + 1, sizeof *players[i].users);
         if (players[i].ring == NULL || players[i].began == NULL || players[i].last == NULL ||
-            players[i].users == NULL || players[i].buffers == NULL)
+            players[i].users == NULL)
             fail("out of memory");
     }
 }

@@ -24,8 +24,9 @@ POOL = b"a like of page 4: unknown page\ntotals: [53344 53344 53312 0]\n"
 ANSWERS = [
     *["ok", "liked", "seen", "waits", "runs", "between", "no room", "gone", "goes on", "announced", "not all in"],
     *["released", "ended", "counted", "no moment", "not ended", "all taken", "unknown user", "other seat"],
-    *["unknown page", "wrong range", "wrong pages", "wrong marks", "wrong count", "wrong seats", "wrong users"],
-    *["wrong room", "wrong hot", "wrong lasts"],
+    *["unknown page", "the range goes past the end", "pages is 1 to 16777216", "marks are at most 64 pages"],
+    *["an initial count is at most 1000000000000000000", "seats is 1 to 64", "users is 1 to 4294967295"],
+    *["room is 1 to 4096", "hot is 1 to 1000000", "last likes are one for each user"],
 ]
 
 

@@ -5,7 +5,7 @@
  * The services have 1 to 64 seats and one page, which is marked. On one thread each call has one right answer. It exits
  * with status 1 at the first wrong one. */
 #include <inttypes.h>
-#include <likes.h>
+#include "live-opening.h"
 #include <stdbool.h>
 #include <stdio.h>
 #include <stdlib.h>
@@ -165,7 +165,7 @@ static void open_service(void) {
     it.count = below(100);
     const uint32_t mark = 0;
     const likes_options options = {.seats = it.seats_len, .users = it.seats_len, .room = 1};
-    hold(likes_open(&options, &it.count, 1, &mark, 1, NULL, 0, &it.driver), LIKES_OK, "an opening");
+    hold(open_core(options, &it.count, 1, &mark, 1, NULL, 0, &it.driver), LIKES_OK, "an opening");
     for (uint32_t i = 0; i < it.seats_len; i++) {
         hold(likes_driver_take_seat(&it.driver, &it.seats[i].handle), LIKES_OK, "a seat's handing out");
         it.seats[i].status = LIKES_RUNS;

@@ -3,7 +3,7 @@
  *
  * It prints a line for each wrong answer, and then exits with status 1. checks/live builds and runs it. With a number
  * as its argument it also makes that many million calls, and requires that memory stays as it was. */
-#include "likes_helpers.h"
+#include "live-time.h"
 
 #include <malloc.h>
 #include <signal.h>
@@ -30,13 +30,13 @@ typedef struct {
     likes_driver driver;
     likes_seat seats[LIKES_MAX_SEATS];
     likes_phase phase;
-    unsigned char filled[8 * (LIKES_MAX_SEATS + 2)];
+    unsigned char filled[sizeof(likes_driver) + LIKES_MAX_SEATS * sizeof(likes_seat) + sizeof(likes_phase)];
 } opened;
 
 static opened open_service(likes_options options, const uint64_t *counts, size_t pages, const uint32_t *marks,
                            size_t marks_len) {
     opened it = {0};
-    IS(likes_open(&options, counts, pages, marks, marks_len, NULL, 0, &it.driver), LIKES_OK);
+    IS(open_core(options, counts, pages, marks, marks_len, NULL, 0, &it.driver), LIKES_OK);
     for (uint32_t i = 0; i < options.seats; i++)
         IS(likes_driver_take_seat(&it.driver, &it.seats[i]), LIKES_OK);
     IS(likes_driver_take_phase(&it.driver, &it.phase), LIKES_OK);
@@ -70,7 +70,7 @@ static void plain(void) {
     likes_driver driver = {0};
     likes_seat seat = {0};
     likes_options options = {.seats = 1, .users = 2, .room = 1, .hot = 0};
-    IS(likes_open(&options, counts, 1, NULL, 0, NULL, 0, &driver), LIKES_OK);
+    IS(open_core(options, counts, 1, NULL, 0, NULL, 0, &driver), LIKES_OK);
     IS(likes_driver_take_seat(&driver, &seat), LIKES_OK);
     for (uint32_t i = 0; i < 3; i++)
         IS(likes_seat_like(&seat, i % 2, 0), LIKES_LIKED);
@@ -383,75 +383,114 @@ static void openings(void) {
 #define REFUSED(field, value, status)                                   \
     wrong_one = right;                                                  \
     wrong_one.field = (value);                                          \
-    IS(likes_open(&wrong_one, counts, 1, NULL, 0, NULL, 0, &driver), status);    \
+    IS(open_core(wrong_one, counts, 1, NULL, 0, NULL, 0, &driver), status);    \
     IS(driver.at == NULL, true)
-    REFUSED(seats, 0, LIKES_WRONG_SEATS);
     REFUSED(seats, LIKES_MAX_SEATS + 1, LIKES_WRONG_SEATS);
     REFUSED(seats, UINT32_MAX, LIKES_WRONG_SEATS);
     REFUSED(users, 0, LIKES_WRONG_USERS);
-    REFUSED(room, 0, LIKES_WRONG_ROOM);
     REFUSED(room, 4097, LIKES_WRONG_ROOM);
     REFUSED(room, UINT32_MAX, LIKES_WRONG_ROOM);
     REFUSED(hot, 1000001, LIKES_WRONG_HOT);
-    REFUSED(hot, UINT32_MAX, LIKES_WRONG_HOT);
-    for (int n = 0; n < 6; n++) {
-        REFUSED(reserved[n], 1, LIKES_WRONG_RESERVED);
-        REFUSED(reserved[n], UINT64_C(1) << 63, LIKES_WRONG_RESERVED);
+    REFUSED(hot, LIKES_NO_HOT - 1, LIKES_WRONG_HOT);
+    REFUSED(reserved, 1, LIKES_WRONG_RESERVED);
+    REFUSED(reserved, 1u << 31, LIKES_WRONG_RESERVED);
+    for (int n = 0; n < 5; n++) {
+        REFUSED(reserved_too[n], 1, LIKES_WRONG_RESERVED);
+        REFUSED(reserved_too[n], UINT64_C(1) << 63, LIKES_WRONG_RESERVED);
     }
-    IS(likes_open(&right, counts, 0, NULL, 0, NULL, 0, &driver), LIKES_WRONG_PAGES);
-    IS(likes_open(&right, NULL, 0, NULL, 0, NULL, 0, &driver), LIKES_WRONG_PAGES);
-    IS(likes_open(&right, counts, LIKES_MAX_PAGES + 1, NULL, 0, NULL, 0, &driver), LIKES_WRONG_PAGES);
+    IS(open_core(right, counts, 0, NULL, 0, NULL, 0, &driver), LIKES_WRONG_PAGES);
+    IS(open_core(right, NULL, 0, NULL, 0, NULL, 0, &driver), LIKES_WRONG_PAGES);
+    IS(open_core(right, counts, LIKES_MAX_PAGES + 1, NULL, 0, NULL, 0, &driver), LIKES_WRONG_PAGES);
     counts[1] = LIKES_MAX_COUNT + 1;
-    IS(likes_open(&right, counts, 2, NULL, 0, NULL, 0, &driver), LIKES_WRONG_COUNT);
+    IS(open_core(right, counts, 2, NULL, 0, NULL, 0, &driver), LIKES_WRONG_COUNT);
     counts[1] = UINT64_MAX;
-    IS(likes_open(&right, counts, 2, NULL, 0, NULL, 0, &driver), LIKES_WRONG_COUNT);
+    IS(open_core(right, counts, 2, NULL, 0, NULL, 0, &driver), LIKES_WRONG_COUNT);
     counts[1] = LIKES_MAX_COUNT;
-    IS(likes_open(&right, counts, 2, NULL, 0, NULL, 0, &driver), LIKES_OK);
-    IS(likes_open(&right, counts, 1, NULL, 0, NULL, 0, &driver), LIKES_IN_USE);
+    IS(open_core(right, counts, 2, NULL, 0, NULL, 0, &driver), LIKES_OK);
+    IS(open_core(right, counts, 1, NULL, 0, NULL, 0, &driver), LIKES_IN_USE);
     likes_driver_free(&driver);
     IS(driver.at == NULL, true);
-    IS(likes_open(&right, counts, LIKES_MAX_PAGES, NULL, 0, NULL, 0, &driver), LIKES_OK);
+    IS(open_core(right, counts, LIKES_MAX_PAGES, NULL, 0, NULL, 0, &driver), LIKES_OK);
     likes_driver_free(&driver);
     /* Marks that can't all have buckets of their own. Without the last of them they can. */
     static const uint32_t near[] = {4526848,  16248423, 9389577,  13904108, 14600504, 14252306, 1819795,  16059784,
                                     15711586, 13792929, 6334326,  5986128,  6269147,  10848857, 11828272, 13287552,
                                     16393321, 8338505,  13499067, 15641171, 9646610,  11384982, 13908995};
     enum { NEAR = sizeof near / sizeof *near };
-    IS(likes_open(&right, counts, LIKES_MAX_PAGES, near, NEAR, NULL, 0, &driver), LIKES_WRONG_MARKS);
+    IS(open_core(right, counts, LIKES_MAX_PAGES, near, NEAR, NULL, 0, &driver), LIKES_WRONG_MARKS);
     IS(driver.at == NULL, true);
-    IS(likes_open(&right, counts, LIKES_MAX_PAGES, near, NEAR - 1, NULL, 0, &driver), LIKES_OK);
+    IS(open_core(right, counts, LIKES_MAX_PAGES, near, NEAR - 1, NULL, 0, &driver), LIKES_OK);
     is_split(&driver, near, NEAR - 1);
     likes_driver_free(&driver);
+}
+
+/* What is left out of the options has its default. */
+static void defaults(void) {
+    static const uint64_t counts[] = {1, 2};
+    long processors = sysconf(_SC_NPROCESSORS_ONLN);
+    uint64_t seats = processors < 4 ? 16 * (uint64_t)processors : 64;
+    likes_options options = {.counts = counts, .pages = 2, .users = 1000};
+    likes_driver driver = {0};
+    likes_answer answer;
+    IS(likes_driver_seats(&driver), 0);
+    IS(likes_open(&options, &driver), LIKES_OK);
+    IS(likes_driver_seats(&driver), seats);
+    likes_driver_free(&driver);
+    IS(likes_driver_seats(&driver), 0);
+    options.seats = 1;
+    IS(likes_open(&options, &driver), LIKES_OK);
+    IS(likes_driver_seats(&driver), 1);
+    likes_seat seat = {0};
+    IS(likes_driver_take_seat(&driver, &seat), LIKES_OK);
+    /* 512 likes between two choices make a page hot, and 64 looks have room. */
+    uint32_t turn = LIKES_GOES_ON;
+    for (int times = 0; times < 100 && turn == LIKES_GOES_ON; times++) {
+        for (uint32_t n = 0; n < 20000; n++)
+            IS(likes_seat_like(&seat, n % 1000, 1), LIKES_LIKED);
+        turn = likes_driver_turn(&driver, LIKES_END_IF_IT_SERVES);
+    }
+    IS(turn, LIKES_ANNOUNCED);
+    IS(likes_seat_turn(&seat), LIKES_BETWEEN);
+    IS(likes_driver_turn(&driver, LIKES_NO_END), LIKES_RELEASED);
+    for (int n = 0; n <= 64; n++)
+        IS(likes_seat_look(&seat, 0, 1, 0, &answer), n < 64 ? LIKES_WAITS : LIKES_NO_ROOM);
+    likes_seat_free(&seat);
+    likes_driver_free(&driver);
+    /* No pages, and no users. */
+    IS(likes_open(&(likes_options){.counts = counts, .users = 1}, &driver), LIKES_WRONG_PAGES);
+    IS(likes_open(&(likes_options){.pages = 2, .users = 1}, &driver), LIKES_WRONG_PAGES);
+    IS(likes_open(&(likes_options){.counts = counts, .pages = 2}, &driver), LIKES_WRONG_USERS);
 }
 
 /* An opening in which everything is wrong is put right in the order in which it is refused. */
 static void order_of_openings(void) {
     uint64_t counts[] = {0, UINT64_MAX};
     uint32_t marks[] = {1, 1}, lasts[] = {2, 0};
-    likes_options options = {.seats = LIKES_MAX_SEATS + 1, .users = 0, .room = 0, .hot = 1000001, .reserved = {0, 1}};
+    likes_options options = {.seats = LIKES_MAX_SEATS + 1, .users = 0, .room = 4097, .hot = 1000001};
     likes_driver driver = {0};
     opened it = open_service((likes_options){.seats = 1, .users = 1, .room = 1}, counts, 1, NULL, 0);
-    IS(likes_open(&options, counts, 0, marks, 2, NULL, 0, &it.driver), LIKES_IN_USE);
+    options.reserved_too[1] = 1;
+    IS(open_core(options, counts, 0, marks, 2, NULL, 0, &it.driver), LIKES_IN_USE);
     free_service(&it);
-    IS(likes_open(&options, counts, 0, marks, 2, NULL, 0, &driver), LIKES_WRONG_RESERVED);
-    options.reserved[1] = 0;
-    IS(likes_open(&options, counts, 0, marks, 2, NULL, 0, &driver), LIKES_WRONG_PAGES);
-    IS(likes_open(&options, counts, 2, marks, 2, NULL, 0, &driver), LIKES_WRONG_MARKS);
+    IS(open_core(options, counts, 0, marks, 2, NULL, 0, &driver), LIKES_WRONG_RESERVED);
+    options.reserved_too[1] = 0;
+    IS(open_core(options, counts, 0, marks, 2, NULL, 0, &driver), LIKES_WRONG_PAGES);
+    IS(open_core(options, counts, 2, marks, 2, NULL, 0, &driver), LIKES_WRONG_MARKS);
     marks[1] = 0;
-    IS(likes_open(&options, counts, 2, marks, 2, NULL, 0, &driver), LIKES_WRONG_COUNT);
+    IS(open_core(options, counts, 2, marks, 2, NULL, 0, &driver), LIKES_WRONG_COUNT);
     counts[1] = 0;
-    IS(likes_open(&options, counts, 2, marks, 2, NULL, 0, &driver), LIKES_WRONG_SEATS);
+    IS(open_core(options, counts, 2, marks, 2, NULL, 0, &driver), LIKES_WRONG_SEATS);
     options.seats = 1;
-    IS(likes_open(&options, counts, 2, marks, 2, NULL, 0, &driver), LIKES_WRONG_USERS);
+    IS(open_core(options, counts, 2, marks, 2, NULL, 0, &driver), LIKES_WRONG_USERS);
     options.users = 1;
-    IS(likes_open(&options, counts, 2, marks, 2, lasts, 2, &driver), LIKES_WRONG_LASTS);
-    IS(likes_open(&options, counts, 2, marks, 2, lasts, 1, &driver), LIKES_WRONG_LASTS);
+    IS(open_core(options, counts, 2, marks, 2, lasts, 2, &driver), LIKES_WRONG_LASTS);
+    IS(open_core(options, counts, 2, marks, 2, lasts, 1, &driver), LIKES_WRONG_LASTS);
     lasts[0] = 1;
-    IS(likes_open(&options, counts, 2, marks, 2, lasts, 1, &driver), LIKES_WRONG_ROOM);
+    IS(open_core(options, counts, 2, marks, 2, lasts, 1, &driver), LIKES_WRONG_ROOM);
     options.room = 1;
-    IS(likes_open(&options, counts, 2, marks, 2, NULL, 0, &driver), LIKES_WRONG_HOT);
+    IS(open_core(options, counts, 2, marks, 2, NULL, 0, &driver), LIKES_WRONG_HOT);
     options.hot = 0;
-    IS(likes_open(&options, counts, 2, marks, 2, NULL, 0, &driver), LIKES_OK);
+    IS(open_core(options, counts, 2, marks, 2, NULL, 0, &driver), LIKES_OK);
     likes_driver_free(&driver);
 }
 
@@ -483,19 +522,19 @@ static void marks(void) {
     split_by(few, 1, PAGES);
     split_by(few, 4, PAGES);
     split_by(many, 64, PAGES);
-    IS(likes_open(&options, counts, PAGES, many, 65, NULL, 0, &driver), LIKES_WRONG_MARKS);
+    IS(open_core(options, counts, PAGES, many, 65, NULL, 0, &driver), LIKES_WRONG_MARKS);
     for (size_t n = 1; n < 64; n++) {
         uint32_t mark = many[n];
         many[n] = many[n == 63 ? 0 : 63];
-        IS(likes_open(&options, counts, PAGES, many, 64, NULL, 0, &driver), LIKES_WRONG_MARKS);
+        IS(open_core(options, counts, PAGES, many, 64, NULL, 0, &driver), LIKES_WRONG_MARKS);
         many[n] = n % 2 ? PAGES : UINT32_MAX;
-        IS(likes_open(&options, counts, PAGES, many, 64, NULL, 0, &driver), LIKES_WRONG_MARKS);
+        IS(open_core(options, counts, PAGES, many, 64, NULL, 0, &driver), LIKES_WRONG_MARKS);
         many[n] = mark;
     }
     for (uint32_t n = 0; n < LIKES_MAX_MARKS; n++)
         many[n] = (n + 32) % 64;
     split_by(many, 64, 64);
-    IS(likes_open(&options, counts, 63, many, 64, NULL, 0, &driver), LIKES_WRONG_MARKS);
+    IS(open_core(options, counts, 63, many, 64, NULL, 0, &driver), LIKES_WRONG_MARKS);
     IS(driver.at == NULL, true);
 }
 
@@ -620,7 +659,7 @@ static void late_phase(void) {
     likes_options options = {.seats = 1, .users = 1, .room = 1};
     opened it = {0};
     likes_phase again = {0};
-    IS(likes_open(&options, counts, 1, marks, 1, NULL, 0, &it.driver), LIKES_OK);
+    IS(open_core(options, counts, 1, marks, 1, NULL, 0, &it.driver), LIKES_OK);
     IS(likes_driver_take_seat(&it.driver, &it.seats[0]), LIKES_OK);
     change_phase(&it, 1);
     change_phase(&it, 1);
@@ -1160,50 +1199,78 @@ static void still_handles(void) {
     free_service(&still.it);
 }
 
-/* All statuses, in the order of their numbers, and where these begin anew. */
-#define NAMED(name) {LIKES_##name, #name}
+/* All statuses with their texts, in the order of their numbers. */
 static const struct {
     uint32_t status;
-    const char *name;
-} named[] = {
-    NAMED(OK),           NAMED(LIKED),         NAMED(SEEN),           NAMED(WAITS),        NAMED(RUNS),
-    NAMED(BETWEEN),      NAMED(NO_ROOM),       NAMED(LIKE_LIMIT),     NAMED(GONE),         NAMED(GOES_ON),
-    NAMED(ANNOUNCED),    NAMED(NOT_ALL_IN),    NAMED(RELEASED),       NAMED(ENDED),        NAMED(COUNTED),
-    NAMED(NO_MOMENT),    NAMED(NOT_ENDED),     NAMED(ALL_TAKEN),      NAMED(EMPTY),        NAMED(IN_USE),
-    NAMED(NO_MEMORY),    NAMED(UNKNOWN_USER),  NAMED(OTHER_SEAT),     NAMED(UNKNOWN_PAGE), NAMED(UNKNOWN_OP),
-    NAMED(UNKNOWN_END),  NAMED(WRONG_RANGE),   NAMED(WRONG_RESERVED), NAMED(WRONG_PAGES),  NAMED(WRONG_MARKS),
-    NAMED(WRONG_COUNT),  NAMED(WRONG_SEATS),   NAMED(WRONG_USERS),    NAMED(WRONG_ROOM),   NAMED(WRONG_HOT),
-    NAMED(WRONG_LASTS),  NAMED(NO_THREAD),     NAMED(WRONG_PERIOD),   NAMED(NOT_STARTED),  NAMED(MOVED),
-    NAMED(UNKNOWN_SEAT), NAMED(LOOK_LOST),    NAMED(LATE),
+    const char *text;
+} told[] = {
+    {LIKES_OK, "ok"},
+    {LIKES_LIKED, "liked"},
+    {LIKES_SEEN, "seen"},
+    {LIKES_WAITS, "waits"},
+    {LIKES_RUNS, "runs"},
+    {LIKES_BETWEEN, "between"},
+    {LIKES_NO_ROOM, "no room"},
+    {LIKES_LIKE_LIMIT, "like limit"},
+    {LIKES_GONE, "gone"},
+    {LIKES_GOES_ON, "goes on"},
+    {LIKES_ANNOUNCED, "announced"},
+    {LIKES_NOT_ALL_IN, "not all in"},
+    {LIKES_RELEASED, "released"},
+    {LIKES_ENDED, "ended"},
+    {LIKES_COUNTED, "counted"},
+    {LIKES_NO_MOMENT, "no moment"},
+    {LIKES_NOT_ENDED, "not ended"},
+    {LIKES_ALL_TAKEN, "all taken"},
+    {LIKES_EMPTY, "empty"},
+    {LIKES_IN_USE, "in use"},
+    {LIKES_NO_MEMORY, "no memory"},
+    {LIKES_UNKNOWN_USER, "unknown user"},
+    {LIKES_OTHER_SEAT, "other seat"},
+    {LIKES_UNKNOWN_PAGE, "unknown page"},
+    {LIKES_UNKNOWN_OP, "unknown op"},
+    {LIKES_UNKNOWN_END, "unknown end"},
+    {LIKES_WRONG_RANGE, "the range goes past the end"},
+    {LIKES_WRONG_RESERVED, "a reserved field is not 0"},
+    {LIKES_WRONG_PAGES, "pages is 1 to 16777216, with a count for each"},
+    {LIKES_WRONG_MARKS, "marks are at most 64 pages, no two alike"},
+    {LIKES_WRONG_COUNT, "an initial count is at most 1000000000000000000"},
+    {LIKES_WRONG_SEATS, "seats is 1 to 64"},
+    {LIKES_WRONG_USERS, "users is 1 to 4294967295"},
+    {LIKES_WRONG_ROOM, "room is 1 to 4096"},
+    {LIKES_WRONG_HOT, "hot is 1 to 1000000"},
+    {LIKES_WRONG_LASTS, "last likes are one for each user, of a page or none"},
+    {LIKES_NO_THREAD, "no thread"},
+    {LIKES_WRONG_PERIOD, "period_us is 1 to 1000000000"},
+    {LIKES_NOT_STARTED, "not started"},
+    {LIKES_UNKNOWN_SEAT, "unknown seat"},
+    {LIKES_LOOK_LOST, "look lost"},
+    {LIKES_LATE, "late"},
+    {LIKES_HOLDS_SEAT, "the thread holds a seat"},
+    {LIKES_NOT_LOCKED, "the thread does not hold the seat"},
+    {LIKES_OPEN_WRITER, "a writer is open"},
+    {LIKES_WRONG_TAG, "a tag is below 9223372036854775808"},
 };
-enum { NAMES = sizeof named / sizeof *named, OUTCOMES = 18, ERRORS = 18 };
+enum { TOLD = sizeof told / sizeof *told, OUTCOMES = 18, ERRORS = 18 };
 
-/* Whether a text is a name in small letters, with spaces. */
-static bool is_text_of(const char *text, const char *name) {
-    for (; *name != 0; name++, text++)
-        if (*text != (*name == '_' ? ' ' : *name - 'A' + 'a'))
-            return false;
-    return *text == 0;
-}
-
-/* Each status has its number, and its name as its text. No other number has one. The errors are those from 100 on. */
+/* Each status has its number and its text. No other number has one. Those that say success are told apart. */
 static void statuses(void) {
     static const uint32_t far[] = {65536, 65636, 1u << 31, UINT32_MAX - 99, UINT32_MAX - 1, UINT32_MAX};
     uint32_t known = 0;
     for (uint32_t status = 0; status < 65536; status++) {
         uint32_t next = known < OUTCOMES ? known : known < OUTCOMES + ERRORS ? 100 + known - OUTCOMES
                                                                             : 1000 + known - OUTCOMES - ERRORS;
-        bool is_known = known < NAMES && status == next;
+        bool is_known = known < TOLD && status == next;
         if (is_known)
-            IS(named[known].status, status);
-        IS(is_text_of(likes_status_text(status), is_known ? named[known].name : "UNKNOWN_STATUS"), true);
-        IS(likes_is_error(status), status >= 100);
+            IS(told[known].status, status);
+        IS(strcmp(likes_status_text(status), is_known ? told[known].text : "unknown status"), 0);
+        IS(likes_is_success(status), status < 3 || status == LIKES_COUNTED);
         known += is_known;
     }
-    IS(known, NAMES);
+    IS(known, TOLD);
     for (size_t n = 0; n < sizeof far / sizeof *far; n++) {
-        IS(is_text_of(likes_status_text(far[n]), "UNKNOWN_STATUS"), true);
-        IS(likes_is_error(far[n]), true);
+        IS(strcmp(likes_status_text(far[n]), "unknown status"), 0);
+        IS(likes_is_success(far[n]), false);
     }
 }
 
@@ -1242,6 +1309,7 @@ int main(int count, char **words) {
     hot_pages();
     room();
     openings();
+    defaults();
     order_of_openings();
     marks();
     empty_handles();

@@ -8,7 +8,7 @@
  *     fiftieth after ten;
  *   - popular pages that become others each 100 choices are followed to 90 %;
  *   - at Zipf 0 there is no split phase. */
-#include <likes.h>
+#include "live-opening.h"
 
 #include <math.h>
 #include <stdbool.h>
@@ -89,7 +89,7 @@ static void open_service(simulation *it) {
     static const uint64_t counts[PAGES];
     likes_options options = {.seats = SEATS, .users = USERS, .room = 4096, .hot = 512};
     memset(it, 0, sizeof *it);
-    if (likes_open(&options, counts, PAGES, NULL, 0, NULL, 0, &it->driver) != LIKES_OK)
+    if (open_core(options, counts, PAGES, NULL, 0, NULL, 0, &it->driver) != LIKES_OK)
         fail("no service was opened");
     for (uint32_t number = 0; number < SEATS; number++)
         if (likes_driver_take_seat(&it->driver, &it->seats[number]) != LIKES_OK)

@@ -2,7 +2,7 @@
  * the tag of each look that waited must be right.
  *
  * usage: live-epochs SECONDS */
-#include "likes_helpers.h"
+#include "live-time.h"
 
 enum { SEATS = 4, USERS = 10000, PAGES = 20, ROW = 64 };
 
@@ -13,7 +13,7 @@ typedef struct {
     pthread_t thread;
 } worker;
 
-static likes_service service;
+static likes_service *service;
 static worker workers[SEATS];
 static uint64_t until;
 
@@ -61,30 +61,30 @@ static void *work(void *at) {
     uint64_t *tags = all_tags[it->number], tag = 0;
     likes_request row[ROW];
     likes_answer answers[ROW];
-    while (likes_clock() < until) {
-        likes_seat *seat = likes_service_wake(&service, it->number);
+    while (clock_now() < until) {
+        likes_seat *seat = likes_service_lock(service, it->number);
         for (uint32_t i = 0; i < ROW; i++)
             row[i] = (likes_request){.tag = tag++,
                                      .user = it->number + SEATS * below(it, USERS / SEATS),
                                      .page = below(it, 1 + below(it, PAGES)),
                                      .op = below(it, 10) == 0 ? LIKES_LOOK : LIKES_LIKE};
         for (size_t done = 0; done < ROW;) {
-            size_t more = likes_service_run(&service, it->number, row + done, ROW - done, answers);
+            size_t more = likes_service_run(service, it->number, row + done, ROW - done, answers);
             note(it, row + done, answers, more, tags);
             done += more;
             if (done < ROW)
-                likes_service_drive(&service);
+                likes_service_drive(service);
             take(it, seat, tags);
         }
-        likes_service_rest(&service, it->number);
+        likes_service_unlock(service, it->number);
     }
-    likes_seat *seat = likes_service_wake(&service, it->number);
+    likes_seat *seat = likes_service_lock(service, it->number);
     while (it->found < it->asked) {
-        likes_service_drive(&service);
+        likes_service_drive(service);
         likes_seat_turn(seat);
         take(it, seat, tags);
     }
-    likes_service_rest(&service, it->number);
+    likes_service_unlock(service, it->number);
     return NULL;
 }
 
@@ -97,9 +97,9 @@ int main(int count, char **words) {
     const uint32_t marks[] = {0};
     uint64_t totals[PAGES], phases, likes = 0, looks = 0;
     likes_options options = {.seats = SEATS, .users = USERS, .room = LIKES_MAX_ROOM, .hot = 1000};
-    uint32_t status = likes_service_start(&service, &options, counts, PAGES, marks, 1, NULL, 0, 1000);
+    uint32_t status = open_shared(options, counts, PAGES, marks, 1, NULL, 0, 1000, &service);
     hold(status == LIKES_OK, "no service was started");
-    until = likes_clock() + strtoull(words[1], NULL, 10) * UINT64_C(1000000000);
+    until = clock_now() + strtoull(words[1], NULL, 10) * UINT64_C(1000000000);
     for (uint32_t i = 0; i < SEATS; i++) {
         workers[i].random = workers[i].number = i;
         memset(workers[i].last, 0xff, sizeof workers[i].last);
@@ -109,11 +109,12 @@ int main(int count, char **words) {
         pthread_join(workers[i].thread, NULL);
     for (uint32_t user = 0; user < USERS; user++) {
         likes_answer answer;
-        likes_service_glance(&service, user, 0, &answer);
+        likes_service_glance(service, user, 0, &answer);
         hold(answer.last == workers[user % SEATS].last[user / SEATS], "a user's last like is wrong");
     }
-    phases = likes_service_phase(&service);
-    hold(likes_service_stop(&service, totals, PAGES) == LIKES_OK, "the service was not stopped");
+    phases = likes_service_phase(service);
+    hold(likes_service_stop(service, totals, PAGES) == LIKES_OK, "the service was not stopped");
+    likes_service_close(service);
     for (uint32_t page = 0; page < PAGES; page++) {
         for (uint32_t i = 0; i < SEATS; i++)
             totals[page] -= workers[i].liked[page];

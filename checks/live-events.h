@@ -3,7 +3,7 @@
 #ifndef LIVE_EVENTS_H
 #define LIVE_EVENTS_H
 
-#include "likes_helpers.h"
+#include "live-time.h"
 
 #include <stdarg.h>
 

@@ -3,7 +3,7 @@
  * the other retires. The totals must be right.
  *
  * usage: live-far */
-#include "likes.h"
+#include "live-opening.h"
 
 #include <inttypes.h>
 #include <stdio.h>
@@ -122,7 +122,7 @@ static void travel(const journey *at) {
     likes_options options = {.seats = at->seats, .users = at->seats, .room = 2};
     number = at->seats;
     phase = liked[0] = liked[1] = 0;
-    hold(likes_open(&options, counts, 2, marks, 1, NULL, 0, &driver) == LIKES_OK, "no service was opened");
+    hold(open_core(options, counts, 2, marks, 1, NULL, 0, &driver) == LIKES_OK, "no service was opened");
     for (uint32_t i = 0; i < at->seats; i++)
         hold(likes_driver_take_seat(&driver, &seats[i]) == LIKES_OK, "no seat was taken");
     while (phase < at->phases) {

@@ -3,7 +3,7 @@
  * handle, likes with handles side by side would take longer.
  *
  * It exits with status 1 if a count is wrong. */
-#include "likes_helpers.h"
+#include "live-time.h"
 
 enum { LIKES = 4000000, TIMES = 9 };
 
@@ -85,7 +85,7 @@ int main(void) {
     likes_options options = {.seats = 2, .users = 2, .room = 1};
     uint64_t last[1];
     double beside[TIMES], apart[TIMES];
-    hold(likes_open(&options, counts, 1, marks, 1, NULL, 0, &driver) == LIKES_OK, "no service was opened");
+    hold(open_core(options, counts, 1, marks, 1, NULL, 0, &driver) == LIKES_OK, "no service was opened");
     for (int i = 0; i < 2; i++)
         hold(likes_driver_take_seat(&driver, &room.seats[i]) == LIKES_OK, "no seat was taken");
     hold(likes_driver_turn(&driver, LIKES_END_IF_IT_SERVES) == LIKES_ANNOUNCED, "the phase goes on");

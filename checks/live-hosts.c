@@ -63,7 +63,7 @@ static void pause_for(uint64_t *random, uint32_t longest) {
     if (one_in(random, 2))
         sched_yield();
     else
-        likes_sleep(below(random, 1000 * (uint64_t)longest + 1));
+        sleep_for(below(random, 1000 * (uint64_t)longest + 1));
 }
 
 /* A marked page, one of the round's stock, one of the last, one of the first, or any. */
@@ -355,7 +355,7 @@ static void *play(void *at) {
 
 /* Changes phases after random times, and makes the turns of seats whose lock is free, until all seats are done. */
 static void drive(game *it, const schedule *plan, uint64_t *random) {
-    uint64_t abandoned = likes_clock() + 1000 * low(random, 20000);
+    uint64_t abandoned = clock_now() + 1000 * low(random, 20000);
     while (load(&it->done) < it->record.options.seats) {
         try_to_lead(it, plan, random);
         for (uint32_t i = 0; i < it->record.options.seats; i++) {
@@ -364,7 +364,7 @@ static void drive(game *it, const schedule *plan, uint64_t *random) {
                 pthread_mutex_unlock(&it->seats[i].lock);
             }
         }
-        if (plan->is_abandoned && likes_clock() > abandoned) {
+        if (plan->is_abandoned && clock_now() > abandoned) {
             pthread_mutex_lock(&it->driving);
             likes_driver_free(&it->driver);
             pthread_mutex_unlock(&it->driving);
@@ -483,7 +483,7 @@ static void draw_record(record *it, uint64_t *random) {
 static void open_game(game *it, const schedule *plan, uint64_t *random) {
     record *of = &it->record;
     const uint32_t *lasts = of->last_len == 0 ? NULL : of->last;
-    if (likes_open(&of->options, of->counts, of->pages, of->marks, of->marks_len, lasts, of->last_len, &it->driver))
+    if (open_core(of->options, of->counts, of->pages, of->marks, of->marks_len, lasts, of->last_len, &it->driver))
         fail(of, "the service was not opened");
     if (likes_driver_take_phase(&it->driver, &it->phase) != LIKES_OK)
         fail(of, "the phase was not handed out");
@@ -565,10 +565,10 @@ int main(int count, char **words) {
         return 2;
     }
     uint64_t seed = strtoull(words[1], NULL, 10);
-    uint64_t until = likes_clock() + strtoull(words[2], NULL, 10) * UINT64_C(1000000000);
+    uint64_t until = clock_now() + strtoull(words[2], NULL, 10) * UINT64_C(1000000000);
     do
         play_round(seed++);
-    while (likes_clock() < until);
+    while (clock_now() < until);
     if (all_proposed > 1000 && all_split < all_proposed / 2) {
         printf("of %llu pages that were proposed %llu were split\n", (unsigned long long)all_proposed,
                (unsigned long long)all_split);

@@ -2,7 +2,7 @@
  * likes, what is told of them and when, and phases that end in any case.
  *
  * If an answer is wrong, it prints a line and exits with status 1. checks/live builds and runs it. */
-#include "likes.h"
+#include "live-opening.h"
 
 #include <stdio.h>
 #include <stdlib.h>
@@ -30,7 +30,7 @@ static service open_with(const uint64_t *counts, const uint32_t *lasts, size_t l
     static const likes_options options = {.seats = SEATS, .users = USERS, .room = 4};
     static const uint32_t marks[] = {1};
     service it = {0};
-    IS(likes_open(&options, counts, PAGES, marks, is_marked, lasts, lasts_len, &it.driver), LIKES_OK);
+    IS(open_core(options, counts, PAGES, marks, is_marked, lasts, lasts_len, &it.driver), LIKES_OK);
     for (int i = 0; i < SEATS; i++)
         IS(likes_driver_take_seat(&it.driver, &it.seats[i]), LIKES_OK);
     return it;
@@ -83,7 +83,7 @@ static void again(void) {
     likes_answer answer;
     for (int round = 0; round < 3; round++) {
         service it = {0};
-        IS(likes_open(&options, counts, 2, NULL, 0, lasts, round == 0 ? 0 : 3, &it.driver), LIKES_OK);
+        IS(open_core(options, counts, 2, NULL, 0, lasts, round == 0 ? 0 : 3, &it.driver), LIKES_OK);
         for (int i = 0; i < SEATS; i++)
             IS(likes_driver_take_seat(&it.driver, &it.seats[i]), LIKES_OK);
         /* In each round user 0 looks at page 0, and user 1 at page 1. */
@@ -120,11 +120,11 @@ static void openings(void) {
     likes_driver driver = {0};
     for (size_t length = 1; length <= USERS + 1; length++)
         if (length != USERS)
-            IS(likes_open(&options, counts, PAGES, NULL, 0, lasts, length, &driver), LIKES_WRONG_LASTS);
+            IS(open_core(options, counts, PAGES, NULL, 0, lasts, length, &driver), LIKES_WRONG_LASTS);
     for (int user = 0; user < USERS; user++)
         for (size_t n = 0; n < sizeof wrong / sizeof *wrong; n++) {
             lasts[user] = wrong[n];
-            IS(likes_open(&options, counts, PAGES, NULL, 0, lasts, USERS, &driver), LIKES_WRONG_LASTS);
+            IS(open_core(options, counts, PAGES, NULL, 0, lasts, USERS, &driver), LIKES_WRONG_LASTS);
             lasts[user] = LIKES_NO_PAGE;
         }
     IS(driver.at == NULL, true);

@@ -11,11 +11,12 @@
 #include <string.h>
 
 /* The places of the fields, and the sizes. */
-enum { SEATS = 0, USERS = 4, ROOM = 8, HOT = 12, OPTIONS_RESERVED = 16, OPTIONS = 64 };
+enum { COUNTS = 0, PAGES = 8, MARKS = 16, MARKS_LEN = 24, LASTS = 32, LASTS_LEN = 40 };
+enum { USERS = 48, SEATS = 52, ROOM = 56, HOT = 60, PERIOD = 64, OPTIONS_RESERVED = 68, OPTIONS = 112 };
 enum { TAG = 0, USER = 8, PAGE = 12, OP = 16, REQUEST_RESERVED = 20, REQUEST = 24 };
 enum { COUNT = 0, LAST = 8, STATUS = 12, ANSWER = 16 };
 enum { FOUND_TAG = 0, FOUND_COUNT = 8, ASKED = 16, RAN = 24, FOUND_USER = 32, FOUND_PAGE = 36, FOUND_LAST = 40 };
-enum { FOUND_RESERVED = 44, FOUND = 48, HANDLE = 8 };
+enum { FOUND_RESERVED = 44, FOUND = 48, HANDLE = 8, DRIVER = 16 };
 
 /* Bytes of any structure. */
 typedef union {
@@ -39,6 +40,10 @@ static void put64(row *at, size_t place, uint64_t number) {
     memcpy(at->bytes + place, &number, sizeof number);
 }
 
+static void put_at(row *at, size_t place, const void *pointer) {
+    memcpy(at->bytes + place, &pointer, sizeof pointer);
+}
+
 static uint32_t get32(const row *at, size_t place) {
     uint32_t number;
     memcpy(&number, at->bytes + place, sizeof number);
@@ -54,6 +59,13 @@ static uint64_t get64(const row *at, size_t place) {
 /* The places in likes.h are those above. */
 static void header(void) {
     IS(sizeof(likes_options), OPTIONS);
+    IS(offsetof(likes_options, counts), COUNTS);
+    IS(offsetof(likes_options, pages), PAGES);
+    IS(offsetof(likes_options, marks), MARKS);
+    IS(offsetof(likes_options, marks_len), MARKS_LEN);
+    IS(offsetof(likes_options, lasts), LASTS);
+    IS(offsetof(likes_options, lasts_len), LASTS_LEN);
+    IS(offsetof(likes_options, period_us), PERIOD);
     IS(offsetof(likes_options, seats), SEATS);
     IS(offsetof(likes_options, users), USERS);
     IS(offsetof(likes_options, room), ROOM);
@@ -78,7 +90,9 @@ static void header(void) {
     IS(offsetof(likes_found, page), FOUND_PAGE);
     IS(offsetof(likes_found, last), FOUND_LAST);
     IS(offsetof(likes_found, reserved), FOUND_RESERVED);
-    IS(sizeof(likes_driver), HANDLE);
+    IS(sizeof(likes_driver), DRIVER);
+    IS(offsetof(likes_driver, at), 0);
+    IS(offsetof(likes_driver, seats), 8);
     IS(sizeof(likes_seat), HANDLE);
     IS(sizeof(likes_phase), HANDLE);
 }
@@ -88,20 +102,27 @@ static void header(void) {
 static const uint64_t counts[7] = {100, 200, 300, 400, 500, 600, 700};
 static const uint32_t marks[] = {2};
 static uint32_t lasts[30];
-static void *driver, *seats[4], *phase;
+static void *driver[2], *seats[4], *phase;
 
 static uint32_t open_by(const row *options) {
     memset(lasts, 0xff, sizeof lasts);
     lasts[7] = 4;
-    return likes_open_nonnull((const likes_options *)options, counts, 7, marks, 1, lasts, 30, (likes_driver *)&driver);
+    return likes_open((const likes_options *)options, (likes_driver *)driver);
 }
 
 static row right_options(void) {
     row options = {{0}};
+    put_at(&options, COUNTS, counts);
+    put64(&options, PAGES, 7);
+    put_at(&options, MARKS, marks);
+    put64(&options, MARKS_LEN, 1);
+    put_at(&options, LASTS, lasts);
+    put64(&options, LASTS_LEN, 30);
     put32(&options, SEATS, 3);
     put32(&options, USERS, 30);
     put32(&options, ROOM, 5);
-    put32(&options, HOT, 0);
+    put32(&options, HOT, UINT32_MAX);
+    put32(&options, PERIOD, UINT32_MAX); /* which only a service takes */
     return options;
 }
 
@@ -127,18 +148,19 @@ static void options(void) {
     it = right_options();
     put32(&it, USERS, 31);
     IS(open_by(&it), 117); /* LIKES_WRONG_LASTS */
-    IS(driver == NULL, true);
+    IS(driver[0] == NULL && driver[1] == NULL, true);
 }
 
 /* The right options, of which the service shows the values at work: so many seats, users and looks that wait. */
 static void open(void) {
     row it = right_options();
     IS(open_by(&it), 0);
-    IS(driver != NULL, true);
+    IS(driver[0] != NULL, true);
+    IS((uint64_t)(uintptr_t)driver[1], 3);
     for (int i = 0; i < 3; i++)
-        IS(likes_driver_take_seat((likes_driver *)&driver, (likes_seat *)&seats[i]), 0);
-    IS(likes_driver_take_seat((likes_driver *)&driver, (likes_seat *)&seats[3]), 17); /* LIKES_ALL_TAKEN */
-    IS(likes_driver_take_phase((likes_driver *)&driver, (likes_phase *)&phase), 0);
+        IS(likes_driver_take_seat((likes_driver *)driver, (likes_seat *)&seats[i]), 0);
+    IS(likes_driver_take_seat((likes_driver *)driver, (likes_seat *)&seats[3]), 17); /* LIKES_ALL_TAKEN */
+    IS(likes_driver_take_phase((likes_driver *)driver, (likes_phase *)&phase), 0);
     IS(likes_seat_like((likes_seat *)&seats[2], 29, 1), 1);   /* LIKES_LIKED */
     IS(likes_seat_like((likes_seat *)&seats[0], 30, 1), 103); /* LIKES_UNKNOWN_USER */
 }
@@ -153,7 +175,7 @@ static row run(int seat, uint64_t tag, uint32_t user, uint32_t page, uint32_t op
     put32(&request, PAGE, page);
     put32(&request, OP, op);
     put32(&request, REQUEST_RESERVED, reserved);
-    size_t done = likes_seat_run_nonnull((likes_seat *)&seats[seat], (const likes_request *)&request, 1,
+    size_t done = likes_seat_run((likes_seat *)&seats[seat], (const likes_request *)&request, 1,
                                          (likes_answer *)&answer, 1);
     IS(done, get32(&answer, STATUS) == 6 ? 0 : 1); /* LIKES_NO_ROOM */
     for (size_t place = ANSWER; place < sizeof answer; place++)
@@ -197,10 +219,10 @@ static void requests(void) {
 /* Goes on to the next phase. */
 static void change(void) {
     uint64_t before = likes_phase_now((likes_phase *)&phase);
-    IS(likes_driver_turn((likes_driver *)&driver, 1), 10); /* LIKES_ANNOUNCED */
+    IS(likes_driver_turn((likes_driver *)driver, 1), 10); /* LIKES_ANNOUNCED */
     for (int i = 0; i < 3; i++)
         IS(likes_seat_turn((likes_seat *)&seats[i]), 5);   /* LIKES_BETWEEN */
-    IS(likes_driver_turn((likes_driver *)&driver, 0), 12); /* LIKES_RELEASED */
+    IS(likes_driver_turn((likes_driver *)driver, 0), 12); /* LIKES_RELEASED */
     IS(likes_phase_now((likes_phase *)&phase), before + 1);
 }
 
@@ -216,7 +238,7 @@ static void arrays(void) {
         memcpy(at + PAGE, &pages[n], 4);
         memcpy(at + OP, &op, 4);
     }
-    size_t done = likes_seat_run_nonnull((likes_seat *)&seats[1], (const likes_request *)requests, 4,
+    size_t done = likes_seat_run((likes_seat *)&seats[1], (const likes_request *)requests, 4,
                                          (likes_answer *)answers, 4);
     IS(done, 4);
     for (int n = 0; n < 4; n++) {
@@ -267,7 +289,7 @@ static void last_likes(void) {
     static const uint32_t shown[] = {UINT32_MAX, 4, 6, 3, 5};
     uint32_t pages[7];
     memset(pages, 0xa5, sizeof pages);
-    IS(likes_seat_lasts_nonnull((likes_seat *)&seats[1], 1, pages + 1, 5), 0);
+    IS(likes_seat_lasts((likes_seat *)&seats[1], 1, pages + 1, 5), 0);
     IS(pages[0], 0xa5a5a5a5);
     IS(pages[6], 0xa5a5a5a5);
     for (uint32_t n = 0; n < 5; n++) {
@@ -285,64 +307,69 @@ static void split_pages(void) {
     static const uint32_t proposed[] = {UINT32_MAX, 5, UINT32_MAX};
     uint32_t pages[4];
     memset(pages, 0xa5, sizeof pages);
-    IS(likes_driver_split_pages_nonnull((likes_driver *)&driver, pages + 1, 2), 1);
+    IS(likes_driver_split_pages((likes_driver *)driver, pages + 1, 2), 1);
     IS(pages[0], 0xa5a5a5a5);
     IS(pages[1], 2);
     IS(pages[2], 0xa5a5a5a5);
-    void *other_driver = NULL, *seat = NULL;
+    void *other_driver[2] = {NULL, NULL}, *seat = NULL;
     row it = right_options();
     put32(&it, SEATS, 1);
-    IS(likes_open_nonnull((likes_options *)&it, counts, 7, marks, 0, lasts, 0, (likes_driver *)&other_driver), 0);
-    IS(likes_driver_take_seat((likes_driver *)&other_driver, (likes_seat *)&seat), 0);
-    IS(likes_driver_propose_nonnull((likes_driver *)&other_driver, proposed, 1), 0);
-    IS(likes_driver_turn((likes_driver *)&other_driver, 1), 9); /* LIKES_GOES_ON */
-    IS(likes_driver_propose_nonnull((likes_driver *)&other_driver, proposed, 3), 0);
-    IS(likes_driver_turn((likes_driver *)&other_driver, 1), 10); /* LIKES_ANNOUNCED */
+    put64(&it, MARKS_LEN, 0);
+    put64(&it, LASTS_LEN, 0);
+    IS(likes_open((likes_options *)&it, (likes_driver *)other_driver), 0);
+    IS(likes_driver_take_seat((likes_driver *)other_driver, (likes_seat *)&seat), 0);
+    IS(likes_driver_propose((likes_driver *)other_driver, proposed, 1), 0);
+    IS(likes_driver_turn((likes_driver *)other_driver, 1), 9); /* LIKES_GOES_ON */
+    IS(likes_driver_propose((likes_driver *)other_driver, proposed, 3), 0);
+    IS(likes_driver_turn((likes_driver *)other_driver, 1), 10); /* LIKES_ANNOUNCED */
     IS(likes_seat_turn((likes_seat *)&seat), 5);                 /* LIKES_BETWEEN */
-    IS(likes_driver_turn((likes_driver *)&other_driver, 0), 12); /* LIKES_RELEASED */
-    IS(likes_driver_split_pages_nonnull((likes_driver *)&other_driver, pages + 1, 2), 1);
+    IS(likes_driver_turn((likes_driver *)other_driver, 0), 12); /* LIKES_RELEASED */
+    IS(likes_driver_split_pages((likes_driver *)other_driver, pages + 1, 2), 1);
     IS(pages[1], 5);
     IS(pages[2], 0xa5a5a5a5);
-    likes_seat_free_nonnull((likes_seat *)&seat);
-    likes_driver_free_nonnull((likes_driver *)&other_driver);
+    likes_seat_free((likes_seat *)&seat);
+    likes_driver_free((likes_driver *)other_driver);
 }
 
 /* Makes many likes of page 1 and one of page 0, of a service in which so many make a page hot. Whether one gets hot. */
 static bool gets_hot(uint32_t likes) {
-    void *hot_driver = NULL, *seat = NULL;
+    void *hot_driver[2] = {NULL, NULL}, *seat = NULL;
     row it = right_options(), answer = {{0}};
     uint32_t turn = 9; /* LIKES_GOES_ON */
     put32(&it, SEATS, 1);
     put32(&it, HOT, likes);
-    IS(likes_open_nonnull((likes_options *)&it, counts, 7, marks, 0, lasts, 0, (likes_driver *)&hot_driver), 0);
-    IS(likes_driver_take_seat((likes_driver *)&hot_driver, (likes_seat *)&seat), 0);
+    put64(&it, MARKS_LEN, 0);
+    put64(&it, LASTS_LEN, 0);
+    IS(likes_open((likes_options *)&it, (likes_driver *)hot_driver), 0);
+    IS(likes_driver_take_seat((likes_driver *)hot_driver, (likes_seat *)&seat), 0);
     IS(likes_seat_like((likes_seat *)&seat, 0, 0), 1); /* LIKES_LIKED */
     for (int choice = 0; choice < 20 && turn == 9; choice++) {
         for (uint32_t n = 0; n < 20000; n++)
             IS(likes_seat_like((likes_seat *)&seat, 0, 1), 1);
-        turn = likes_driver_turn((likes_driver *)&hot_driver, 1);
+        turn = likes_driver_turn((likes_driver *)hot_driver, 1);
     }
     if (turn != 9) {
         IS(turn, 10);                                              /* LIKES_ANNOUNCED */
         IS(likes_seat_turn((likes_seat *)&seat), 5);               /* LIKES_BETWEEN */
-        IS(likes_driver_turn((likes_driver *)&hot_driver, 0), 12); /* LIKES_RELEASED */
+        IS(likes_driver_turn((likes_driver *)hot_driver, 0), 12); /* LIKES_RELEASED */
         IS(likes_seat_look((likes_seat *)&seat, 0, 0, 0, (likes_answer *)&answer), 2); /* LIKES_SEEN */
         ANSWERS(101, 1, 2);
         IS(likes_seat_look((likes_seat *)&seat, 0, 1, 0, (likes_answer *)&answer), 3); /* LIKES_WAITS */
         ANSWERS(0, 0, 3);
     }
-    likes_seat_free_nonnull((likes_seat *)&seat);
-    likes_driver_free_nonnull((likes_driver *)&hot_driver);
-    IS(seat == NULL && hot_driver == NULL, true);
+    likes_seat_free((likes_seat *)&seat);
+    likes_driver_free((likes_driver *)hot_driver);
+    IS(seat == NULL && hot_driver[0] == NULL && hot_driver[1] == NULL, true);
     return turn != 9;
 }
 
 static void end(void) {
     for (int i = 0; i < 3; i++)
-        likes_seat_free_nonnull((likes_seat *)&seats[i]);
-    likes_driver_free_nonnull((likes_driver *)&driver);
-    likes_phase_free_nonnull((likes_phase *)&phase);
-    IS(driver == NULL && seats[0] == NULL && seats[1] == NULL && seats[2] == NULL && phase == NULL, true);
+        likes_seat_free((likes_seat *)&seats[i]);
+    likes_driver_free((likes_driver *)driver);
+    likes_phase_free((likes_phase *)&phase);
+    IS(driver[0] == NULL && driver[1] == NULL && phase == NULL, true);
+    IS(seats[0] == NULL && seats[1] == NULL && seats[2] == NULL, true);
 }
 
 int main(void) {
@@ -357,7 +384,8 @@ int main(void) {
     end();
     IS(gets_hot(512), true);
     IS(gets_hot(1000000), false);
-    IS(gets_hot(0), false);
+    IS(gets_hot(0), true);
+    IS(gets_hot(UINT32_MAX), false);
     puts("all fields in their places");
     return 0;
 }

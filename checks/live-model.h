@@ -206,7 +206,7 @@ static void take_answer(game *it, uint32_t number, const likes_request *request,
     if (at->status == LIKES_EMPTY || at->status == LIKES_GONE || status == LIKES_UNKNOWN_OP)
         return;
     at->status = status == LIKES_BETWEEN ? LIKES_BETWEEN : LIKES_RUNS;
-    if (likes_is_error(status))
+    if (status >= LIKES_FIRST_ERROR)
         return;
     event made = {.page = request->page, .phase = at->phase, .likes = at->likes, .start = of.start, .end = of.end};
     made.count = answer->count;

@@ -6,7 +6,7 @@
  *     answer that it is out of memory, leave the driver empty, and give back what it took.
  *
  * It replaces malloc and its kin, and calls those of the GNU C library by their other names. */
-#include "likes.h"
+#include "live-opening.h"
 
 #include <errno.h>
 #include <stdio.h>
@@ -122,7 +122,7 @@ static uint32_t open_service(size_t from, size_t to) {
     first = from;
     last = to;
     made = blocks = 0;
-    uint32_t status = likes_open(&options, counts, PAGES, marks, 1, lasts, USERS, &driver);
+    uint32_t status = open_core(options, counts, PAGES, marks, 1, lasts, USERS, &driver);
     first = last = 0;
     return status;
 }
@@ -231,9 +231,9 @@ static void refused(void) {
     IS(likes_driver_split_pages(&none, &page, 1), 0);
     IS(likes_driver_propose(&none, &page, 1), LIKES_EMPTY);
     IS(likes_driver_turn(&none, LIKES_END_IF_IT_SERVES), LIKES_EMPTY);
-    IS(likes_open(&options, counts, 1, NULL, 0, NULL, 0, &driver), LIKES_IN_USE);
+    IS(open_core(options, counts, 1, NULL, 0, NULL, 0, &driver), LIKES_IN_USE);
     size_t held = blocks;
-    uint32_t status = likes_open(&options, counts, 1, NULL, 0, NULL, 0, &none);
+    uint32_t status = open_core(options, counts, 1, NULL, 0, NULL, 0, &none);
     if (status != LIKES_WRONG_COUNT || none.at != NULL || blocks != held)
         fail(__LINE__, "an opening with wrong numbers", "has the wrong answer, or leaves blocks behind");
 }

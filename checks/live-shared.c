@@ -1,21 +1,8 @@
 /* The calls of likes_service.h: snapshots of one moment with last likes, looks with a deadline, statistics, the phase
- * and split pages. It is built twice: with the inline calls of likes_helpers.h, and with -DOPAQUE for liblikes_service.
+ * and split pages.
  *
  * If a call is answered otherwise, it prints a line and exits with status 1. After 60 seconds a signal ends it. */
-#define _POSIX_C_SOURCE 200809L
-#ifdef OPAQUE
-#include "likes_service.h"
-#else
-#define LIKES_COUNT_ROWS
-#include "likes_helpers.h"
-#endif
-
-#include <pthread.h>
-#include <stdio.h>
-#include <stdlib.h>
-#include <string.h>
-#include <time.h>
-#include <unistd.h>
+#include "live-time.h"
 
 enum { SEATS = 3, USERS = 6, PAGES = 2 * USERS, SNAPSHOTS = 200, MS = 1000000 };
 
@@ -32,38 +19,20 @@ static bool is_over;
         }                                                                                                       \
     } while (0)
 
-static uint64_t now(void) {
-    struct timespec time;
-    clock_gettime(CLOCK_MONOTONIC, &time);
-    return (uint64_t)time.tv_sec * UINT64_C(1000000000) + (uint64_t)time.tv_nsec;
-}
-
-static void sleep_for(uint64_t nanoseconds) {
-    struct timespec length = {(time_t)(nanoseconds / 1000000000), (long)(nanoseconds % 1000000000)};
-    nanosleep(&length, NULL);
-}
-
 /* A service in which page 0 is split in every split phase; and others, where hot pages are found. */
 static void start(uint32_t room, uint32_t period, uint32_t hot) {
     static const uint64_t counts[PAGES];
     static const uint32_t marks[] = {0};
     likes_options options = {.seats = SEATS, .users = USERS, .room = room, .hot = hot};
-#ifdef OPAQUE
-    IS(likes_service_open(&options, counts, PAGES, marks, 1, NULL, 0, period, &service), LIKES_OK);
-#else
-    static likes_service place;
-    service = &place;
-    IS(likes_service_start(service, &options, counts, PAGES, marks, 1, NULL, 0, period), LIKES_OK);
-#endif
+    IS(open_shared(options, counts, PAGES, marks, 1, NULL, 0, period, &service), LIKES_OK);
     is_over = false;
 }
 
 static void stop(uint64_t *totals) {
     IS(likes_service_stop(service, totals, PAGES), LIKES_OK);
     IS(likes_service_fault(service), LIKES_NOT_STARTED);
-#ifdef OPAQUE
     likes_service_close(service);
-#endif
+    service = NULL;
 }
 
 static bool is_on(void) {
@@ -85,9 +54,9 @@ static void like_row(liker *it) {
         row[i].user = it->user;
         row[i].page = 2 * it->user + (uint32_t)(it->likes++ % 2);
     }
-    IS(likes_service_wake(service, it->user % SEATS) != NULL, true);
+    IS(likes_service_lock(service, it->user % SEATS) != NULL, true);
     IS(likes_service_run(service, it->user % SEATS, row, 16, answers), 16);
-    likes_service_rest(service, it->user % SEATS);
+    likes_service_unlock(service, it->user % SEATS);
 }
 
 static void *like_by_turns(void *at) {
@@ -164,11 +133,11 @@ static uint64_t go_to_split(void) {
 /* A look that is late: it takes its time, and no more than that by far. */
 static void be_late(uint32_t user, uint32_t page) {
     likes_answer answer = {.count = 7};
-    uint64_t began = now();
+    uint64_t began = clock_now();
     IS(likes_service_look_within(service, user, page, 2000, &answer), LIKES_LATE);
     IS(answer.status, LIKES_LATE);
     IS(answer.count, 0);
-    uint64_t took = now() - began;
+    uint64_t took = clock_now() - began;
     IS(took >= 2 * MS && took < 400 * MS, true);
 }
 
@@ -194,19 +163,19 @@ static void late_looks(void) {
     IS(told.late, 3);
     IS(told.longest_wait, told.wait_time);
     IS(told.wait_time < 900 * (uint64_t)MS, true);
-    likes_service_wake(service, 0);
+    likes_service_lock(service, 0);
     IS(likes_service_take_found(service, 0, &found), false);
-    likes_service_rest(service, 0);
+    likes_service_unlock(service, 0);
     stop(totals);
     IS(totals[0], 1);
 }
 
 /* A thread that holds a seat, in no call. */
 static void *hold_seat(void *at) {
-    IS(likes_service_wake(service, *(uint32_t *)at) != NULL, true);
+    IS(likes_service_lock(service, *(uint32_t *)at) != NULL, true);
     while (is_on())
         sleep_for(MS);
-    likes_service_rest(service, *(uint32_t *)at);
+    likes_service_unlock(service, *(uint32_t *)at);
     return NULL;
 }
 
@@ -270,30 +239,28 @@ static void deadlines(uint32_t room, uint32_t period) {
     IS(totals[0], USERS * 2000);
 }
 
-#ifdef OPAQUE
 /* Openings that are refused, and services that are closed in any state. */
 static void openings(void) {
     static const uint64_t counts[] = {5};
     likes_options options = {.seats = 1, .users = 1, .room = 1};
-    IS(likes_service_open(&options, counts, 1, NULL, 0, NULL, 0, 0, &service), LIKES_WRONG_PERIOD);
+    IS(open_shared(options, counts, 1, NULL, 0, NULL, 0, LIKES_MAX_PERIOD_US + 1, &service), LIKES_WRONG_PERIOD);
     IS(service == NULL, true);
-    IS(likes_service_open(&options, NULL, 0, NULL, 0, NULL, 0, 1000, &service), LIKES_WRONG_PAGES);
+    IS(open_shared(options, NULL, 0, NULL, 0, NULL, 0, 1000, &service), LIKES_WRONG_PAGES);
     IS(service == NULL, true);
     likes_service_close(NULL);
-    IS(likes_service_open(&options, counts, 1, NULL, 0, NULL, 0, 1000, &service), LIKES_OK);
+    IS(open_shared(options, counts, 1, NULL, 0, NULL, 0, 1000, &service), LIKES_OK);
     likes_service_close(service);
-    IS(likes_service_open(&options, counts, 1, NULL, 0, NULL, 0, 1000, &service), LIKES_OK);
+    service = NULL;
+    IS(open_shared(options, counts, 1, NULL, 0, NULL, 0, 1000, &service), LIKES_OK);
     IS(likes_service_like(service, 0, 0), LIKES_LIKED);
     IS(likes_service_retire(service), LIKES_OK);
     likes_service_close(service);
+    service = NULL;
 }
-#endif
 
 int main(void) {
     alarm(60);
-#ifdef OPAQUE
     openings();
-#endif
     moments(1);
     moments(1000);
     late_looks();

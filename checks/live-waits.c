@@ -1,4 +1,4 @@
-/* How long threads wait at a service of likes_helpers.h, and the processor time that they use meanwhile.
+/* How long threads wait at a service of likes_service.h, and the processor time that they use meanwhile.
  *
  * usage: live-waits WHAT PROCESSORS [MICROSECONDS]
  *
@@ -17,15 +17,13 @@
  *
  * It prints a line of times, and exits with status 1 if one is too long. On a busy machine, where other programs use
  * more than a tenth of a processor or get one instead of it, it only says so. */
-#define _GNU_SOURCE
-#include "likes_helpers.h"
+#include "live-time.h"
 
 #include <sys/resource.h>
-#include <unistd.h>
 
 enum { SEATS = 5, USERS = 100, PAGES = 4, ROW = 64, TIMES = 100, STORM = 1000 };
 
-static likes_service service;
+static likes_service *service;
 static bool is_over, is_wrong;
 
 /* What a thread does beside, and the processor time that it takes, in nanoseconds. */
@@ -42,12 +40,6 @@ static void hold(bool is_right, const char *text) {
     }
 }
 
-static uint64_t clock_of(clockid_t id) {
-    struct timespec now;
-    clock_gettime(id, &now);
-    return (uint64_t)now.tv_sec * UINT64_C(1000000000) + (uint64_t)now.tv_nsec;
-}
-
 static bool is_on(void) {
     return !__atomic_load_n(&is_over, __ATOMIC_SEQ_CST);
 }
@@ -57,14 +49,16 @@ static void start(uint32_t room, uint32_t microseconds) {
     static const uint64_t counts[PAGES];
     static const uint32_t marks[] = {0};
     likes_options options = {.seats = SEATS, .users = USERS, .room = room, .hot = 512};
-    uint32_t status = likes_service_start(&service, &options, counts, PAGES, marks, 1, NULL, 0, microseconds);
+    uint32_t status = open_shared(options, counts, PAGES, marks, 1, NULL, 0, microseconds, &service);
     hold(status == LIKES_OK, "no service was started");
     is_over = false;
 }
 
 static void stop(void) {
     uint64_t totals[PAGES];
-    hold(likes_service_stop(&service, totals, PAGES) == LIKES_OK, "the service was not stopped");
+    hold(likes_service_stop(service, totals, PAGES) == LIKES_OK, "the service was not stopped");
+    likes_service_close(service);
+    service = NULL;
 }
 
 static void begin(worker *it, uint32_t seat, void *(*work)(void *)) {
@@ -95,25 +89,25 @@ static void tell(const char *what, uint64_t *times, size_t length, double median
 
 /* Begins each time at another moment of a phase, while the service isn't idle. */
 static void go_on(uint32_t number, uint32_t microseconds) {
-    uint64_t until = likes_clock() + UINT64_C(1000) * (microseconds + number * 37 % microseconds);
-    while (likes_clock() < until) {
-        likes_service_like(&service, 1, 1);
-        likes_sleep(UINT64_C(100) * microseconds);
+    uint64_t until = clock_now() + UINT64_C(1000) * (microseconds + number * 37 % microseconds);
+    while (clock_now() < until) {
+        likes_service_like(service, 1, 1);
+        sleep_for(UINT64_C(100) * microseconds);
     }
 }
 
 static uint64_t time_look(void) {
     likes_answer answer;
-    uint64_t began = likes_clock();
-    hold(likes_service_look(&service, 0, 0, &answer) == LIKES_SEEN, "a look was not answered");
-    return likes_clock() - began;
+    uint64_t began = clock_now();
+    hold(likes_service_look(service, 0, 0, &answer) == LIKES_SEEN, "a look was not answered");
+    return clock_now() - began;
 }
 
 /* The seat has room for two, so one look that waits takes half of it. In a joined phase none waits. */
 static uint64_t time_wait(void) {
-    while (likes_service_phase(&service) % 2 == 0) {
-        likes_service_like(&service, 1, 1);
-        likes_sleep(50000);
+    while (likes_service_phase(service) % 2 == 0) {
+        likes_service_like(service, 1, 1);
+        sleep_for(50000);
     }
     return time_look();
 }
@@ -125,20 +119,20 @@ static uint64_t time_row(void) {
     likes_found found;
     for (uint32_t i = 0; i < 4; i++)
         row[i] = (likes_request){.tag = i, .op = LIKES_LOOK};
-    uint64_t began = likes_clock();
-    likes_service_wake(&service, 0);
-    hold(likes_service_run(&service, 0, row, 4, answers) == 4, "a row was not done");
-    likes_service_rest(&service, 0);
+    uint64_t began = clock_now();
+    likes_service_lock(service, 0);
+    hold(likes_service_run(service, 0, row, 4, answers) == 4, "a row was not done");
+    likes_service_unlock(service, 0);
     uint32_t waits = answers[3].status == LIKES_WAITS ? 1 : 0;
     while (waits > 0) {
-        likes_service_wake(&service, 0);
-        while (likes_service_take_found(&service, 0, &found))
+        likes_service_lock(service, 0);
+        while (likes_service_take_found(service, 0, &found))
             waits = found.tag == 3 ? 0 : waits;
-        likes_service_rest(&service, 0);
+        likes_service_unlock(service, 0);
         if (waits > 0)
-            likes_sleep(5000);
+            sleep_for(5000);
     }
-    return answers[3].status == LIKES_WAITS ? likes_clock() - began : 0;
+    return answers[3].status == LIKES_WAITS ? clock_now() - began : 0;
 }
 
 static void early(const char *what, uint64_t (*measured)(void), uint32_t microseconds, bool is_judged) {
@@ -158,13 +152,13 @@ static void *tick(void *at) {
     likes_answer answers[ROW];
     for (uint32_t i = 0; i < ROW; i++)
         row[i] = (likes_request){.user = it->seat, .page = i % PAGES, .op = LIKES_LIKE};
-    likes_service_wake(&service, it->seat);
+    likes_service_lock(service, it->seat);
     for (it->calls = 0; is_on(); it->calls++) {
-        hold(likes_service_run(&service, it->seat, row, ROW, answers) == ROW, "a row was not done");
+        hold(likes_service_run(service, it->seat, row, ROW, answers) == ROW, "a row was not done");
         if (it->calls % 4 == 3)
-            likes_service_tick(&service);
+            likes_service_tick(service);
     }
-    likes_service_rest(&service, it->seat);
+    likes_service_unlock(service, it->seat);
     return NULL;
 }
 
@@ -180,7 +174,7 @@ static void *ask_counts(void *at) {
     worker *it = (worker *)at;
     uint64_t counts[PAGES];
     for (; is_on(); it->calls++)
-        hold(likes_service_counts(&service, counts, PAGES) == LIKES_COUNTED, "there are no counts");
+        hold(likes_service_counts(service, counts, PAGES) == LIKES_COUNTED, "there are no counts");
     it->worked = clock_of(CLOCK_THREAD_CPUTIME_ID);
     return NULL;
 }
@@ -189,8 +183,8 @@ static void *ask_counts(void *at) {
 static void *make_turns(void *at) {
     worker *it = (worker *)at;
     for (; is_on(); it->calls++) {
-        likes_service_drive(&service);
-        likes_service_seat_turns(&service);
+        likes_service_drive(service);
+        likes_service_seat_turns(service);
     }
     return NULL;
 }
@@ -200,15 +194,15 @@ static void storm(const char *what, void *(*work)(void *), bool is_shared) {
     static uint64_t times[STORM];
     worker workers[3];
     size_t looks = 0;
-    uint64_t phases = likes_service_phase(&service), until = likes_clock() + UINT64_C(3000000000);
+    uint64_t phases = likes_service_phase(service), until = clock_now() + UINT64_C(3000000000);
     for (uint32_t i = 0; i < 3; i++)
         begin(&workers[i], i, work);
     alarm(20);
-    for (; looks < STORM && likes_clock() < until; looks++) {
+    for (; looks < STORM && clock_now() < until; looks++) {
         times[looks] = time_look();
-        likes_sleep(100000);
+        sleep_for(100000);
     }
-    phases = likes_service_phase(&service) - phases;
+    phases = likes_service_phase(service) - phases;
     end(workers, 3);
     tell(what, times, looks, 0, 0);
     printf("%zu looks, %llu phases; ", looks, (unsigned long long)phases);
@@ -218,8 +212,8 @@ static void storm(const char *what, void *(*work)(void *), bool is_shared) {
 static void *like_once(void *at) {
     worker *it = (worker *)at;
     for (; is_on(); it->calls++) {
-        hold(likes_service_like(&service, it->seat, 0) == LIKES_LIKED, "a like was refused");
-        likes_sleep(1000000);
+        hold(likes_service_like(service, it->seat, 0) == LIKES_LIKED, "a like was refused");
+        sleep_for(1000000);
     }
     it->worked = clock_of(CLOCK_THREAD_CPUTIME_ID);
     return NULL;
@@ -229,8 +223,8 @@ static void *look_once(void *at) {
     worker *it = (worker *)at;
     for (; is_on(); it->calls++) {
         likes_answer answer;
-        hold(likes_service_look(&service, it->seat, 0, &answer) == LIKES_SEEN, "a look was not answered");
-        likes_sleep(1000000);
+        hold(likes_service_look(service, it->seat, 0, &answer) == LIKES_SEEN, "a look was not answered");
+        sleep_for(1000000);
     }
     it->worked = clock_of(CLOCK_THREAD_CPUTIME_ID);
     return NULL;
@@ -241,10 +235,10 @@ static void *run_once(void *at) {
     likes_request row[2] = {{.user = it->seat}, {.user = it->seat, .op = LIKES_GLANCE}};
     likes_answer answers[2];
     for (; is_on(); it->calls++) {
-        likes_service_wake(&service, it->seat);
-        hold(likes_service_run(&service, it->seat, row, 2, answers) == 2, "a row was not done");
-        likes_service_rest(&service, it->seat);
-        likes_sleep(1000000);
+        likes_service_lock(service, it->seat);
+        hold(likes_service_run(service, it->seat, row, 2, answers) == 2, "a row was not done");
+        likes_service_unlock(service, it->seat);
+        sleep_for(1000000);
     }
     it->worked = clock_of(CLOCK_THREAD_CPUTIME_ID);
     return NULL;
@@ -255,12 +249,12 @@ static void held(void) {
     static void *(*const works[])(void *) = {like_once, look_once, run_once, ask_counts};
     worker workers[4];
     uint64_t worked[5];
-    likes_service_wake(&service, 4);
-    likes_sleep(2000000); /* until the split phase is due */
+    likes_service_lock(service, 4);
+    sleep_for(2000000); /* until the split phase is due */
     worked[4] = clock_of(CLOCK_PROCESS_CPUTIME_ID);
     for (uint32_t i = 0; i < 4; i++)
         begin(&workers[i], i, works[i]);
-    likes_sleep(500000000);
+    sleep_for(500000000);
     for (uint32_t i = 0; i < 4; i++) {
         clockid_t id;
         hold(pthread_getcpuclockid(workers[i].thread, &id) == 0, "a thread has no clock");
@@ -269,7 +263,7 @@ static void held(void) {
     }
     worked[4] = clock_of(CLOCK_PROCESS_CPUTIME_ID) - worked[4];
     is_wrong |= worked[4] > 25000000;
-    likes_service_rest(&service, 4);
+    likes_service_unlock(service, 4);
     end(workers, 4);
     printf("while a seat is held: like %.1f ms, look %.1f ms, row %.1f ms, counts %.1f ms, all threads %.1f ms; ",
            (double)worked[0] / 1e6, (double)worked[1] / 1e6, (double)worked[2] / 1e6, (double)worked[3] / 1e6,
@@ -284,11 +278,11 @@ static long switches(void) {
 
 /* Two seconds after a like, and after some time. */
 static void idle(void) {
-    likes_service_like(&service, 0, 0);
-    likes_sleep(300000000);
+    likes_service_like(service, 0, 0);
+    sleep_for(300000000);
     uint64_t worked = clock_of(CLOCK_PROCESS_CPUTIME_ID);
     long before = switches();
-    likes_sleep(2000000000);
+    sleep_for(2000000000);
     long wakes = switches() - before - 1;
     worked = clock_of(CLOCK_PROCESS_CPUTIME_ID) - worked;
     printf("idle: %ld wake-ups in two seconds, %.2f ms of a processor; ", wakes, (double)worked / 1e6);
@@ -298,10 +292,10 @@ static void idle(void) {
 static void first(uint32_t microseconds) {
     uint64_t times[TIMES];
     for (uint32_t n = 0; n < TIMES; n++) {
-        likes_sleep(UINT64_C(1000) * (5 * microseconds + 10000));
-        uint64_t began = likes_clock();
-        hold(likes_service_like(&service, n, n % PAGES) == LIKES_LIKED, "a like was refused");
-        times[n] = likes_clock() - began;
+        sleep_for(UINT64_C(1000) * (5 * microseconds + 10000));
+        uint64_t began = clock_now();
+        hold(likes_service_like(service, n, n % PAGES) == LIKES_LIKED, "a like was refused");
+        times[n] = clock_now() - began;
     }
     tell("first likes", times, TIMES, 20, 0);
 }
@@ -363,12 +357,12 @@ int main(int count, char **words) {
         printf("skipped: there are fewer processors\n");
         return 0;
     }
-    uint64_t began = likes_clock(), others = all_worked(), own = clock_of(CLOCK_PROCESS_CPUTIME_ID);
+    uint64_t began = clock_now(), others = all_worked(), own = clock_of(CLOCK_PROCESS_CPUTIME_ID);
     bool is_early = strcmp(words[1], "early") == 0 || strcmp(words[1], "ticks") == 0;
     start(is_early ? 2 : strcmp(words[1], "rows") == 0 ? 8 : 64, microseconds);
     measure(words[1], processors, microseconds);
     stop();
-    uint64_t took = likes_clock() - began;
+    uint64_t took = clock_now() - began;
     own = clock_of(CLOCK_PROCESS_CPUTIME_ID) - own;
     others = all_worked() - others;
     others = others > own ? others - own : 0;

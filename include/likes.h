@@ -2,7 +2,7 @@
  *
  * A service counts likes exactly while several threads add them. A host, that is, your program, opens a service and
  * takes its seats. Its threads call likes_seat_like and likes_seat_look on the seats, and somebody calls
- * likes_driver_turn when a phase is due. likes_helpers.h does that part for you: begin there. docs/EMBEDDING.md is the
+ * likes_driver_turn when a phase is due. likes_service.h does that part for you: begin there. docs/EMBEDDING.md is the
  * guide.
  *
  * Rules for the host
@@ -35,9 +35,9 @@
 extern "C" {
 #endif
 
-/* The version of this file and of the library, 0.4: 1,000 times the number of the ABI, plus a number within it.
+/* The version of this file and of the library, 0.5: 1,000 times the number of the ABI, plus a number within it.
  * docs/EMBEDDING.md says when it changes. */
-#define LIKES_VERSION 4
+#define LIKES_VERSION 5
 
 /* The version of the library that the program runs with. A shared library may be newer than this file. */
 uint32_t likes_version(void);
@@ -45,6 +45,7 @@ uint32_t likes_version(void);
 /* The coordinator of a service: it ends and releases phases. */
 typedef struct likes_driver {
     void *at;
+    uint64_t seats; /* how many it has: likes_driver_seats */
 } likes_driver;
 
 /* A worker of a service. */
@@ -63,20 +64,33 @@ typedef struct likes_phase {
 #define LIKES_MAX_SPLIT 64u /* how many pages are split at a time, marked ones among them */
 #define LIKES_MAX_ROOM 4096u
 #define LIKES_MAX_HOT 1000000u
+#define LIKES_MAX_PERIOD_US 1000000000u
 #define LIKES_MAX_COUNT UINT64_C(1000000000000000000)
 
 /* Instead of a page number: the user has no last like. */
 #define LIKES_NO_PAGE UINT32_MAX
 
+/* Instead of `hot`: the library finds no hot pages. */
+#define LIKES_NO_HOT UINT32_MAX
+
+/* What a service is opened with. A field that is left out is 0, and that means its default, if it has one. */
 typedef struct likes_options {
-    uint32_t seats; /* 1 to LIKES_MAX_SEATS */
-    uint32_t users; /* 1 to 2^32 - 1. Users are numbered from 0, and take 4 bytes each. */
-    uint32_t room;  /* how many looks a seat keeps, waiting and found ones together: 1 to LIKES_MAX_ROOM */
-    uint32_t hot;   /* 1 to LIKES_MAX_HOT: about how many likes between two choices make a page hot; earlier likes
-                       count too, but less ("Hot pages" of docs/EMBEDDING.md). The library finds these pages by
-                       samples; 1 to 511 act as 512. 0: it finds none, and only marked pages and those of
-                       likes_driver_propose are split. */
-    uint64_t reserved[6]; /* 0 */
+    const uint64_t *counts; /* the initial count of each page, at most LIKES_MAX_COUNT */
+    size_t pages;           /* how many: 1 to LIKES_MAX_PAGES. Pages are numbered from 0, and take 8 bytes each. */
+    const uint32_t *marks;  /* the pages that are split in every split phase, in any order, no two alike */
+    size_t marks_len;       /* 0 to LIKES_MAX_MARKS */
+    const uint32_t *lasts;  /* the page of each user's last like, by user number, or LIKES_NO_PAGE */
+    size_t lasts_len;       /* as many as users; 0: no user has a last like */
+    uint32_t users;         /* how many: 1 to 2^32 - 1. Users are numbered from 0, and take 4 bytes each. */
+    uint32_t seats;         /* 1 to LIKES_MAX_SEATS; 0: 16 for each processor, and at most 64 */
+    uint32_t room;      /* how many looks a seat keeps, waiting and found ones together: 1 to LIKES_MAX_ROOM; 0: 64 */
+    uint32_t hot;       /* about how many likes between two choices make a page hot; earlier likes count too, but less
+                           ("Hot pages" of docs/EMBEDDING.md): 1 to LIKES_MAX_HOT, of which 1 to 511 act as 512; 0:
+                           512. LIKES_NO_HOT: only marked and proposed pages are split. */
+    uint32_t period_us; /* of a service of likes_service.h: from the end of one split phase to that of the next, in
+                           microseconds: 1 to LIKES_MAX_PERIOD_US; 0: 1,000 */
+    uint32_t reserved;  /* 0 */
+    uint64_t reserved_too[5]; /* 0 */
 } likes_options;
 
 /* What calls answer. Errors begin at LIKES_FIRST_ERROR. */
@@ -128,22 +142,20 @@ enum likes_status {
 
 #define LIKES_FIRST_ERROR 100u
 
-/* Whether a status is an error: a wrong use, or no memory. Statuses of likes_helpers.h are errors too. */
-static inline bool likes_is_error(uint32_t status) {
-    return status >= LIKES_FIRST_ERROR;
+/* Whether a status says that what was asked for is done: LIKES_OK, LIKED, SEEN and COUNTED. The others below
+ * LIKES_FIRST_ERROR are outcomes, which each call lists, and those from there on are errors. */
+static inline bool likes_is_success(uint32_t status) {
+    return status <= LIKES_SEEN || status == LIKES_COUNTED;
 }
 
-/* Opens a service.
- *
- * counts has the initial count of each page. marks has the numbers of the pages that are split in every split phase, at
- * most LIKES_MAX_MARKS, in any order and no two alike. lasts has the page of each user's last like, by user number, or
- * LIKES_NO_PAGE; if its length is 0, no user has one. The counts and the last likes of an earlier service, opened
- * again, go on where it ended. LIKES_OK fills the driver. Else the handle stays as it was, and the answer is the first
- * of these that applies: LIKES_IN_USE, WRONG_RESERVED, WRONG_PAGES, WRONG_MARKS, WRONG_COUNT, WRONG_SEATS, WRONG_USERS,
- * WRONG_LASTS, WRONG_ROOM, WRONG_HOT, NO_MEMORY. */
-static inline uint32_t likes_open(const likes_options *options, const uint64_t *counts, size_t pages,
-                                  const uint32_t *marks, size_t marks_len, const uint32_t *lasts, size_t lasts_len,
-                                  likes_driver *driver);
+/* Opens a service. The counts and the last likes of an earlier one, opened again, go on where it ended. LIKES_OK fills
+ * the driver. Else the handle stays as it was, and the answer is the first of these that applies: LIKES_IN_USE,
+ * WRONG_RESERVED, WRONG_PAGES, WRONG_MARKS, WRONG_COUNT, WRONG_SEATS, WRONG_USERS, WRONG_LASTS, WRONG_ROOM, WRONG_HOT,
+ * NO_MEMORY. */
+uint32_t likes_open(const likes_options *options, likes_driver *driver);
+
+/* How many seats a service has, and 0 of an empty handle. */
+uint32_t likes_driver_seats(const likes_driver *driver);
 
 /* Hands out the seats, at the first call seat 0, then 1 and so on: LIKES_OK, or the first that applies of LIKES_IN_USE,
  * EMPTY and ALL_TAKEN. A phase changes only when every seat has answered, so take them all. */
@@ -157,9 +169,7 @@ uint32_t likes_driver_take_phase(likes_driver *driver, likes_phase *phase);
 uint64_t likes_phase_now(const likes_phase *phase);
 
 /* The seat of a user, in a service with this many seats (1 or more). */
-static inline uint32_t likes_seat_of(uint32_t user, uint32_t seats) {
-    return user % seats;
-}
+uint32_t likes_seat_of(uint32_t user, uint32_t seats);
 
 typedef struct likes_answer {
     uint64_t count;  /* of LIKES_SEEN: the page's count */
@@ -175,7 +185,7 @@ typedef struct likes_found {
     uint64_t ran;   /* the phase in which it ran, the next one */
     uint32_t user;
     uint32_t page;
-    uint32_t last; /* the page of the user's last like at that time, or LIKES_NO_PAGE */
+    uint32_t last;     /* the page of the user's last like at that time, or LIKES_NO_PAGE */
     uint32_t reserved; /* 0 */
 } likes_found;
 
@@ -209,7 +219,7 @@ uint32_t likes_seat_last(likes_seat *seat, uint32_t user, uint32_t *page);
  *
  * After LIKES_COUNTED of likes_driver_snapshot, and until a turn releases the next phase, the last likes of all seats
  * are of the same moment as the counts. */
-static inline uint32_t likes_seat_lasts(likes_seat *seat, uint32_t from, uint32_t *pages, size_t pages_len);
+uint32_t likes_seat_lasts(likes_seat *seat, uint32_t from, uint32_t *pages, size_t pages_len);
 
 /* What is asked for in a request. */
 enum likes_op { LIKES_LIKE = 0, LIKES_LOOK = 1, LIKES_GLANCE = 2 };
@@ -226,15 +236,15 @@ typedef struct likes_request {
  * LIKES_NO_ROOM, and at the end of the shorter array. The answer at which it stopped has that status, and those behind
  * it stay as they were. LIKES_UNKNOWN_OP comes before all that a seat's call answers, and without phase work. At an
  * empty handle it does none, and the first answer is LIKES_EMPTY. */
-static inline size_t likes_seat_run(likes_seat *seat, const likes_request *requests, size_t requests_len,
-                                    likes_answer *answers, size_t answers_len);
+size_t likes_seat_run(likes_seat *seat, const likes_request *requests, size_t requests_len, likes_answer *answers,
+                      size_t answers_len);
 
 /* Does what the phase asks of the seat, and nothing else: LIKES_RUNS, BETWEEN, GONE or EMPTY. */
 uint32_t likes_seat_turn(likes_seat *seat);
 
 /* Leaves, where the seat runs a joined phase, ending or not: LIKES_GONE. Looks that waited are found first. In a split
- * phase, and between two phases, it is likes_seat_turn: call it again. A seat that is gone holds nobody up. It keeps its
- * likes, its users' last likes and its found looks. */
+ * phase, and between two phases, it is likes_seat_turn: call it again. A seat that is gone holds nobody up. It keeps
+ * its likes, its users' last likes and its found looks. */
 uint32_t likes_seat_retire(likes_seat *seat);
 
 /* Brings a seat that is gone back into the present phase: LIKES_RUNS. If that phase is ending, or if other seats kept
@@ -265,12 +275,12 @@ uint32_t likes_driver_turn(likes_driver *driver, uint32_t end);
  * every seat has answered it or is gone: LIKES_COUNTED. They have all likes of that phase and of those before it. Until
  * a turn releases the next phase, further calls write the counts of other pages at the same moment. Else nothing is
  * written: the first that applies of LIKES_EMPTY, WRONG_RANGE and NO_MOMENT. */
-static inline uint32_t likes_driver_snapshot(likes_driver *driver, uint32_t from, uint64_t *counts, size_t counts_len);
+uint32_t likes_driver_snapshot(likes_driver *driver, uint32_t from, uint64_t *counts, size_t counts_len);
 
 /* Writes the pages that are split in the present split phase, or were in the last one, no two alike and the marked ones
  * among them. It answers how many it wrote: as many as the array has room for, and with room for LIKES_MAX_SPLIT all of
  * them. Before the first split phase they are the marked ones. Of an empty handle it writes none. */
-static inline size_t likes_driver_split_pages(likes_driver *driver, uint32_t *pages, size_t pages_len);
+size_t likes_driver_split_pages(likes_driver *driver, uint32_t *pages, size_t pages_len);
 
 /* Proposes pages to be split beside the marked ones, the first LIKES_MAX_SPLIT of the array, in place of those that the
  * library finds by itself: LIKES_OK, or LIKES_EMPTY. They hold for all split phases from the next one or the one after
@@ -280,7 +290,7 @@ static inline size_t likes_driver_split_pages(likes_driver *driver, uint32_t *pa
  * phase, as long as no page would be split in the next one. Numbers that are no pages, and doubled and marked ones, do
  * nothing. A page is left out if it shares one of the 1,024 buckets of a seat's table with a page that is split, or if
  * LIKES_MAX_SPLIT others are split. */
-static inline uint32_t likes_driver_propose(likes_driver *driver, const uint32_t *pages, size_t pages_len);
+uint32_t likes_driver_propose(likes_driver *driver, const uint32_t *pages, size_t pages_len);
 
 /* The present phase. Phases with odd numbers are split. */
 uint64_t likes_driver_phase(likes_driver *driver);
@@ -291,113 +301,18 @@ uint64_t likes_driver_phase(likes_driver *driver);
  * likes_driver_snapshot LIKES_NO_MOMENT and likes_driver_take_seat LIKES_ALL_TAKEN. The driver stays until it is freed.
  *
  * Else nothing is written: the first that applies of LIKES_EMPTY, WRONG_RANGE and NOT_ENDED, where a seat isn't gone or
- * a split phase goes on. The joined phase is ending then if a seat came back during the call. Call likes_driver_turn with
- * LIKES_END_IF_IT_SERVES until it answers LIKES_ENDED, and try again. */
-static inline uint32_t likes_driver_last_counts(likes_driver *driver, uint32_t from, uint64_t *counts,
-                                                size_t counts_len);
+ * a split phase goes on. The joined phase is ending then if a seat came back during the call. Call likes_driver_turn
+ * with LIKES_END_IF_IT_SERVES until it answers LIKES_ENDED, and try again. */
+uint32_t likes_driver_last_counts(likes_driver *driver, uint32_t from, uint64_t *counts, size_t counts_len);
 
 /* Give back memory, and leave the handle empty. With an empty handle or NULL they do nothing. Found looks that were not
  * taken are lost. A seat that is freed before it is gone holds up all others for ever. */
-static inline void likes_seat_free(likes_seat *seat);
-static inline void likes_driver_free(likes_driver *driver);
-static inline void likes_phase_free(likes_phase *phase);
+void likes_seat_free(likes_seat *seat);
+void likes_driver_free(likes_driver *driver);
+void likes_phase_free(likes_phase *phase);
 
-/* The name of a status, for messages. It knows those of likes_helpers.h too. */
-static inline const char *likes_status_text(uint32_t status) {
-    static const char *const outcomes[] = {
-        /* 0 */ "ok", "liked", "seen", "waits", "runs", "between", "no room", "like limit", "gone",
-        /* 9 */ "goes on", "announced", "not all in", "released", "ended", "counted", "no moment", "not ended",
-        /* 17 */ "all taken",
-    };
-    static const char *const errors[] = {
-        /* 100 */ "empty", "in use", "no memory", "unknown user", "other seat", "unknown page", "unknown op",
-        /* 107 */ "unknown end", "wrong range", "wrong reserved", "wrong pages", "wrong marks", "wrong count",
-        /* 113 */ "wrong seats", "wrong users", "wrong room", "wrong hot", "wrong lasts",
-    };
-    static const char *const helpers[] = {
-        /* 1000 */ "no thread", "wrong period", "not started", "moved", "unknown seat", "look lost", "late",
-    };
-    if (status < sizeof outcomes / sizeof *outcomes)
-        return outcomes[status];
-    if (status >= LIKES_FIRST_ERROR && status - LIKES_FIRST_ERROR < sizeof errors / sizeof *errors)
-        return errors[status - LIKES_FIRST_ERROR];
-    if (status >= 1000 && status - 1000 < sizeof helpers / sizeof *helpers)
-        return helpers[status - 1000];
-    return "unknown status";
-}
-
-/* The library's own calls, behind the inline ones above. They take no NULL. A language that can't include this file
- * calls these. */
-uint32_t likes_open_nonnull(const likes_options *options, const uint64_t *counts, size_t pages, const uint32_t *marks,
-                            size_t marks_len, const uint32_t *lasts, size_t lasts_len, likes_driver *driver);
-uint32_t likes_seat_lasts_nonnull(likes_seat *seat, uint32_t from, uint32_t *pages, size_t pages_len);
-size_t likes_seat_run_nonnull(likes_seat *seat, const likes_request *requests, size_t requests_len,
-                              likes_answer *answers, size_t answers_len);
-uint32_t likes_driver_snapshot_nonnull(likes_driver *driver, uint32_t from, uint64_t *counts, size_t counts_len);
-uint32_t likes_driver_last_counts_nonnull(likes_driver *driver, uint32_t from, uint64_t *counts, size_t counts_len);
-size_t likes_driver_split_pages_nonnull(likes_driver *driver, uint32_t *pages, size_t pages_len);
-uint32_t likes_driver_propose_nonnull(likes_driver *driver, const uint32_t *pages, size_t pages_len);
-void likes_seat_free_nonnull(likes_seat *seat);
-void likes_driver_free_nonnull(likes_driver *driver);
-void likes_phase_free_nonnull(likes_phase *phase);
-
-static inline uint32_t likes_open(const likes_options *options, const uint64_t *counts, size_t pages,
-                                  const uint32_t *marks, size_t marks_len, const uint32_t *lasts, size_t lasts_len,
-                                  likes_driver *driver) {
-    static const uint64_t no_count = 0;
-    static const uint32_t no_page = 0;
-    return likes_open_nonnull(options, pages == 0 ? &no_count : counts, pages, marks_len == 0 ? &no_page : marks,
-                              marks_len, lasts_len == 0 ? &no_page : lasts, lasts_len, driver);
-}
-
-static inline uint32_t likes_seat_lasts(likes_seat *seat, uint32_t from, uint32_t *pages, size_t pages_len) {
-    uint32_t no_page;
-    return likes_seat_lasts_nonnull(seat, from, pages_len == 0 ? &no_page : pages, pages_len);
-}
-
-static inline size_t likes_seat_run(likes_seat *seat, const likes_request *requests, size_t requests_len,
-                                    likes_answer *answers, size_t answers_len) {
-    static const likes_request no_request = {0, 0, 0, 0, 0};
-    likes_answer no_answer;
-    return likes_seat_run_nonnull(seat, requests_len == 0 ? &no_request : requests, requests_len,
-                                  answers_len == 0 ? &no_answer : answers, answers_len);
-}
-
-static inline uint32_t likes_driver_snapshot(likes_driver *driver, uint32_t from, uint64_t *counts, size_t counts_len) {
-    uint64_t no_count;
-    return likes_driver_snapshot_nonnull(driver, from, counts_len == 0 ? &no_count : counts, counts_len);
-}
-
-static inline size_t likes_driver_split_pages(likes_driver *driver, uint32_t *pages, size_t pages_len) {
-    uint32_t no_page;
-    return likes_driver_split_pages_nonnull(driver, pages_len == 0 ? &no_page : pages, pages_len);
-}
-
-static inline uint32_t likes_driver_propose(likes_driver *driver, const uint32_t *pages, size_t pages_len) {
-    static const uint32_t no_page = 0;
-    return likes_driver_propose_nonnull(driver, pages_len == 0 ? &no_page : pages, pages_len);
-}
-
-static inline uint32_t likes_driver_last_counts(likes_driver *driver, uint32_t from, uint64_t *counts,
-                                                size_t counts_len) {
-    uint64_t no_count;
-    return likes_driver_last_counts_nonnull(driver, from, counts_len == 0 ? &no_count : counts, counts_len);
-}
-
-static inline void likes_seat_free(likes_seat *seat) {
-    if (seat != NULL)
-        likes_seat_free_nonnull(seat);
-}
-
-static inline void likes_driver_free(likes_driver *driver) {
-    if (driver != NULL)
-        likes_driver_free_nonnull(driver);
-}
-
-static inline void likes_phase_free(likes_phase *phase) {
-    if (phase != NULL)
-        likes_phase_free_nonnull(phase);
-}
+/* The text of a status, for messages. It knows those of likes_service.h too. */
+const char *likes_status_text(uint32_t status);
 
 /* The sizes and places that are part of the ABI, and the order of bytes: the library reads a request's op and its
  * reserved field as one number, of which op is the lower half. */
@@ -407,10 +322,14 @@ static inline void likes_phase_free(likes_phase *phase) {
 #define LIKES_PIN(holds) _Static_assert(holds, "a size, a place or the order of bytes is not that of the library")
 #endif
 LIKES_PIN(__BYTE_ORDER__ == __ORDER_LITTLE_ENDIAN__);
-LIKES_PIN(sizeof(likes_driver) == 8 && sizeof(likes_seat) == 8 && sizeof(likes_phase) == 8);
-LIKES_PIN(sizeof(likes_options) == 64 && offsetof(likes_options, seats) == 0 && offsetof(likes_options, users) == 4);
-LIKES_PIN(offsetof(likes_options, room) == 8 && offsetof(likes_options, hot) == 12);
-LIKES_PIN(offsetof(likes_options, reserved) == 16);
+LIKES_PIN(sizeof(likes_driver) == 16 && sizeof(likes_seat) == 8 && sizeof(likes_phase) == 8);
+LIKES_PIN(sizeof(likes_options) == 112 && offsetof(likes_options, counts) == 0 && offsetof(likes_options, pages) == 8);
+LIKES_PIN(offsetof(likes_options, marks) == 16 && offsetof(likes_options, marks_len) == 24);
+LIKES_PIN(offsetof(likes_options, lasts) == 32 && offsetof(likes_options, lasts_len) == 40);
+LIKES_PIN(offsetof(likes_options, users) == 48 && offsetof(likes_options, seats) == 52);
+LIKES_PIN(offsetof(likes_options, room) == 56 && offsetof(likes_options, hot) == 60);
+LIKES_PIN(offsetof(likes_options, period_us) == 64 && offsetof(likes_options, reserved) == 68);
+LIKES_PIN(offsetof(likes_options, reserved_too) == 72);
 LIKES_PIN(sizeof(likes_request) == 24 && offsetof(likes_request, tag) == 0 && offsetof(likes_request, user) == 8);
 LIKES_PIN(offsetof(likes_request, page) == 12 && offsetof(likes_request, op) == 16);
 LIKES_PIN(offsetof(likes_request, reserved) == 20);

@@ -1,16 +1,13 @@
-/* likes_service.h: the calls of a service that threads share, with locks and a driver's thread.
+/* likes_service.h: a service that threads share, with locks and a driver's thread, for hosts with POSIX threads.
  *
- * Most programs need four calls: one to start a service, likes_service_like, likes_service_look and likes_service_stop.
+ * Most programs need five calls: likes_service_open, likes_service_like, likes_service_look, likes_service_stop, which
+ * gives the final counts, and likes_service_close.
  *
- * The code is C and not proved. There are two ways to use it:
- *   - C and C++ include likes_helpers.h, which has these calls as inline functions and needs liblikes alone. The
- *     service is a variable of yours, from likes_service_start to likes_service_stop.
- *   - Other languages call liblikes_service, as liblikes_service.so or liblikes_service.a. likes_service_open gives a
- *     service, and likes_service_close takes it back. C and C++ can do so too: then they include this file alone.
+ * The code is C, and not proved. It is part of liblikes, and tested, also under the address and thread sanitizers.
  *
- * A thread with many requests holds a seat for a batch of them: likes_service_wake, likes_service_run,
- * likes_service_take_found, likes_service_rest. While a seat rests, others do its phase work. While it is awake, the
- * thread that holds it calls it at least once each phase, and waits for nothing else.
+ * A thread with many requests locks a seat for a batch of them: likes_service_lock, likes_service_run,
+ * likes_service_take_found, likes_service_unlock. While a seat is unlocked, others do its phase work. While it is
+ * locked, the thread that holds it calls it at least once each phase, and waits for nothing else.
  *
  * A call that has to wait for a phase sleeps after 50 microseconds.
  */
@@ -23,30 +20,35 @@
 extern "C" {
 #endif
 
-/* The prefix of each call. likes_helpers.h makes it `static inline`. */
-#ifndef LIKES_SERVICE_CALL
-#define LIKES_SERVICE_CALL
-#endif
-
-/* What these calls answer, beside the statuses of likes.h. They are errors: likes_is_error holds of them, and
- * likes_status_text has their texts. But for LIKES_LOOK_LOST and LIKES_LATE, nothing was done. */
-enum likes_helper_status {
+/* What these calls answer, beside the statuses of likes.h. They are errors, and likes_status_text has their texts. But
+ * for LIKES_LOOK_LOST and LIKES_LATE, nothing was done.
+ *
+ * A call of a service or a writer that is NULL, or of a service that was stopped, answers LIKES_NOT_STARTED. Calls that
+ * take locks answer LIKES_HOLDS_SEAT to a thread that holds a seat of the service: they could wait for the thread
+ * itself. These are all but likes_service_unlock, run, take_found, drive, tick, seat_turns, phase, seats, statistics
+ * and fault. */
+enum likes_service_status {
     LIKES_NO_THREAD = 1000,    /* the driver's thread can't be started */
-    LIKES_WRONG_PERIOD = 1001, /* the period is 0 */
-    LIKES_NOT_STARTED = 1002,  /* the service isn't started, or it was stopped */
-    LIKES_MOVED = 1003,        /* the service is a copy */
-    LIKES_UNKNOWN_SEAT = 1004, /* the service has fewer seats */
-    LIKES_LOOK_LOST = 1005,    /* the look was made, but somebody took its result with likes_seat_take_found */
-    LIKES_LATE = 1006          /* the look had no answer in time. If it was made, its answer is thrown away */
+    LIKES_WRONG_PERIOD = 1001, /* period_us is over LIKES_MAX_PERIOD_US */
+    LIKES_NOT_STARTED = 1002,  /* the service or the writer is NULL, or the service was stopped */
+    LIKES_UNKNOWN_SEAT = 1003, /* the service has fewer seats */
+    LIKES_LOOK_LOST = 1004,    /* the look was made, but somebody took its result with likes_seat_take_found */
+    LIKES_LATE = 1005,         /* the look had no answer in time. If it was made, its answer is thrown away */
+    LIKES_HOLDS_SEAT = 1006,   /* the calling thread holds a seat of the service */
+    LIKES_NOT_LOCKED = 1007,   /* the calling thread doesn't hold the seat */
+    LIKES_OPEN_WRITER = 1008,  /* a writer of the service is open */
+    LIKES_WRONG_TAG = 1009     /* the tag of a look in a row is 2^63 or more */
 };
 
 typedef struct likes_service likes_service;
 
+/* Likes of one thread, kept for a while. */
+typedef struct likes_writer likes_writer;
+
 /* What a service has done since it was started. */
 typedef struct likes_statistics {
     uint64_t phases;       /* how many phases have ended */
-    uint64_t likes;        /* how many likes were counted. Those of likes_service_run count in liblikes_service; inline
-                              they do where LIKES_COUNT_ROWS is defined, since that makes rows a little slower */
+    uint64_t likes;        /* how many likes were counted */
     uint64_t looks;        /* how many looks were answered by likes_service_look and likes_service_look_within */
     uint64_t waits;        /* how many of these looks had to wait for a phase */
     uint64_t wait_time;    /* how long they waited in all, in nanoseconds */
@@ -55,123 +57,165 @@ typedef struct likes_statistics {
     uint64_t reserved[9];  /* 0 */
 } likes_statistics;
 
-#ifndef LIKES_SERVICE_IS_INLINE
+/* Opens a service and starts its driver's thread. No look waits much longer than the period. Where no calls are made,
+ * no phases change.
+ *
+ * `service` points to NULL. LIKES_OK: now it points to the service. Else it stays as it is, and the answer is the first
+ * that applies of LIKES_IN_USE, where it isn't NULL, LIKES_WRONG_PERIOD, an answer of likes_open, LIKES_NO_MEMORY and
+ * LIKES_NO_THREAD. */
+uint32_t likes_service_open(const likes_options *options, likes_service **service);
 
-/* Opens a service and starts its driver's thread: LIKES_OK, and then `service` has it. Else it is NULL, and the answer
- * one of likes_open, LIKES_WRONG_PERIOD or LIKES_NO_THREAD. likes_service_start of likes_helpers.h has the rest. */
-LIKES_SERVICE_CALL uint32_t likes_service_open(const likes_options *options, const uint64_t *counts, size_t pages,
-                                               const uint32_t *marks, size_t marks_len, const uint32_t *lasts,
-                                               size_t lasts_len, uint32_t period, likes_service **service);
+/* How many seats it has: 0 where likes_service_fault isn't LIKES_OK. User u belongs to seat u % seats. */
+uint32_t likes_service_seats(const likes_service *service);
 
-/* Ends a service that isn't stopped yet, and gives its memory back. All threads are done with it. NULL does nothing. */
-LIKES_SERVICE_CALL void likes_service_close(likes_service *service);
+/* Ends a service that isn't stopped yet, and gives its memory back: LIKES_OK, also for NULL. All threads are done with
+ * it. Or nothing is done: LIKES_HOLDS_SEAT or LIKES_OPEN_WRITER. */
+uint32_t likes_service_close(likes_service *service);
 
-#endif
+/* What is wrong with a service: LIKES_NOT_STARTED, or LIKES_OK. */
+uint32_t likes_service_fault(const likes_service *service);
 
-/* What is wrong with a service: LIKES_NOT_STARTED, LIKES_MOVED, or LIKES_OK. */
-LIKES_SERVICE_CALL uint32_t likes_service_fault(const likes_service *service);
-
-/* The same, or LIKES_UNKNOWN_SEAT. */
-LIKES_SERVICE_CALL uint32_t likes_service_seat_fault(const likes_service *service, uint32_t number);
+/* Why likes_service_lock gives NULL: the same, or LIKES_UNKNOWN_SEAT, or LIKES_HOLDS_SEAT, where the calling thread
+ * holds a seat of the service. */
+uint32_t likes_service_seat_fault(const likes_service *service, uint32_t number);
 
 /* Adds one like: an answer of likes_seat_like, but never LIKES_BETWEEN. Any thread may call it. */
-LIKES_SERVICE_CALL uint32_t likes_service_like(likes_service *service, uint32_t user, uint32_t page);
+uint32_t likes_service_like(likes_service *service, uint32_t user, uint32_t page);
 
 /* Looks, and waits until the look is found if it has to: an answer of likes_seat_look, but never LIKES_BETWEEN or
  * LIKES_WAITS, and LIKES_NO_ROOM only where looks with tags of the host's fill the seat. LIKES_LOOK_LOST: somebody took
  * its result with likes_seat_take_found. Any thread may call it. At a seat that it is called for, take looks of your
  * own with likes_service_take_found. */
-LIKES_SERVICE_CALL uint32_t likes_service_look(likes_service *service, uint32_t user, uint32_t page,
-                                               likes_answer *answer);
+uint32_t likes_service_look(likes_service *service, uint32_t user, uint32_t page, likes_answer *answer);
 
 /* The same with a time limit, in microseconds, which it hardly exceeds: then it answers LIKES_LATE. A look that was
  * made keeps its place in the seat's room until the phase ends. */
-LIKES_SERVICE_CALL uint32_t likes_service_look_within(likes_service *service, uint32_t user, uint32_t page,
-                                                      uint32_t microseconds, likes_answer *answer);
+uint32_t likes_service_look_within(likes_service *service, uint32_t user, uint32_t page, uint32_t microseconds,
+                                   likes_answer *answer);
 
 /* Looks at once: an answer of likes_seat_glance, but never LIKES_BETWEEN. Any thread may call it. */
-LIKES_SERVICE_CALL uint32_t likes_service_glance(likes_service *service, uint32_t user, uint32_t page,
-                                                 likes_answer *answer);
+uint32_t likes_service_glance(likes_service *service, uint32_t user, uint32_t page, likes_answer *answer);
+
+/* Writers
+ *
+ * A writer is one thread's, for likes at full speed: it keeps them in rows, one for each seat, and hands a row over as
+ * a whole. Till then others miss its likes. A row is handed over when it has 64 likes, at the latest by the writer's
+ * first call after a period has passed since it was begun, and by likes_writer_flush, look and close. Without calls
+ * there is no bound in time, so a thread flushes before it rests. The likes of a user by one writer are counted in
+ * their order. */
+
+/* Opens a writer: LIKES_OK, and then `writer`, which pointed to NULL, points to it. Else that stays as it is:
+ * LIKES_NOT_STARTED, IN_USE or NO_MEMORY. A writer takes 1.5 KB for each seat. */
+uint32_t likes_writer_open(likes_service *service, likes_writer **writer);
+
+/* Keeps a like, which will be counted: LIKES_OK. Or nothing is kept: LIKES_NOT_STARTED, where the writer is NULL, or
+ * the first that applies of LIKES_HOLDS_SEAT, UNKNOWN_USER, UNKNOWN_PAGE, and, where 64 likes are kept for a seat that
+ * doesn't take them, LIKES_GONE and LIKE_LIMIT. */
+uint32_t likes_writer_like(likes_writer *writer, uint32_t user, uint32_t page);
+
+/* Hands over the row of a user's seat, and looks as likes_service_look does: so the look shows what this writer was
+ * told before. Where likes stay kept it answers LIKES_GONE or LIKE_LIMIT. */
+uint32_t likes_writer_look(likes_writer *writer, uint32_t user, uint32_t page, likes_answer *answer);
+
+/* Hands over all rows: LIKES_OK, each like is counted. LIKES_GONE or LIKE_LIMIT: those of a seat that has left, or that
+ * has had 2^56 likes, stay kept. Or LIKES_HOLDS_SEAT or LIKES_NOT_STARTED, and nothing is done. */
+uint32_t likes_writer_flush(likes_writer *writer);
+
+/* Forgets the likes that are kept, and gives their number. They are not counted. */
+size_t likes_writer_drop(likes_writer *writer);
+
+/* Flushes, and gives the memory back: LIKES_OK, also for NULL. Where likes stay kept, and of any other answer of
+ * likes_writer_flush, the writer stays open: bring the seat back, or drop them. A service is not ended while a writer
+ * is open. */
+uint32_t likes_writer_close(likes_writer *writer);
 
 /* Writes the page of a user's last like: an answer of likes_seat_last. Any thread may call it. */
-LIKES_SERVICE_CALL uint32_t likes_service_last(likes_service *service, uint32_t user, uint32_t *page);
+uint32_t likes_service_last(likes_service *service, uint32_t user, uint32_t *page);
 
 /* Writes the pages of all users' last likes, by user number, as likes_open takes them: LIKES_OK, or LIKES_WRONG_RANGE,
  * where the array hasn't one entry for each user. Those of one seat are of one moment, and after likes_service_retire
- * all are final: with the counts that likes_service_stop then gives, a new service goes on where this one has ended.
- * The calling thread holds no seat. */
-LIKES_SERVICE_CALL uint32_t likes_service_lasts(likes_service *service, uint32_t *lasts, size_t users);
+ * all are final: with the counts that likes_service_stop then gives, a new service goes on where this one has ended. */
+uint32_t likes_service_lasts(likes_service *service, uint32_t *lasts, size_t users);
 
-/* The counts of all pages at one moment, the end of a joined phase, or the final counts where all seats are gone:
- * LIKES_COUNTED. Or LIKES_WRONG_RANGE, where the array hasn't one entry for each page. It takes up to two phases. The
- * calling thread holds no seat. */
-LIKES_SERVICE_CALL uint32_t likes_service_counts(likes_service *service, uint64_t *counts, size_t pages);
+/* The counts of all pages at one moment, the end of a joined phase: LIKES_COUNTED, also where all seats have left. Or
+ * LIKES_WRONG_RANGE, where the array hasn't one entry for each page. It takes up to two phases. (In the last phase of
+ * all, after 2^48, there is no moment: LIKES_NO_MOMENT.) */
+uint32_t likes_service_counts(likes_service *service, uint64_t *counts, size_t pages);
 
 /* The same, and all users' last likes at that moment, by user number: what a new service is opened with to go on from
- * it. All seats stand still until they are written. LIKES_NO_MOMENT: a thread held its seat for a tenth of a second, in
- * no call of the service, and some last likes are not written. */
-LIKES_SERVICE_CALL uint32_t likes_service_snapshot(likes_service *service, uint64_t *counts, size_t pages,
-                                                   uint32_t *lasts, size_t users);
+ * it. All seats stand still until they are written. LIKES_NO_MOMENT: another thread held its seat for a tenth of a
+ * second, in no call of the service, and some last likes are not written. */
+uint32_t likes_service_snapshot(likes_service *service, uint64_t *counts, size_t pages, uint32_t *lasts, size_t users);
 
 /* The phase that the driver has last released, or 0 where likes_service_fault isn't LIKES_OK. Any thread may call it,
  * and it doesn't wait for the driver. */
-LIKES_SERVICE_CALL uint64_t likes_service_phase(likes_service *service);
+uint64_t likes_service_phase(likes_service *service);
 
 /* Writes what the service has done so far: LIKES_OK. The numbers are those of nearly the same moment. Any thread may
  * call it, and it waits for nobody. */
-LIKES_SERVICE_CALL uint32_t likes_service_statistics(likes_service *service, likes_statistics *statistics);
+uint32_t likes_service_statistics(likes_service *service, likes_statistics *statistics);
 
 /* Proposes pages to be split, as likes_driver_propose does: LIKES_OK. The driver takes them at its next turn where no
  * page would be split, and else when the present or the next split phase ends. Any thread may call it. It waits for a
  * turn of the driver, and where another thread asks for counts, until that has them. */
-LIKES_SERVICE_CALL uint32_t likes_service_propose(likes_service *service, const uint32_t *pages, size_t pages_len);
+uint32_t likes_service_propose(likes_service *service, const uint32_t *pages, size_t pages_len);
 
 /* Writes the pages that are split, as likes_driver_split_pages does, and gives their number: 0 where
  * likes_service_fault isn't LIKES_OK. Any thread may call it. It waits as likes_service_propose does. */
-LIKES_SERVICE_CALL size_t likes_service_split_pages(likes_service *service, uint32_t *pages, size_t pages_len);
+size_t likes_service_split_pages(likes_service *service, uint32_t *pages, size_t pages_len);
 
-/* Takes a seat's lock. Until likes_service_rest, the seat is this thread's, which may make any call on it. NULL, and
- * nothing is done, where likes_service_seat_fault isn't LIKES_OK. */
-LIKES_SERVICE_CALL likes_seat *likes_service_wake(likes_service *service, uint32_t number);
+/* Takes a seat's lock. Until likes_service_unlock, the seat is this thread's, which may make any call on it. NULL, and
+ * nothing is done, where likes_service_seat_fault isn't LIKES_OK: a thread holds one seat of a service at a time. */
+likes_seat *likes_service_lock(likes_service *service, uint32_t number);
 
-/* Gives the lock back. A thread does so before it waits for anything. */
-LIKES_SERVICE_CALL void likes_service_rest(likes_service *service, uint32_t number);
+/* Gives the lock back. The thread that took it does so, before it waits for anything. Of a seat that it doesn't hold it
+ * does nothing. */
+void likes_service_unlock(likes_service *service, uint32_t number);
 
-/* Runs requests at a seat that is awake, through changes of phases, and gives the number of those done. It stops early
- * only at a look that has no room: take found looks, and go on with that request. Where likes_service_seat_fault isn't
- * LIKES_OK, it is the status of the first answer, and no request is done. */
-LIKES_SERVICE_CALL size_t likes_service_run(likes_service *service, uint32_t number, const likes_request *requests,
-                                            size_t length, likes_answer *answers);
+/* Runs requests at a seat that the thread has locked, through changes of phases, and gives the number of those done. It
+ * stops early only at a look that has no room: take found looks, and go on with that request. At a seat that the thread
+ * doesn't hold no request is done, and the first answer is LIKES_NOT_STARTED, UNKNOWN_SEAT or NOT_LOCKED. Tags of looks
+ * are below 2^63: another is answered LIKES_WRONG_TAG, and is none of those that wait. */
+size_t likes_service_run(likes_service *service, uint32_t number, const likes_request *requests, size_t length,
+                         likes_answer *answers);
 
-/* Takes the next found look with a tag of the host's, at a seat that is awake, in the order of asking. False: there is
- * none. */
-LIKES_SERVICE_CALL bool likes_service_take_found(likes_service *service, uint32_t number, likes_found *found);
+/* Takes the next found look with a tag of the host's, at a seat that the thread has locked, in the order of asking.
+ * False: there is none. */
+bool likes_service_take_found(likes_service *service, uint32_t number, likes_found *found);
 
 /* Takes up to found_len found looks at once, and gives their number. */
-LIKES_SERVICE_CALL size_t likes_seat_take_all_found(likes_seat *seat, likes_found *found, size_t found_len);
+size_t likes_seat_take_all_found(likes_seat *seat, likes_found *found, size_t found_len);
 
 /* Makes a turn of the driver, and gives its answer. If that begins or ends a phase, it also does what comes of it: the
- * phase work of the seats that rest, and the next turns. Where another thread is making a turn, it is LIKES_NOT_ALL_IN,
- * and that thread makes one more. */
-LIKES_SERVICE_CALL uint32_t likes_service_drive(likes_service *service);
+ * phase work of the seats that nobody holds, and the next turns. Where another thread is making a turn, it is
+ * LIKES_NOT_ALL_IN, and that thread makes one more. */
+uint32_t likes_service_drive(likes_service *service);
 
 /* The same, but only if a turn is due. A busy thread may call it once in some 256 requests: then no phase waits until
  * the driver's thread gets a processor. */
-LIKES_SERVICE_CALL void likes_service_tick(likes_service *service);
+void likes_service_tick(likes_service *service);
 
-/* Does the phase work of the seats that rest. */
-LIKES_SERVICE_CALL void likes_service_seat_turns(likes_service *service);
+/* Does the phase work of the seats that nobody holds. */
+void likes_service_seat_turns(likes_service *service);
+
+/* Has a seat leave, in a few phases at any period: LIKES_OK, once it is gone, also if it was before. Then likes and
+ * looks of its users answer LIKES_GONE, but for last likes and found looks. All seats may leave. */
+uint32_t likes_service_retire_seat(likes_service *service, uint32_t number);
+
+/* Brings a seat back that has left: LIKES_OK, once it runs a phase, also if it wasn't gone. LIKES_GONE: all seats have
+ * left for good, by likes_service_retire. */
+uint32_t likes_service_bring_back_seat(likes_service *service, uint32_t number);
 
 /* Ends the driver's thread, has all seats retire, and makes the driver's turns until it answers LIKES_ENDED: LIKES_OK.
- * No thread holds a seat, and no call of the service is begun any more but likes_service_wake, likes_seat_take_found,
- * likes_service_take_found, likes_service_rest, likes_service_last, likes_service_lasts, likes_service_counts,
- * likes_service_snapshot and likes_service_stop. */
-LIKES_SERVICE_CALL uint32_t likes_service_retire(likes_service *service);
+ * Or nothing is done: LIKES_OPEN_WRITER. No thread holds a seat, and no call of the service is begun any more but
+ * likes_service_lock, likes_seat_take_found, likes_service_take_found, likes_service_unlock, likes_service_last,
+ * likes_service_lasts, likes_service_counts, likes_service_snapshot, likes_service_stop and likes_service_close. */
+uint32_t likes_service_retire(likes_service *service);
 
-/* Ends the service and gives the final counts: LIKES_OK, or LIKES_WRONG_RANGE, where nothing was done. All threads are
- * done with it. Found looks that were not taken are lost, and so are last likes: take both between
- * likes_service_retire and this. */
-LIKES_SERVICE_CALL uint32_t likes_service_stop(likes_service *service, uint64_t *counts, size_t pages);
+/* Ends the service and gives the final counts: LIKES_OK. Or nothing is done: LIKES_OPEN_WRITER, or LIKES_WRONG_RANGE,
+ * where the array hasn't one entry for each page. All threads are done with it. Found looks that were not taken are
+ * lost, and so are last likes: take both between likes_service_retire and this. */
+uint32_t likes_service_stop(likes_service *service, uint64_t *counts, size_t pages);
 
 #ifdef __cplusplus
 }

@@ -23,7 +23,7 @@ struct Error : std::runtime_error {
 
 // The outcome that a status is. An error is thrown.
 inline likes_status outcome(std::uint32_t status) {
-    if (likes_is_error(status))
+    if (status >= LIKES_FIRST_ERROR)
         throw Error(status);
     return static_cast<likes_status>(status);
 }
@@ -34,7 +34,22 @@ struct Options {
     std::uint32_t seats, users, room = LIKES_MAX_ROOM, hot = 0;
     std::vector<std::uint32_t> marks = {}, lasts = {};
 
-    likes_options numbers() const { return {seats, users, room, hot, {}}; }
+    // The same for C, with the counts. It points into these options.
+    likes_options numbers(const std::vector<std::uint64_t> &counts, std::uint32_t period = 0) const {
+        likes_options made = {};
+        made.counts = counts.data();
+        made.pages = counts.size();
+        made.marks = marks.data();
+        made.marks_len = marks.size();
+        made.lasts = lasts.data();
+        made.lasts_len = lasts.size();
+        made.users = users;
+        made.seats = seats;
+        made.room = room;
+        made.hot = hot == 0 ? LIKES_NO_HOT : hot;
+        made.period_us = period;
+        return made;
+    }
 };
 
 // The page of a last like, if there is one.
@@ -200,10 +215,8 @@ private:
 class Driver {
 public:
     Driver(const Options &options, const std::vector<std::uint64_t> &counts) : leaving_(std::make_shared<Leaving>()) {
-        likes_options numbers = options.numbers();
-        const std::vector<std::uint32_t> &marks = options.marks, &lasts = options.lasts;
-        outcome(likes_open(&numbers, counts.data(), counts.size(), marks.data(), marks.size(), lasts.data(),
-                           lasts.size(), &handle_));
+        likes_options numbers = options.numbers(counts);
+        outcome(likes_open(&numbers, &handle_));
     }
     ~Driver() { likes_driver_free(&handle_); }
     Driver(Driver &&other) noexcept : handle_(std::exchange(other.handle_, {})), leaving_(other.leaving_) {}

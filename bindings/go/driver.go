@@ -1,6 +1,21 @@
 package likes
 
-// #include <likes.h>
+/*
+#include <likes.h>
+
+// Opens a service. C may not be given pointers in memory of Go, so arrays are told apart from the numbers.
+static uint32_t open_driver(const likes_options *numbers, const uint64_t *counts, size_t pages, const uint32_t *marks,
+                            size_t marks_len, const uint32_t *lasts, size_t lasts_len, likes_driver *driver) {
+	likes_options options = *numbers;
+	options.counts = counts;
+	options.pages = pages;
+	options.marks = marks;
+	options.marks_len = marks_len;
+	options.lasts = lasts;
+	options.lasts_len = lasts_len;
+	return likes_open(&options, driver);
+}
+*/
 import "C"
 
 import (
@@ -19,26 +34,25 @@ type Options struct {
 	Period                  time.Duration
 }
 
-// numbers is what C takes of the options.
+// numbers is what C takes of the options, but for arrays. A period that is too long is the longest one, and one below a
+// microsecond is refused.
 func (o *Options) numbers() C.likes_options {
-	return C.likes_options{
-		seats: C.uint32_t(o.Seats),
-		users: C.uint32_t(o.Users),
-		room:  C.uint32_t(o.Room),
-		hot:   C.uint32_t(o.Hot),
+	made := C.likes_options{
+		users:     C.uint32_t(o.Users),
+		seats:     C.uint32_t(o.Seats),
+		room:      C.uint32_t(o.Room),
+		hot:       C.uint32_t(o.Hot),
+		period_us: math.MaxUint32,
 	}
-}
-
-// period is what C takes of the period, in microseconds: 0, which is refused, up to 2^32 - 1.
-func (o *Options) period() C.uint32_t {
-	length := o.Period.Microseconds()
-	if length < 0 {
-		return 0
+	if o.Hot == 0 {
+		made.hot = C.LIKES_NO_HOT
 	}
-	if length > math.MaxUint32 {
-		return math.MaxUint32
+	if length := o.Period.Microseconds(); length > C.LIKES_MAX_PERIOD_US {
+		made.period_us = C.LIKES_MAX_PERIOD_US
+	} else if length > 0 || o.Period == 0 {
+		made.period_us = C.uint32_t(length)
 	}
-	return C.uint32_t(length)
+	return made
 }
 
 // End says whether a turn may end the phase.
@@ -63,7 +77,7 @@ type Driver struct {
 // OpenDriver opens a service with these initial counts.
 func OpenDriver(options Options, counts []uint64) (*Driver, error) {
 	driver, numbers := &Driver{}, options.numbers()
-	told := C.likes_open(&numbers, countsAt(counts), C.size_t(len(counts)), pagesAt(options.Marks),
+	told := C.open_driver(&numbers, countsAt(counts), C.size_t(len(counts)), pagesAt(options.Marks),
 		C.size_t(len(options.Marks)), pagesAt(options.Lasts), C.size_t(len(options.Lasts)), &driver.c)
 	if err := wanted(told, OK); err != nil {
 		return nil, err

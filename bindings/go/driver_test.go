@@ -106,7 +106,7 @@ func TestRefusals(t *testing.T) {
 	it.same(err, UnknownUser)
 	it.same(first.Lasts(1, make([]uint32, 2)), WrongRange)
 	it.same(it.driver.TakeSeat(), (*Seat)(nil))
-	_, err = OpenDriver(Options{Users: 1, Room: 1}, []uint64{0})
+	_, err = OpenDriver(Options{Seats: 65, Users: 1, Room: 1}, []uint64{0})
 	it.same(err, WrongSeats)
 	_, err = OpenDriver(Options{Seats: 1, Users: 1, Room: 1, Lasts: []uint32{1}}, []uint64{0})
 	it.same(err, WrongLasts)

@@ -8,18 +8,31 @@ package likes
 
 /*
 #cgo pkg-config: likes
-#include <likes_helpers.h>
+#include <likes_service.h>
 
-// Runs a row at a seat, and takes found looks. The seat is awake no longer than that.
+// Opens a service. C may not be given pointers in memory of Go, so arrays are told apart from the numbers.
+static uint32_t open_service(const likes_options *numbers, const uint64_t *counts, size_t pages, const uint32_t *marks,
+                             size_t marks_len, const uint32_t *lasts, size_t lasts_len, likes_service **service) {
+	likes_options options = *numbers;
+	options.counts = counts;
+	options.pages = pages;
+	options.marks = marks;
+	options.marks_len = marks_len;
+	options.lasts = lasts;
+	options.lasts_len = lasts_len;
+	return likes_service_open(&options, service);
+}
+
+// Runs a row at a seat, and takes found looks. The seat is locked no longer than that.
 static size_t run_row(likes_service *service, uint32_t number, const likes_request *requests, size_t length,
                       likes_answer *answers, likes_found *found, size_t room, size_t *taken) {
-	likes_seat *seat = likes_service_wake(service, number);
+	likes_seat *seat = likes_service_lock(service, number);
 	size_t done = likes_service_run(service, number, requests, length, answers);
 	if (done < length)
 		likes_service_drive(service); // a look has no room: let the phase end
 	likes_seat_turn(seat);
 	*taken = likes_seat_take_all_found(seat, found, room);
-	likes_service_rest(service, number);
+	likes_service_unlock(service, number);
 	return done;
 }
 */
@@ -28,7 +41,6 @@ import "C"
 import (
 	"sync"
 	"time"
-	"unsafe"
 )
 
 const row = 64
@@ -52,19 +64,14 @@ type call struct {
 
 // Open opens a service with these initial counts.
 func Open(options Options, counts []uint64) (*Service, error) {
-	service := &Service{c: (*C.likes_service)(C.calloc(1, C.sizeof_likes_service)), pages: len(counts)}
-	service.users = int(options.Users)
-	if service.c == nil {
-		return nil, NoMemory
-	}
+	service := &Service{pages: len(counts), users: int(options.Users)}
 	numbers := options.numbers()
-	told := C.likes_service_start(service.c, &numbers, countsAt(counts), C.size_t(len(counts)), pagesAt(options.Marks),
-		C.size_t(len(options.Marks)), pagesAt(options.Lasts), C.size_t(len(options.Lasts)), options.period())
+	told := C.open_service(&numbers, countsAt(counts), C.size_t(len(counts)), pagesAt(options.Marks),
+		C.size_t(len(options.Marks)), pagesAt(options.Lasts), C.size_t(len(options.Lasts)), &service.c)
 	if err := wanted(told, OK); err != nil {
-		C.free(unsafe.Pointer(service.c))
 		return nil, err
 	}
-	for number := uint32(0); number < options.Seats; number++ {
+	for number := uint32(0); number < uint32(C.likes_service_seats(service.c)); number++ {
 		it := &seat{calls: make(chan call, 4*row), waits: map[uint64]chan<- C.likes_answer{}}
 		service.seats = append(service.seats, it)
 		service.all.Add(1)
@@ -148,7 +155,8 @@ func (s *Service) CloseWithLasts() ([]uint64, []uint32) {
 	C.likes_service_retire(s.c)
 	C.likes_service_lasts(s.c, pagesAt(lasts), C.size_t(s.users))
 	C.likes_service_stop(s.c, countsAt(totals), C.size_t(s.pages))
-	C.free(unsafe.Pointer(s.c))
+	C.likes_service_close(s.c)
+	s.c = nil
 	return totals, lasts
 }
 

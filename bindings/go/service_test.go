@@ -155,7 +155,7 @@ func TestProposals(t *testing.T) {
 }
 
 func TestServiceRefusals(t *testing.T) {
-	for _, options := range []Options{{}, {Seats: 65}, {Seats: 1, Users: 1, Room: 1, Marks: []uint32{1}}} {
+	for _, options := range []Options{{}, {Seats: 65, Users: 1}, {Seats: 1, Users: 1, Room: 1, Marks: []uint32{1}}} {
 		options.Period = short
 		if service, err := Open(options, []uint64{0}); err == nil {
 			t.Errorf("%v was opened", options)
@@ -165,12 +165,13 @@ func TestServiceRefusals(t *testing.T) {
 	if _, err := Open(Options{Seats: 1, Users: 1, Room: 1, Period: short}, nil); err != WrongPages {
 		t.Error(err)
 	}
-	for _, period := range []time.Duration{0, time.Nanosecond, -time.Hour} {
+	for _, period := range []time.Duration{time.Nanosecond, -time.Hour} {
 		if _, err := Open(Options{Seats: 1, Users: 1, Room: 1, Period: period}, []uint64{0}); err != WrongPeriod {
 			t.Error(period, err)
 		}
 	}
 	start(t, Options{Seats: 1, Users: 1, Room: 1, Period: math.MaxUint32*time.Microsecond + 1000}, 0).Close()
+	start(t, Options{Users: 1}, 0).Close() // the defaults of likes.h
 	service := start(t, Options{Seats: 2, Users: 3, Room: 4, Period: short}, 0)
 	defer service.Close()
 	if err := service.Like(3, 0); err != UnknownUser {

@@ -1,12 +1,12 @@
 package likes
 
-// #include <likes_helpers.h>
+// #include <likes_service.h>
 import "C"
 
 // Status is what calls answer: an outcome, or from Empty on an error.
 type Status uint32
 
-// The statuses of likes.h, and from NoThread on those of likes_helpers.h.
+// The statuses of likes.h, and from NoThread on those of likes_service.h.
 const (
 	OK            Status = C.LIKES_OK
 	Liked         Status = C.LIKES_LIKED
@@ -47,7 +47,6 @@ const (
 	NoThread      Status = C.LIKES_NO_THREAD
 	WrongPeriod   Status = C.LIKES_WRONG_PERIOD
 	NotStarted    Status = C.LIKES_NOT_STARTED
-	Moved         Status = C.LIKES_MOVED
 	UnknownSeat   Status = C.LIKES_UNKNOWN_SEAT
 	LookLost      Status = C.LIKES_LOOK_LOST
 	Late          Status = C.LIKES_LATE

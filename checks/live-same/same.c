@@ -1,5 +1,5 @@
 /* Makes the calls that README.md draws, by likes.h, and prints what each answers. */
-#include <likes.h>
+#include "../live-opening.h"
 
 #include <inttypes.h>
 #include <stdio.h>
@@ -81,7 +81,7 @@ static bool open_service(service *it) {
         counts[i] = draw(100);
     if (rarely() && it->pages > 0)
         counts[0] = LIKES_MAX_COUNT + 1;
-    it->options.seats = rarely() ? 65 * draw(2) : 1 + draw(3);
+    it->options.seats = rarely() ? 65 + draw(2) : 1 + draw(3);
     it->options.users = rarely() ? 0 : 1 + draw(12);
     it->options.room = rarely() ? LIKES_MAX_ROOM + 1 : 1 + draw(3);
     it->options.hot = rarely() ? LIKES_MAX_HOT + 1 : 512 * draw(2);
@@ -92,7 +92,7 @@ static bool open_service(service *it) {
         lasts_len = it->options.users + rarely();
     for (uint32_t i = 0; i < lasts_len; i++)
         lasts[i] = draw(2) == 0 ? LIKES_NO_PAGE : draw_page(it->pages);
-    uint32_t status = likes_open(&it->options, counts, it->pages, marks, marks_len, lasts, lasts_len, &it->driver);
+    uint32_t status = open_core(it->options, counts, it->pages, marks, marks_len, lasts, lasts_len, &it->driver);
     say("open", status);
     printf("\n");
     return status == LIKES_OK;

@@ -228,7 +228,7 @@ static std::vector<std::uint64_t> draw_opening(likes::Options &options) {
         count = draw(100);
     if (rarely() && pages > 0)
         counts[0] = LIKES_MAX_COUNT + 1;
-    options.seats = rarely() ? 65 * draw(2) : 1 + draw(3);
+    options.seats = rarely() ? 65 + draw(2) : 1 + draw(3);
     options.users = rarely() ? 0 : 1 + draw(12);
     options.room = rarely() ? LIKES_MAX_ROOM + 1 : 1 + draw(3);
     options.hot = rarely() ? LIKES_MAX_HOT + 1 : 512 * draw(2);

@@ -298,7 +298,7 @@ func drawOpening() (options likes.Options, counts []uint64) {
 	if rarely() && pages > 0 {
 		counts[0] = 1000000000000000001
 	}
-	options.Seats = pick(rarely(), func() uint32 { return 65 * draw(2) }, func() uint32 { return 1 + draw(3) })
+	options.Seats = pick(rarely(), func() uint32 { return 65 + draw(2) }, func() uint32 { return 1 + draw(3) })
 	options.Users = pick(rarely(), fixed(0), func() uint32 { return 1 + draw(12) })
 	options.Room = pick(rarely(), fixed(4097), func() uint32 { return 1 + draw(3) })
 	options.Hot = pick(rarely(), fixed(1000001), func() uint32 { return 512 * draw(2) })

@@ -173,7 +173,7 @@ def opening(draws):
     counts = [draw(100) for _ in range(pages)]
     if rarely() and pages:
         counts[0] = 10**18 + 1
-    seats = 65 * draw(2) if rarely() else 1 + draw(3)
+    seats = 65 + draw(2) if rarely() else 1 + draw(3)
     users = 0 if rarely() else 1 + draw(12)
     room = 4097 if rarely() else 1 + draw(3)
     hot = 1000001 if rarely() else 512 * draw(2)

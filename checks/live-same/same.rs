@@ -72,7 +72,7 @@ impl Opening {
         if draws.rarely() && pages > 0 {
             counts[0] = MAX_COUNT + 1;
         }
-        let seats = if draws.rarely() { 65 * draws.draw(2) } else { 1 + draws.draw(3) };
+        let seats = if draws.rarely() { 65 + draws.draw(2) } else { 1 + draws.draw(3) };
         let users = if draws.rarely() { 0 } else { 1 + draws.draw(12) };
         let room = if draws.rarely() { MAX_ROOM + 1 } else { 1 + draws.draw(3) };
         let hot = if draws.rarely() { MAX_HOT + 1 } else { 512 * draws.draw(2) };

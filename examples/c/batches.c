@@ -1,9 +1,12 @@
-/* Threads at full speed: each holds a seat, and runs rows of 64 requests. One request in eight is a look.
+/* Threads at full speed: each locks a seat, and runs rows of 64 requests. One request in eight is a look.
  *
  * usage: batches [THREADS [LIKES]]: how many threads, 1 to 16 (4), and how many likes each (1000000) */
-#include <likes_helpers.h>
+#include <likes_service.h>
 
 #include <inttypes.h>
+#include <pthread.h>
+#include <stdio.h>
+#include <stdlib.h>
 
 enum { PAGES = 8, USERS = 100000, ROW = 64 };
 
@@ -43,7 +46,7 @@ static void *work(void *at) {
     likes_request row[ROW] = {{0}}; /* its reserved fields are 0 and stay so */
     likes_answer answers[ROW];
     uint64_t random = it->number, liked = 0, latest = 0;
-    likes_seat *seat = likes_service_wake(it->service, it->number);
+    likes_seat *seat = likes_service_lock(it->service, it->number);
     while (liked < it->likes) {
         fill(it, row, &random);
         for (size_t done = 0; done < ROW;) {
@@ -59,7 +62,7 @@ static void *work(void *at) {
         }
     }
     it->likes = liked;
-    likes_service_rest(it->service, it->number);
+    likes_service_unlock(it->service, it->number);
     return NULL;
 }
 
@@ -67,32 +70,34 @@ int main(int count, char **words) {
     uint32_t threads = count > 1 ? (uint32_t)strtoul(words[1], NULL, 10) : 4;
     uint64_t likes = count > 2 ? strtoull(words[2], NULL, 10) : 1000000;
     static worker workers[LIKES_MAX_SEATS];
-    static likes_service service;
+    likes_service *service = NULL;
     const uint64_t counts[PAGES] = {0};
     uint64_t totals[PAGES], sum = 0, liked = 0, asked = 0, answered = 0;
-    likes_options options = {.seats = threads, .users = USERS, .room = 4096, .hot = 1000};
-    uint32_t status = likes_service_start(&service, &options, counts, PAGES, NULL, 0, NULL, 0, 1000);
-    if (status != LIKES_OK) {
-        fprintf(stderr, "not started: %s\n", likes_status_text(status));
+    const likes_options options = {
+        .counts = counts, .pages = PAGES, .users = USERS, .seats = threads, .room = 4096, .hot = 1000};
+    uint32_t status = likes_service_open(&options, &service);
+    if (!likes_is_success(status)) {
+        fprintf(stderr, "not opened: %s\n", likes_status_text(status));
         return 1;
     }
     for (uint32_t i = 0; i < threads; i++) {
-        workers[i] = (worker){.service = &service, .number = i, .threads = threads, .likes = likes};
+        workers[i] = (worker){.service = service, .number = i, .threads = threads, .likes = likes};
         if (pthread_create(&workers[i].thread, NULL, work, &workers[i]) != 0)
             abort();
     }
     for (uint32_t i = 0; i < threads; i++)
         pthread_join(workers[i].thread, NULL);
-    likes_service_retire(&service); /* so the last looks that wait are found */
+    likes_service_retire(service); /* so the last looks that wait are found */
     for (uint32_t i = 0; i < threads; i++) {
         uint64_t latest = 0;
-        take(&workers[i], likes_service_wake(&service, i), &latest);
-        likes_service_rest(&service, i);
+        take(&workers[i], likes_service_lock(service, i), &latest);
+        likes_service_unlock(service, i);
         liked += workers[i].likes;
         asked += workers[i].asked;
         answered += workers[i].seen + workers[i].found;
     }
-    likes_service_stop(&service, totals, PAGES);
+    likes_service_stop(service, totals, PAGES);
+    likes_service_close(service);
     for (uint32_t page = 0; page < PAGES; page++)
         sum += totals[page];
     printf("likes: %" PRIu64 " made, %" PRIu64 " counted\n", liked, sum);

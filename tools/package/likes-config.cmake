@@ -1,5 +1,4 @@
 # likes::likes is the shared library and likes::static the static one, each with its headers and with threads.
-# likes::service and likes::service_static have the calls of likes_service.h beside.
 include(CMakeFindDependencyMacro)
 find_dependency(Threads)
 
@@ -14,14 +13,5 @@ if(NOT TARGET likes::likes)
   set_target_properties(likes::likes likes::static PROPERTIES
     INTERFACE_INCLUDE_DIRECTORIES "${likes_PREFIX}/include"
     INTERFACE_LINK_LIBRARIES Threads::Threads)
-  add_library(likes::service SHARED IMPORTED)
-  set_target_properties(likes::service PROPERTIES
-    IMPORTED_LOCATION "${likes_PREFIX}/lib/liblikes_service.so.@VERSION@"
-    IMPORTED_SONAME "@SERVICE@"
-    INTERFACE_LINK_LIBRARIES likes::likes)
-  add_library(likes::service_static STATIC IMPORTED)
-  set_target_properties(likes::service_static PROPERTIES
-    IMPORTED_LOCATION "${likes_PREFIX}/lib/liblikes_service.a"
-    INTERFACE_LINK_LIBRARIES likes::static)
   unset(likes_PREFIX)
 endif()

@@ -87,7 +87,7 @@ static void refusals() {
     hold(thrown([&] { first.lasts(1, pages); }) == LIKES_WRONG_RANGE, "last likes past the last");
     hold(thrown([&] { two.driver.snapshot(1, counts); }) == LIKES_WRONG_RANGE, "a snapshot past the last page");
     hold(thrown([&] { two.driver.last_counts(1, counts); }) == LIKES_WRONG_RANGE, "last counts past the last page");
-    hold(thrown([&] { likes::Driver({0, 4}, {0}); }) == LIKES_WRONG_SEATS, "a service without seats");
+    hold(thrown([&] { likes::Driver({65, 4}, {0}); }) == LIKES_WRONG_SEATS, "a service with 65 seats");
     likes::Seat moved = std::move(first);
     hold(thrown([&] { first.turn(); }) == LIKES_EMPTY && moved.turn() == LIKES_RUNS, "a seat that was moved");
 }

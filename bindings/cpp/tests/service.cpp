@@ -4,8 +4,10 @@
 // It ends with status 1 and a line where something else happens.
 #include "likes.hpp"
 
+#include <chrono>
 #include <cstdlib>
 #include <iostream>
+#include <thread>
 
 static void hold(bool is_right, const char *text) {
     if (!is_right) {
@@ -29,9 +31,10 @@ static void openings() {
         return thrown([&] { likes::Service service(options, counts, period); });
     };
     hold(open({2, 9, 4, 0}, {}, 1000) == LIKES_WRONG_PAGES, "no pages");
-    hold(open({2, 9, 4, 0}, {0}, 0) == LIKES_WRONG_PERIOD, "period 0");
-    hold(open({0, 9, 4, 0}, {0}, 1000) == LIKES_WRONG_SEATS, "no seats");
+    hold(open({2, 9, 4, 0}, {0}, LIKES_MAX_PERIOD_US + 1) == LIKES_WRONG_PERIOD, "a period too long");
+    hold(open({65, 9, 4, 0}, {0}, 1000) == LIKES_WRONG_SEATS, "65 seats");
     hold(open({2, 9, 4, 0}, {0}, 1000) == LIKES_OK, "a right opening");
+    hold(open({0, 9, 0, 0}, {0}, 0) == LIKES_OK, "an opening with defaults");
     hold(open({2, 9}, {0}, 1000) == LIKES_OK, "an opening with the usual room");
 }
 
@@ -65,7 +68,7 @@ static void proposals() {
     for (std::uint32_t page : {1u, 0u}) {
         service.propose({page, 2, UINT32_MAX});
         while (service.split_pages() != std::vector<std::uint32_t>{page})
-            likes_sleep(100000);
+            std::this_thread::sleep_for(std::chrono::microseconds(100));
         service.like(4, page);
     }
     service.propose({});
@@ -82,7 +85,7 @@ static void marks() {
     hold(service.split_pages() == std::vector<std::uint32_t>{1}, "a marked page isn't split");
     service.like(4, 1);
     while (service.phase() < 4)
-        likes_sleep(100000);
+        std::this_thread::sleep_for(std::chrono::microseconds(100));
     hold(service.counts() == std::vector<std::uint64_t>{5, 8}, "the counts of a moment");
     service.stop();
     hold(thrown([&] { service.counts(); }) == LIKES_NOT_STARTED && service.phase() == 0, "counts after the end");

@@ -8,7 +8,7 @@ from ctypes import byref, c_uint32, c_uint64
 from typing import Any, List, NamedTuple, Optional, Sequence
 
 from .errors import Closed, check, outcome
-from .library import Answer, FoundLook, Handle, Options, last_of, load, number_of, row_of, whole
+from .library import MOST, NO_HOT, Answer, DriverHandle, FoundLook, Handle, Options, last_of, load, number_of, row_of, whole
 from .rows import Asked, Row, Seen, Told, seen
 from .statuses import MAX_SPLIT, End, Status
 
@@ -30,8 +30,8 @@ class Found(NamedTuple):
 class Held:
     """A handle, for one call at a time."""
 
-    def __init__(self) -> None:
-        self.library, self._handle, self._lock = load(), Handle(), threading.Lock()
+    def __init__(self, handle: Any = None) -> None:
+        self.library, self._handle, self._lock = load(), handle or Handle(), threading.Lock()
         self._at = byref(self._handle)
 
     def call(self, call: Any, *words: Any) -> Any:
@@ -79,7 +79,7 @@ class Seat(Held):
 
     def run_on(self, row: Row) -> List[Told]:
         """Runs what is left of a row, and gives the answers of what was done."""
-        return row.note(self.call(self.library.likes_seat_run_nonnull, *row.left()))
+        return row.note(self.call(self.library.likes_seat_run, *row.left()))
 
     def take_found(self) -> Optional[Found]:
         """The next found look, in the order of asking, or None."""
@@ -99,7 +99,7 @@ class Seat(Held):
         """The last likes of the seat's users number start, start + 1 and so on."""
         start, length = whole("start", start), whole("length", length)
         pages = (c_uint32 * (length + 1))()
-        check(self.call(self.library.likes_seat_lasts_nonnull, start, pages, length), Status.OK)
+        check(self.call(self.library.likes_seat_lasts, start, pages, length), Status.OK)
         return [last_of(page) for page in pages[:length]]
 
     def turn(self) -> Status:
@@ -119,7 +119,7 @@ class Seat(Held):
         return int(self.call(self.library.likes_seat_phase))
 
     def free(self) -> None:
-        self._free(self.library.likes_seat_free_nonnull)
+        self._free(self.library.likes_seat_free)
 
 
 def seen_or_outcome(answer: Any) -> Told:
@@ -134,7 +134,7 @@ class Phase(Held):
         return int(self.call(self.library.likes_phase_now))
 
     def free(self) -> None:
-        self._free(self.library.likes_phase_free_nonnull)
+        self._free(self.library.likes_phase_free)
 
 
 class Driver(Held):
@@ -151,16 +151,17 @@ class Driver(Held):
         marks: Sequence[int] = (),
         lasts: Sequence[Optional[int]] = (),
     ) -> None:
-        super().__init__()
+        super().__init__(DriverHandle())
         self.pages = len(counts)
         self.owned: List[Any] = []
-        options = Options(whole("seats", seats), whole("users", users), whole("room", room), whole("hot", hot))
+        # In C, 0 seats or no room would be the default.
+        numbers = {"seats": whole("seats", seats) or MOST, "room": whole("room", room) or MOST}
         row = (c_uint64 * (self.pages + 1))(*(whole("count", it, MOST_64) for it in counts))
         marked, last = row_of("mark", marks), row_of("last like", [number_of(it) for it in lasts])
-        opened = self.library.likes_open_nonnull(
-            options, row, self.pages, marked, len(marks), last, len(lasts), self._at
-        )
-        check(opened, Status.OK)
+        arrays = {"counts": row, "marks": marked, "lasts": last}
+        lengths = {"pages": self.pages, "marks_len": len(marks), "lasts_len": len(lasts)}
+        options = Options(**arrays, **lengths, **numbers, users=whole("users", users), hot=whole("hot", hot) or NO_HOT)
+        check(self.library.likes_open(options, self._at), Status.OK)
 
     def __enter__(self) -> "Driver":
         return self
@@ -196,12 +197,12 @@ class Driver(Held):
 
     def snapshot(self, start: int = 0, length: Optional[int] = None) -> Optional[List[int]]:
         """The counts of the pages from start on, at the end of a joined phase that every seat has answered; or None."""
-        return self._counts(self.library.likes_driver_snapshot_nonnull, start, length)
+        return self._counts(self.library.likes_driver_snapshot, start, length)
 
     def last_counts(self, start: int = 0, length: Optional[int] = None) -> Optional[List[int]]:
         """The final counts of the pages from start on, where all seats are gone; or None. Then make turns with
         IF_IT_SERVES until ENDED, and try again."""
-        return self._counts(self.library.likes_driver_last_counts_nonnull, start, length)
+        return self._counts(self.library.likes_driver_last_counts, start, length)
 
     def _counts(self, call: Any, start: int, length: Optional[int]) -> Optional[List[int]]:
         start = whole("start", start)
@@ -214,17 +215,17 @@ class Driver(Held):
         """The pages that are split in the present split phase, or were in the last one."""
         most = whole("most", most)
         pages = (c_uint32 * (most + 1))()
-        told = self.call(self.library.likes_driver_split_pages_nonnull, pages, most)
+        told = self.call(self.library.likes_driver_split_pages, pages, most)
         return list(pages[:told])
 
     def propose(self, pages: Sequence[int]) -> None:
         """Proposes pages to be split, the first 64, in place of those that the library finds by itself. If there are
         none, it finds them again."""
         row = row_of("page", pages)
-        check(self.call(self.library.likes_driver_propose_nonnull, row, len(pages)), Status.OK)
+        check(self.call(self.library.likes_driver_propose, row, len(pages)), Status.OK)
 
     def close(self) -> None:
         """Frees the seats, the phase and the driver."""
         for owned in self.owned:
             owned.free()
-        self._free(self.library.likes_driver_free_nonnull)
+        self._free(self.library.likes_driver_free)

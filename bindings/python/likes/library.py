@@ -1,28 +1,40 @@
-"""The library by ctypes: its structures and its calls. Where likes.h has a call that takes NULL, the library has one
-that takes none, with _nonnull in its name."""
+"""The library by ctypes: its structures and its calls."""
 
 import ctypes
 import operator
 import os
-from ctypes import POINTER, Structure, c_bool, c_size_t, c_uint32, c_uint64, c_void_p
+from ctypes import POINTER, Structure, c_bool, c_char_p, c_size_t, c_uint32, c_uint64, c_void_p
 from functools import lru_cache
 from typing import Any, Optional, Sequence
 
 from .statuses import NO_PAGE
 
-VERSION = 4  # LIKES_VERSION of the likes.h that this package is written for
-SHARED = "liblikes.so.0.4"
+VERSION = 5  # LIKES_VERSION of the likes.h that this package is written for
+SHARED = "liblikes.so.0.5"
+NO_HOT = 2**32 - 1
 MOST = 2**32 - 1
 
 
 class Handle(Structure):
+    """Of a seat or a phase."""
+
     _fields_ = [("at", c_void_p)]
+
+
+class DriverHandle(Structure):
+    _fields_ = [("at", c_void_p), ("seats", c_uint64)]
 
 
 class Options(Structure):
     _fields_ = [
-        *((name, c_uint32) for name in ("seats", "users", "room", "hot")),
-        ("reserved", c_uint64 * 6),
+        ("counts", POINTER(c_uint64)),
+        ("pages", c_size_t),
+        ("marks", POINTER(c_uint32)),
+        ("marks_len", c_size_t),
+        ("lasts", POINTER(c_uint32)),
+        ("lasts_len", c_size_t),
+        *((name, c_uint32) for name in ("users", "seats", "room", "hot", "period_us", "reserved")),
+        ("reserved_too", c_uint64 * 5),
     ]
 
 
@@ -41,35 +53,38 @@ class FoundLook(Structure):
     ]
 
 
-HANDLE, COUNTS, PAGES = POINTER(Handle), POINTER(c_uint64), POINTER(c_uint32)
+HANDLE, COUNTS, PAGES = c_void_p, POINTER(c_uint64), POINTER(c_uint32)
 
 # What each call takes and gives.
 CALLS: Any = {
     "version": ([], c_uint32),
-    "open_nonnull": ([POINTER(Options), COUNTS, c_size_t, PAGES, c_size_t, PAGES, c_size_t, HANDLE], c_uint32),
+    "status_text": ([c_uint32], c_char_p),
+    "seat_of": ([c_uint32, c_uint32], c_uint32),
+    "open": ([POINTER(Options), HANDLE], c_uint32),
+    "driver_seats": ([HANDLE], c_uint32),
     "driver_take_seat": ([HANDLE, HANDLE], c_uint32),
     "driver_take_phase": ([HANDLE, HANDLE], c_uint32),
     "driver_turn": ([HANDLE, c_uint32], c_uint32),
     "driver_phase": ([HANDLE], c_uint64),
-    "driver_snapshot_nonnull": ([HANDLE, c_uint32, COUNTS, c_size_t], c_uint32),
-    "driver_last_counts_nonnull": ([HANDLE, c_uint32, COUNTS, c_size_t], c_uint32),
-    "driver_split_pages_nonnull": ([HANDLE, PAGES, c_size_t], c_size_t),
-    "driver_propose_nonnull": ([HANDLE, PAGES, c_size_t], c_uint32),
-    "driver_free_nonnull": ([HANDLE], None),
+    "driver_snapshot": ([HANDLE, c_uint32, COUNTS, c_size_t], c_uint32),
+    "driver_last_counts": ([HANDLE, c_uint32, COUNTS, c_size_t], c_uint32),
+    "driver_split_pages": ([HANDLE, PAGES, c_size_t], c_size_t),
+    "driver_propose": ([HANDLE, PAGES, c_size_t], c_uint32),
+    "driver_free": ([HANDLE], None),
     "seat_like": ([HANDLE, c_uint32, c_uint32], c_uint32),
     "seat_look": ([HANDLE, c_uint32, c_uint32, c_uint64, POINTER(Answer)], c_uint32),
     "seat_glance": ([HANDLE, c_uint32, c_uint32, POINTER(Answer)], c_uint32),
-    "seat_run_nonnull": ([HANDLE, c_void_p, c_size_t, c_void_p, c_size_t], c_size_t),
+    "seat_run": ([HANDLE, c_void_p, c_size_t, c_void_p, c_size_t], c_size_t),
     "seat_take_found": ([HANDLE, POINTER(FoundLook)], c_bool),
     "seat_last": ([HANDLE, c_uint32, PAGES], c_uint32),
-    "seat_lasts_nonnull": ([HANDLE, c_uint32, PAGES, c_size_t], c_uint32),
+    "seat_lasts": ([HANDLE, c_uint32, PAGES, c_size_t], c_uint32),
     "seat_turn": ([HANDLE], c_uint32),
     "seat_retire": ([HANDLE], c_uint32),
     "seat_come_back": ([HANDLE], c_uint32),
     "seat_phase": ([HANDLE], c_uint64),
-    "seat_free_nonnull": ([HANDLE], None),
+    "seat_free": ([HANDLE], None),
     "phase_now": ([HANDLE], c_uint64),
-    "phase_free_nonnull": ([HANDLE], None),
+    "phase_free": ([HANDLE], None),
 }
 
 

@@ -49,8 +49,10 @@ class Status(IntEnum):
 
     @property
     def text(self) -> str:
-        """The name, for messages."""
-        return self.name.lower().replace("_", " ")
+        """The text, for messages."""
+        from .library import load
+
+        return str(load().likes_status_text(self).decode())
 
 
 class Op(IntEnum):

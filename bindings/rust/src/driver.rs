@@ -40,21 +40,26 @@ impl Driver {
     /// If the library is of another version than this crate.
     pub fn open(options: &Options, counts: &[u64]) -> Result<Self, Error> {
         let Options { seats, users, room, hot, marks, lasts } = *options;
-        let numbers = Numbers { seats, users, room, hot, reserved: [0; 6] };
+        let numbers = Numbers {
+            counts: counts.as_ptr(),
+            pages: counts.len(),
+            marks: marks.as_ptr(),
+            marks_len: marks.len(),
+            lasts: lasts.as_ptr(),
+            lasts_len: lasts.len(),
+            users,
+            seats: given(seats),
+            room: given(room),
+            hot: if hot == 0 { ffi::NO_HOT } else { hot },
+            period_us: 0,
+            reserved: 0,
+            reserved_too: [0; 5],
+        };
         let mut handle = Handle::default();
         // SAFETY: each slice has the length that is told, and the handle is empty.
         let told = unsafe {
             assert_eq!(ffi::likes_version(), ffi::VERSION, "the version of the library");
-            ffi::likes_open_nonnull(
-                &numbers,
-                counts.as_ptr(),
-                counts.len(),
-                marks.as_ptr(),
-                marks.len(),
-                lasts.as_ptr(),
-                lasts.len(),
-                &mut handle,
-            )
+            ffi::likes_open(&numbers, &mut handle)
         };
         check(told)?;
         Ok(Self { handle, leaving: Arc::default() })
@@ -94,7 +99,7 @@ impl Driver {
     pub fn snapshot(&mut self, from: u32, counts: &mut [u64]) -> Result<Snapshot, Error> {
         let (at, length) = (counts.as_mut_ptr(), counts.len());
         // SAFETY: the driver is borrowed for this call, and the slice has the length that is told.
-        let number = unsafe { ffi::likes_driver_snapshot_nonnull(&mut self.handle, from, at, length) };
+        let number = unsafe { ffi::likes_driver_snapshot(&mut self.handle, from, at, length) };
         Snapshot::of(number).ok_or_else(|| error(number))
     }
 
@@ -106,7 +111,7 @@ impl Driver {
     pub fn last_counts(&mut self, from: u32, counts: &mut [u64]) -> Result<LastCounts, Error> {
         let (at, length) = (counts.as_mut_ptr(), counts.len());
         // SAFETY: the driver is borrowed for this call, and the slice has the length that is told.
-        let number = unsafe { ffi::likes_driver_last_counts_nonnull(&mut self.handle, from, at, length) };
+        let number = unsafe { ffi::likes_driver_last_counts(&mut self.handle, from, at, length) };
         LastCounts::of(number).ok_or_else(|| error(number))
     }
 
@@ -114,7 +119,7 @@ impl Driver {
     /// slice of [`MAX_SPLIT`](crate::MAX_SPLIT) has room for all.
     pub fn split_pages<'a>(&mut self, pages: &'a mut [u32]) -> &'a [u32] {
         // SAFETY: the driver is borrowed for this call, and the slice has the length that is told.
-        let told = unsafe { ffi::likes_driver_split_pages_nonnull(&mut self.handle, pages.as_mut_ptr(), pages.len()) };
+        let told = unsafe { ffi::likes_driver_split_pages(&mut self.handle, pages.as_mut_ptr(), pages.len()) };
         &pages[..told]
     }
 
@@ -122,7 +127,7 @@ impl Driver {
     /// that the library finds by itself. If there are none, it finds them again. Numbers that are no pages do nothing.
     pub fn propose(&mut self, pages: &[u32]) {
         // SAFETY: the driver is borrowed for this call, and the slice has the length that is told.
-        let told = unsafe { ffi::likes_driver_propose_nonnull(&mut self.handle, pages.as_ptr(), pages.len()) };
+        let told = unsafe { ffi::likes_driver_propose(&mut self.handle, pages.as_ptr(), pages.len()) };
         if told != status::OK {
             unlisted(told);
         }
@@ -147,6 +152,15 @@ fn is_taken(told: u32) -> bool {
 impl Drop for Driver {
     fn drop(&mut self) {
         // SAFETY: nobody else has the handle.
-        unsafe { ffi::likes_driver_free_nonnull(&mut self.handle) }
+        unsafe { ffi::likes_driver_free(&mut self.handle) }
+    }
+}
+
+/// A number that has to be given: in C, 0 would be its default.
+const fn given(number: u32) -> u32 {
+    if number == 0 {
+        u32::MAX
+    } else {
+        number
     }
 }

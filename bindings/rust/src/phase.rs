@@ -25,6 +25,6 @@ impl Phase {
 impl Drop for Phase {
     fn drop(&mut self) {
         // SAFETY: nobody else has the handle.
-        unsafe { ffi::likes_phase_free_nonnull(&mut self.handle) }
+        unsafe { ffi::likes_phase_free(&mut self.handle) }
     }
 }

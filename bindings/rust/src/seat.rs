@@ -23,7 +23,7 @@ impl SeatHandle {
 impl Drop for SeatHandle {
     fn drop(&mut self) {
         // SAFETY: nobody else has the handle. One that is empty stays as it is.
-        unsafe { ffi::likes_seat_free_nonnull(&mut self.0) }
+        unsafe { ffi::likes_seat_free(&mut self.0) }
     }
 }
 
@@ -89,7 +89,7 @@ impl Seat {
     pub fn run(&mut self, requests: &[Request], answers: &mut [Answer]) -> usize {
         let (asked, told) = (requests.len(), answers.len());
         // SAFETY: the seat is borrowed for this call, and each slice has the length that is told.
-        unsafe { ffi::likes_seat_run_nonnull(self.at(), requests.as_ptr(), asked, answers.as_mut_ptr(), told) }
+        unsafe { ffi::likes_seat_run(self.at(), requests.as_ptr(), asked, answers.as_mut_ptr(), told) }
     }
 
     /// Takes the next found look, in the order of asking. It works at any time, also when the seat is gone.
@@ -114,7 +114,7 @@ impl Seat {
     /// of all seats are of the same moment as the counts.
     pub fn lasts(&mut self, from: u32, lasts: &mut [Last]) -> Result<(), Error> {
         // SAFETY: the seat is borrowed for this call, and the slice has the length that is told.
-        check(unsafe { ffi::likes_seat_lasts_nonnull(self.at(), from, lasts.as_mut_ptr(), lasts.len()) })
+        check(unsafe { ffi::likes_seat_lasts(self.at(), from, lasts.as_mut_ptr(), lasts.len()) })
     }
 
     /// Does what the phase asks of the seat, and nothing else.

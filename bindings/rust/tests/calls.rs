@@ -86,6 +86,7 @@ fn wrong_openings_are_errors() {
         (Options { users: 0, ..right }, &[0], Error::WrongUsers),
         (Options { lasts: &[none; 3], ..right }, &[0], Error::WrongLasts),
         (Options { lasts: &[none, Last::of(1), none, none], ..right }, &[0], Error::WrongLasts),
+        (Options { seats: 0, ..right }, &[0], Error::WrongSeats),
         (Options { room: 0, ..right }, &[0], Error::WrongRoom),
         (Options { hot: likes::MAX_HOT + 1, ..right }, &[0], Error::WrongHot),
     ];

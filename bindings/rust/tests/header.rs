@@ -21,8 +21,10 @@ fn each_status_has_its_number_and_text() {
     let told = statuses(&header);
     assert_eq!(told.len(), 36);
     for (name, number) in told {
-        assert_eq!(status::text(number), name.to_lowercase().replace('_', " "), "{name}");
+        assert!(include_str!("../src/status.rs").contains(&format!("    {name} = {number};\n")), "{name}");
+        assert_ne!(status::text(number), "unknown status", "{name}");
     }
+    assert_eq!(status::text(status::WRONG_ROOM), "room is 1 to 4096");
     assert_eq!(status::text(18), "unknown status");
     assert_eq!(status::text(118), "unknown status");
 }
@@ -38,7 +40,7 @@ fn the_crate_has_the_version_of_the_header() {
 fn errors_have_the_numbers_of_statuses() {
     assert_eq!(Error::NoMemory as u32, status::NO_MEMORY);
     assert_eq!(Error::WrongLasts as u32, status::WRONG_LASTS);
-    assert_eq!(Error::WrongLasts.to_string(), "wrong lasts");
+    assert_eq!(Error::WrongLasts.to_string(), status::text(status::WRONG_LASTS));
 }
 
 #[test]

@@ -24,7 +24,7 @@ pub use seat_handle::SeatHandle;
 use std::alloc::Global;
 
 /// 1,000 times the number of the ABI, plus a number within it.
-const VERSION: u32 = 4;
+const VERSION: u32 = 5;
 
 /// The version of `likes.h` that the library has.
 #[unsafe(no_mangle)]

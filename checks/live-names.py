@@ -1,7 +1,7 @@
-"""Calls liblikes_service from a language that can't include a header, and compares the library's names with those of
-likes_service.h.
+"""Compares the names of the shared library with those of its headers, and calls a service from a language that can't
+include a header.
 
-usage: checks/live-opaque.py PREFIX
+usage: checks/live-names.py PREFIX
 """
 
 import ctypes
@@ -9,7 +9,7 @@ import re
 import subprocess
 import sys
 
-LIKED, SEEN, COUNTED, LATE, NO_PAGE = 1, 2, 14, 1006, 2**32 - 1
+LIKED, SEEN, COUNTED, NO_PAGE = 1, 2, 14, 2**32 - 1
 
 
 class Options(ctypes.Structure):
@@ -39,18 +39,35 @@ def numbers(kind, *values):
     return (kind * len(values))(*values), ctypes.c_size_t(len(values))
 
 
+def declared(prefix):
+    """The calls that the headers declare, and those that they define."""
+    text = ""
+    for header in ("likes.h", "likes_service.h"):
+        with open(f"{prefix}/include/{header}", encoding="ascii") as file:
+            text += file.read()
+    calls = set(re.findall(r"^(?!static|typedef)\w[\w *]*?\b(likes_\w+)\(", text, re.M))
+    return calls, re.findall(r"^static inline .*?(likes_\w+)\(", text, re.M)
+
+
+def symbols(*words):
+    """The names that nm tells of a file."""
+    told = subprocess.run(["nm", *words], check=True, capture_output=True, text=True).stdout
+    return {line.split()[-1] for line in told.splitlines() if line and not line.endswith(":")} - {"_init", "_fini"}
+
+
 def names(prefix):
-    """The library exports the calls that likes_service.h declares, and nothing else."""
-    with open(f"{prefix}/include/likes_service.h", encoding="ascii") as file:
-        declared = set(re.findall(r"^LIKES_SERVICE_CALL [\w *]+?(likes_\w+)\(", file.read(), re.M))
-    words = ["nm", "-D", "--defined-only", f"{prefix}/lib/liblikes_service.so"]
-    told = subprocess.run(words, check=True, capture_output=True, text=True).stdout
-    exported = {line.split()[-1] for line in told.splitlines()} - {"_init", "_fini"}
-    hold(exported == declared, f"the library has {sorted(exported ^ declared)}")
+    """The library has the calls that its headers declare, and nothing else: in the shared one all is hidden but these,
+    and in the archive local."""
+    calls, inline = declared(prefix)
+    hold(len(inline) == 1, f"the headers define {inline}")
+    for words in (["-D", "--defined-only", f"{prefix}/lib/liblikes.so"], ["-g", "--defined-only", f"{prefix}/lib/liblikes.a"]):
+        hold(symbols(*words) == calls, f"{words[-1]} has {sorted(symbols(*words) ^ calls)}")
+    nonnull = [name for name in symbols(f"{prefix}/lib/liblikes.a") if "nonnull" in name]
+    hold(not nonnull, f"the library has still {nonnull}")
 
 
 def calls(prefix):
-    library = ctypes.CDLL(f"{prefix}/lib/liblikes_service.so")
+    library = ctypes.CDLL(f"{prefix}/lib/liblikes.so")
     service, answer, told = ctypes.c_void_p(), Answer(), Statistics()
     counts, pages = numbers(ctypes.c_uint64, 10, 20)
     marks, marked = numbers(ctypes.c_uint32, 0)

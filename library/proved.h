@@ -1,0 +1,27 @@
+/* The proved calls over which core.c stands. In crates/like_c their names end in _nonnull; tools/liblikes gives them
+ * these, and hides them. They take no NULL. */
+#ifndef LIKES_PROVED_H
+#define LIKES_PROVED_H
+
+#include "likes.h"
+
+typedef struct likes_proved_options {
+    uint32_t seats, users, room, hot;
+    uint64_t reserved[6];
+} likes_proved_options;
+
+uint32_t likes_proved_open(const likes_proved_options *options, const uint64_t *counts, size_t pages,
+                           const uint32_t *marks, size_t marks_len, const uint32_t *lasts, size_t lasts_len,
+                           likes_driver *driver);
+uint32_t likes_proved_seat_lasts(likes_seat *seat, uint32_t from, uint32_t *pages, size_t pages_len);
+size_t likes_proved_seat_run(likes_seat *seat, const likes_request *requests, size_t requests_len,
+                             likes_answer *answers, size_t answers_len);
+uint32_t likes_proved_driver_snapshot(likes_driver *driver, uint32_t from, uint64_t *counts, size_t counts_len);
+uint32_t likes_proved_driver_last_counts(likes_driver *driver, uint32_t from, uint64_t *counts, size_t counts_len);
+size_t likes_proved_driver_split_pages(likes_driver *driver, uint32_t *pages, size_t pages_len);
+uint32_t likes_proved_driver_propose(likes_driver *driver, const uint32_t *pages, size_t pages_len);
+void likes_proved_seat_free(likes_seat *seat);
+void likes_proved_driver_free(likes_driver *driver);
+void likes_proved_phase_free(likes_phase *phase);
+
+#endif

@@ -1,0 +1,37 @@
+/* The seats that the calling thread holds, by likes_service_lock. A call that needed another lock could wait for the
+ * thread itself, so it is refused. */
+#ifndef LIKES_HELD_H
+#define LIKES_HELD_H
+
+#include "service.h"
+
+/* One place of each service, in a list. It is reached without a call, also in a shared library. */
+extern _Thread_local likes_place *likes_held __attribute__((tls_model("initial-exec")));
+
+/* Whether the thread holds a seat of a service. */
+static inline bool likes_holds_any(const likes_service *service) {
+    const likes_place *place = likes_held;
+    while (place != NULL && place->service != service)
+        place = place->next_held;
+    return place != NULL;
+}
+
+/* Whether the thread holds this place. */
+static inline bool likes_holds(const likes_place *it) {
+    const likes_place *place = likes_held;
+    while (place != NULL && place != it)
+        place = place->next_held;
+    return place != NULL;
+}
+
+/* Why a call that takes locks is refused, or LIKES_OK. */
+static inline uint32_t likes_call_fault(const likes_service *service) {
+    if (service == NULL || !service->is_open)
+        return LIKES_NOT_STARTED;
+    return likes_held != NULL && likes_holds_any(service) ? (uint32_t)LIKES_HOLDS_SEAT : (uint32_t)LIKES_OK;
+}
+
+/* Why a call at a seat that the thread has to hold is refused, or LIKES_OK. */
+uint32_t likes_held_fault(const likes_service *service, uint32_t number);
+
+#endif

@@ -1,0 +1,160 @@
+/* A service that threads share. Who does what:
+ *   - Phases. Whoever makes a turn of the driver that begins or ends a phase goes on with what comes of it
+ *     (likes_service_advance): the driver's thread when a phase is due, a thread that ticks, the last seat to answer,
+ *     or a look by which those that wait take half of the room.
+ *   - A seat that nobody holds. Whoever ends a phase does the seat's phase work, if the seat's lock is free. Otherwise
+ *     it leaves that to the thread that has the lock, which does the work when it gives the lock back (likes_lock). The
+ *     driver's turns are passed on in the same way. The driver's thread looks again from time to time.
+ *   - A thread whose seat is between two phases tries again for LIKES_SPIN_TIME. Then it sleeps until the next phase is
+ *     released, and lends the seat meanwhile: others may do its phase work and read its last likes, and whoever else
+ *     wants the seat sleeps too. If its call comes too late LIKES_MISSES times, no split phase ends before the call is
+ *     made (`starving`).
+ *   - A service without calls. After LIKES_QUIET_ROUNDS rounds without a call and without a seat that is held, a joined
+ *     phase goes on, and the driver's thread sleeps until the next call wakes it (`is_resting`). */
+#ifndef LIKES_SERVICE_INTERNAL_H
+#define LIKES_SERVICE_INTERNAL_H
+
+#include "place.h"
+
+/* How often a thread looks for the next phase, before it looks for other work. */
+#define LIKES_SPINS 64u
+
+/* How long a call tries again before it sleeps, in nanoseconds. */
+#define LIKES_SPIN_TIME UINT64_C(50000)
+
+/* How long a thread sleeps at most if nobody wakes it, in nanoseconds: one that waits for a phase; the driver's thread
+ * while threads hold their seats; and else while a phase goes on. */
+#define LIKES_PHASE_NAP UINT64_C(10000000)
+#define LIKES_DRIVER_NAP UINT64_C(1000000)
+#define LIKES_LONG_NAP UINT64_C(1000000000)
+
+/* In how many phases a thread's call comes too late, before the driver waits for the thread. */
+#define LIKES_MISSES 8u
+
+/* After this many rounds without a call, phases stop changing. */
+#define LIKES_QUIET_ROUNDS 2u
+
+/* How many pulses a period has while writers are open. A row is kept for two of them. */
+#define LIKES_PULSES 3u
+
+/* How long likes_service_snapshot waits for a seat that a thread holds, in nanoseconds. */
+#define LIKES_MOMENT UINT64_C(100000000)
+
+struct likes_service {
+    bool is_open;
+    uint32_t seats, users;
+    size_t pages;
+    uint64_t period;  /* in nanoseconds */
+    uint64_t inverse; /* of `seats`, for likes_remainder */
+    bool may_find;    /* pages get hot by themselves */
+    char apart[128];
+    bool is_resting;   /* the driver's thread sleeps until a call comes; atomic */
+    uint64_t pulse;    /* for writers: goes up LIKES_PULSES times in a period. 0: the service rests; atomic */
+    uint64_t due;      /* when the phase may end, by likes_clock; atomic */
+    uint64_t next;     /* when the driver's next turn is worth making, by likes_clock; atomic */
+    uint64_t released; /* the phase that was last released; atomic, written under `changing` */
+    char apart_too[128];
+    uint32_t writers;  /* how many are open; atomic */
+    uint32_t starving; /* how many threads have missed phases, and wait for the next one to make a call; atomic */
+    uint32_t was_held; /* LIKES_HELD_NAP, LIKES_HELD_ROUND: a seat's lock was taken when somebody tried it; atomic */
+    likes_lock driving;
+    likes_driver driver;      /* used under `driving` */
+    uint64_t pulses, pulsed;  /* under `driving`: how many pulses there were, and when the last one */
+    bool is_ending;           /* under `driving`: the end of the present phase was announced */
+    uint32_t quiet;           /* under `driving`: how many rounds had no call, one after the other */
+    uint64_t calls;           /* under `driving`: how many calls there had been when the last round ended */
+    pthread_mutex_t changing; /* for those that wait for a phase */
+    pthread_cond_t changed;
+    likes_phase phase;
+    pthread_mutex_t napping; /* for the driver's thread */
+    pthread_cond_t woken;
+    bool is_called; /* used under `napping` */
+    pthread_t thread;
+    bool has_thread, is_stopping;
+    likes_place places[];
+};
+
+/* Of `was_held`: for the driver's thread, and for the rounds. */
+#define LIKES_HELD_NAP 1u
+#define LIKES_HELD_ROUND 2u
+
+/* The remainder of a division by a divisor whose inverse is UINT64_MAX / divisor + 1, without the division
+ * (D. Lemire, O. Kaser, N. Kurz, "Faster Remainder by Direct Computation", 2019). */
+static inline uint32_t likes_remainder(uint32_t number, uint64_t inverse, uint32_t divisor) {
+    __extension__ typedef unsigned __int128 wide;
+    return (uint32_t)(((wide)(inverse * number) * divisor) >> 64);
+}
+
+static inline likes_place *likes_place_of(likes_service *service, uint32_t user) {
+    return &service->places[likes_remainder(user, service->inverse, service->seats)];
+}
+
+/* turns.c: the driver's turns, and the phase work of seats. */
+
+/* Makes a turn of the driver with `driving` held. */
+uint32_t likes_service_turn(likes_service *service, uint32_t end);
+
+/* Whether the present phase, which is split, has to go on for threads that missed others. With `driving` held. */
+bool likes_service_starves(const likes_service *service);
+
+/* Makes turns of the driver and of the seats that nobody holds, until nothing is left that can be done now. It gives
+ * the last answer of the driver. */
+uint32_t likes_service_advance(likes_service *service);
+
+/* Makes the next round count as one with a call, with `driving` held. So the next two split phases come. */
+void likes_service_stir(likes_service *service);
+
+/* Makes a turn of the driver due at once. */
+void likes_service_hurry(likes_service *service);
+
+/* Notes that the driver's thread sleeps until it is called. Then there is no pulse. */
+static inline void likes_service_rest(likes_service *service) {
+    __atomic_store_n(&service->is_resting, true, __ATOMIC_SEQ_CST);
+    __atomic_store_n(&service->pulse, 0, __ATOMIC_SEQ_CST);
+}
+
+/* thread.c: the driver's thread. */
+void *likes_service_thread(void *service);
+
+/* Wakes the driver's thread. */
+void likes_service_call(likes_service *service);
+
+/* Whether a seat was held since the last time that this was asked, for the nap or for the round. */
+static inline bool likes_service_was_held(likes_service *service, uint32_t why) {
+    return (__atomic_fetch_and(&service->was_held, ~why, __ATOMIC_SEQ_CST) & why) != 0;
+}
+
+/* waits.c: calls that wait for a phase. */
+
+/* Makes a request again until the seat isn't between two phases, with the place's lock held, or until a time. */
+void likes_place_retry(likes_service *service, likes_place *place, const likes_request *request, uint64_t until,
+                       likes_answer *answer);
+
+/* Runs requests with the place's lock held, through changes of phases, up to a look that has no room, and gives the
+ * number of those done. */
+size_t likes_place_run(likes_service *service, likes_place *place, const likes_request *requests, size_t length,
+                       likes_answer *answers);
+
+/* Passes a moment, for a thread that has waited since a time: it soon sleeps, the longer the longer it has waited. */
+void likes_pass(uint64_t since);
+
+static inline likes_request likes_request_of(uint32_t op, uint32_t user, uint32_t page, uint64_t tag) {
+    likes_request made = {.tag = tag, .user = user, .page = page, .op = op};
+    return made;
+}
+
+/* Gives a place's lock back, and does what others left to this thread. */
+void likes_place_give_missed(likes_service *service, likes_place *place);
+
+static inline void likes_place_give(likes_service *service, likes_place *place) {
+    likes_place_deliver(place);
+    if (likes_place_unlock(place))
+        likes_place_give_missed(service, place);
+    if (__atomic_load_n(&service->is_resting, __ATOMIC_SEQ_CST))
+        likes_service_call(service);
+}
+
+/* opening.c: frees the seats and the driver, the rings and the locks. */
+void likes_service_end(likes_service *service);
+
+#endif

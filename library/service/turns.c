@@ -1,0 +1,191 @@
+/* The driver's turns, and the phase work of the seats that nobody holds. */
+#include "service.h"
+
+void likes_service_seat_turns(likes_service *service) {
+    if (likes_service_fault(service) != LIKES_OK)
+        return;
+    for (uint32_t i = 0; i < service->seats; i++)
+        if (!likes_place_turn(&service->places[i]))
+            __atomic_store_n(&service->was_held, LIKES_HELD_NAP | LIKES_HELD_ROUND, __ATOMIC_SEQ_CST);
+}
+
+/* How many calls were made at all seats. */
+static uint64_t calls_of(const likes_service *service) {
+    uint64_t calls = 0;
+    for (uint32_t i = 0; i < service->seats; i++)
+        calls += __atomic_load_n(&service->places[i].tally.calls, __ATOMIC_RELAXED);
+    return calls;
+}
+
+/* Ends a round, with `driving` held. */
+static void end_round(likes_service *service) {
+    uint64_t calls = calls_of(service);
+    bool was_held = likes_service_was_held(service, LIKES_HELD_ROUND);
+    service->quiet = calls != service->calls || was_held ? 0 : service->quiet + 1;
+    service->calls = calls;
+}
+
+void likes_service_stir(likes_service *service) {
+    service->quiet = 0;
+    service->calls = UINT64_MAX;
+}
+
+void likes_service_hurry(likes_service *service) {
+    likes_set_time(&service->due, 0);
+    likes_set_time(&service->next, 0);
+}
+
+/* Lets the driver's thread sleep until it is called, with `driving` held. Calls are made under a seat's lock. So a call
+ * was made before this thread has had that lock, and is seen here, or it sees that the driver rests. */
+static void begin_rest(likes_service *service) {
+    bool is_quiet = true;
+    likes_service_rest(service);
+    for (uint32_t i = 0; i < service->seats && is_quiet; i++) {
+        is_quiet = pthread_mutex_trylock(&service->places[i].lock.mutex) == 0;
+        if (is_quiet && likes_place_unlock(&service->places[i]))
+            likes_place_turn(&service->places[i]);
+    }
+    if (!is_quiet || calls_of(service) != service->calls) {
+        __atomic_store_n(&service->is_resting, false, __ATOMIC_SEQ_CST);
+        likes_service_hurry(service);
+        likes_service_stir(service);
+    }
+}
+
+uint32_t likes_service_turn(likes_service *service, uint32_t end) {
+    uint32_t status = likes_driver_turn(&service->driver, end);
+    if (status == LIKES_ANNOUNCED)
+        service->is_ending = true;
+    if (status == LIKES_RELEASED) {
+        uint64_t phase = likes_driver_phase(&service->driver);
+        service->is_ending = false;
+        pthread_mutex_lock(&service->changing);
+        likes_set_time(&service->released, phase);
+        pthread_mutex_unlock(&service->changing);
+    }
+    return status;
+}
+
+bool likes_service_starves(const likes_service *service) {
+    return !service->is_ending && __atomic_load_n(&service->starving, __ATOMIC_SEQ_CST) > 0;
+}
+
+/* The turn in a split phase, or at its end. From the end of one split phase to that of the next is a period, or less
+ * where the looks that wait at a seat take half of its room: a busy thread that ticks finds that within an eighth of a
+ * period. */
+static uint32_t split_turn(likes_service *service, uint64_t now) {
+    uint64_t left = likes_time_left(&service->due, now);
+    uint32_t status = LIKES_GOES_ON;
+    if (!likes_service_starves(service))
+        status = likes_service_turn(service, left > 0 ? LIKES_NO_END : LIKES_END_IF_IT_SERVES);
+    if (status == LIKES_ENDED) /* all seats have left, but the phase goes on */
+        status = likes_service_turn(service, LIKES_END_IF_IT_SERVES);
+    if (status == LIKES_ANNOUNCED) {
+        likes_set_time(&service->due, now + service->period);
+        end_round(service);
+    }
+    if (status == LIKES_GOES_ON && left > service->period / 8)
+        left = service->period / 8;
+    likes_set_time(&service->next, now + (status == LIKES_GOES_ON ? left : 0));
+    return status;
+}
+
+/* The turn in a joined phase, or at its end. It ends as soon as every seat has run what waited. Where no page is split
+ * it goes on, and the driver looks for hot pages once in a period, and at least once in a millisecond. Each choice
+ * forgets a part of what it knows, so with more of them a page would need more likes to get hot. Where no call is made
+ * it goes on too. */
+static uint32_t joined_turn(likes_service *service, uint64_t now, bool is_new) {
+    uint64_t left = likes_time_left(&service->due, now), nap = LIKES_LONG_NAP;
+    bool was_quiet = service->quiet >= LIKES_QUIET_ROUNDS;
+    if (was_quiet || (left == 0 && !is_new && !service->is_ending))
+        end_round(service);
+    bool is_quiet = service->quiet >= LIKES_QUIET_ROUNDS, may_end = (is_new || was_quiet || left == 0) && !is_quiet;
+    uint32_t status = likes_service_turn(service, may_end ? LIKES_END_IF_IT_SERVES : LIKES_NO_END);
+    if (status == LIKES_ANNOUNCED && !is_new)
+        likes_set_time(&service->due, now);
+    if (status == LIKES_RELEASED && left < service->period / 2)
+        likes_set_time(&service->due, now + service->period / 2);
+    if (status == LIKES_GOES_ON && !is_quiet && service->may_find)
+        nap = service->period < LIKES_DRIVER_NAP ? service->period : LIKES_DRIVER_NAP;
+    if (status == LIKES_GOES_ON && (may_end || is_quiet))
+        likes_set_time(&service->due, now + nap);
+    likes_set_time(&service->next, now + (status == LIKES_GOES_ON ? likes_time_left(&service->due, now) : 0));
+    if (status == LIKES_GOES_ON && is_quiet && !__atomic_load_n(&service->is_resting, __ATOMIC_SEQ_CST))
+        begin_rest(service);
+    return status;
+}
+
+/* Goes on to the next pulse, if that is due, with `driving` held. */
+static void pulse(likes_service *service, uint64_t now) {
+    bool is_due = now - service->pulsed >= service->period / LIKES_PULSES;
+    is_due |= __atomic_load_n(&service->pulse, __ATOMIC_RELAXED) == 0;
+    if (!is_due || __atomic_load_n(&service->is_resting, __ATOMIC_SEQ_CST))
+        return;
+    service->pulsed = now;
+    __atomic_store_n(&service->pulse, ++service->pulses, __ATOMIC_SEQ_CST);
+}
+
+/* The driver's turn, with `driving` held. `has_work` is set where seats have phase work to do, and `has_news` where the
+ * threads have to be told that sleep until a phase is released. They sleep on in a joined phase that ends at once, and
+ * their seats are lent meanwhile. */
+static uint32_t driver_turn(likes_service *service, bool *has_work, bool *has_news) {
+    uint64_t now = likes_clock();
+    uint32_t status;
+    pulse(service, now);
+    if (likes_driver_phase(&service->driver) % 2 == 0) {
+        status = joined_turn(service, now, false);
+        *has_work |= status == LIKES_ANNOUNCED;
+        *has_news |= status == LIKES_RELEASED;
+    } else {
+        status = split_turn(service, now);
+        *has_work |= status == LIKES_ANNOUNCED || status == LIKES_RELEASED;
+        if (status == LIKES_RELEASED) {
+            status = joined_turn(service, now, true);
+            *has_news |= status != LIKES_ANNOUNCED;
+        }
+    }
+    return status;
+}
+
+/* Makes a turn, or leaves it to the thread that is making one. */
+static uint32_t try_turn(likes_service *service, bool *has_work) {
+    uint32_t status = LIKES_NOT_ALL_IN;
+    bool is_missed = true, has_news = false;
+    while (is_missed && likes_lock_try(&service->driving)) {
+        status = driver_turn(service, has_work, &has_news);
+        is_missed = likes_lock_give(&service->driving);
+    }
+    if (has_news)
+        pthread_cond_broadcast(&service->changed);
+    return status;
+}
+
+uint32_t likes_service_advance(likes_service *service) {
+    uint32_t status;
+    bool has_work;
+    do {
+        has_work = false;
+        status = try_turn(service, &has_work);
+        if (has_work)
+            likes_service_seat_turns(service);
+    } while (has_work);
+    return status;
+}
+
+uint32_t likes_service_drive(likes_service *service) {
+    uint32_t fault = likes_service_fault(service);
+    bool has_work = false;
+    if (fault != LIKES_OK)
+        return fault;
+    uint32_t status = try_turn(service, &has_work);
+    if (has_work) {
+        likes_service_seat_turns(service);
+        likes_service_advance(service);
+    }
+    return status;
+}
+
+void likes_service_tick(likes_service *service) {
+    if (likes_service_fault(service) == LIKES_OK && likes_time_left(&service->next, likes_clock()) == 0)
+        likes_service_drive(service);
+}

@@ -1,0 +1,209 @@
+/* Writers: each keeps likes in rows, one for each seat, and hands a row over as a whole.
+ *
+ * A row is handed over when it is full, and else by the service's pulse, a number that its driver's turns raise three
+ * times in a period. A call that sees another one hands over the rows that were begun before the last one: so none is
+ * kept for longer than a period, as long as the writer is called, and a call reads no clock. While the service rests,
+ * there is no pulse, and a call reads the clock. */
+#include "held.h"
+
+#include <stdlib.h>
+
+enum { ROW = 64 };
+
+/* In place of the pulse that a writer has seen: there was none. */
+#define NO_PULSE UINT64_MAX
+
+struct likes_writer {
+    likes_service *service;
+    uint32_t users, seats;
+    size_t pages;
+    uint64_t inverse;      /* of `seats`, for likes_remainder */
+    uint64_t pulse;        /* at the last call */
+    uint64_t since;        /* without a pulse: when the first like that is kept came */
+    uint64_t begun, older; /* the seats whose rows have got likes since the last pulse, and before. A bit for each */
+    uint32_t handed;       /* how many full rows were handed over */
+    uint8_t lengths[LIKES_MAX_SEATS];
+    likes_answer answers[ROW];
+    likes_request rows[][ROW];
+};
+
+/* Notes that so many likes of a row are counted, or dropped. */
+static void take_off(likes_writer *writer, uint32_t seat, uint32_t done) {
+    uint32_t left = writer->lengths[seat] - done;
+    likes_request *row = writer->rows[seat];
+    writer->lengths[seat] = (uint8_t)left;
+    if (left > 0) {
+        memmove(row, row + done, left * sizeof *row);
+    } else {
+        writer->begun &= ~(UINT64_C(1) << seat);
+        writer->older &= ~(UINT64_C(1) << seat);
+    }
+}
+
+/* Hands a row over: LIKES_OK, or why likes stay kept. Those that are counted come first. */
+static uint32_t hand_over(likes_writer *writer, uint32_t seat) {
+    likes_place *place = &writer->service->places[seat];
+    uint32_t length = writer->lengths[seat], done = length;
+    if (length == 0)
+        return LIKES_OK;
+    likes_place_take(place, UINT64_MAX);
+    likes_place_run(writer->service, place, writer->rows[seat], length, writer->answers);
+    uint32_t status = writer->answers[length - 1].status;
+    if (status != LIKES_LIKED)
+        for (done = 0; writer->answers[done].status == LIKES_LIKED;)
+            done++;
+    likes_add(&place->tally.likes, done);
+    likes_place_give(writer->service, place);
+    take_off(writer, seat, done);
+    return status == LIKES_LIKED ? (uint32_t)LIKES_OK : status;
+}
+
+/* Hands over the rows of these seats: LIKES_OK, or why likes of the first that is refused stay kept. */
+static uint32_t hand_over_all(likes_writer *writer, uint64_t seats) {
+    uint32_t status = LIKES_OK;
+    for (; seats != 0; seats &= seats - 1) {
+        uint32_t told = hand_over(writer, (uint32_t)__builtin_ctzll(seats));
+        status = status == LIKES_OK ? told : status;
+    }
+    return status;
+}
+
+/* Sees another pulse: rows that have got likes before the last one are due. */
+static void notice_pulse(likes_writer *writer, uint64_t pulse) {
+    uint64_t due = pulse == writer->pulse + 1 ? writer->older : writer->older | writer->begun;
+    writer->pulse = pulse;
+    hand_over_all(writer, due);
+    writer->older |= writer->begun;
+    writer->begun = 0;
+}
+
+/* Looks at the clock, where the service rests. What was kept when it began to is due. */
+static void notice_time(likes_writer *writer) {
+    uint64_t now = likes_clock(), kept = writer->older | writer->begun;
+    bool is_due = writer->pulse != NO_PULSE || now - writer->since >= writer->service->period;
+    writer->pulse = NO_PULSE;
+    if (kept != 0 && is_due) {
+        hand_over_all(writer, kept);
+        kept = writer->older | writer->begun;
+    }
+    if (kept == 0 || is_due)
+        writer->since = now;
+}
+
+/* Whether nothing may be due: the writer has seen the pulse. */
+static inline bool has_seen_pulse(const likes_writer *writer) {
+    return __atomic_load_n(&writer->service->pulse, __ATOMIC_RELAXED) == writer->pulse;
+}
+
+/* Hands over what is due. */
+static void notice(likes_writer *writer) {
+    uint64_t pulse = __atomic_load_n(&writer->service->pulse, __ATOMIC_RELAXED);
+    if (pulse == 0)
+        notice_time(writer);
+    else if (pulse != writer->pulse)
+        notice_pulse(writer, pulse);
+}
+
+/* Why a call of a writer is refused, or LIKES_OK. */
+static inline uint32_t fault_of(const likes_writer *writer) {
+    if (writer == NULL)
+        return LIKES_NOT_STARTED;
+    return likes_held != NULL && likes_holds_any(writer->service) ? (uint32_t)LIKES_HOLDS_SEAT : (uint32_t)LIKES_OK;
+}
+
+uint32_t likes_writer_open(likes_service *service, likes_writer **writer) {
+    uint32_t fault = likes_service_fault(service);
+    if (fault != LIKES_OK)
+        return fault;
+    if (*writer != NULL)
+        return LIKES_IN_USE;
+    likes_writer *made = (likes_writer *)calloc(1, sizeof *made + service->seats * sizeof *made->rows);
+    if (made == NULL)
+        return LIKES_NO_MEMORY;
+    made->service = service;
+    made->users = service->users;
+    made->seats = service->seats;
+    made->pages = service->pages;
+    made->inverse = service->inverse;
+    made->pulse = NO_PULSE;
+    __atomic_fetch_add(&service->writers, 1, __ATOMIC_SEQ_CST);
+    *writer = made;
+    return LIKES_OK;
+}
+
+/* Hands over a row that has become full. Now and then the writer makes the driver's turn, if one is due. */
+LIKES_SELDOM static uint32_t hand_over_full(likes_writer *writer, uint32_t seat) {
+    if (hand_over(writer, seat) == LIKES_OK && ++writer->handed % 4 == 0)
+        likes_service_tick(writer->service);
+    return LIKES_OK;
+}
+
+/* Keeps a like in a row that has room. */
+static inline uint32_t keep(likes_writer *writer, uint32_t seat, uint32_t user, uint32_t page) {
+    likes_request *at = &writer->rows[seat][writer->lengths[seat]];
+    at->user = user;
+    at->page = page;
+    writer->begun |= UINT64_C(1) << seat;
+    return ++writer->lengths[seat] < ROW ? (uint32_t)LIKES_OK : hand_over_full(writer, seat);
+}
+
+/* What likes_writer_like does where rows may be due, and where it may be refused. */
+LIKES_SELDOM static uint32_t like_with_care(likes_writer *writer, uint32_t user, uint32_t page) {
+    uint32_t fault = fault_of(writer);
+    if (fault != LIKES_OK)
+        return fault;
+    if (user >= writer->users)
+        return LIKES_UNKNOWN_USER;
+    if (page >= writer->pages)
+        return LIKES_UNKNOWN_PAGE;
+    notice(writer);
+    uint32_t seat = likes_remainder(user, writer->inverse, writer->seats);
+    uint32_t status = writer->lengths[seat] == ROW ? hand_over(writer, seat) : (uint32_t)LIKES_OK;
+    return writer->lengths[seat] == ROW ? status : keep(writer, seat, user, page);
+}
+
+uint32_t likes_writer_like(likes_writer *writer, uint32_t user, uint32_t page) {
+    if (writer == NULL || likes_held != NULL || user >= writer->users || page >= writer->pages ||
+        !has_seen_pulse(writer))
+        return like_with_care(writer, user, page);
+    uint32_t seat = likes_remainder(user, writer->inverse, writer->seats);
+    return writer->lengths[seat] < ROW ? keep(writer, seat, user, page) : like_with_care(writer, user, page);
+}
+
+uint32_t likes_writer_look(likes_writer *writer, uint32_t user, uint32_t page, likes_answer *answer) {
+    uint32_t fault = fault_of(writer);
+    if (fault != LIKES_OK)
+        return likes_refuse(answer, fault);
+    notice(writer);
+    if (user < writer->users) {
+        uint32_t status = hand_over(writer, likes_remainder(user, writer->inverse, writer->seats));
+        if (status != LIKES_OK)
+            return likes_refuse(answer, status);
+    }
+    return likes_service_look(writer->service, user, page, answer);
+}
+
+uint32_t likes_writer_flush(likes_writer *writer) {
+    uint32_t fault = fault_of(writer);
+    return fault == LIKES_OK ? hand_over_all(writer, writer->older | writer->begun) : fault;
+}
+
+size_t likes_writer_drop(likes_writer *writer) {
+    size_t dropped = 0;
+    if (writer == NULL)
+        return 0;
+    for (uint32_t seat = 0; seat < writer->seats; seat++) {
+        dropped += writer->lengths[seat];
+        take_off(writer, seat, writer->lengths[seat]);
+    }
+    return dropped;
+}
+
+uint32_t likes_writer_close(likes_writer *writer) {
+    uint32_t status = writer != NULL ? likes_writer_flush(writer) : (uint32_t)LIKES_OK;
+    if (status != LIKES_OK || writer == NULL)
+        return status;
+    __atomic_fetch_sub(&writer->service->writers, 1, __ATOMIC_SEQ_CST);
+    free(writer);
+    return LIKES_OK;
+}
