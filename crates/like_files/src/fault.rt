@@ -5,24 +5,32 @@ ghost use Rattle.like_files.specs.declared.fault.DriverFault.TheVariants as driv
 use like_replies::WriteFault;
 use like_requests::{PagesFault, RequestsFault, SettingsFault};
 use like_run::{ReplayFault, RunFault, ScriptFault};
+use thiserror::Error;
 
-/// Why a run or a replay ended without its report.
-#[derive(Clone, Copy, Debug, PartialEq, Eq)]
+/// Why a run or a replay ended without its report. The text doesn't name the file at fault; `line` does.
+#[derive(Clone, Copy, Debug, PartialEq, Eq, Error)]
 pub enum DriverFault {
+    #[error("{0}")]
     Pages(PagesFault),
+    #[error("{fault}")]
     Requests {
         submitter: u32,
         fault: RequestsFault,
     },
+    #[error("{0}")]
     Script(ScriptFault),
+    #[error("{0}")]
     Settings(SettingsFault),
-    /// A thread could not be started.
+    #[error("a thread could not be started")]
     Start,
     /// The replay did not end in 1,000,000 rounds.
+    #[error("not finished after 1000000 rounds")]
     Unfinished,
     /// The output failed.
+    #[error("write failed")]
     Write,
     /// Memory ran out, in the run or the report.
+    #[error("out of memory")]
     Memory,
 }
 

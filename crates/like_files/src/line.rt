@@ -82,16 +82,13 @@ impl DriverFault {
 
     // What the line says of the file.
     fn text(&self) -> InlineText<ROOM> {
+        let fault = *self;
         match self {
-            DriverFault::Pages(fault) => InlineText::of(*fault),
-            DriverFault::Requests { fault, .. } => InlineText::of(*fault),
-            DriverFault::Script(fault) => InlineText::of(*fault),
             DriverFault::Settings(SettingsFault::Script { at }) => {
                 let row = u64::from(*at) + 1;
-                let fault = SettingsFault::Script { at: *at };
                 InlineText::of(format_args!("row {row}: {fault}"))
             }
-            _ => InlineText::new(),
+            _ => InlineText::of(fault),
         }
     }
 }
