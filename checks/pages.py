@@ -1,6 +1,4 @@
-"""The pages: their blocks of shell commands, run in a folder that holds the repository; what they name, and how long
-they are.
-"""
+"""The pages: their blocks of shell commands, run in a folder that holds the repository, and what they name."""
 
 import glob
 import os
@@ -11,14 +9,8 @@ import runs
 # The text before a block, its language, and the block.
 BLOCK = re.compile(r"(.*?)^```(\w*)\n(.*?)^```$", re.M | re.S)
 
-# The pages that are made, and how many words these and all others have at most.
-MADE, MADE_WORDS, WRITTEN_WORDS = ["docs/LIVE.md", "docs/MODEL.md", "docs/STATEMENT.md"], 14_000, 37_500
-
-# How many lines README.md has at most.
-README_LINES = 120
-
 # The folders whose files pages name, and whose words count as names.
-FOLDERS = ("bench", "bindings", "checks", "completions", "crates", "docs", "examples", "include", "pictures", "tools")
+FOLDERS = ("bench", "bindings", "checks", "completions", "crates", "docs", "examples", "include", "library", "pictures", "tools")
 
 # A page's section, as another page names it, and a file of a crate.
 SECTION = re.compile(r"([A-Z]\w*\.md)`?,? \(?\"([^\"]+)\"")
@@ -36,20 +28,6 @@ def every_page(*others):
     for where in ("docs/*.md", "crates/*/README.md", *others):
         found += glob.glob(where, root_dir=runs.ROOT, recursive=True)
     return ["README.md", *sorted(found)]
-
-
-def too_long():
-    """What is wrong with the lengths of the pages."""
-    words = {page: len(text_of(page).split()) for page in every_page()}
-    made = sum(words[page] for page in MADE)
-    written = sum(words.values()) - made
-    print(f"words: {written} of at most {WRITTEN_WORDS} in written pages, {made} of at most {MADE_WORDS} in made ones")
-    if written > WRITTEN_WORDS:
-        yield f"the written pages have {written} words, more than {WRITTEN_WORDS}"
-    if made > MADE_WORDS:
-        yield f"the made pages have {made} words, more than {MADE_WORDS}"
-    if text_of("README.md").count("\n") > README_LINES:
-        yield f"README.md has more than {README_LINES} lines"
 
 
 def absent(page):
