@@ -322,7 +322,7 @@ static void *ask(void *at) {
     return NULL;
 }
 
-/* Holds the seat until it has taken a found look past the helpers. Whether there was one, for a while. */
+/* Holds the seat until it has taken a found look past the service. Whether there was one, for a while. */
 static bool take_one(void) {
     likes_found found;
     bool is_taken = false;

@@ -13,8 +13,12 @@ LIKED, SEEN, COUNTED, NO_PAGE = 1, 2, 14, 2**32 - 1
 
 
 class Options(ctypes.Structure):
-    _fields_ = [(name, ctypes.c_uint32) for name in ("seats", "users", "room", "hot")] + [
-        ("reserved", ctypes.c_uint64 * 6)
+    _fields_ = [
+        *[("counts", ctypes.c_void_p), ("pages", ctypes.c_size_t)],
+        *[("marks", ctypes.c_void_p), ("marks_len", ctypes.c_size_t)],
+        *[("lasts", ctypes.c_void_p), ("lasts_len", ctypes.c_size_t)],
+        *[(name, ctypes.c_uint32) for name in ("users", "seats", "room", "hot", "period_us", "reserved")],
+        ("reserved_too", ctypes.c_uint64 * 5),
     ]
 
 
@@ -36,7 +40,7 @@ def hold(is_right, what):
 
 
 def numbers(kind, *values):
-    return (kind * len(values))(*values), ctypes.c_size_t(len(values))
+    return (kind * len(values))(*values), len(values)
 
 
 def declared(prefix):
@@ -60,8 +64,9 @@ def names(prefix):
     and in the archive local."""
     calls, inline = declared(prefix)
     hold(len(inline) == 1, f"the headers define {inline}")
-    for words in (["-D", "--defined-only", f"{prefix}/lib/liblikes.so"], ["-g", "--defined-only", f"{prefix}/lib/liblikes.a"]):
-        hold(symbols(*words) == calls, f"{words[-1]} has {sorted(symbols(*words) ^ calls)}")
+    for kind, file in (("-D", "liblikes.so"), ("-g", "liblikes.a")):
+        found = symbols(kind, "--defined-only", f"{prefix}/lib/{file}")
+        hold(found == calls, f"{file} has {sorted(found ^ calls)}")
     nonnull = [name for name in symbols(f"{prefix}/lib/liblikes.a") if "nonnull" in name]
     hold(not nonnull, f"the library has still {nonnull}")
 
@@ -72,17 +77,17 @@ def calls(prefix):
     counts, pages = numbers(ctypes.c_uint64, 10, 20)
     marks, marked = numbers(ctypes.c_uint32, 0)
     lasts, users = numbers(ctypes.c_uint32, *[NO_PAGE] * 4)
-    options = Options(seats=2, users=4, room=8)
-    status = library.likes_service_open(
-        *[ctypes.byref(options), counts, pages, marks, marked, None, ctypes.c_size_t(0), 1000, ctypes.byref(service)]
-    )
+    options = Options(users=4, seats=2)
+    options.counts, options.pages = ctypes.addressof(counts), pages
+    options.marks, options.marks_len = ctypes.addressof(marks), marked
+    status = library.likes_service_open(ctypes.byref(options), ctypes.byref(service))
     hold(status == 0 and service, "no service was opened")
     hold(library.likes_service_like(service, 3, 0) == LIKED, "a like was refused")
     hold(library.likes_service_look(service, 3, 0, ctypes.byref(answer)) == SEEN, "a look was not answered")
     hold((answer.count, answer.last) == (11, 0), "a look shows something else")
     status = library.likes_service_look_within(service, 3, 1, 1000000, ctypes.byref(answer))
     hold(status == SEEN and answer.count == 20, "a look was late")
-    status = library.likes_service_snapshot(service, counts, pages, lasts, users)
+    status = library.likes_service_snapshot(service, counts, ctypes.c_size_t(pages), lasts, ctypes.c_size_t(users))
     hold(status == COUNTED and [*counts] == [11, 20] and [*lasts] == [NO_PAGE] * 3 + [0], "a snapshot is wrong")
     hold(library.likes_service_statistics(service, ctypes.byref(told)) == 0, "there are no statistics")
     hold((told.likes, told.looks) == (1, 2) and told.phases >= 1, "the statistics are wrong")
@@ -91,7 +96,12 @@ def calls(prefix):
     hold(library.likes_service_split_pages(service, split, ctypes.c_size_t(64)) == 1 and split[0] == 0, "other pages")
     library.likes_service_phase.restype = ctypes.c_uint64
     hold(library.likes_service_phase(service) >= told.phases, "the phase fell")
-    hold(library.likes_service_stop(service, counts, pages) == 0 and [*counts] == [11, 20], "the totals are wrong")
+    writer = ctypes.c_void_p()
+    hold(library.likes_writer_open(service, ctypes.byref(writer)) == 0 and writer, "no writer was opened")
+    hold(library.likes_writer_like(writer, 1, 1) == 0, "a like was not kept")
+    hold(library.likes_writer_close(writer) == 0, "a writer was not closed")
+    status = library.likes_service_stop(service, counts, ctypes.c_size_t(pages))
+    hold(status == 0 and [*counts] == [11, 21], "the totals are wrong")
     library.likes_service_close(service)
 
 

@@ -41,22 +41,23 @@ static void stop(uint64_t likes) {
     service = NULL;
 }
 
-/* By hand, in which the seat is locked for each try. */
-static void leave(uint32_t seat) {
-    uint32_t status;
-    do {
-        status = likes_seat_retire(likes_service_lock(service, seat));
-        likes_service_unlock(service, seat);
-    } while (status != LIKES_GONE);
+/* By hand, with the seat locked until it is gone, or back. */
+static void leave(uint32_t number) {
+    likes_seat *seat = likes_service_lock(service, number);
+    while (likes_seat_retire(seat) != LIKES_GONE) {
+        likes_service_drive(service);
+        sched_yield();
+    }
+    likes_service_unlock(service, number);
 }
 
-static void come_back(uint32_t seat) {
-    uint32_t status;
-    do {
-        status = likes_seat_come_back(likes_service_lock(service, seat));
-        likes_service_unlock(service, seat);
-    } while (status == LIKES_BETWEEN);
-    IS(status, LIKES_RUNS);
+static void come_back(uint32_t number) {
+    likes_seat *seat = likes_service_lock(service, number);
+    while (likes_seat_come_back(seat) == LIKES_BETWEEN) {
+        likes_service_drive(service);
+        sched_yield();
+    }
+    likes_service_unlock(service, number);
 }
 
 /* Looks until one had to wait for a phase: none waits for ever. */
@@ -119,9 +120,29 @@ static void moments_of_none(uint32_t period) {
     stop(likes);
 }
 
-/* Seats leave and come back, and like between. Every other thread does so by hand. */
+/* The same with the seat unlocked between tries, so that a snapshot can read its last likes. */
+static void leave_by_tries(uint32_t number) {
+    uint32_t status;
+    do {
+        status = likes_seat_retire(likes_service_lock(service, number));
+        likes_service_unlock(service, number);
+        sched_yield();
+    } while (status != LIKES_GONE);
+}
+
+static void come_back_by_tries(uint32_t number) {
+    uint32_t status;
+    do {
+        status = likes_seat_come_back(likes_service_lock(service, number));
+        likes_service_unlock(service, number);
+        sched_yield();
+    } while (status == LIKES_BETWEEN);
+}
+
+/* Seats leave and come back, and like between, by calls or by hand. */
 typedef struct {
     uint32_t seat;
+    bool by_hand;
     uint64_t likes;
     pthread_t thread;
 } leaver;
@@ -130,15 +151,15 @@ static void *leave_often(void *at) {
     leaver *it = (leaver *)at;
     while (is_on()) {
         for (uint32_t seat = it->seat; seat < SEATS; seat += LEAVERS) {
-            if (it->seat == 0)
-                leave(seat);
+            if (it->by_hand)
+                leave_by_tries(seat);
             else
                 IS(likes_service_retire_seat(service, seat), LIKES_OK);
         }
         IS(likes_service_like(service, it->seat, 0), LIKES_GONE);
         for (uint32_t seat = it->seat; seat < SEATS; seat += LEAVERS) {
-            if (it->seat == 0)
-                come_back(seat);
+            if (it->by_hand)
+                come_back_by_tries(seat);
             else
                 IS(likes_service_bring_back_seat(service, seat), LIKES_OK);
         }
@@ -156,6 +177,7 @@ static void moments_meanwhile(uint32_t period, int moments) {
     start(period);
     for (uint32_t i = 0; i < LEAVERS; i++) {
         leavers[i].seat = i;
+        leavers[i].by_hand = i == 0 && period == 1000;
         leavers[i].likes = 0;
         IS(pthread_create(&leavers[i].thread, NULL, leave_often, &leavers[i]), 0);
     }
@@ -310,19 +332,19 @@ static void holding(void) {
 }
 
 int main(void) {
+    static const uint32_t periods[] = {1, 1000, 10000};
     alarm(100);
     holding();
-    for (uint32_t period = 1; period <= 10000; period *= 100) {
-        all_by_hand(period, false);
-        all_by_hand(period, true);
-        moments_of_none(period);
-        moments_meanwhile(period, period > 100 ? 50 : 1500);
-        looks_meanwhile(period);
+    for (int n = 0; n < 3; n++) {
+        all_by_hand(periods[n], false);
+        all_by_hand(periods[n], true);
+        moments_of_none(periods[n]);
+        moments_meanwhile(periods[n], n < 2 ? 500 : 50);
+        looks_meanwhile(periods[n]);
     }
-    for (uint32_t period = 1; period <= 20000; period = period * 20) {
-        in_few_phases(period, true);
-        in_few_phases(period, false);
-    }
+    in_few_phases(1, false);
+    in_few_phases(1000, true);
+    in_few_phases(20000, true);
     in_few_phases(20000, false);
     puts("seats left and came back, and no call waited for ever");
     return 0;
