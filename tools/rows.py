@@ -16,6 +16,7 @@ PAGES = "name,count,split"
 REQUESTS = "op,user,page"
 REPORT = "row,id,number,phase,answer,page,count"
 USERS = "number,user"
+NAMES = "name,page"
 
 # The most digits in a number, and the largest number.
 DIGITS, MOST = 19, 2**63 - 1
@@ -81,12 +82,12 @@ def write_copy(copy, block):
         raise Fault(f"{os.path.dirname(copy.name)}: {error.strerror}") from None
 
 
-def read_of(name, file):
-    """How much of a file was read, as text. The file is the one whose position tells it."""
+def share(file):
+    """How much of a file was read, behind its name, if its position tells it."""
     with contextlib.suppress(AttributeError, OSError, ValueError):  # not open, a pipe, or closed
         at, size = file.tell(), os.fstat(file.fileno()).st_size
-        return f"{called(name)}: {100 * at // max(size, 1)} % read"
-    return called(name)
+        return f": {100 * at // max(size, 1)} % read"
+    return ""
 
 
 def records_in(file, name, strict=False):
