@@ -18,20 +18,21 @@ Batch = collections.namedtuple("Batch", "lines numbers users new name read")
 
 
 class Numbers(dict):
-    """The number of each op and page, by their first appearance, and those that are new."""
+    """The numbers of ops and pages by their first appearance, by those that a log has; and those that are new."""
 
-    def __missing__(self, what):
-        self.new.append(what)
-        self[what] = len(self)
-        return self[what]
+    def __missing__(self, number):
+        self.new.append(number)
+        self[number] = len(self)
+        return self[number]
 
 
 def batches(log):
     """The requests of a log."""
     numbers = Numbers()
-    for lines, whats, users in log.batches():
+    for lines, found, users in log.batches():
         numbers.new = []
-        yield lines, list(map(numbers.__getitem__, whats)), users, numbers.new, log.name, log.read()
+        found = list(map(numbers.__getitem__, found))
+        yield lines, found, users, list(map(log.whats.__getitem__, numbers.new)), log.name, log.read()
 
 
 def send(log, out):

@@ -261,10 +261,12 @@ class Dealt:
 
 def kept_names(log, earlier, rest):
     """The new pages of a log that keep their names, while the others are named `rest`: all, or else the most liked."""
-    likes = collections.Counter()
-    for _, whats, _ in log.batches():
-        for op, page in whats:
-            likes[page] += op == "like"
+    counts, likes = collections.Counter(), collections.Counter()
+    for _, numbers, _ in log.batches():
+        counts.update(numbers)
+    for number, count in counts.items():
+        op, page = log.whats[number]
+        likes[page] += count * (op == "like")
     if rest in likes and rest not in earlier:
         raise Fault(f"{log}: a page is named {shown(rest)}: choose another name for --rest")
     new = [page for page in likes if page not in earlier and stand_in(page) not in earlier]

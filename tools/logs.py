@@ -18,9 +18,9 @@ HOST = r"(?:[^ :\n]+|\[[^] \n]+\]):[0-9]{1,5} (?!- )"
 # A line of the combined or the common format from the time to the status: a request, and how it was answered.
 ASKED = r'\[[^][\n]{0,99}\] "([^"\\\n]*(?:\\.[^"\\\n]*)*)" ([0-9]{3}) '
 
-# Lines whose users have no space in their names. In any other line the groups are empty.
+# Lines whose users have no space in their names. Any other line is the last group, and all else is empty.
 LINES = {
-    has_host: re.compile(rf"(?:{HOST * has_host}([^ \n]+) [^ \n]+ ([^ \n]+) {ASKED}.*|.*)\n")
+    has_host: re.compile(rf"(?:{HOST * has_host}([^ \n]+) [^ \n]+ ([^ \n]+) {ASKED}[^\n]*|([^\n]*))\n")
     for has_host in (False, True)
 }
 
@@ -56,6 +56,8 @@ class Log:
     def __init__(self, names):
         self.names = names
         self.name, self.file = names[0], None  # the one that is being read
+        self.whats = [None]  # op and page of each request that differs, by a number from 1
+        self.numbers = {}  # by op and page
         self.left_out = {}  # why: how many lines, and the name, line and text of the first
         self.idle = []  # the patterns that match no request
 
@@ -66,6 +68,13 @@ class Log:
     def fault(self, line, why):
         """A fault in a line of the log that is being read."""
         return rows.fault(self.name, line, why)
+
+    def number_of(self, what):
+        """The number of an op and page."""
+        number = self.numbers.setdefault(what, len(self.whats))
+        if number == len(self.whats):
+            self.whats.append(what)
+        return number
 
     def leave_out(self, why, line, text, count=1):
         """Counts a line that is left out."""
@@ -86,7 +95,7 @@ class Log:
         return f"{name}{share}" if share else f"reading {name}"
 
     def batches(self):
-        """The requests in batches: their lines, op and page of each, and their users."""
+        """The requests in batches: their lines, the number of each one's op and page, and their users."""
         self.left_out, has_requests = {}, False
         for self.name in self.names:
             with rows.opened(self.name) as (file, self.file):
@@ -111,7 +120,7 @@ class Table(Log):
         self.wrong_op = f"{self.op} is not like or look"
 
     def requests(self, file):
-        """The line, op and page, and user of each request of a file."""
+        """The line of each request of a file, the number of its op and page, and its user."""
         records = rows.records_in(file, self.name, strict=True)
         line, header = next(records, (1, []))
         for column in self.columns:
@@ -123,7 +132,7 @@ class Table(Log):
             if len(row) == count:
                 op, user, page = pick(row)
                 if page and op in ("like", "look"):
-                    yield line, (op, page), user
+                    yield line, self.number_of((op, page)), user
                     continue
             self.drop(line, row, header)
 
@@ -158,12 +167,12 @@ def without_escapes(text):
 
 
 class Meanings(dict):
-    """What a web server's requests mean, by their text: op and page, or nothing; the users that they name; and the
-    requests that match a pattern and have no page."""
+    """What a web server's requests mean, by their text: the number of op and page, or 0; the users that they name; and
+    the requests that match a pattern and have no page."""
 
-    def __init__(self, patterns, form):
+    def __init__(self, log):
         super().__init__()
-        self.patterns, self.form = patterns, form
+        self.patterns, self.form, self.number_of = log.patterns, log.form, log.number_of
         self.users, self.empty = {}, set()
         self.matched = set()  # the ops whose patterns match a request
         self.first = None  # the first request
@@ -176,11 +185,11 @@ class Meanings(dict):
         matches = ((op, pattern.match(text)) for op, pattern in self.patterns.items())
         op, match = next(filter(operator.itemgetter(1), matches), ("", None))
         self.first = self.first or request
-        self[request] = None
+        self[request] = 0
         if match:
             self.matched.add(op)
             if page := self.group(match, "page", 1):
-                self[request] = op, page
+                self[request] = self.number_of((op, page))
             else:
                 self.empty.add(request)
             if user := self.group(match, "user"):
@@ -202,6 +211,14 @@ class Meanings(dict):
         if "%" in path:
             path = unquote(path, errors="surrogateescape")
         return path + unquote_plus(query, errors="surrogateescape")
+
+
+def places(values, value):
+    """Where a value is in a list."""
+    at = -1
+    for _ in range(values.count(value)):
+        at = values.index(value, at + 1)
+        yield at
 
 
 class Combined(Log):
@@ -228,7 +245,7 @@ class Combined(Log):
 
     def batches(self):
         """The requests in batches, as in any log."""
-        self.meanings = Meanings(self.patterns, self.form)
+        self.meanings = Meanings(self)
         return super().batches()
 
     def batches_in(self, file):
@@ -237,32 +254,32 @@ class Combined(Log):
         for block in self.blocks(file):
             text = block.decode(errors="surrogateescape")
             found = LINES[bool(re.match(HOST, text))].findall(text)
-            batch = self.batch_of(found, text, first)
+            batch = self.batch_of(found, first)
             first += len(found)
             if batch[0]:
                 yield batch
 
-    def batch_of(self, found, text, first):
+    def batch_of(self, found, first):
         """The requests of a piece of the log, whose lines begin with the first."""
         meanings = self.meanings
-        addresses, users, requests, statuses = columns = list(map(list, zip(*found)))
-        if "" in statuses:
-            self.read_apart(columns, text, first)
-        whats = list(map(meanings.__getitem__, requests))
-        for at, (what, status) in enumerate(zip(whats, statuses)):
-            if not what or status >= REFUSED:
-                whats[at] = None
-                if status:
-                    self.leave_out(FAILED if what else meanings.why_none(requests[at]), first + at, requests[at])
-        lines = itertools.compress(itertools.count(first), whats)
+        addresses, users, requests, statuses, _ = columns = list(map(list, zip(*found)))
+        self.read_apart(columns, first)
+        numbers = list(map(meanings.__getitem__, requests))
+        for at in places(numbers, 0):
+            if statuses[at]:
+                self.leave_out(meanings.why_none(requests[at]), first + at, requests[at])
+        for at in [at for at, status in enumerate(statuses) if status >= REFUSED]:
+            if numbers[at]:
+                numbers[at] = 0
+                self.leave_out(FAILED, first + at, requests[at])
+        lines = itertools.compress(itertools.count(first), numbers)
         users = self.users_of(addresses, users, requests, meanings.users)
-        return list(lines), list(filter(None, whats)), list(itertools.compress(users, whats))
+        return list(lines), list(filter(None, numbers)), list(itertools.compress(users, numbers))
 
-    def read_apart(self, columns, text, first):
+    def read_apart(self, columns, first):
         """Reads the lines of a piece that have a space in the user's name, and leaves out those that can't be read."""
-        lines, at = text.split("\n"), -1
-        for _ in range(columns[-1].count("")):
-            at = columns[-1].index("", at + 1)
+        *_, statuses, lines = columns
+        for at in places(statuses, ""):
             if match := LINE.match(lines[at]):
                 for column, value in zip(columns, match.groups()):
                     column[at] = value
@@ -273,10 +290,9 @@ class Combined(Log):
         """The users: those that requests name, those that the server logged, or else the addresses."""
         if "\\" in "".join(users):
             users = [without_escapes(user) if "\\" in user else user for user in users]
-        if not named and "-" not in users:
-            return users
-        found = zip(map(named.get, requests), addresses, users)
-        return [name or (address if user == "-" else user) for name, address, user in found]
+        if "-" in users:
+            users = [address if user == "-" else user for address, user in zip(addresses, users)]
+        return [named.get(request) or user for request, user in zip(requests, users)] if named else users
 
     def judge(self, has_requests):
         """Stops if no request is left, or none matches the pattern of likes."""
@@ -315,8 +331,8 @@ def add_options(parser):
         'POST /like(/\\S*)'. The group named page, or else the first, is the page; a group named user is the user"""
     parser.add_argument("--like", metavar="PATTERN", type=pattern, help=like)
     parser.add_argument("--look", metavar="PATTERN", type=pattern, help="with --combined, which requests are looks")
-    form = """with --combined, what groups are: in a query + is a space, and in a path a plus sign (default query for
-        what stands behind the first question mark, and path for all before it)"""
+    form = """path or query: with --combined, how groups are decoded. In a query, + is a space (default query for what
+        stands behind the first question mark, and path for what stands before it)"""
     parser.add_argument("--decode", metavar="FORM", choices=("path", "query"), help=form)
 
 
