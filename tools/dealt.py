@@ -14,8 +14,8 @@ from command import Fault, shown, write
 # The most pages, files, requests in a file and users that the program takes, and the most bytes in a page's name.
 PAGES, FILES, REQUESTS, USERS, NAME = 1024, 64, 1000000, 1000000, 64
 
-# How many requests are dealt before they are written.
-WRITTEN = 200000
+# How many requests are dealt before they are written, and the most that may come to one file before the next time.
+WRITTEN, BETWEEN = 50000, 200000
 
 # What a file says which part has a user's last like.
 LAST = "number,part"
@@ -97,12 +97,12 @@ class Users(dict):
 
 
 class Dealt:
-    """A log dealt into a folder: to one part, or to as many as its pages need (`has_parts`), or its requests too
-    (`has_more`)."""
+    """A log dealt into a folder: to one part, or to as many as its pages need (`has_parts`). Where the parts are joined
+    afterwards (`are_joined`), requests too have as many as they need."""
 
-    def __init__(self, log, folder, files, has_parts=False, has_more=False):
+    def __init__(self, log, folder, files, has_parts=False, are_joined=False):
         self.log, self.folder, self.files = log, folder, files
-        self.has_parts, self.has_more = has_parts, has_more
+        self.has_parts, self.are_joined = has_parts, are_joined
         self.pages = {}  # by the name that the log has
         self.earlier = {}  # by the name in the files: the pages of a run before
         self.parts, self.stand_ins = [], {}
@@ -115,7 +115,7 @@ class Dealt:
 
     def new_part(self):
         number = len(self.parts)
-        is_one = not (self.has_parts or self.has_more)
+        is_one = not (self.has_parts or self.are_joined)
         part = Part(number, self.folder if is_one else f"{self.folder}/part-{number:02}", self.files)
         self.parts.append(part)
         return part
@@ -203,8 +203,7 @@ class Dealt:
             if most > REQUESTS:
                 why = f"more than {REQUESTS} requests for file {part.counts.index(most)}"
                 raise Fault(f"{self.log}: {why}: deal to more files, or a part of the log at a time (-h)")
-            # The next requests that are written may all be for one file.
-            if self.has_more and most > REQUESTS - 2 * WRITTEN and part.pages and part.pages[0].part == part.number:
+            if self.are_joined and most > REQUESTS - BETWEEN and part.pages and part.pages[0].part == part.number:
                 self.follow(part)
 
     def follow(self, part):
@@ -229,11 +228,14 @@ class Dealt:
         return [page for part in self.parts if not part.follows for page in part.pages]
 
     def write(self, marked=None):
-        """Deals the log, and writes all files."""
+        """Deals the log, and writes all files that runs need."""
         self.deal()
         self.rank(marked)
         for part in self.parts:
             part.write_pages()
+
+    def write_names(self):
+        """Writes the files that put names back into reports."""
         self.write_numbered("users.csv", rows.USERS, ((number, user) for user, number in self.users.items()))
         if self.has_parts:
             lasts = ((user, str(part - 1)) for user, part in enumerate(self.last_part) if part)
