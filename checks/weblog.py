@@ -15,11 +15,30 @@ AGENTS = [
 OTHERS = ["GET /style.css HTTP/1.1", "HEAD /articles/1 HTTP/1.1", "-", "", r"\x16\x03\x01", r'GET /\"quoted\" HTTP/1.1']
 JUNK = ["last message repeated 2 times", "", '192.0.2.1 - - "POST /like/articles/1 HTTP/1.1" 200', "\x00\x00", "\udcff"]
 
+# Lines of the format that can't be read: they are cut, or have a quote or a time that the server would not write.
+TORN = [
+    '192.0.2.1 - ann [27/Nov/2026:09:00:01 +0000] "POST /like/artic',
+    '192.0.2.1 - Ann Lee [27/Nov/2026:09:00:01 +0000] "POST /like/articles/1 HTTP/1.1" ',
+    '192.0.2.1 - ann [27/Nov/2026:09:00:01 +0000] "POST /like/articles/"1" HTTP/1.1" 200 2',
+    '192.0.2.1 - ann [27/Nov/2026:09:00:01 +0000] "POST /like/articles/1 HTTP/1.1" 20',
+]
+
 # The statuses of answers that accept a request, and of those that refuse it.
 ACCEPTED, REFUSED = [200, 201, 204, 302, 304], [400, 403, 404, 429, 500, 503]
 
 # The kinds of lines, each with how many there are in a thousand.
-KINDS = {"like": 790, "look": 199, "status of 400 or more": 4, "no pattern matches": 5, "not of the combined format": 2}
+KINDS = {
+    "like": 790,
+    "look": 198,
+    "status of 400 or more": 4,
+    "no pattern matches": 5,
+    "not of the combined format": 2,
+    "a log line that can't be read": 1,
+}
+
+
+# How hexed writes a space.
+SPACE = "\\x20"
 
 
 def hexed(text):
@@ -45,15 +64,28 @@ def draw_pages(draw, count):
     return pages
 
 
+def named(number):
+    """The name of a user. One in 30 has spaces, which a server doesn't escape, and some have more than that."""
+    if number % 100 == 0:
+        return f"zoë{number}"
+    if number % 30 == 1:
+        return f"Ann {number} Lee"
+    if number % 300 == 4:
+        return f'Bo [{number}] "x [y'
+    return f"user{number}"
+
+
 def draw_users(count):
-    """So many users, each with the front of its lines: those with a name, and those that an address tells apart."""
+    """So many users, each with the front of its lines: those with a name, and those that an address tells apart. Some
+    are at a server that logs its own name too."""
     users = {}
     for number in range(count):
         address = f"10.{number >> 16}.{number >> 8 & 255}.{number & 255}"
         if number % 4 == 3:
             address = f"2001:db8::{number:x}"
-        name = "-" if number % 4 > 1 else f"user{number}" if number % 100 else f"zoë{number}"
-        users[address if name == "-" else name] = f"{address} - {hexed(name)} "
+        name = "-" if number % 4 > 1 else named(number)
+        host = "example.org:443 " if number % 50 > 47 else ""
+        users[address if name == "-" else name] = f"{host}{address} - {hexed(name).replace(SPACE, ' ')} "
     return users
 
 
@@ -106,7 +138,8 @@ class Log:
             return request, REFUSED[number % len(REFUSED)], False
         if kind == "no pattern matches":
             return OTHERS[number % len(OTHERS)], 200, False
-        return JUNK[number % len(JUNK)], None, True
+        lines = JUNK if kind == "not of the combined format" else TORN
+        return lines[number % len(lines)], None, True
 
     def count(self, kind, user, page):
         self.users.setdefault(user)

@@ -7,32 +7,32 @@ import marshal
 import os
 import signal
 
-import rows
 from command import Fault
 
 # How many bytes the length of a batch has, and how many the pipe holds.
 LENGTH, ROOM = 8, 1 << 20
 
-# Requests: the line, the number of what each is, and the user; op and page of each number that is new; and how much of
-# the log was read, in words.
-Batch = collections.namedtuple("Batch", "lines numbers users new read")
+# Requests: the line, the number of what each is, and the user; op and page of each number that is new; the name of the
+# log that they are in, and how much of it was read, in words.
+Batch = collections.namedtuple("Batch", "lines numbers users new name read")
 
 
 class Numbers(dict):
-    """The number of each op and page, by their first appearance, and those that are new."""
+    """The numbers of ops and pages by their first appearance, by those that a log has; and those that are new."""
 
-    def __missing__(self, what):
-        self.new.append(what)
-        self[what] = len(self)
-        return self[what]
+    def __missing__(self, number):
+        self.new.append(number)
+        self[number] = len(self)
+        return self[number]
 
 
 def batches(log):
     """The requests of a log."""
     numbers = Numbers()
-    for lines, whats, users in log.batches():
+    for lines, found, users in log.batches():
         numbers.new = []
-        yield lines, list(map(numbers.__getitem__, whats)), users, numbers.new, log.read()
+        found = list(map(numbers.__getitem__, found))
+        yield lines, found, users, list(map(log.whats.__getitem__, numbers.new)), log.name, log.read()
 
 
 def send(log, out):
@@ -40,7 +40,7 @@ def send(log, out):
     try:
         for batch in batches(log):
             put(out, batch)
-        put(out, log.left_out)
+        put(out, {"left_out": log.left_out, "idle": log.idle})
     except Fault as fault:
         put(out, str(fault))
 
@@ -55,14 +55,16 @@ def take(file, log):
     length = int.from_bytes(file.read(LENGTH), "little")
     data = file.read(length)
     if len(data) < max(length, 1):
-        raise Fault(f"{rows.called(log.name)}: the process that reads it was stopped")
+        raise Fault(f"{log}: the process that reads it was stopped")
     value = marshal.loads(data)
     if isinstance(value, str):
         raise Fault(value)
     if isinstance(value, dict):
-        log.left_out = value
+        log.left_out, log.idle = value["left_out"], value["idle"]
         return None
-    return Batch(*value)
+    batch = Batch(*value)
+    log.name = batch.name
+    return batch
 
 
 @contextlib.contextmanager

@@ -2,6 +2,7 @@
 
 import argparse
 import contextlib
+import errno
 import os
 import re
 import shutil
@@ -99,6 +100,9 @@ def new_folder(name):
     """A folder that gets its name once it is complete."""
     if os.path.lexists(name):
         raise Fault(f"{name} already exists: remove it, or name another folder with --into")
+    above = os.path.dirname(name) or "."
+    if not os.path.isdir(above):
+        raise Fault(f"{above}: {os.strerror(errno.ENOTDIR if os.path.lexists(above) else errno.ENOENT)}")
     part = f"{name}.part-{os.getpid()}"
     try:
         os.mkdir(part)
@@ -106,10 +110,29 @@ def new_folder(name):
         os.rename(part, name)
     except BrokenPipeError:
         raise
+    except Fault as fault:
+        raise Fault(str(fault).replace(part, name)) from None
     except OSError as error:
-        raise Fault(f"{error.filename or name}: {error.strerror}") from None
+        raise Fault(f"{(error.filename or name).replace(part, name)}: {error.strerror}") from None
     finally:
         shutil.rmtree(part, ignore_errors=True)
+
+
+def put(lines, out):
+    """Prints lines. A fault is one of standard output, whatever is written beside it."""
+    try:
+        print(*lines, sep="\n", file=out, flush=True)
+    except BrokenPipeError:
+        raise
+    except OSError as error:
+        let_go()
+        raise Fault(f"standard output: {error.strerror}") from None
+
+
+def tell(*lines):
+    """Prints lines on standard error. One that can't be printed is no fault: all is done by then."""
+    with contextlib.suppress(OSError):
+        print(*lines, sep="\n", file=sys.stderr, flush=True)
 
 
 @contextlib.contextmanager

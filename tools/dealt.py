@@ -3,7 +3,7 @@
 import array
 import collections
 import gc
-import itertools
+import hashlib
 import os
 import re
 
@@ -14,13 +14,13 @@ from command import Fault, shown, write
 # The most pages, files, requests in a file and users that the program takes, and the most bytes in a page's name.
 PAGES, FILES, REQUESTS, USERS, NAME = 1024, 64, 1000000, 1000000, 64
 
-# How many batches are dealt before they are written.
-WRITTEN = 16
+# How many requests are dealt before they are written, and the most that may come to one file before the next time.
+WRITTEN, BETWEEN = 50000, 200000
 
-# What files say which part has a user's last like, and which page has which name in the files.
-LAST, NAMES = "number,part", "name,page"
+# What a file says which part has a user's last like.
+LAST = "number,part"
 
-# A name for a page whose own isn't allowed in a pages file.
+# A name for a page whose own isn't allowed in a pages file: the same in each deal, by a digest of its own.
 STAND_IN = "page {} of names.csv"
 
 
@@ -30,6 +30,15 @@ def is_name(text):
         return 1 <= len(text.encode()) <= NAME
     except UnicodeEncodeError:
         return False
+
+
+def stand_in(name):
+    """The name that a page has in the files if it can't have its own."""
+    return STAND_IN.format(hashlib.sha256(name.encode(errors="surrogateescape")).hexdigest()[:32])
+
+
+def is_stand_in(name):
+    return bool(re.fullmatch(STAND_IN.format("[0-9a-f]{32}"), name))
 
 
 class Page:
@@ -47,7 +56,7 @@ class Part:
     """A part of a log, which is one run: its pages, and the requests for each file."""
 
     def __init__(self, number, folder, files):
-        self.number, self.pages = number, []
+        self.number, self.pages, self.follows = number, [], False
         self.pages_file = f"{folder}/pages.csv"
         self.files = [f"{folder}/requests-{place:02}.csv" for place in range(files)]
         self.texts = [[f"{rows.REQUESTS}\n"] for _ in range(files)]
@@ -58,15 +67,20 @@ class Part:
         page.part, page.texts = self.number, self.texts
         self.pages.append(page)
 
+    def follow(self, part):
+        """Takes the pages of a part whose files are full."""
+        self.follows = True
+        for page in part.pages:
+            self.add(page)
+
     def write(self):
-        """Writes the requests so far, and returns the number of a file that has too many, if any."""
+        """Writes the requests so far."""
         for place, texts in enumerate(self.texts):
             if texts:
                 with open(self.files[place], "ab") as file:
                     file.write("".join(texts).encode(errors="surrogateescape"))
                 self.counts[place] += len(texts)
                 texts.clear()
-        return next((place for place, count in enumerate(self.counts) if count > REQUESTS), None)
 
     def write_pages(self):
         with write(self.pages_file) as file:
@@ -74,68 +88,88 @@ class Part:
             file.writelines(f"{page.text},{page.count},{page.split}\n" for page in self.pages)
 
 
-class Dealt:
-    """A log dealt into a folder: to one part, or to as many as its pages need."""
+class Users(dict):
+    """The numbers of users, by their first appearance."""
 
-    def __init__(self, log, folder, files, has_parts=False):
-        self.log, self.folder, self.files, self.has_parts = log, folder, files, has_parts
+    def __missing__(self, user):
+        self[user] = len(self)
+        return self[user]
+
+
+class Dealt:
+    """A log dealt into a folder: to one part, or to as many as its pages need (`has_parts`). Where the parts are joined
+    afterwards (`are_joined`), requests too have as many as they need."""
+
+    def __init__(self, log, folder, files, has_parts=False, are_joined=False):
+        self.log, self.folder, self.files = log, folder, files
+        self.has_parts, self.are_joined = has_parts, are_joined
         self.pages = {}  # by the name that the log has
+        self.earlier = {}  # by the name in the files: the pages of a run before
         self.parts, self.stand_ins = [], {}
         self.kept = self.rest = None  # with --rest: the pages that keep their names, and the page of all others
         self.others = 0
-        self.users = collections.defaultdict(itertools.count().__next__)
+        self.users = Users()
         self.last_part = array.array("H", bytes(2 * USERS))  # by the user's number: the part, from 1, or 0
         self.read = log.read()  # how much of the log was read, as text
-        self.add_part()
+        self.open = self.new_part()  # the part that new pages go to
 
-    def add_part(self):
+    def new_part(self):
         number = len(self.parts)
-        folder = f"{self.folder}/part-{number:02}" if self.has_parts else self.folder
-        self.parts.append(Part(number, folder, self.files))
+        is_one = not (self.has_parts or self.are_joined)
+        part = Part(number, self.folder if is_one else f"{self.folder}/part-{number:02}", self.files)
+        self.parts.append(part)
+        return part
 
     def keep(self, earlier, rest):
         """Takes the pages of a run before, by name, and the name for all pages without room."""
-        for name, page in earlier.items():
-            self.pages[name] = page
-            self.parts[0].add(page)
+        self.earlier = earlier
+        for page in earlier.values():
+            self.open.add(page)
         if rest is not None:
             self.kept = kept_names(self.log, earlier, rest)
-            self.rest = self.pages.get(rest) or Page(rest)
+            self.rest = earlier.get(rest) or Page(rest)
+
+    def takes_any_name(self):
+        return self.has_parts or self.kept is not None
 
     def add(self, name, line):
         """The page of a new name."""
-        if self.kept is not None and name not in self.kept:
-            if not self.others and self.rest not in self.parts[0].pages:
-                self.parts[0].add(self.rest)
+        text = self.name_of(name, line)
+        page = self.earlier.get(text)
+        if not page and self.kept is not None and name not in self.kept:
+            page = self.rest
+            if not self.others and page not in self.open.pages:
+                self.open.add(page)
             self.others += 1
-            self.pages[name] = self.rest
-            return self.rest
-        if len(self.parts[-1].pages) == PAGES:
-            if not self.has_parts:
-                why = f"more than {PAGES} pages: use --parts, or one name for the less liked ones (--rest)"
-                raise self.log.fault(line, why)
-            self.add_part()
-        page = self.pages[name] = Page(self.name_of(name, line))
-        self.parts[-1].add(page)
+        if not page:
+            page = Page(text)
+            if len(self.open.pages) == PAGES:
+                if not self.has_parts:
+                    why = f"more than {PAGES} pages: use --parts, or one name for the less liked ones (--rest)"
+                    raise self.log.fault(line, why)
+                self.open = self.new_part()
+            self.open.add(page)
+        if text != name and page is not self.rest:
+            self.stand_ins[text] = name
+        self.pages[name] = page
         return page
 
     def name_of(self, name, line):
         """The name that a page has in the files."""
-        if is_name(name) and not (self.has_parts and re.fullmatch(STAND_IN.format(r"\d+"), name)):
+        if is_name(name) and not (self.takes_any_name() and is_stand_in(name)):
             return name
-        if not (self.has_parts and name):
-            raise self.log.fault(line, f"page name is not 1 to {NAME} bytes of UTF-8: {shown(name)}")
-        stand_in = STAND_IN.format(len(self.stand_ins) + 1)
-        self.stand_ins[stand_in] = name
-        return stand_in
+        if not self.takes_any_name():
+            why = f"page name is not 1 to {NAME} bytes of UTF-8 (--parts and --rest take any): {shown(name)}"
+            raise self.log.fault(line, why)
+        return stand_in(name)
 
     def deal(self):
         """Gives each request to the file of its user, and writes it."""
         gc.disable()  # there are no cycles here
         users, last_part, files = self.users, self.last_part, self.files
-        whats = []  # op and page, by number
+        whats, count = [], 0  # op and page, by number
         with ahead.reading(self.log) as batches:
-            for count, batch in enumerate(batches, 1):
+            for batch in batches:
                 self.read = batch.read
                 whats += self.new_of(batch, len(whats))
                 numbers = list(map(users.__getitem__, batch.users))
@@ -146,8 +180,10 @@ class Dealt:
                     if op == "like":
                         page.likes += 1
                         last_part[user] = page.part + 1
-                if not count % WRITTEN:
+                count += len(numbers)
+                if count >= WRITTEN:
                     self.write_requests()
+                    count = 0
         self.write_requests()
 
     def new_of(self, batch, first):
@@ -161,35 +197,51 @@ class Dealt:
         return next(line for line, user in zip(batch.lines, batch.users) if self.users[user] >= USERS)
 
     def write_requests(self):
-        for part in self.parts:
-            place = part.write()
-            if place is not None:
-                advice = "deal to more files, or a part of the log at a time (-h)"
-                raise Fault(f"{rows.called(self.log.name)}: more than {REQUESTS} requests for file {place}: {advice}")
+        for part in self.parts[:]:
+            part.write()
+            most = max(part.counts)
+            if most > REQUESTS:
+                why = f"more than {REQUESTS} requests for file {part.counts.index(most)}"
+                raise Fault(f"{self.log}: {why}: deal to more files, or a part of the log at a time (-h)")
+            if self.are_joined and most > REQUESTS - BETWEEN and part.pages and part.pages[0].part == part.number:
+                self.follow(part)
+
+    def follow(self, part):
+        """Lets a new part follow one whose files are full."""
+        new = self.new_part()
+        new.follow(part)
+        if self.open is part:
+            self.open = new
 
     def rank(self, marked):
         """Sorts the pages of each part, the most liked first and the page of all others last, and marks some."""
-        if not self.pages:
-            raise Fault(f"{rows.called(self.log.name)}: no page")
+        if not self.parts[0].pages:
+            raise Fault(f"{self.log}: no page")
         for part in self.parts:
             part.pages.sort(key=lambda page: (page is not self.rest, page.likes), reverse=True)
         if marked is not None:
-            pages = [page for part in self.parts for page in part.pages if page is not self.rest]
+            pages = [page for page in self.all_pages() if page is not self.rest]
             for rank, page in enumerate(sorted(pages, key=lambda page: page.likes, reverse=True)):
                 page.split = "yes" if rank < marked else "no"
 
+    def all_pages(self):
+        return [page for part in self.parts if not part.follows for page in part.pages]
+
     def write(self, marked=None):
-        """Deals the log, and writes all files."""
+        """Deals the log, and writes all files that runs need."""
         self.deal()
         self.rank(marked)
         for part in self.parts:
             part.write_pages()
-        users = ((number, self.log.user(user)) for user, number in self.users.items())
-        self.write_numbered("users.csv", rows.USERS, users)
+
+    def write_names(self):
+        """Writes the files that put names back into reports."""
+        self.write_numbered("users.csv", rows.USERS, ((number, user) for user, number in self.users.items()))
         if self.has_parts:
             lasts = ((user, str(part - 1)) for user, part in enumerate(self.last_part) if part)
             self.write_numbered("last.csv", LAST, lasts)
-            self.write_numbered("names.csv", NAMES, self.stand_ins.items())
+        if self.takes_any_name():
+            self.write_numbered("names.csv", rows.NAMES, self.stand_ins.items())
 
     def write_numbered(self, name, header, pairs):
         with write(f"{self.folder}/{name}") as file:
@@ -201,7 +253,7 @@ class Dealt:
 
     def told(self):
         """What was dealt, in lines."""
-        pages = [page for part in self.parts for page in part.pages]
+        pages = self.all_pages()
         likes = sum(page.likes for page in pages)
         more = f" and {self.others} more under one name" if self.others else ""
         more += f" in {len(self.parts)} part{'s' * (len(self.parts) > 1)}" if self.has_parts else ""
@@ -211,26 +263,27 @@ class Dealt:
 
 def kept_names(log, earlier, rest):
     """The new pages of a log that keep their names, while the others are named `rest`: all, or else the most liked."""
-    likes = collections.Counter()
-    for _, whats, _ in log.batches():
-        for op, page in whats:
-            likes[page] += op == "like"
+    counts, likes = collections.Counter(), collections.Counter()
+    for _, numbers, _ in log.batches():
+        counts.update(numbers)
+    for number, count in counts.items():
+        op, page = log.whats[number]
+        likes[page] += count * (op == "like")
     if rest in likes and rest not in earlier:
-        raise Fault(f"{log.name}: a page is named {shown(rest)}: choose another name for --rest")
-    new = [page for page in likes if page not in earlier]
-    names = [page for page in new if is_name(page)]
-    if len(names) == len(new) and len(earlier) + len(new) <= PAGES:
-        return set(names)
+        raise Fault(f"{log}: a page is named {shown(rest)}: choose another name for --rest")
+    new = [page for page in likes if page not in earlier and stand_in(page) not in earlier]
+    if len(earlier) + len(new) <= PAGES:
+        return set(new)
     room = PAGES - len({*earlier, rest})
     if room < 0:
-        raise Fault(f"{log.name}: no room for {shown(rest)} beside {PAGES} pages")
-    return set(sorted(names, key=likes.get, reverse=True)[:room])
+        raise Fault(f"{log}: no room for {shown(rest)} beside {PAGES} pages")
+    return set(sorted(new, key=likes.get, reverse=True)[:room])
 
 
 def add_rest(parser):
     """Adds the option for a name that many pages share."""
-    rest = f"""one name for all but the {PAGES - 1} most liked pages, if LOG has more than {PAGES} or one whose name is
-        too long. It is the last page, without mark or rank. LOG is then read twice, so it must be a file"""
+    rest = f"""one name for all but the {PAGES - 1} most liked pages, if LOG has more than {PAGES}. It is the last page,
+        without mark or rank. LOG is then read twice, so it must be a file"""
     parser.add_argument("--rest", metavar="NAME", help=rest)
 
 
@@ -238,8 +291,9 @@ def judge_rest(words, parser):
     """Refuses a wrong --rest, or one with a log that can't be read twice."""
     if words.rest is not None and not is_name(words.rest):
         parser.error(f"--rest takes a name of 1 to {NAME} bytes of UTF-8, not {shown(words.rest)}")
-    if words.rest is not None and not os.path.isfile(words.log):
-        parser.error(f"with --rest, LOG is read twice and must be a file: {words.log}")
+    pipes = [name for name in words.log if name == "-" or os.path.exists(name) and not os.path.isfile(name)]
+    if words.rest is not None and pipes:
+        parser.error(f"with --rest, LOG is read twice and must be a file: {pipes[0]}")
 
 
 def earlier_pages(name):

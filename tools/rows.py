@@ -4,8 +4,10 @@ import contextlib
 import csv
 import gzip
 import io
+import os
 import re
 import sys
+import tempfile
 import zlib
 
 from command import Fault, shown
@@ -14,9 +16,16 @@ PAGES = "name,count,split"
 REQUESTS = "op,user,page"
 REPORT = "row,id,number,phase,answer,page,count"
 USERS = "number,user"
+NAMES = "name,page"
+
+# The most digits in a number, and the largest number.
+DIGITS, MOST = 19, 2**63 - 1
 
 # The most characters in a field of a file whose quotes are judged: a longer one is hardly meant.
 LONGEST = 131072
+
+# How many bytes are copied at a time.
+BLOCK = 1 << 18
 
 # The csv module's messages for a misplaced quote, and ours.
 QUOTES = {
@@ -51,6 +60,36 @@ def opened(name):
         raise Fault(f"{called(name)}: {error.strerror}") from None
 
 
+@contextlib.contextmanager
+def kept(name):
+    """The name of a file that can be read again: this one, or a copy of what a pipe or standard input gives."""
+    if name != "-" and os.path.isfile(name):
+        yield name
+        return
+    with tempfile.NamedTemporaryFile(prefix="likes.") as copy:
+        with opened(name) as (file, _):
+            while block := file.read(BLOCK):
+                write_copy(copy, block)
+        write_copy(copy, b"")
+        yield copy.name
+
+
+def write_copy(copy, block):
+    try:
+        copy.write(block)
+        copy.flush()
+    except OSError as error:
+        raise Fault(f"{os.path.dirname(copy.name)}: {error.strerror}") from None
+
+
+def share(file):
+    """How much of a file was read, behind its name, if its position tells it."""
+    with contextlib.suppress(AttributeError, OSError, ValueError):  # not open, a pipe, or closed
+        at, size = file.tell(), os.fstat(file.fileno()).st_size
+        return f": {100 * at // max(size, 1)} % read"
+    return ""
+
+
 def records_in(file, name, strict=False):
     """The records of an open CSV file, each with the line on which it begins, read as the program reads them.
 
@@ -82,8 +121,14 @@ def fault(name, line, why):
 
 def lines_of(name, header):
     """The records of a CSV file after its header, each with the line on which it begins."""
+    with opened(name) as (file, _):
+        yield from lines_in(file, name, header)
+
+
+def lines_in(file, name, header):
+    """The records of an open CSV file after its header, each with the line on which it begins."""
     wanted = header.split(",")
-    found = records(name)
+    found = records_in(file, name)
     line, first = next(found, (1, []))
     if first != wanted:
         raise fault(name, line, f"the header is not {header}: {shown(','.join(first))}")
@@ -99,11 +144,20 @@ def rows_of(name, header):
         yield row
 
 
+def whole(text):
+    """The whole number below 2^63 that a text is, or none."""
+    if len(text) > DIGITS or not (text.isascii() and text.isdigit()):
+        return None
+    found = int(text)
+    return found if found <= MOST else None
+
+
 def number(text, what, name, line):
     """The whole number in a field of a file's line."""
-    if text.isascii() and text.isdigit():
-        return int(text)
-    raise fault(name, line, f"{what} is {shown(text)}, not a whole number")
+    found = whole(text)
+    if found is None:
+        raise fault(name, line, f"{what} is {shown(text)}, not a whole number")
+    return found
 
 
 def field(text):
