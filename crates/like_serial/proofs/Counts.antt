@@ -1,0 +1,208 @@
+-- The count that a look shows, by the entries before it in a merge.
+use Rattle.std.proofs.Common.{◌≡◌, ℕ, ◌+◌, Bool, true, false, not, cond, eqb, nat_lt, ◌==◌, List, [], ◌∷◌, ◌++◌, map, filter, filter_map, reverse, Option, Some, None, option_and_then, true≢false, subst, subst₂, ap, ap₂, sym, ◌∙◌, refl, arith, eqb-true}
+use Rattle.std.specs.List.{cons_option}
+use Rattle.std.specs.Option.{option_map_or}
+use Rattle.std.proofs.lemmas.List.Elements.{filter_map-append}
+use Rattle.like_requests.specs.declared.request.Op.{Op}
+use Rattle.like_requests.specs.declared.request.Op.TheVariants.{Like, Look}
+use Rattle.like_requests.specs.declared.request.PageRef.{PageRef}
+use Rattle.like_requests.specs.declared.request.PageRef.TheVariants.{Known}
+use Rattle.like_requests.specs.declared.request.Request.{Request}
+use Rattle.like_requests.specs.declared.verdict.Verdict.{Verdict}
+use Rattle.like_requests.specs.declared.verdict.Verdict.TheVariants.{Accepted}
+use Rattle.like_promises.specs.declared.log.Ran.{Ran}
+use Rattle.like_promises.specs.Accepted.{AcceptedRequest, accepted_as, verdict_on}
+use Rattle.like_promises.specs.Likes.{initial_count, like_ran, likes_among}
+use Rattle.like_promises.specs.Looks.{count_in, look_at}
+use Rattle.like_promises.specs.Workload.{Workload, is_split_in, request_of}
+use Rattle.like_serial.specs.PageSteps.{AreInTurn, PageStep, add, adds_to, likes_of, read}
+use Rattle.like_serial.specs.StepsTold.{StepTold, count_told, is_plain, look_or_like, step_ran, steps_ran, told}
+use Rattle.like_serial.proofs.InTurn.{found_by_phase}
+use Rattle.like_serial.proofs.Parts.{Mapped, Passed, mapped, passed, reversed}
+use Rattle.like_serial.proofs.Seen.{not_some}
+use Rattle.like_serial.proofs.Totals.{only-none, weigh-marks, weigh-reverse}
+use Rattle.like_serial.proofs.Weigh.{only, sum-weigh, weigh, weigh-alike, weigh-filter}
+
+-- an accepted look is no accepted like
+not_both : (verdict : Verdict) (op : Op) (user : ℕ) (page : PageRef) (q : ℕ)
+    → option_and_then (λ (a : AcceptedRequest). Some a.page) (accepted_as Look verdict op user page) ≡ Some q
+    → accepted_as Like verdict op user page ≡ None
+not_both Accepted Like user (Known page) q is = absurd (not_some q is)
+not_both verdict op user page q is = refl
+
+pub look_likes_none : (workload : Workload) (e : Ran) (page : ℕ)
+    → look_at workload e.submitter e.number ≡ Some page
+    → like_ran workload e ≡ None
+look_likes_none workload e page is = by (request_of workload e) is where
+  by : (o : Option Request)
+      → option_and_then (λ (a : AcceptedRequest). Some a.page)
+      (option_and_then (λ r. accepted_as Look (verdict_on workload e.submitter r) r.op r.user r.page) o)
+      ≡ Some page
+      → option_and_then (λ r. accepted_as Like (verdict_on workload e.submitter r) r.op r.user r.page) o ≡ None
+  by None is = refl
+  by (Some r) is = not_both (verdict_on workload e.submitter r) r.op r.user r.page page is
+
+-- how many accepted likes of the page an entry ran: 1 or 0
+abbrev pub is_like_of : ℕ → AcceptedRequest → ℕ
+is_like_of page l = cond (l.page == page) 1 0
+
+abbrev pub likes_by : Workload → ℕ → Ran → ℕ
+likes_by workload page e = option_map_or (is_like_of page) (like_ran workload e) 0
+
+pub likes-weigh : (workload : Workload) (page : ℕ) (xs : List Ran)
+    → likes_among workload page xs ≡ weigh (likes_by workload page) xs
+likes-weigh workload page xs =
+    sum-weigh (is_like_of page) (filter_map (like_ran workload) xs)
+    ∙ weigh-marks (is_like_of page) (like_ran workload) xs
+
+-- what a step that is told adds to a page in a phase
+abbrev pub told_adds : ℕ → ℕ → StepTold → ℕ
+told_adds phase page t = only (t.phase == phase) (cond (t.page == page) (likes_of t.call) 0)
+
+pub weigh-map : {X Y : Type 0} (f : Y → ℕ) (g : X → Y) (xs : List X) → weigh f (map g xs) ≡ weigh (λ x. f (g x)) xs
+weigh-map f g [] = refl
+weigh-map f g (x ∷ xs) = ap (λ n. f (g x) + n) (weigh-map f g xs)
+
+-- what counts at a page in a phase counts nothing elsewhere
+pub counts_there : (a b c : Bool) (n : ℕ)
+    → (a ≡ true → b ≡ true → c ≡ true)
+    → only a (cond b n 0) ≡ only c (only a (cond b n 0))
+counts_there true true c n then = sym (ap (λ d. only d n) (then refl refl))
+counts_there true false c n then = sym (only-none c)
+counts_there false b c n then = sym (only-none c)
+
+-- at a page that is plain in the phase, an entry's plain step adds what it likes
+module _ (workload : Workload) (phase page : ℕ) (plain : is_split_in workload phase page ≡ false) where
+  like_adds : (e : Ran) (l : AcceptedRequest) (b : Bool)
+      → is_split_in workload e.phase l.page ≡ b
+      → option_map_or (told_adds phase page)
+      (cond b None (Some (record { phase = e.phase; page = l.page; call = add 1; count = 0 }))) 0
+      ≡ only (e.phase == phase) (is_like_of page l)
+  like_adds e l false is = refl
+  like_adds e l true is =
+      sym
+      (counts_there (eqb e.phase phase) (eqb l.page page) false 1
+      (λ here there. absurd
+      (true≢false
+      (sym is
+      ∙ ap₂ (is_split_in workload) (eqb-true e.phase phase here) (eqb-true l.page page there)
+      ∙ plain))))
+
+  entry_by : (e : Ran) (o : Option ℕ)
+      → look_at workload e.submitter e.number ≡ o
+      → (a : Option AcceptedRequest)
+      → like_ran workload e ≡ a
+      → option_map_or (told_adds phase page) (look_or_like workload e o a) 0
+      ≡ only (e.phase == phase) (option_map_or (is_like_of page) a 0)
+  entry_by e (Some q) is None has = ap (only (e.phase == phase)) (only-none (q == page))
+  entry_by e (Some q) is (Some l) has = absurd (not_some l (sym (look_likes_none workload e q is) ∙ has))
+  entry_by e None is None has = sym (only-none (e.phase == phase))
+  entry_by e None is (Some l) has = like_adds e l (is_split_in workload e.phase l.page) refl
+
+  pub entry_adds : (e : Ran)
+      → option_map_or (told_adds phase page) (step_ran workload e) 0
+      ≡ only (e.phase == phase) (likes_by workload page e)
+  entry_adds e =
+      entry_by e (look_at workload e.submitter e.number) refl (like_ran workload e) refl
+
+  -- and a step that counts there is plain
+  pub step_plain : (s : PageStep)
+      → only (s.phase == phase) (adds_to page s)
+      ≡ only (is_plain workload s) (only (s.phase == phase) (adds_to page s))
+  step_plain s =
+      counts_there (eqb s.phase phase) (eqb s.page page) (is_plain workload s) (likes_of s.call)
+      (λ here there. ap not
+      (ap₂ (is_split_in workload) (eqb-true s.phase phase here) (eqb-true s.page page there) ∙ plain))
+
+  -- so steps add what the entries like whose plain steps they are
+  pub steps_like : (steps : List PageStep) (entries : List Ran)
+      → map told (filter (is_plain workload) steps) ≡ steps_ran workload entries
+      → weigh (λ s. only (s.phase == phase) (adds_to page s)) steps
+      ≡ weigh (λ e. only (e.phase == phase) (likes_by workload page e)) entries
+  steps_like steps entries same =
+      weigh-alike (λ s. only (s.phase == phase) (adds_to page s))
+      (λ s. only (is_plain workload s) (only (s.phase == phase) (adds_to page s))) steps step_plain
+      ∙ sym (weigh-filter (is_plain workload) (λ s. only (s.phase == phase) (adds_to page s)) steps)
+      ∙ sym (weigh-map (told_adds phase page) told (filter (is_plain workload) steps))
+      ∙ ap (weigh (told_adds phase page)) same
+      ∙ weigh-marks (told_adds phase page) (step_ran workload) entries
+      ∙ weigh-alike (λ e. option_map_or (told_adds phase page) (step_ran workload e) 0)
+      (λ e. only (e.phase == phase) (likes_by workload page e)) entries entry_adds
+
+not_split : (b : Bool) → not b ≡ true → b ≡ false
+not_split false is = refl
+not_split true is = absurd (true≢false (sym is))
+
+-- the look at an entry: its read, among the steps
+module _ (workload : Workload) (last : ℕ) (steps : List PageStep) (before : List Ran) (e : Ran) (after : List Ran)
+    (page : ℕ) (turn : AreInTurn (initial_count workload.pages) last steps)
+    (marks : steps_ran workload (before ++ e ∷ after) ≡ map told (filter (is_plain workload) (reverse steps)))
+    (look : look_at workload e.submitter e.number ≡ Some page) where
+  abbrev the_read : StepTold
+  the_read = record { phase = e.phase; page = page; call = read; count = count_in e.reply }
+
+  in_marks : map told (filter (is_plain workload) (reverse steps))
+      ≡ steps_ran workload before ++ the_read ∷ steps_ran workload after
+  in_marks =
+      sym marks ∙ filter_map-append (step_ran workload) before (e ∷ after)
+      ∙ ap
+      (λ o. steps_ran workload before
+      ++ cons_option (look_or_like workload e o (like_ran workload e)) (steps_ran workload after))
+      look
+
+  shown : (m : Mapped told (filter (is_plain workload) (reverse steps)) (steps_ran workload before) the_read
+      (steps_ran workload after))
+      → Passed (is_plain workload) (reverse steps) m.front m.source m.rest
+      → count_in e.reply
+      ≡ initial_count workload.pages page
+      + (weigh (λ s. only (nat_lt s.phase e.phase) (adds_to page s)) steps
+      + weigh (λ d. only (d.phase == e.phase) (likes_by workload page d)) before)
+  shown m p =
+      let s = m.source in
+      let phase : s.phase ≡ e.phase = ap (λ (t : StepTold). t.phase) m.gives in
+      let at : s.page ≡ page = ap (λ (t : StepTold). t.page) m.gives in
+      let call : s.call ≡ read = ap (λ (t : StepTold). t.call) m.gives in
+      let count : s.found ≡ count_in e.reply =
+      sym (ap (λ c. count_told c s.found) call) ∙ ap (λ (t : StepTold). t.count) m.gives
+      in
+      let plain : is_split_in workload e.phase page ≡ false =
+      ap₂ (is_split_in workload) (sym phase) (sym at)
+      ∙ not_split (is_split_in workload s.phase s.page) p.passes
+      in
+      let is : steps ≡ reverse p.rest ++ s ∷ reverse p.front = reversed steps p.front s p.rest p.is in
+      let found = found_by_phase (initial_count workload.pages) last (reverse p.rest) s (reverse p.front)
+      (subst (AreInTurn (initial_count workload.pages) last) is turn)
+      in
+      let all : s.found
+      ≡ initial_count workload.pages page
+      + (weigh (λ t. only (nat_lt t.phase e.phase) (adds_to page t)) steps
+      + weigh (λ t. only (t.phase == e.phase) (adds_to page t)) (reverse p.front)) =
+      subst
+      (λ (xs : List PageStep). s.found
+      ≡ initial_count workload.pages page
+      + (weigh (λ t. only (nat_lt t.phase e.phase) (adds_to page t)) xs
+      + weigh (λ t. only (t.phase == e.phase) (adds_to page t)) (reverse p.front)))
+      (sym is)
+      (subst₂
+      (λ k q. s.found
+      ≡ initial_count workload.pages q
+      + (weigh (λ t. only (nat_lt t.phase k) (adds_to q t)) (reverse p.rest ++ s ∷ reverse p.front)
+      + weigh (λ t. only (t.phase == k) (adds_to q t)) (reverse p.front)))
+      phase at found)
+      in
+      let own : weigh (λ t. only (t.phase == e.phase) (adds_to page t)) (reverse p.front)
+      ≡ weigh (λ d. only (d.phase == e.phase) (likes_by workload page d)) before =
+      weigh-reverse (λ (t : PageStep). only (t.phase == e.phase) (adds_to page t)) p.front
+      ∙ steps_like workload e.phase page plain p.front before (ap (map told) p.fronts ∙ m.fronts)
+      in
+      omega arith
+
+  pub look_shows : count_in e.reply
+      ≡ initial_count workload.pages page
+      + (weigh (λ s. only (nat_lt s.phase e.phase) (adds_to page s)) steps
+      + weigh (λ d. only (d.phase == e.phase) (likes_by workload page d)) before)
+  look_shows =
+      let m = mapped told (filter (is_plain workload) (reverse steps)) (steps_ran workload before) the_read
+      (steps_ran workload after) in_marks
+      in
+      shown m (passed (is_plain workload) (reverse steps) m.front m.source m.rest m.is)

@@ -1,0 +1,13 @@
+pub mod Weigh
+pub mod Seen
+pub mod Parts
+pub mod Interleaved
+pub mod Phases
+pub mod Totals
+pub mod InTurn
+pub mod Answers
+pub mod Counts
+pub mod Serial
+pub mod Follows
+pub mod Crossed
+pub mod Logs

@@ -1,0 +1,54 @@
+-- An example: two workers like a page each, and then each looks at the page that the other liked.
+use Rattle.std.specs.Prelude.{ℕ, false, List, [], ◌∷◌, Some}
+use Rattle.like_requests.specs.Pages.{Page}
+use Rattle.like_requests.specs.declared.request.Op.TheVariants.{Like, Look}
+use Rattle.like_requests.specs.declared.request.PageRef.TheVariants.{Known}
+use Rattle.like_requests.specs.declared.request.Request.{Request}
+use Rattle.like_promises.specs.declared.log.Ran.{Ran}
+use Rattle.like_promises.specs.declared.reply.Reply.{Reply}
+use Rattle.like_promises.specs.declared.reply.Reply.TheVariants.{Liked, Seen}
+use Rattle.like_promises.specs.Replies.{HasRightCounts}
+use Rattle.like_promises.specs.Workload.{Workload}
+use Rattle.like_serial.specs.PageSteps.{PageStep}
+use Rattle.like_serial.specs.Serial.{AreRunLists, FitsRuns, IsSerial, run_of}
+
+-- a page that nobody has liked yet
+abbrev pub new_page : Page
+new_page = record { name = []; count = 0; split = false }
+
+-- a user likes a page and then looks at another
+abbrev pub like_and_look : ℕ → ℕ → ℕ → List Request
+like_and_look user liked other =
+    record { op = Like; user = user; page = Known liked }
+    ∷ record { op = Look; user = user; page = Known other }
+    ∷ []
+
+-- user 0 likes page 0 and looks at page 1; user 1 likes page 1 and looks at page 0
+abbrev pub crossed : Workload
+crossed = record {
+  users = 2;
+  pages = new_page ∷ new_page ∷ [];
+  stash = 256;
+  hot = λ _. 0;
+  plans = like_and_look 0 0 1 ∷ like_and_look 1 1 0 ∷ [];
+}
+
+-- an entry of phase 0
+abbrev pub ran : ℕ → ℕ → Reply → Ran
+ran submitter number reply =
+    record { phase = 0; submitter = submitter; number = number; stashed = false; reply = reply }
+
+-- each worker's look shows 0
+abbrev pub crossed_runs : List (List Ran)
+crossed_runs =
+    (ran 0 1 Liked ∷ ran 0 2 (Seen (Some 0) 0) ∷ [])
+    ∷ (ran 1 1 Liked ∷ ran 1 2 (Seen (Some 1) 0) ∷ [])
+    ∷ []
+
+-- each run list by itself is right, and each count is between its bounds; but no one thread replies so, and no order of
+-- page steps fits
+pub record CrossedLooksHaveNoOrder : Type 0 where
+  pub lists : AreRunLists crossed 2 crossed_runs
+  pub between : (worker : ℕ) → HasRightCounts crossed crossed_runs (run_of crossed_runs worker)
+  pub apart : (serial : List Ran) → ¬ IsSerial crossed 2 crossed_runs serial
+  pub unordered : (last : ℕ) (steps : List PageStep) → ¬ FitsRuns crossed crossed_runs last steps

@@ -1,0 +1,53 @@
+-- What replies tell of steps at pages.
+use Rattle.std.specs.Prelude.{ℕ, ◌==◌, Bool, not, ◌&&◌, if◌then◌else◌, List, map, filter, reverse, Option, Some, None}
+use Rattle.std.specs.List.{filter_map}
+use Rattle.like_promises.specs.declared.log.Ran.{Ran}
+use Rattle.like_promises.specs.Accepted.{AcceptedRequest}
+use Rattle.like_promises.specs.Likes.{like_ran}
+use Rattle.like_promises.specs.Looks.{count_in, look_at}
+use Rattle.like_promises.specs.Workload.{Workload, is_split_in}
+use Rattle.like_serial.specs.PageSteps.{PageCall, PageStep, add, read, glance}
+
+-- a step without the count that an addition found, which no reply tells: `count` is 0 then
+pub record StepTold : Type 0 where
+  pub phase : ℕ
+  pub page : ℕ
+  pub call : PageCall
+  pub count : ℕ
+
+-- the count that a step tells
+abbrev pub count_told : PageCall → ℕ → ℕ
+count_told (add n) found = 0
+count_told read found = found
+count_told glance found = found
+
+-- what a step tells
+abbrev pub told : PageStep → StepTold
+told s = record { phase = s.phase; page = s.page; call = s.call; count = count_told s.call s.found }
+
+-- plain: the page of the step is not split in its phase
+abbrev pub is_plain : Workload → PageStep → Bool
+is_plain workload s = not (is_split_in workload s.phase s.page)
+
+-- what a worker's plain steps tell, in their order, by all steps, the latest first
+abbrev pub plain_told : Workload → ℕ → List PageStep → List StepTold
+plain_told workload worker steps =
+    map told (filter (λ s. (s.worker == worker) && is_plain workload s) (reverse steps))
+
+-- the plain step of an entry with this accepted look or like: a look reads what it shows; a like of a page that is not
+-- split in the phase adds 1
+abbrev pub look_or_like : Workload → Ran → Option ℕ → Option AcceptedRequest → Option StepTold
+look_or_like workload e (Some page) like =
+    Some (record { phase = e.phase; page = page; call = read; count = count_in e.reply })
+look_or_like workload e None (Some l) =
+    if is_split_in workload e.phase l.page then None
+    else Some (record { phase = e.phase; page = l.page; call = add 1; count = 0 })
+look_or_like workload e None None = None
+
+-- the plain step that an entry took, if it took one
+abbrev pub step_ran : Workload → Ran → Option StepTold
+step_ran workload e = look_or_like workload e (look_at workload e.submitter e.number) (like_ran workload e)
+
+-- the plain steps that the entries of a run list took
+abbrev pub steps_ran : Workload → List Ran → List StepTold
+steps_ran workload ran = filter_map (step_ran workload) ran
