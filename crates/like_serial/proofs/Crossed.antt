@@ -19,7 +19,7 @@ use Rattle.like_serial.proofs.Serial.{phase_of, runs_are_serial, server_of}
 use Rattle.like_serial.proofs.Weigh.{weigh}
 
 -- the answers of a list of two
-right_two : (workload : Workload) (a b : Ran)
+pub right_two : (workload : Workload) (a b : Ran)
     → IsRightAnswer workload [] a
     → IsRightAnswer workload (a ∷ []) b
     → HasRightAnswers workload (a ∷ b ∷ [])

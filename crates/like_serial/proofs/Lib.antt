@@ -10,4 +10,5 @@ pub mod Counts
 pub mod Serial
 pub mod Follows
 pub mod Crossed
+pub mod Ordered
 pub mod Logs

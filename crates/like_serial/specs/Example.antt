@@ -9,7 +9,7 @@ use Rattle.like_promises.specs.declared.reply.Reply.{Reply}
 use Rattle.like_promises.specs.declared.reply.Reply.TheVariants.{Liked, Seen}
 use Rattle.like_promises.specs.Replies.{HasRightCounts}
 use Rattle.like_promises.specs.Workload.{Workload}
-use Rattle.like_serial.specs.PageSteps.{PageStep}
+use Rattle.like_serial.specs.PageSteps.{PageCall, PageStep, add, read}
 use Rattle.like_serial.specs.Serial.{AreRunLists, FitsRuns, IsSerial, run_of}
 
 -- a page that nobody has liked yet
@@ -52,3 +52,24 @@ pub record CrossedLooksHaveNoOrder : Type 0 where
   pub between : (worker : ℕ) → HasRightCounts crossed crossed_runs (run_of crossed_runs worker)
   pub apart : (serial : List Ran) → ¬ IsSerial crossed 2 crossed_runs serial
   pub unordered : (last : ℕ) (steps : List PageStep) → ¬ FitsRuns crossed crossed_runs last steps
+
+-- if user 1's look shows 1, the run lists fit an order: user 0 comes first
+abbrev pub ordered_runs : List (List Ran)
+ordered_runs =
+    (ran 0 1 Liked ∷ ran 0 2 (Seen (Some 0) 0) ∷ [])
+    ∷ (ran 1 1 Liked ∷ ran 1 2 (Seen (Some 1) 1) ∷ [])
+    ∷ []
+
+-- a step of phase 0
+abbrev pub step : ℕ → ℕ → ℕ → PageCall → PageStep
+step worker page found call =
+    record { worker = worker; phase = 0; page = page; found = found; call = call }
+
+-- the steps, the latest first
+abbrev pub ordered_steps : List PageStep
+ordered_steps = step 1 0 1 read ∷ step 1 1 0 (add 1) ∷ step 0 1 0 read ∷ step 0 0 0 (add 1) ∷ []
+
+-- each run list is right by itself, and the steps fit them
+pub record OrderedLooksFit : Type 0 where
+  pub lists : AreRunLists crossed 2 ordered_runs
+  pub fits : FitsRuns crossed ordered_runs 0 ordered_steps

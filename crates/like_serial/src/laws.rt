@@ -1,5 +1,5 @@
 //! The laws of one order. Each is the contract of a function that does nothing.
-ghost use Rattle.like_serial.specs.Example.{CrossedLooksHaveNoOrder};
+ghost use Rattle.like_serial.specs.Example.{CrossedLooksHaveNoOrder, OrderedLooksFit};
 ghost use Rattle.like_serial.specs.Laws.{CountsAreSerial, LastLikesAreSerial, LogsAreRunLists, RunsAreSerial, SerialIsBetween};
 ghost use Rattle.like_serial.specs.OneSees.{OneSeesTheOther};
 
@@ -37,4 +37,9 @@ pub fn serial_is_between()
 /// its bounds, and yet no order gives these replies.
 pub fn crossed_looks_have_no_order()
     ensures { CrossedLooksHaveNoOrder }
+{}
+
+/// If the second of the looks shows 1, there are page steps that fit the run lists.
+pub fn ordered_looks_fit()
+    ensures { OrderedLooksFit }
 {}
