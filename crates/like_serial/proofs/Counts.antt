@@ -16,7 +16,7 @@ use Rattle.like_promises.specs.Likes.{initial_count, like_ran, likes_among}
 use Rattle.like_promises.specs.Looks.{count_in, look_at}
 use Rattle.like_promises.specs.Workload.{Workload, is_split_in, request_of}
 use Rattle.like_serial.specs.PageSteps.{AreInTurn, PageStep, add, adds_to, likes_of, read}
-use Rattle.like_serial.specs.StepsTold.{StepTold, count_told, is_plain, look_or_like, step_ran, steps_ran, told}
+use Rattle.like_serial.specs.StepsTold.{StepTold, count_told, is_plain, look_or_like, step_ran, steps_ran, step_told}
 use Rattle.like_serial.proofs.InTurn.{found_by_phase}
 use Rattle.like_serial.proofs.Parts.{Mapped, Passed, mapped, passed, reversed}
 use Rattle.like_serial.proofs.Seen.{not_some}
@@ -116,14 +116,14 @@ module _ (workload : Workload) (phase page : ℕ) (plain : is_split_in workload 
 
   -- so steps add what the entries like whose plain steps they are
   pub steps_like : (steps : List PageStep) (entries : List Ran)
-      → map told (filter (is_plain workload) steps) ≡ steps_ran workload entries
+      → map step_told (filter (is_plain workload) steps) ≡ steps_ran workload entries
       → weigh (λ s. only (s.phase == phase) (adds_to page s)) steps
       ≡ weigh (λ e. only (e.phase == phase) (likes_by workload page e)) entries
   steps_like steps entries same =
       weigh-alike (λ s. only (s.phase == phase) (adds_to page s))
       (λ s. only (is_plain workload s) (only (s.phase == phase) (adds_to page s))) steps step_plain
       ∙ sym (weigh-filter (is_plain workload) (λ s. only (s.phase == phase) (adds_to page s)) steps)
-      ∙ sym (weigh-map (told_adds phase page) told (filter (is_plain workload) steps))
+      ∙ sym (weigh-map (told_adds phase page) step_told (filter (is_plain workload) steps))
       ∙ ap (weigh (told_adds phase page)) same
       ∙ weigh-marks (told_adds phase page) (step_ran workload) entries
       ∙ weigh-alike (λ e. option_map_or (told_adds phase page) (step_ran workload e) 0)
@@ -136,12 +136,12 @@ not_split true is = absurd (true≢false (sym is))
 -- the look at an entry: its read, among the steps
 module _ (workload : Workload) (last : ℕ) (steps : List PageStep) (before : List Ran) (e : Ran) (after : List Ran)
     (page : ℕ) (turn : AreInTurn (initial_count workload.pages) last steps)
-    (marks : steps_ran workload (before ++ e ∷ after) ≡ map told (filter (is_plain workload) (reverse steps)))
+    (marks : steps_ran workload (before ++ e ∷ after) ≡ map step_told (filter (is_plain workload) (reverse steps)))
     (look : look_at workload e.submitter e.number ≡ Some page) where
   abbrev the_read : StepTold
   the_read = record { phase = e.phase; page = page; call = read; count = count_in e.reply }
 
-  in_marks : map told (filter (is_plain workload) (reverse steps))
+  in_marks : map step_told (filter (is_plain workload) (reverse steps))
       ≡ steps_ran workload before ++ the_read ∷ steps_ran workload after
   in_marks =
       sym marks ∙ filter_map-append (step_ran workload) before (e ∷ after)
@@ -150,7 +150,7 @@ module _ (workload : Workload) (last : ℕ) (steps : List PageStep) (before : Li
       ++ cons_option (look_or_like workload e o (like_ran workload e)) (steps_ran workload after))
       look
 
-  shown : (m : Mapped told (filter (is_plain workload) (reverse steps)) (steps_ran workload before) the_read
+  shown : (m : Mapped step_told (filter (is_plain workload) (reverse steps)) (steps_ran workload before) the_read
       (steps_ran workload after))
       → Passed (is_plain workload) (reverse steps) m.front m.source m.rest
       → count_in e.reply
@@ -193,7 +193,7 @@ module _ (workload : Workload) (last : ℕ) (steps : List PageStep) (before : Li
       let own : weigh (λ t. only (t.phase == e.phase) (adds_to page t)) (reverse p.front)
       ≡ weigh (λ d. only (d.phase == e.phase) (likes_by workload page d)) before =
       weigh-reverse (λ (t : PageStep). only (t.phase == e.phase) (adds_to page t)) p.front
-      ∙ steps_like workload e.phase page plain p.front before (ap (map told) p.fronts ∙ m.fronts)
+      ∙ steps_like workload e.phase page plain p.front before (ap (map step_told) p.fronts ∙ m.fronts)
       in
       omega arith
 
@@ -202,7 +202,7 @@ module _ (workload : Workload) (last : ℕ) (steps : List PageStep) (before : Li
       + (weigh (λ s. only (nat_lt s.phase e.phase) (adds_to page s)) steps
       + weigh (λ d. only (d.phase == e.phase) (likes_by workload page d)) before)
   look_shows =
-      let m = mapped told (filter (is_plain workload) (reverse steps)) (steps_ran workload before) the_read
+      let m = mapped step_told (filter (is_plain workload) (reverse steps)) (steps_ran workload before) the_read
       (steps_ran workload after) in_marks
       in
       shown m (passed (is_plain workload) (reverse steps) m.front m.source m.rest m.is)

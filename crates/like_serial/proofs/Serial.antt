@@ -9,7 +9,7 @@ use Rattle.like_promises.specs.Workload.{Workload}
 use Rattle.like_serial.specs.Laws.{RunsAreSerial}
 use Rattle.like_serial.specs.PageSteps.{PageStep, adds_to}
 use Rattle.like_serial.specs.Serial.{AreRunLists, FitsRuns, AreRising, HasExactCounts, IsSerial, run_of, steps_in}
-use Rattle.like_serial.specs.StepsTold.{is_plain, step_ran, steps_ran, told}
+use Rattle.like_serial.specs.StepsTold.{is_plain, step_ran, steps_ran, step_told}
 use Rattle.like_serial.proofs.Answers.{answers_of_own}
 use Rattle.like_serial.proofs.Counts.{likes-weigh, likes_by, look_shows}
 use Rattle.like_serial.proofs.Interleaved.{Interleaved, interleaved, with_key}
@@ -35,16 +35,16 @@ module _ (workload : Workload) (workers last : ℕ) (runs : List (List Ran)) (st
     (lists : AreRunLists workload workers runs) (fits : FitsRuns workload runs last steps) where
   abbrev Merged : Type 0
   Merged =
-      Interleaved (server_of workers) (step_ran workload) told (filter (is_plain workload) (reverse steps)) (run_of runs)
+      Interleaved (server_of workers) (step_ran workload) step_told (filter (is_plain workload) (reverse steps)) (run_of runs)
 
   -- a merge of the run lists that has their plain steps in the order of all
   merged : Merged
   merged =
-      interleaved (server_of workers) (step_ran workload) (λ (s : PageStep). s.worker) told (length runs)
+      interleaved (server_of workers) (step_ran workload) (λ (s : PageStep). s.worker) step_told (length runs)
       (filter (is_plain workload) (reverse steps)) (run_of runs)
       (λ w. all_rec (λ e. server_of workers e ≡ w) (run_of runs w) (lists.own w))
       (λ w past. no_run runs w past)
-      (λ w. ap (map told) (filter-both (λ (s : PageStep). s.worker == w) (is_plain workload) (reverse steps))
+      (λ w. ap (map step_told) (filter-both (λ (s : PageStep). s.worker == w) (is_plain workload) (reverse steps))
       ∙ fits.plain w)
 
   module _ (m : Merged) where

@@ -22,8 +22,8 @@ count_told read found = found
 count_told glance found = found
 
 -- what a step tells
-abbrev pub told : PageStep → StepTold
-told s = record { phase = s.phase; page = s.page; call = s.call; count = count_told s.call s.found }
+abbrev pub step_told : PageStep → StepTold
+step_told s = record { phase = s.phase; page = s.page; call = s.call; count = count_told s.call s.found }
 
 -- plain: the page of the step is not split in its phase
 abbrev pub is_plain : Workload → PageStep → Bool
@@ -32,7 +32,7 @@ is_plain workload s = not (is_split_in workload s.phase s.page)
 -- what a worker's plain steps tell, in their order, by all steps, the latest first
 abbrev pub plain_told : Workload → ℕ → List PageStep → List StepTold
 plain_told workload worker steps =
-    map told (filter (λ s. (s.worker == worker) && is_plain workload s) (reverse steps))
+    map step_told (filter (λ s. (s.worker == worker) && is_plain workload s) (reverse steps))
 
 -- the plain step of an entry with this accepted look or like: a look reads what it shows; a like of a page that is not
 -- split in the phase adds 1
