@@ -92,7 +92,7 @@ def draw_users(count):
 class Log:
     """What is right to say of a drawn log."""
 
-    def __init__(self, draw, lines=3000000, users=200000, pages=5001):
+    def __init__(self, draw, lines=3000000, users=200000, pages=16437):
         self.draw, self.lines = draw, lines
         self.pages, self.fronts = draw_pages(draw, pages), draw_users(users)
         self.users = {}  # in the order in which they appear

@@ -110,8 +110,12 @@ class Dealt:
         self.others = 0
         self.users = Users()
         self.last_part = array.array("H", bytes(2 * USERS))  # by the user's number: the part, from 1, or 0
-        self.read = log.read()  # how much of the log was read, as text
+        self.read = ""  # how much of the log was read, as text, once it is dealt
         self.open = self.new_part()  # the part that new pages go to
+
+    def how_far(self):
+        """How far it is, as text."""
+        return self.read or self.log.read()
 
     def new_part(self):
         number = len(self.parts)
