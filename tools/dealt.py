@@ -171,10 +171,10 @@ class Dealt:
         """Gives each request to the file of its user, and writes it."""
         gc.disable()  # there are no cycles here
         users, last_part, files = self.users, self.last_part, self.files
-        whats, count = [], 0  # op and page, by number
+        whats_of, count = collections.defaultdict(list), 0  # by the process that read them: op and page, by number
         with ahead.reading(self.log) as batches:
             for batch in batches:
-                self.read = batch.read
+                self.read, whats = batch.read, whats_of[batch.reader]
                 whats += self.new_of(batch, len(whats))
                 numbers = list(map(users.__getitem__, batch.users))
                 if len(users) > USERS:
@@ -270,6 +270,7 @@ def kept_names(log, earlier, rest):
     counts, likes = collections.Counter(), collections.Counter()
     for _, numbers, _ in log.batches():
         counts.update(numbers)
+    log.judge()
     for number, count in counts.items():
         op, page = log.whats[number]
         likes[page] += count * (op == "like")
