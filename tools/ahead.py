@@ -74,6 +74,8 @@ def taken(files, log):
         yield batch
     # There was no turn left for any of them.
     others = [take(file, log) for place, file in enumerate(files) if place != reader]
+    if not all(isinstance(other, dict) for other in others):
+        raise Fault(f"{log}: it changed while it was read")
     log.join([*others[:reader], value, *others[reader:]])
     log.judge()
 

@@ -1,7 +1,9 @@
 """The requests of logs: CSV files, or those of a web server."""
 
 import argparse
+import gzip
 import itertools
+import math
 import operator
 import os
 import re
@@ -258,11 +260,15 @@ class Combined(Log):
         self.meanings = None
         self.turn = self.sharers = 1  # which of the processes that share the log this is, and how many there are
         self.turns = None
+        self.sizes = {}  # of logs that are shared, which may grow: how much of each is read
 
     def blocks(self, file):
         """A log in pieces of whole lines."""
-        rest = b""
-        while block := file.read(BLOCK):
+        rest, left = b"", math.inf
+        if not isinstance(file, gzip.GzipFile):
+            left = self.sizes.get(self.name, math.inf)
+        while block := file.read(min(BLOCK, left)):
+            left -= len(block)
             lines, end, block = block.rpartition(b"\n")
             if end:
                 yield rest + lines + end
@@ -281,6 +287,7 @@ class Combined(Log):
     def readers(self):
         if not all(name != "-" and os.path.isfile(name) for name in self.names):
             return 1
+        self.sizes = {name: os.path.getsize(name) for name in self.names}
         return max(1, min(MOST, len(os.sched_getaffinity(0)) - 1))
 
     def found(self):
