@@ -4,7 +4,7 @@ import collections
 import itertools
 import urllib.parse
 
-WORDS = 'news sport weather café čaj чай καφές קפה شاي चाय 天気 お茶 커피 😀 tea,milk say"no" 100% a\\b'.split()
+WORDS = 'news sport weather café čaj чай καφές קפה شاي चाय 天気 お茶 커피 😀 tea,milk say"no" 100% c++é a\\b'.split()
 AGENTS = [
     "Mozilla/5.0 (X11; Linux x86_64) AppleWebKit/537.36 (KHTML, like Gecko) Chrome/119.0.0.0 Safari/537.36",
     "Mozilla/5.0 (iPhone; CPU iPhone OS 17_1 like Mac OS X) AppleWebKit/605.1.15 Version/17.1 Mobile/15E148",
@@ -61,6 +61,8 @@ def draw_pages(draw, count):
         pages[page] = [urllib.parse.quote(page, errors="surrogateescape")]
         if "%" not in page:
             pages[page].append(hexed(page))
+        if "+" in page:
+            pages[page].append(urllib.parse.quote(page, safe="/+", errors="surrogateescape"))
     return pages
 
 
@@ -92,7 +94,7 @@ def draw_users(count):
 class Log:
     """What is right to say of a drawn log."""
 
-    def __init__(self, draw, lines=3000000, users=200000, pages=5001):
+    def __init__(self, draw, lines=3000000, users=200000, pages=16437):
         self.draw, self.lines = draw, lines
         self.pages, self.fronts = draw_pages(draw, pages), draw_users(users)
         self.users = {}  # in the order in which they appear

@@ -1,8 +1,9 @@
-"""The requests of a log in batches, which a second process reads ahead."""
+"""The requests of a log in batches, which other processes read ahead, in turns."""
 
 import collections
 import contextlib
 import fcntl
+import itertools
 import marshal
 import os
 import signal
@@ -13,8 +14,8 @@ from command import Fault
 LENGTH, ROOM = 8, 1 << 20
 
 # Requests: the line, the number of what each is, and the user; op and page of each number that is new; the name of the
-# log that they are in, and how much of it was read, in words.
-Batch = collections.namedtuple("Batch", "lines numbers users new name read")
+# log that they are in, and how much of it was read, in words; and which process read them, whose numbers they have.
+Batch = collections.namedtuple("Batch", "lines numbers users new name read reader")
 
 
 class Numbers(dict):
@@ -36,11 +37,11 @@ def batches(log):
 
 
 def send(log, out):
-    """Sends the batches of a log, and at the end what it left out, or its fault."""
+    """Sends the batches of a log, and at the end what was found, or its fault."""
     try:
         for batch in batches(log):
             put(out, batch)
-        put(out, {"left_out": log.left_out, "idle": log.idle})
+        put(out, log.found())
     except Fault as fault:
         put(out, str(fault))
 
@@ -51,7 +52,7 @@ def put(out, value):
 
 
 def take(file, log):
-    """The next batch, or nothing at the end."""
+    """The next batch, or at the end what was found."""
     length = int.from_bytes(file.read(LENGTH), "little")
     data = file.read(length)
     if len(data) < max(length, 1):
@@ -59,17 +60,29 @@ def take(file, log):
     value = marshal.loads(data)
     if isinstance(value, str):
         raise Fault(value)
-    if isinstance(value, dict):
-        log.left_out, log.idle = value["left_out"], value["idle"]
-        return None
-    batch = Batch(*value)
-    log.name = batch.name
-    return batch
+    return value
+
+
+def taken(files, log):
+    """The batches of all processes, in their turns. At the end the log has what they found, and is judged."""
+    for reader, file in itertools.cycle(enumerate(files)):
+        value = take(file, log)
+        if isinstance(value, dict):
+            break
+        batch = Batch(*value, reader)
+        log.name = batch.name
+        yield batch
+    # There was no turn left for any of them.
+    others = [take(file, log) for place, file in enumerate(files) if place != reader]
+    if not all(isinstance(other, dict) for other in others):
+        raise Fault(f"{log}: it changed while it was read")
+    log.join([*others[:reader], value, *others[reader:]])
+    log.judge()
 
 
 @contextlib.contextmanager
-def reading(log):
-    """The batches of a log, which a second process reads meanwhile."""
+def started(log, turn, sharers):
+    """What a process sends that reads a log meanwhile, in its turns."""
     ours, theirs = os.pipe()
     with contextlib.suppress(AttributeError, OSError):  # an old Python, or a limit of the system
         fcntl.fcntl(theirs, fcntl.F_SETPIPE_SZ, ROOM)
@@ -78,12 +91,21 @@ def reading(log):
         # It ends when all is read, at a signal, or when the pipe is closed.
         with contextlib.suppress(BaseException), open(theirs, "wb") as out:
             os.close(ours)
+            log.turn, log.sharers = turn, sharers
             send(log, out)
         os._exit(0)
     os.close(theirs)
     try:
         with open(ours, "rb") as file:
-            yield iter(lambda: take(file, log), None)
+            yield file
     finally:
         os.kill(child, signal.SIGKILL)
         os.waitpid(child, 0)
+
+
+@contextlib.contextmanager
+def reading(log):
+    """The batches of a log, which other processes read meanwhile."""
+    readers = log.readers()
+    with contextlib.ExitStack() as files:
+        yield taken([files.enter_context(started(log, turn, readers)) for turn in range(1, readers + 1)], log)

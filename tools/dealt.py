@@ -110,8 +110,12 @@ class Dealt:
         self.others = 0
         self.users = Users()
         self.last_part = array.array("H", bytes(2 * USERS))  # by the user's number: the part, from 1, or 0
-        self.read = log.read()  # how much of the log was read, as text
+        self.read = ""  # how much of the log was read, as text, once it is dealt
         self.open = self.new_part()  # the part that new pages go to
+
+    def how_far(self):
+        """How far it is, as text."""
+        return self.read or self.log.read()
 
     def new_part(self):
         number = len(self.parts)
@@ -167,10 +171,10 @@ class Dealt:
         """Gives each request to the file of its user, and writes it."""
         gc.disable()  # there are no cycles here
         users, last_part, files = self.users, self.last_part, self.files
-        whats, count = [], 0  # op and page, by number
+        whats_of, count = collections.defaultdict(list), 0  # by the process that read them: op and page, by number
         with ahead.reading(self.log) as batches:
             for batch in batches:
-                self.read = batch.read
+                self.read, whats = batch.read, whats_of[batch.reader]
                 whats += self.new_of(batch, len(whats))
                 numbers = list(map(users.__getitem__, batch.users))
                 if len(users) > USERS:
@@ -266,6 +270,7 @@ def kept_names(log, earlier, rest):
     counts, likes = collections.Counter(), collections.Counter()
     for _, numbers, _ in log.batches():
         counts.update(numbers)
+    log.judge()
     for number, count in counts.items():
         op, page = log.whats[number]
         likes[page] += count * (op == "like")

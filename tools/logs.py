@@ -1,7 +1,9 @@
 """The requests of logs: CSV files, or those of a web server."""
 
 import argparse
+import gzip
 import itertools
+import math
 import operator
 import os
 import re
@@ -38,6 +40,9 @@ REFUSED = "400"
 # How many bytes of a log are read at a time, how many rows are a batch, and the most bytes in a line.
 BLOCK, BATCH, LONGEST = 1 << 18, 4096, 1 << 20
 
+# How many processes share a log at most.
+MOST = 2
+
 # How many requests are cached with their meaning.
 KEPT = 1 << 17
 
@@ -59,6 +64,7 @@ class Log:
         self.whats = [None]  # op and page of each request that differs, by a number from 1
         self.numbers = {}  # by op and page
         self.left_out = {}  # why: how many lines, and the name, line and text of the first
+        self.has_requests = False
         self.idle = []  # the patterns that match no request
 
     def __str__(self):
@@ -83,7 +89,7 @@ class Log:
     def told(self):
         """How many lines are left out, why, and the first of them; and which patterns match nothing."""
         found = self.left_out.items()
-        for why, (count, name, line, text) in sorted(found, key=lambda it: (self.names.index(it[1][1]), it[1][2])):
+        for why, (count, name, line, text) in sorted(found, key=lambda entry: self.place(entry[1][1:])):
             place = f"line {line}" + (f" of {rows.called(name)}" if len(self.names) > 1 else "")
             yield f"left out {count}, {why}: the first is {place}, {shown(text)}"
         for option in self.idle:
@@ -94,19 +100,43 @@ class Log:
         name, share = rows.called(self.name), rows.share(self.file)
         return f"{name}{share}" if share else f"reading {name}"
 
+    def begin(self):
+        """Begins to read."""
+        self.left_out, self.has_requests = {}, False
+
     def batches(self):
         """The requests in batches: their lines, the number of each one's op and page, and their users."""
-        self.left_out, has_requests = {}, False
+        self.begin()
         for self.name in self.names:
             with rows.opened(self.name) as (file, self.file):
                 for batch in self.batches_in(file):
-                    has_requests = True
+                    self.has_requests = self.has_requests or bool(batch[0])
                     yield batch
-        self.judge(has_requests)
 
-    def judge(self, has_requests):
-        """Stops if no request is left."""
-        if not has_requests and self.left_out:
+    def readers(self):
+        """How many processes may share the log, each with its turn at a batch."""
+        return 1
+
+    def found(self):
+        """What was found when all is read, for a process that joins it."""
+        return {"left_out": self.left_out, "has_requests": self.has_requests}
+
+    def join(self, found):
+        """Takes what processes found that shared the log."""
+        self.begin()
+        for part in found:
+            self.has_requests = self.has_requests or part["has_requests"]
+            for why, (count, *first) in part["left_out"].items():
+                more, *other = self.left_out.get(why, (0, *first))
+                self.left_out[why] = [count + more, *min(first, other, key=self.place)]
+
+    def place(self, first):
+        """Where the first line is that was left out for a reason: its log and its line."""
+        return self.names.index(first[0]), first[1]
+
+    def judge(self):
+        """Stops if no request is left, once all is read."""
+        if not self.has_requests and self.left_out:
             raise Fault(f"{self}: no request: {'; '.join(self.told())}")
 
 
@@ -228,11 +258,17 @@ class Combined(Log):
         super().__init__(names)
         self.patterns, self.form = patterns, form
         self.meanings = None
+        self.turn = self.sharers = 1  # which of the processes that share the log this is, and how many there are
+        self.turns = None
+        self.sizes = {}  # of logs that are shared, which may grow: how much of each is read
 
     def blocks(self, file):
         """A log in pieces of whole lines."""
-        rest = b""
-        while block := file.read(BLOCK):
+        rest, left = b"", math.inf
+        if not isinstance(file, gzip.GzipFile):
+            left = self.sizes.get(self.name, math.inf)
+        while block := file.read(min(BLOCK, left)):
+            left -= len(block)
             lines, end, block = block.rpartition(b"\n")
             if end:
                 yield rest + lines + end
@@ -243,21 +279,33 @@ class Combined(Log):
         if rest:
             yield rest + b"\n"
 
-    def batches(self):
-        """The requests in batches, as in any log."""
+    def begin(self):
+        super().begin()
         self.meanings = Meanings(self)
-        return super().batches()
+        self.turns = itertools.cycle(range(1, self.sharers + 1))
+
+    def readers(self):
+        if not all(name != "-" and os.path.isfile(name) for name in self.names):
+            return 1
+        self.sizes = {name: os.path.getsize(name) for name in self.names}
+        return max(1, min(MOST, len(os.sched_getaffinity(0)) - 1))
+
+    def found(self):
+        return {**super().found(), "matched": self.meanings.matched, "first": self.meanings.first}
+
+    def join(self, found):
+        super().join(found)
+        self.meanings.matched.update(*(part["matched"] for part in found))
+        self.meanings.first = next(filter(None, (part["first"] for part in found)), None)
 
     def batches_in(self, file):
-        """The requests of a file in batches."""
+        """The requests of a file in batches, those of this process."""
         first = 1
         for block in self.blocks(file):
-            text = block.decode(errors="surrogateescape")
-            found = LINES[bool(re.match(HOST, text))].findall(text)
-            batch = self.batch_of(found, first)
-            first += len(found)
-            if batch[0]:
-                yield batch
+            if next(self.turns) == self.turn:
+                text = block.decode(errors="surrogateescape")
+                yield self.batch_of(LINES[bool(re.match(HOST, text))].findall(text), first)
+            first += block.count(b"\n")
 
     def batch_of(self, found, first):
         """The requests of a piece of the log, whose lines begin with the first."""
@@ -294,16 +342,16 @@ class Combined(Log):
             users = [address if user == "-" else user for address, user in zip(addresses, users)]
         return [named.get(request) or user for request, user in zip(requests, users)] if named else users
 
-    def judge(self, has_requests):
+    def judge(self):
         """Stops if no request is left, or none matches the pattern of likes."""
         matched, first = self.meanings.matched, self.meanings.first
         idle = [f"--{op} {shlex.quote(found.pattern)}" for op, found in self.patterns.items() if op not in matched]
         if "like" not in matched and first:
             raise Fault(f"{self}: no request matches {' or '.join(idle)}: {FRONT}, such as {shown(first)}")
         self.idle = idle if matched else []
-        if not has_requests and not self.left_out:
+        if not self.has_requests and not self.left_out:
             raise Fault(f"{self}: no request: the log is empty")
-        super().judge(has_requests)
+        super().judge()
 
 
 def pattern(text):
