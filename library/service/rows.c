@@ -1,4 +1,5 @@
 /* Seats that a thread locks for rows of requests. */
+#include "../proved.h"
 #include "held.h"
 
 _Thread_local likes_place *likes_held;
@@ -122,6 +123,14 @@ bool likes_service_take_found(likes_service *service, uint32_t number, likes_fou
     if (likes_held_fault(service, number) != LIKES_OK)
         return false;
     return likes_place_take_found(&service->places[number], found);
+}
+
+/* At a seat of a service that the thread holds, looks of the service are handed to the threads that wait for them. */
+bool likes_seat_take_found(likes_seat *seat, likes_found *found) {
+    likes_place *place = likes_held;
+    while (place != NULL && &place->seat != seat)
+        place = place->next_held;
+    return place != NULL ? likes_place_take_found(place, found) : likes_proved_seat_take_found(seat, found);
 }
 
 size_t likes_seat_take_all_found(likes_seat *seat, likes_found *found, size_t found_len) {
