@@ -1244,7 +1244,6 @@ static const struct {
     {LIKES_WRONG_PERIOD, "period_us is 1 to 1000000000"},
     {LIKES_NOT_STARTED, "not started"},
     {LIKES_UNKNOWN_SEAT, "unknown seat"},
-    {LIKES_LOOK_LOST, "look lost"},
     {LIKES_LATE, "late"},
     {LIKES_HOLDS_SEAT, "the thread holds a seat"},
     {LIKES_NOT_LOCKED, "the thread does not hold the seat"},

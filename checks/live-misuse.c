@@ -309,49 +309,57 @@ static void defaults(void) {
     IS(service == NULL, true);
 }
 
-/* Asks likes_service_look again and again, and counts how often the answer was taken by somebody. */
+/* Asks likes_service_look again and again: each look is answered. */
 static void *ask(void *at) {
-    uint64_t *taken = (uint64_t *)at;
+    uint64_t *looks = (uint64_t *)at;
     while (!__atomic_load_n(&is_over, __ATOMIC_SEQ_CST)) {
         likes_answer answer;
-        uint32_t status = likes_service_look(service, 0, 0, &answer);
-        IS(status == LIKES_SEEN || status == LIKES_LOOK_LOST, true);
-        IS(answer.count, status == LIKES_SEEN ? 10 : 0);
-        *taken += status == LIKES_LOOK_LOST;
+        IS(likes_service_look(service, 0, 0, &answer), LIKES_SEEN);
+        IS(answer.count, 10);
+        ++*looks;
     }
     return NULL;
 }
 
-/* Holds the seat until it has taken a found look past the service. Whether there was one, for a while. */
-static bool take_one(void) {
+/* Holds the seat, makes a look, and takes found looks of all kinds for a while: only its own come, one by one. */
+static uint64_t take_some(uint64_t asked, uint64_t *taken) {
+    likes_answer answer;
     likes_found found;
-    bool is_taken = false;
     likes_seat *seat = likes_service_lock(service, 0);
-    for (uint64_t end = clock_now() + 5000000; !is_taken && clock_now() < end;) {
+    asked += likes_seat_look(seat, 0, 0, asked + 1, &answer) == LIKES_WAITS;
+    for (uint64_t end = clock_now() + 1000000; clock_now() < end;) {
         likes_service_drive(service);
         likes_seat_turn(seat);
-        is_taken = likes_seat_take_found(seat, &found);
+        while (likes_seat_take_found(seat, &found))
+            IS(found.tag, ++*taken);
     }
     likes_service_unlock(service, 0);
-    return is_taken;
+    return asked;
 }
 
-/* Threads wait for looks at one seat, of which this one takes some: each look is answered or taken, once. */
+/* Threads wait for looks at one seat, at which this one makes and takes looks of its own: none goes astray. */
 static void taken(int askers) {
     pthread_t threads[2];
-    uint64_t missed[2] = {0}, totals[2], taken = 0;
+    uint64_t looks[2] = {0}, totals[2], asked = 0, took = 0;
+    likes_found found;
     is_over = false;
     IS(start(1, 8, 100), LIKES_OK);
     for (int i = 0; i < askers; i++)
-        IS(pthread_create(&threads[i], NULL, ask, &missed[i]), 0);
-    while (taken < LOOKS) {
-        taken += take_one();
+        IS(pthread_create(&threads[i], NULL, ask, &looks[i]), 0);
+    while (took < LOOKS) {
+        asked = take_some(asked, &took);
         sleep_for(500000);
     }
     __atomic_store_n(&is_over, true, __ATOMIC_SEQ_CST);
     for (int i = 0; i < askers; i++)
         pthread_join(threads[i], NULL);
-    IS(missed[0] + missed[1], taken);
+    IS(looks[0] + looks[1] > 0, true);
+    IS(likes_service_retire(service), LIKES_OK);
+    likes_seat *seat = likes_service_lock(service, 0);
+    while (likes_seat_take_found(seat, &found))
+        IS(found.tag, ++took);
+    likes_service_unlock(service, 0);
+    IS(took, asked);
     stop(totals, 2);
 }
 

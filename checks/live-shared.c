@@ -7,7 +7,7 @@
 enum { SEATS = 3, USERS = 6, PAGES = 2 * USERS, SNAPSHOTS = 200, MS = 1000000 };
 
 static likes_service *service;
-static bool is_over;
+static bool is_over, is_held;
 
 #define IS(call, expected)                                                                                      \
     do {                                                                                                        \
@@ -173,6 +173,7 @@ static void late_looks(void) {
 /* A thread that holds a seat, in no call. */
 static void *hold_seat(void *at) {
     IS(likes_service_lock(service, *(uint32_t *)at) != NULL, true);
+    __atomic_store_n(&is_held, true, __ATOMIC_SEQ_CST);
     while (is_on())
         sleep_for(MS);
     likes_service_unlock(service, *(uint32_t *)at);
@@ -187,8 +188,11 @@ static void held_seat(void) {
     uint64_t totals[PAGES];
     likes_answer answer;
     start(8, 1000, 512);
+    is_held = false;
     IS(pthread_create(&thread, NULL, hold_seat, &held), 0);
-    sleep_for(20 * MS);
+    while (!__atomic_load_n(&is_held, __ATOMIC_SEQ_CST))
+        sleep_for(MS);
+    sleep_for(50 * MS); /* until a phase is ending, which waits for the seat */
     be_late(1, 2);
     be_late(0, 0);
     be_late(0, 2);

@@ -206,7 +206,7 @@ uint32_t likes_seat_look(likes_seat *seat, uint32_t user, uint32_t page, uint64_
 uint32_t likes_seat_glance(likes_seat *seat, uint32_t user, uint32_t page, likes_answer *answer);
 
 /* Takes the next found look, in the order of asking. False: there is none, and nothing is written. It works at any
- * time, also when the seat is gone. */
+ * time, also when the seat is gone. At a seat of likes_service.h, looks of the service aren't among them. */
 bool likes_seat_take_found(likes_seat *seat, likes_found *found);
 
 /* Writes the page of a user's last like, or LIKES_NO_PAGE: LIKES_OK. Else nothing is written: the first that applies of

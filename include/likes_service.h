@@ -21,7 +21,7 @@ extern "C" {
 #endif
 
 /* What these calls answer, beside the statuses of likes.h. They are errors, and likes_status_text has their texts. But
- * for LIKES_LOOK_LOST and LIKES_LATE, nothing was done.
+ * for LIKES_LATE, nothing was done.
  *
  * A call of a service or a writer that is NULL, or of a service that was stopped, answers LIKES_NOT_STARTED. Calls that
  * take locks answer LIKES_HOLDS_SEAT to a thread that holds a seat of the service: they could wait for the thread
@@ -32,12 +32,11 @@ enum likes_service_status {
     LIKES_WRONG_PERIOD = 1001, /* period_us is over LIKES_MAX_PERIOD_US */
     LIKES_NOT_STARTED = 1002,  /* the service or the writer is NULL, or the service was stopped */
     LIKES_UNKNOWN_SEAT = 1003, /* the service has fewer seats */
-    LIKES_LOOK_LOST = 1004,    /* the look was made, but somebody took its result with likes_seat_take_found */
-    LIKES_LATE = 1005,         /* the look had no answer in time. If it was made, its answer is thrown away */
-    LIKES_HOLDS_SEAT = 1006,   /* the calling thread holds a seat of the service */
-    LIKES_NOT_LOCKED = 1007,   /* the calling thread doesn't hold the seat */
-    LIKES_OPEN_WRITER = 1008,  /* a writer of the service is open */
-    LIKES_WRONG_TAG = 1009     /* the tag of a look in a row is 2^63 or more */
+    LIKES_LATE = 1004,         /* the look had no answer in time. If it was made, its answer is thrown away */
+    LIKES_HOLDS_SEAT = 1005,   /* the calling thread holds a seat of the service */
+    LIKES_NOT_LOCKED = 1006,   /* the calling thread doesn't hold the seat */
+    LIKES_OPEN_WRITER = 1007,  /* a writer of the service is open */
+    LIKES_WRONG_TAG = 1008     /* the tag of a look in a row is 2^63 or more */
 };
 
 typedef struct likes_service likes_service;
@@ -83,9 +82,8 @@ uint32_t likes_service_seat_fault(const likes_service *service, uint32_t number)
 uint32_t likes_service_like(likes_service *service, uint32_t user, uint32_t page);
 
 /* Looks, and waits until the look is found if it has to: an answer of likes_seat_look, but never LIKES_BETWEEN or
- * LIKES_WAITS, and LIKES_NO_ROOM only where looks with tags of the host's fill the seat. LIKES_LOOK_LOST: somebody took
- * its result with likes_seat_take_found. Any thread may call it. At a seat that it is called for, take looks of your
- * own with likes_service_take_found. */
+ * LIKES_WAITS, and LIKES_NO_ROOM only where looks with tags of the host's fill the seat. Any thread may call it, also
+ * while another takes found looks of its own at the seat. */
 uint32_t likes_service_look(likes_service *service, uint32_t user, uint32_t page, likes_answer *answer);
 
 /* The same with a time limit, in microseconds, which it hardly exceeds: then it answers LIKES_LATE. A look that was

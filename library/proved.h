@@ -1,4 +1,4 @@
-/* The proved calls over which core.c stands. In crates/like_c their names end in _nonnull; tools/liblikes gives them
+/* The proved calls over which others stand, those of core.c and likes_seat_take_found. tools/liblikes gives them
  * these, and hides them. They take no NULL. */
 #ifndef LIKES_PROVED_H
 #define LIKES_PROVED_H
@@ -20,6 +20,7 @@ uint32_t likes_proved_driver_snapshot(likes_driver *driver, uint32_t from, uint6
 uint32_t likes_proved_driver_last_counts(likes_driver *driver, uint32_t from, uint64_t *counts, size_t counts_len);
 size_t likes_proved_driver_split_pages(likes_driver *driver, uint32_t *pages, size_t pages_len);
 uint32_t likes_proved_driver_propose(likes_driver *driver, const uint32_t *pages, size_t pages_len);
+bool likes_proved_seat_take_found(likes_seat *seat, likes_found *found);
 void likes_proved_seat_free(likes_seat *seat);
 void likes_proved_driver_free(likes_driver *driver);
 void likes_proved_phase_free(likes_phase *phase);

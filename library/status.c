@@ -34,7 +34,7 @@ static const char *const of_services[] = {
     "period_us is 1 to 1000000000",
     "not started",
     "unknown seat",
-    "look lost",
+
     "late",
     "the thread holds a seat",
     "the thread does not hold the seat",

@@ -29,7 +29,8 @@ inline likes_status outcome(std::uint32_t status) {
 }
 
 // What a service is opened with. marks has the pages that are split in every split phase, and lasts the page of each
-// user's last like, or LIKES_NO_PAGE; if it is empty, nobody has one.
+// user's last like, or LIKES_NO_PAGE; if it is empty, nobody has one. seats 0 and room 0 are the defaults of likes.h,
+// and hot 0 is LIKES_NO_HOT.
 struct Options {
     std::uint32_t seats, users, room = LIKES_MAX_ROOM, hot = 0;
     std::vector<std::uint32_t> marks = {}, lasts = {};

@@ -27,7 +27,7 @@ import (
 // Options of a service, as in likes.h. Marks has the pages that are split in every split phase, and Lasts the page of
 // each user's last like, or NoPage; if it is empty, nobody has one. A service that is given the final counts and last
 // likes of another goes on where that has ended. Period is of Open: the time from the end of one split phase to that of
-// the next.
+// the next. Seats, Room and Period 0 are the defaults of likes.h, and Hot 0 is LIKES_NO_HOT.
 type Options struct {
 	Seats, Users, Room, Hot uint32
 	Marks, Lasts            []uint32

@@ -48,7 +48,6 @@ const (
 	WrongPeriod   Status = C.LIKES_WRONG_PERIOD
 	NotStarted    Status = C.LIKES_NOT_STARTED
 	UnknownSeat   Status = C.LIKES_UNKNOWN_SEAT
-	LookLost      Status = C.LIKES_LOOK_LOST
 	Late          Status = C.LIKES_LATE
 )
 

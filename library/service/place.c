@@ -1,4 +1,5 @@
 /* Places: who gets which found look, and the phase work of seats that nobody holds. */
+#include "../proved.h"
 #include "place.h"
 
 #include <stdlib.h>
@@ -52,23 +53,13 @@ static void take(likes_ring *ring, likes_found *found) {
     ring->length--;
 }
 
-/* The look that waits at a place with this tag, or NULL. */
-static likes_wait *wait_of(const likes_place *place, uint64_t tag) {
-    likes_wait *wait = place->first;
-    while (wait != NULL && likes_tag_of(wait) != tag)
-        wait = wait->next;
-    return wait;
-}
-
-/* Ends the first wait of a place, under `lock` and `asleep`. */
-static void end_first(likes_place *place, uint32_t status, const likes_found *found) {
+/* Ends the first wait of a place by what was found, under `lock` and `asleep`. */
+static void end_first(likes_place *place, const likes_found *found) {
     likes_wait *wait = place->first;
     if (wait->to != NULL) {
-        likes_refuse(wait->to, status);
-        if (found != NULL) {
-            wait->to->count = found->count;
-            wait->to->last = found->last;
-        }
+        wait->to->count = found->count;
+        wait->to->last = found->last;
+        wait->to->status = LIKES_SEEN;
     }
     place->first = wait->next;
     if (place->first == NULL)
@@ -77,37 +68,16 @@ static void end_first(likes_place *place, uint32_t status, const likes_found *fo
     place->unused = wait;
 }
 
-/* Ends the waits before one, or all before NULL, whose looks were found and aren't there any more. */
-static void drop_before(likes_place *place, const likes_wait *wait) {
-    while (place->first != wait)
-        end_first(place, LIKES_LOOK_LOST, NULL);
-}
-
-/* Hands a found look to the thread that waits for it, or keeps it if its tag is the host's. */
-static void hand(likes_place *place, const likes_found *found) {
-    likes_wait *wait = found->tag >= LIKES_OWN_TAGS ? wait_of(place, found->tag) : NULL;
-    if (wait == NULL) {
-        put(&place->others, found);
-        return;
-    }
-    drop_before(place, wait);
-    end_first(place, LIKES_SEEN, found);
-}
-
-/* Hands out the looks that were found, under `lock` and `asleep`. When a seat runs a phase, all looks that it was asked
- * in earlier ones have been found. */
-static void hand_all(likes_place *place, uint64_t phase) {
+/* Hands out the looks that were found, under `lock` and `asleep`. They are found in the order of asking: one whose tag
+ * isn't that of the first wait is the host's, and is kept. */
+static void hand_all(likes_place *place) {
     likes_found found;
-    while (place->first != NULL && place->others.length < place->others.room) {
-        if (likes_seat_take_found(&place->seat, &found)) {
-            hand(place, &found);
-        } else {
-            likes_wait *wait = place->first;
-            while (wait != NULL && wait->asked != phase)
-                wait = wait->next;
-            drop_before(place, wait);
-            break;
-        }
+    while (place->first != NULL && place->others.length < place->others.room &&
+           likes_proved_seat_take_found(&place->seat, &found)) {
+        if (found.tag == likes_tag_of(place->first))
+            end_first(place, &found);
+        else
+            put(&place->others, &found);
     }
 }
 
@@ -117,7 +87,7 @@ void likes_place_hand_out(likes_place *place) {
     if (first->asked == phase)
         return;
     pthread_mutex_lock(&place->asleep);
-    hand_all(place, phase);
+    hand_all(place);
     place->founds += place->first != first;
     pthread_mutex_unlock(&place->asleep);
     place->has_found |= place->first != first;
@@ -126,7 +96,7 @@ void likes_place_hand_out(likes_place *place) {
 bool likes_place_take_found(likes_place *place, likes_found *found) {
     likes_place_deliver(place);
     if (place->others.length == 0)
-        return likes_seat_take_found(&place->seat, found);
+        return likes_proved_seat_take_found(&place->seat, found);
     take(&place->others, found);
     return true;
 }

@@ -1,4 +1,5 @@
 /* Seats that a thread locks for rows of requests. */
+#include "../proved.h"
 #include "held.h"
 
 _Thread_local likes_place *likes_held;
@@ -32,12 +33,15 @@ void likes_service_unlock(likes_service *service, uint32_t number) {
     likes_place_give(service, place);
 }
 
-/* Counts the likes of a row, for statistics. */
-static void count_row(likes_place *place, const likes_answer *answers, size_t length) {
-    uint64_t likes = 0;
+/* Counts the likes of a row, for statistics: compares whole answers, of which the last lane is the status. */
+static uint64_t count_likes(const likes_answer *answers, size_t length) {
+    typedef uint32_t lanes __attribute__((vector_size(16), aligned(8), may_alias));
+    const lanes *at = (const lanes *)answers, liked = {0, 0, 0, LIKES_LIKED};
+    lanes sum = {0, 0, 0, 0};
+#pragma GCC unroll 8
     for (size_t i = 0; i < length; i++)
-        likes += answers[i].status == LIKES_LIKED;
-    likes_add(&place->tally.likes, likes);
+        sum -= (lanes)(at[i] == liked);
+    return sum[3];
 }
 
 /* Whether looks that wait may take half of the seat's room by now, after a row. It looks at about eight answers. */
@@ -68,9 +72,15 @@ size_t likes_place_run(likes_service *service, likes_place *place, const likes_r
     return done;
 }
 
-/* How many requests come before the first look whose tag isn't the host's. */
+/* How many requests come before the first look whose tag isn't the host's. Mostly no tag has the bit of the others. */
 static size_t count_tagged(const likes_request *requests, size_t length) {
+    uint64_t bits = 0;
     size_t right = 0;
+#pragma GCC unroll 8
+    for (size_t i = 0; i < length; i++)
+        bits |= requests[i].tag;
+    if (bits < LIKES_OWN_TAGS)
+        return length;
     while (right < length && (requests[right].tag < LIKES_OWN_TAGS || requests[right].op != LIKES_LOOK))
         right++;
     return right;
@@ -103,7 +113,7 @@ size_t likes_service_run(likes_service *service, uint32_t number, const likes_re
     likes_place *place = &service->places[number];
     size_t done = run_tagged(service, place, requests, length, answers);
     likes_place_deliver(place);
-    count_row(place, answers, done);
+    likes_add(&place->tally.likes, count_likes(answers, done));
     if (is_half_full(place, answers, done) || done < length)
         likes_service_advance(service);
     return done;
@@ -113,6 +123,14 @@ bool likes_service_take_found(likes_service *service, uint32_t number, likes_fou
     if (likes_held_fault(service, number) != LIKES_OK)
         return false;
     return likes_place_take_found(&service->places[number], found);
+}
+
+/* At a seat of a service that the thread holds, looks of the service are handed to the threads that wait for them. */
+bool likes_seat_take_found(likes_seat *seat, likes_found *found) {
+    likes_place *place = likes_held;
+    while (place != NULL && &place->seat != seat)
+        place = place->next_held;
+    return place != NULL ? likes_place_take_found(place, found) : likes_proved_seat_take_found(seat, found);
 }
 
 size_t likes_seat_take_all_found(likes_seat *seat, likes_found *found, size_t found_len) {
