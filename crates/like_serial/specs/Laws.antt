@@ -7,7 +7,7 @@ use Rattle.like_promises.specs.EndToEnd.{AreCounts, AreLastLikes, AreLogs, runs_
 use Rattle.like_promises.specs.Likes.{last_like}
 use Rattle.like_promises.specs.Replies.{HasRightCounts}
 use Rattle.like_promises.specs.Workload.{Workload}
-use Rattle.like_serial.specs.PageSteps.{PageStep}
+use Rattle.like_core.specs.declared.page_step.PageStep.{PageStep}
 use Rattle.like_serial.specs.Serial.{AreRunLists, FitsRuns, IsSerial, run_of}
 
 -- where one order of page steps fits the run lists, there is a serial list of their entries

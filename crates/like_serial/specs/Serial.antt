@@ -6,7 +6,8 @@ use Rattle.like_promises.specs.Likes.{initial_count, likes_among, likes_within}
 use Rattle.like_promises.specs.Looks.{count_in, look_at}
 use Rattle.like_promises.specs.Replies.{HasRightAnswers}
 use Rattle.like_promises.specs.Workload.{Workload}
-use Rattle.like_serial.specs.PageSteps.{AreInTurn, PageStep, likes_in}
+use Rattle.like_core.specs.declared.page_step.PageStep.{PageStep}
+use Rattle.like_core.specs.PageSteps.{AreInTurn, likes_in}
 use Rattle.like_serial.specs.StepsTold.{plain_told, steps_ran}
 
 -- the run list of a worker
