@@ -8,9 +8,10 @@ use Rattle.like_promises.specs.declared.log.Ran.{Ran}
 use Rattle.like_promises.specs.declared.reply.Reply.{Reply}
 use Rattle.like_promises.specs.declared.reply.Reply.TheVariants.{Liked, Seen}
 use Rattle.like_promises.specs.Replies.{HasRightCounts}
+use Rattle.like_promises.specs.Serial.{IsSerial, run_of}
 use Rattle.like_promises.specs.Workload.{Workload}
 use Rattle.like_serial.specs.PageSteps.{PageCall, PageStep, add, read}
-use Rattle.like_serial.specs.Serial.{AreRunLists, FitsRuns, IsSerial, run_of}
+use Rattle.like_serial.specs.RunLists.{AreRunLists, FitsRuns}
 
 -- a page that nobody has liked yet
 abbrev pub new_page : Page

@@ -1,5 +1,5 @@
 -- What workers do at the counts of pages, one atomic step after another.
-use Rattle.std.specs.Prelude.{◌≡◌, ℕ, ◌+◌, ◌≤◌, ◌==◌, if◌then◌else◌, List, [], ◌∷◌}
+use Rattle.std.specs.Prelude.{◌≡◌, ℕ, ◌+◌, ◌≤◌, ◌==◌, if◌then◌else◌, List, [], ◌∷◌, filter, reverse}
 use Rattle.std.specs.List.{sum_by}
 
 -- what a step does at a page's count: it adds likes, reads, or glances, which is a read of a page that is split
@@ -43,3 +43,7 @@ AreInTurn first phase [] = Unit {0}
 AreInTurn first phase (s ∷ before) =
     (s.found ≡ first s.page + likes_in s.page before) × (s.phase ≤ phase) × AddsSome s.call
     × AreInTurn first s.phase before
+
+-- the steps of worker i in their order, where these are all steps, the latest first
+abbrev pub steps_by : ℕ → List PageStep → List PageStep
+steps_by i steps = filter (λ s. s.worker == i) (reverse steps)
