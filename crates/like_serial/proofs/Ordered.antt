@@ -4,7 +4,7 @@ use Rattle.like_promises.specs.declared.reply.Reply.TheVariants.{Liked, Seen}
 use Rattle.like_promises.specs.Likes.{initial_count, likes_within}
 use Rattle.like_promises.specs.Replies.{HasRightAnswers}
 use Rattle.like_serial.specs.Example.{OrderedLooksFit, crossed, ordered_runs, ordered_steps, ran}
-use Rattle.like_serial.specs.PageSteps.{AreInTurn, likes_in, steps_by}
+use Rattle.like_core.specs.PageSteps.{AreInTurn, likes_in, steps_by}
 use Rattle.like_promises.specs.Serial.{AreRising, run_of}
 use Rattle.like_serial.specs.StepsTold.{plain_told, steps_ran}
 use Rattle.like_serial.proofs.Crossed.{right_two}

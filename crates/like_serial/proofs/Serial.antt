@@ -8,7 +8,8 @@ use Rattle.like_promises.specs.Looks.{count_in, look_at}
 use Rattle.like_promises.specs.Serial.{AreRising, HasExactCounts, IsSerial, run_of}
 use Rattle.like_promises.specs.Workload.{Workload}
 use Rattle.like_serial.specs.Laws.{RunsAreSerial}
-use Rattle.like_serial.specs.PageSteps.{PageStep, adds_to, steps_by}
+use Rattle.like_core.specs.declared.page_step.PageStep.{PageStep}
+use Rattle.like_core.specs.PageSteps.{adds_to, steps_by}
 use Rattle.like_serial.specs.RunLists.{AreRunLists, FitsRuns}
 use Rattle.like_serial.specs.StepsTold.{is_plain, step_ran, steps_ran, step_told}
 use Rattle.like_serial.proofs.Answers.{answers_of_own}

@@ -8,7 +8,7 @@ use Rattle.like_promises.specs.Likes.{last_like}
 use Rattle.like_promises.specs.Replies.{HasRightCounts}
 use Rattle.like_promises.specs.Serial.{HasOneOrder, IsSerial, run_of}
 use Rattle.like_promises.specs.Workload.{Workload}
-use Rattle.like_serial.specs.PageSteps.{PageStep}
+use Rattle.like_core.specs.declared.page_step.PageStep.{PageStep}
 use Rattle.like_serial.specs.RunLists.{AreRunLists, FitsRuns}
 
 -- where one order of page steps fits the run lists, there is a serial list of their entries

@@ -1,4 +1,3 @@
-pub mod PageSteps
 pub mod StepsTold
 pub mod RunLists
 pub mod OneSees

@@ -6,7 +6,8 @@ use Rattle.like_promises.specs.Likes.{initial_count, likes_within}
 use Rattle.like_promises.specs.Replies.{HasRightAnswers}
 use Rattle.like_promises.specs.Serial.{AreRising, run_of}
 use Rattle.like_promises.specs.Workload.{Workload}
-use Rattle.like_serial.specs.PageSteps.{AreInTurn, PageStep, likes_in, steps_by}
+use Rattle.like_core.specs.declared.page_step.PageStep.{PageStep}
+use Rattle.like_core.specs.PageSteps.{AreInTurn, likes_in, steps_by}
 use Rattle.like_serial.specs.StepsTold.{plain_told, steps_ran}
 
 -- run lists of workers: each is of its worker's submitters alone, its phases never fall, and its answers are right

@@ -11,6 +11,7 @@ use Rattle.like_core.specs.declared.event.Event.TheVariants.{Read, Hot}
 use Rattle.like_core.specs.declared.shown.Shown.TheVariants.{Count, Hot as HotShown}
 use Rattle.like_core.specs.declared.opening.Opening.{Opening}
 use Rattle.like_core.specs.declared.view.PhaseMask.{PhaseMask}
+use Rattle.like_core.specs.declared.page_step.PageStep.{PageStep}
 use Rattle.like_core.specs.declared.view.PageRead.{PageRead}
 use Rattle.like_core.specs.declared.view.WorkerSeatView.{WorkerSeatView}
 use Rattle.like_core.specs.declared.view.View.{View}
@@ -59,10 +60,10 @@ IsRead z words views place v page move w =
     × (added_to page v.additions ≤ get_or words (word_of page) 0)
     × (get_or words (word_of page) 0 < total_bound)
 
--- a read or a glance, after which the view has these reads and glances, is the move, if that changes nothing, shows
+-- a read or a glance, after which the view has these reads, glances and steps, is the move, if that changes nothing, shows
 -- the count and is permitted, and if the reads and glances stay between what was added and in their places
 reads_word : (z : Opening) (words : List ℕ) (views : List View) (place : ℕ) (v : WorkerSeatView) (page : ℕ)
-    (move : Move) (rs gs : List PageRead)
+    (move : Move) (rs gs : List PageRead) (ds : List PageStep)
     → (some_state : ShowsSome z words views)
     → get_elem? views place ≡ some (Worker v)
     → IsRunning v.state
@@ -76,11 +77,11 @@ reads_word : (z : Opening) (words : List ℕ) (views : List View) (place : ℕ) 
     → MayMove z some_state.state move)
     → (get_or words (word_of page) 0 ≡ slice_index z.counts page + all_before views (phase_of v.state + 1) page
     → ReadsFit z.counts (phase_of v.state) views
-    → ReadsFit z.counts (phase_of v.state) (set views place (Worker (record v { reads = rs; glances = gs }))))
+    → ReadsFit z.counts (phase_of v.state) (set views place (Worker (record v { reads = rs; glances = gs; did = ds }))))
     → (get_or words (word_of page) 0 ≡ count_after z.counts views page → PlacesTile z.counts views
-    → PlacesTile z.counts (set views place (Worker (record v { reads = rs; glances = gs }))))
-    → IsRead z words views place v page move (record v { reads = rs; glances = gs })
-reads_word z words views place v page move rs gs some_state at running may_there knows stays shown permitted keep_reads
+    → PlacesTile z.counts (set views place (Worker (record v { reads = rs; glances = gs; did = ds }))))
+    → IsRead z words views place v page move (record v { reads = rs; glances = gs; did = ds })
+reads_word z words views place v page move rs gs ds some_state at running may_there knows stays shown permitted keep_reads
     keep_places =
     let s = some_state.state in
     let sh = some_state.shows in
@@ -100,7 +101,7 @@ reads_word z words views place v page move rs gs some_state at running may_there
     let part = sum_part (paged page) views place (Worker v) at in
     let count : ℕ = get_or words (word_of page) 0 in
     let found : count ≡ get_or z.counts page 0 + length (s.applied page) = sh.board.pages page on in
-    let w : WorkerSeatView = record v { reads = rs; glances = gs } in
+    let w : WorkerSeatView = record v { reads = rs; glances = gs; did = ds } in
     let past = some_state.tallied.past (s.phase + 1) page (omega arith) in
     let P : ℕ → Type 0 = λ now. count ≡ get_or z.counts page 0 + all_before views (now + 1) page in
     let Q : ℕ → List View → Type 0 = λ now later. ReadsFit z.counts now later in
@@ -171,7 +172,7 @@ reads z words views place v page may some_state at =
     let count : ℕ = get_or words (word_of page) 0 in
     let w : WorkerSeatView = read_view v page count in
     reads_word z words views place v page
-    (makes (Read v.worker page)) w.reads v.glances some_state at may.runs may.there may.known refl refl
+    (makes (Read v.worker page)) w.reads v.glances w.did some_state at may.runs may.there may.known refl refl
     (λ runs there on
     same. record { there = (there, on); suits = (runs, same ∙ may.plain); leaves_last = tt; room = tt })
     (λ is. read_keeps_reads z.counts views place v page count at is)
@@ -187,7 +188,7 @@ glances z words views place v page may some_state at =
     let count : ℕ = get_or words (word_of page) 0 in
     let w : WorkerSeatView = glanced_view v page count in
     reads_word z words views place v page
-    (glances_at v.worker page) v.reads w.glances some_state at may.runs may.there may.known refl refl
+    (glances_at v.worker page) v.reads w.glances w.did some_state at may.runs may.there may.known refl refl
     (λ runs there on
     same. record { there = there; known = on; runs = runs; sliced = same ∙ may.sliced })
     (λ is. glance_keeps_reads z.counts views place v page count at is)
