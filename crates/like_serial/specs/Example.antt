@@ -8,11 +8,12 @@ use Rattle.like_promises.specs.declared.log.Ran.{Ran}
 use Rattle.like_promises.specs.declared.reply.Reply.{Reply}
 use Rattle.like_promises.specs.declared.reply.Reply.TheVariants.{Liked, Seen}
 use Rattle.like_promises.specs.Replies.{HasRightCounts}
+use Rattle.like_promises.specs.Serial.{IsSerial, run_of}
 use Rattle.like_promises.specs.Workload.{Workload}
 use Rattle.like_core.specs.declared.page_step.PageCall.{PageCall}
 use Rattle.like_core.specs.declared.page_step.PageCall.TheVariants.{Add, Read}
 use Rattle.like_core.specs.declared.page_step.PageStep.{PageStep}
-use Rattle.like_serial.specs.Serial.{AreRunLists, FitsRuns, IsSerial, run_of}
+use Rattle.like_serial.specs.RunLists.{AreRunLists, FitsRuns}
 
 -- a page that nobody has liked yet
 abbrev pub new_page : Page

@@ -1,5 +1,5 @@
 -- What replies tell of steps at pages.
-use Rattle.std.specs.Prelude.{ℕ, ◌==◌, Bool, not, ◌&&◌, if◌then◌else◌, List, map, filter, reverse, Option, Some, None}
+use Rattle.std.specs.Prelude.{ℕ, Bool, not, if◌then◌else◌, List, map, filter, Option, Some, None}
 use Rattle.std.specs.List.{filter_map}
 use Rattle.like_promises.specs.declared.log.Ran.{Ran}
 use Rattle.like_promises.specs.Accepted.{AcceptedRequest}
@@ -31,10 +31,9 @@ step_told s = record { phase = s.phase; page = s.page; call = s.call; count = co
 abbrev pub is_plain : Workload → PageStep → Bool
 is_plain workload s = not (is_split_in workload s.phase s.page)
 
--- what a worker's plain steps tell, in their order, by all steps, the latest first
-abbrev pub plain_told : Workload → ℕ → List PageStep → List StepTold
-plain_told workload worker steps =
-    map step_told (filter (λ s. (s.worker == worker) && is_plain workload s) (reverse steps))
+-- what the plain ones among steps tell, in their order
+abbrev pub plain_told : Workload → List PageStep → List StepTold
+plain_told workload steps = map step_told (filter (is_plain workload) steps)
 
 -- the plain step of an entry with this accepted look or like: a look reads what it shows; a like of a page that is not
 -- split in the phase adds 1
