@@ -51,7 +51,7 @@ use Rattle.like_roles.proofs.notes.NotedMerge.{merge-noted, merges-split}
 use Rattle.like_roles.proofs.notes.Noting.{GivesReply-noted, running-unmerged, unmerged-running, unmerged-seen}
 use Rattle.like_roles.proofs.Served.{runs-split}
 use Rattle.like_roles.proofs.counts.Shown.{after-more, shown_by-more}
-use Rattle.like_roles.proofs.counts.Steps.{told-split}
+use Rattle.like_roles.proofs.counts.Steps.{plain_told-split}
 use Rattle.like_roles.proofs.counts.Tallied.{GivesReply-tallied, accepted-true}
 
 -- a worker that runs a phase follows the plans
@@ -452,7 +452,7 @@ follows-reported workload v adds merges f run none kept has =
             ∙ sym (merge.merged-in (seat_of v) adds merges f.sized.slice phase page);
         looks = f.tallied.looks ∙ sym (shown_by-more v.post.additions adds v.post.reads f.tallied.after);
         after = after-more v.post.additions adds v.post.reads f.tallied.after;
-        steps = told-split workload v.post.did (map (step_adding v.post.worker) adds)
+        steps = plain_told-split workload v.post.did (map (step_adding v.post.worker) adds)
             (All-map (λ s. is_split_in workload s.phase s.page ≡ true) (step_adding v.post.worker) adds
             (merges-split workload v adds merges kept alike))
             ∙ f.tallied.steps;

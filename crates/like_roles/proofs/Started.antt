@@ -3,7 +3,6 @@ use Rattle.std.proofs.Common.{◌≡◌, ℕ, ◌≤◌, ◌==◌, cond, All, Bo
 use Rattle.std.proofs.lemmas.Bool.{cases_eq}
 use Rattle.std.proofs.lemmas.List.{length-map, length-replicate}
 use Rattle.std.proofs.lemmas.List.Elements.{All-nil}
-use Rattle.std.specs.List.{filter}
 use Rattle.like_requests.specs.Pages.{marks_of}
 use Rattle.like_requests.specs.declared.setup.Setup.{Setup}
 use Rattle.like_core.specs.declared.worker_state.WorkerState.{WorkerState}
@@ -25,7 +24,7 @@ use Rattle.like_roles.specs.worker.Turns as turns
 use Rattle.like_roles.specs.worker.Turns.{Pends, Turns, Works}
 use Rattle.like_roles.specs.worker.WorkerView.{WorkerView, phase_at, submitter_at}
 use Rattle.like_seat.specs.StationView.{IsSliceInSplit}
-use Rattle.like_serial.specs.StepsTold.{is_plain, step_told, steps_ran}
+use Rattle.like_serial.specs.StepsTold.{plain_told, steps_ran}
 use Rattle.like_roles.proofs.Effects.{Runs-effects}
 use Rattle.like_seat.proofs.MergedLikes.{cond_same, same_everywhere}
 use Rattle.like_roles.proofs.notes.NotedMerge.{noted-nothing, one-of_likes}
@@ -80,7 +79,7 @@ follows-new s sizes worker post notes v workload p new same =
         looks = ap (shown_in workload) new.ran ∙ sym (ap (map (shown_by v.post.additions)) reads);
         after = subst (All (λ r. r.after ≤ length v.post.additions)) (sym reads)
             (All-nil (λ r. r.after ≤ length v.post.additions));
-        steps = ap (λ xs. map step_told (filter (is_plain workload) xs)) did ∙ sym (ap (steps_ran workload) new.ran);
+        steps = ap (plain_told workload) did ∙ sym (ap (steps_ran workload) new.ran);
         replies = λ i e h. let k : None ≡ Some e = rw new.ran at h in cc k;
         last = λ user. ap (λ x. last_of x user) new.last ∙ same_everywhere s.users user None ∙ rw new.ran refl;
       };

@@ -11,39 +11,38 @@ use Rattle.like_promises.specs.Accepted.{AcceptedRequest}
 use Rattle.like_promises.specs.Likes.{like_ran}
 use Rattle.like_promises.specs.Workload.{Workload, is_split_in}
 use Rattle.like_promises.specs.declared.log.Ran.{Ran}
-use Rattle.like_serial.specs.StepsTold.{StepTold, is_plain, look_or_like, step_ran, step_told, steps_ran}
+use Rattle.like_serial.specs.StepsTold.{StepTold, is_plain, look_or_like, plain_told, step_ran, step_told, steps_ran}
 use Rattle.like_roles.specs.worker.Serve.{counted, sliced, with_addition}
 use Rattle.like_roles.specs.worker.Shown.{look_ran}
 use Rattle.like_roles.specs.worker.WorkerView.{WorkerView, phase_at}
 
 module _ (workload : Workload) where
-  -- what the plain ones of these steps tell
-  abbrev pub told : List PageStep → List StepTold
-  told did = map step_told (filter (is_plain workload) did)
-
-  told-append : (xs ys : List PageStep) → told (xs ++ ys) ≡ told xs ++ told ys
-  told-append xs ys =
+  -- what the plain ones of two lists of steps tell
+  plain_told-append : (xs ys : List PageStep)
+      → plain_told workload (xs ++ ys) ≡ plain_told workload xs ++ plain_told workload ys
+  plain_told-append xs ys =
       ap (map step_told) (filter-append (is_plain workload) xs ys)
       ∙ map-append step_told (filter (is_plain workload) xs) (filter (is_plain workload) ys)
 
   -- one step more, at a page that is not split
-  pub told-plain : (did : List PageStep) (s : PageStep)
+  pub plain_told-push : (did : List PageStep) (s : PageStep)
       → is_split_in workload s.phase s.page ≡ false
-      → told (did ++ s ∷ []) ≡ told did ++ step_told s ∷ []
-  told-plain did s plain =
-      told-append did (s ∷ [])
-      ∙ ap (λ (b : Bool). told did ++ map step_told (cond (not b) (s ∷ []) [])) plain
+      → plain_told workload (did ++ s ∷ []) ≡ plain_told workload did ++ step_told s ∷ []
+  plain_told-push did s plain =
+      plain_told-append did (s ∷ [])
+      ∙ ap (λ (b : Bool). plain_told workload did ++ map step_told (cond (not b) (s ∷ []) [])) plain
 
   -- more steps, at pages that are split
-  pub told-split : (did more : List PageStep)
+  pub plain_told-split : (did more : List PageStep)
       → All (λ s. is_split_in workload s.phase s.page ≡ true) more
-      → told (did ++ more) ≡ told did
-  told-split did more split =
-      told-append did more ∙ (ap (λ xs. told did ++ xs) (nothing more split) ∙ append-nil (told did))
+      → plain_told workload (did ++ more) ≡ plain_told workload did
+  plain_told-split did more split =
+      plain_told-append did more
+      ∙ (ap (λ xs. plain_told workload did ++ xs) (nothing more split) ∙ append-nil (plain_told workload did))
     where
       nothing : (steps : List PageStep)
           → All (λ s. is_split_in workload s.phase s.page ≡ true) steps
-          → told steps ≡ []
+          → plain_told workload steps ≡ []
       nothing [] all = refl
       nothing (s ∷ steps) all =
           let P : PageStep → Type 0 = λ x. is_split_in workload x.phase x.page ≡ true in
@@ -52,18 +51,18 @@ module _ (workload : Workload) where
           ∙ nothing steps (All-tail P s steps all)
 
   -- one entry more, which took a step
-  pub ran-one : (ran : List Ran) (e : Ran) (s : StepTold)
+  pub steps_ran-push : (ran : List Ran) (e : Ran) (s : StepTold)
       → step_ran workload e ≡ Some s
       → steps_ran workload (ran ++ e ∷ []) ≡ steps_ran workload ran ++ s ∷ []
-  ran-one ran e s is =
+  steps_ran-push ran e s is =
       filter_map-append (step_ran workload) ran (e ∷ [])
       ∙ ap (λ (o : Option StepTold). steps_ran workload ran ++ cons_option o []) is
 
   -- or none
-  pub ran-none : (ran : List Ran) (e : Ran)
+  pub steps_ran-none : (ran : List Ran) (e : Ran)
       → step_ran workload e ≡ None
       → steps_ran workload (ran ++ e ∷ []) ≡ steps_ran workload ran
-  ran-none ran e none =
+  steps_ran-none ran e none =
       filter_map-append (step_ran workload) ran (e ∷ [])
       ∙ (ap (λ (o : Option StepTold). steps_ran workload ran ++ cons_option o []) none
       ∙ append-nil (steps_ran workload ran))
@@ -74,12 +73,12 @@ module _ (workload : Workload) where
 
   -- an accepted like is counted
   pub counted-steps : (v : WorkerView) (e : Ran) (l : AcceptedRequest) (old : ℕ)
-      → told v.post.did ≡ steps_ran workload v.ran
+      → plain_told workload v.post.did ≡ steps_ran workload v.ran
       → e.phase ≡ phase_at v
       → look_ran workload e ≡ None
       → like_ran workload e ≡ Some l
       → is_split_in workload (phase_at v) l.page ≡ slices v.post l.page
-      → told (counted v l.page old).post.did ≡ steps_ran workload (v.ran ++ e ∷ [])
+      → plain_told workload (counted v l.page old).post.did ≡ steps_ran workload (v.ran ++ e ∷ [])
   counted-steps v e l old same now no_look like alike = by_test (slices v.post l.page) refl
     where
       one : StepTold
@@ -94,14 +93,14 @@ module _ (workload : Workload) where
 
       -- what the steps tell then
       tells : (b : Bool) → slices v.post l.page ≡ b
-          → told (counted v l.page old).post.did
-          ≡ told (cond b (sliced v l.page) (with_addition v l.page old 1)).post.did
-      tells b is = ap (λ t. told (cond t (sliced v l.page) (with_addition v l.page old 1)).post.did) is
+          → plain_told workload (counted v l.page old).post.did
+          ≡ plain_told workload (cond b (sliced v l.page) (with_addition v l.page old 1)).post.did
+      tells b is = ap (λ t. plain_told workload (cond t (sliced v l.page) (with_addition v l.page old 1)).post.did) is
 
       by_test : (b : Bool) → slices v.post l.page ≡ b
-          → told (counted v l.page old).post.did ≡ steps_ran workload (v.ran ++ e ∷ [])
-      by_test true is = tells true is ∙ (same ∙ sym (ran-none v.ran e (took true is)))
+          → plain_told workload (counted v l.page old).post.did ≡ steps_ran workload (v.ran ++ e ∷ [])
+      by_test true is = tells true is ∙ (same ∙ sym (steps_ran-none v.ran e (took true is)))
       by_test false is =
           tells false is
-          ∙ (told-plain v.post.did (page_step v.post.worker (phase_at v) l.page old (Add 1)) (alike ∙ is)
-          ∙ (ap (λ xs. xs ++ one ∷ []) same ∙ sym (ran-one v.ran e one (took false is))))
+          ∙ (plain_told-push v.post.did (page_step v.post.worker (phase_at v) l.page old (Add 1)) (alike ∙ is)
+          ∙ (ap (λ xs. xs ++ one ∷ []) same ∙ sym (steps_ran-push v.ran e one (took false is))))

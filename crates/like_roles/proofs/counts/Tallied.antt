@@ -44,8 +44,8 @@ use Rattle.like_roles.proofs.Served.{counted_by}
 use Rattle.like_seat.proofs.MergedLikes.{cond_same}
 use Rattle.like_seat.specs.StationView.{IsSliceInSplit}
 use Rattle.like_roles.proofs.counts.Shown.{after-more, shown_by-more, shown_in-none, shown_in-push}
-use Rattle.like_roles.proofs.counts.Steps.{counted-steps, ran-none, ran-one, told, told-plain}
-use Rattle.like_serial.specs.StepsTold.{look_or_like, step_ran, step_told, steps_ran}
+use Rattle.like_roles.proofs.counts.Steps.{counted-steps, plain_told-push, steps_ran-none, steps_ran-push}
+use Rattle.like_serial.specs.StepsTold.{look_or_like, plain_told, step_ran, step_told, steps_ran}
 
 -- how many of the likes are of the page
 abbrev pub page_likes : ℕ → List AcceptedRequest → ℕ
@@ -327,7 +327,7 @@ unchanged : (workload : Workload) (v : WorkerView) (h : Held) (stashed : Bool) (
     → like_ran workload (ran_now v h stashed answer) ≡ None → IsRightAnswer workload v.ran (ran_now v h stashed answer)
     → shown_in workload (v.ran ++ ran_now v h stashed answer ∷ []) ≡ map (shown_by v.post.additions) reads
     → All (λ r. r.after ≤ length v.post.additions) reads
-    → told workload did ≡ steps_ran workload (v.ran ++ ran_now v h stashed answer ∷ [])
+    → plain_told workload did ≡ steps_ran workload (v.ran ++ ran_now v h stashed answer ∷ [])
     → IsAfter workload v h stashed answer (with_reads v reads did)
 unchanged workload v h stashed answer reads did served sized t none right shows later steps =
     let e = ran_now v h stashed answer in
@@ -450,7 +450,7 @@ GivesReply-tallied workload v h stashed answer w served sized t asked kept alike
     (subst (λ y. IsAfter workload v h stashed y v) (sym a)
     (unchanged workload v h stashed (reply.Refused V) v.post.reads v.post.did served sized t none right
     (shown_in-none workload v.ran x no_look ∙ t.looks) t.after
-    (t.steps ∙ sym (ran-none workload v.ran x (λ m. look_or_like workload x (no_look m) (none m))))))
+    (t.steps ∙ sym (steps_ran-none workload v.ran x (λ m. look_or_like workload x (no_look m) (none m))))))
 GivesReply-tallied workload v h stashed answer w served sized t asked kept alike plain (likes page a o p l e) =
     let r = h.ask.request in
     let V-is = sym (verdict_at-served workload v h.submitter r served) ∙ a in
@@ -506,9 +506,9 @@ GivesReply-tallied workload v h stashed answer w served sized t asked kept alike
     let step : PageStep = page_step v.post.worker now page count Read in
     let took : step_ran workload x ≡ Some (step_told step) =
     ap (λ o. look_or_like workload x o (like_ran workload x)) look in
-    let steps : told workload (v.post.did ++ step ∷ []) ≡ steps_ran workload (v.ran ++ x ∷ []) =
-    told-plain workload v.post.did step (alike page ∙ unsliced)
-    ∙ (ap (λ xs. xs ++ step_told step ∷ []) t.steps ∙ sym (ran-one workload v.ran x (step_told step) took))
+    let steps : plain_told workload (v.post.did ++ step ∷ []) ≡ steps_ran workload (v.ran ++ x ∷ []) =
+    plain_told-push workload v.post.did step (alike page ∙ unsliced)
+    ∙ (ap (λ xs. xs ++ step_told step ∷ []) t.steps ∙ sym (steps_ran-push workload v.ran x (step_told step) took))
     in
     let P : Reply → Type 0 = λ y. IsAfter workload v h stashed y (shown v page count) in
     subst (λ y. IsAfter workload v h stashed answer y) (sym e)

@@ -26,7 +26,7 @@ use Rattle.like_roles.specs.worker.Shown.{adds_before_looks, shown_by, shown_in}
 use Rattle.like_promises.specs.Order.{Entry, entry_of, is_due, order}
 use Rattle.like_promises.specs.Replies.{HasRightAnswers}
 use Rattle.like_promises.specs.Workload.{Workload, is_split_in, request_at, submitters}
-use Rattle.like_serial.specs.StepsTold.{is_plain, step_told, steps_ran}
+use Rattle.like_serial.specs.StepsTold.{plain_told, steps_ran}
 use Rattle.like_requests.specs.Setup.{IsThere}
 use Rattle.like_roles.specs.worker.WorkerView.{WorkerView, TookAllEnds, phase_at, submitter_at}
 
@@ -56,7 +56,7 @@ pub record IsTallied (workload : Workload) (v : WorkerView) : Type 0 where
       + (if phase_at v == phase then slice_index v.slice page else 0)
   pub looks : shown_in workload v.ran ≡ map (shown_by v.post.additions) v.post.reads
   pub after : All (λ r. r.after ≤ length v.post.additions) v.post.reads
-  pub steps : map step_told (filter (is_plain workload) v.post.did) ≡ steps_ran workload v.ran
+  pub steps : plain_told workload v.post.did ≡ steps_ran workload v.ran
   pub replies : HasRightAnswers workload v.ran
   pub last : (user : ℕ) → last_of v.last user ≡ last_like workload user v.ran
 
@@ -180,7 +180,7 @@ pub record IsDone (workload : Workload) (v : WorkerView) : Type 0 where
   pub by_phase : (phase page : ℕ)
       → likes_within workload page v.ran phase ≡ additions_in v.post phase page
   pub looks : shown_in workload v.ran ≡ map (shown_by v.post.additions) v.post.reads
-  pub steps : map step_told (filter (is_plain workload) v.post.did) ≡ steps_ran workload v.ran
+  pub steps : plain_told workload v.post.did ≡ steps_ran workload v.ran
   pub noted : v.notes ≡ true → AreNoted workload v
   pub replies : HasRightAnswers workload v.ran
   pub last : (user : ℕ) → last_of v.last user ≡ last_like workload user v.ran
