@@ -18,7 +18,7 @@ pub record AreRunLists (workload : Workload) (workers : ℕ) (runs : List (List 
 
 -- what a worker did at pages fits its run list: its plain steps are those of its entries, and in each phase it added as
 -- many likes to each page as were accepted
-pub record FitsRun (workload : Workload) (did : List PageStep) (ran : List Ran) : Type 0 where
+pub record FitsRunList (workload : Workload) (did : List PageStep) (ran : List Ran) : Type 0 where
   pub plain : plain_told workload did ≡ steps_ran workload ran
   pub by_phase : (phase page : ℕ)
       → likes_in page (filter (λ s. s.phase == phase) did) ≡ likes_within workload page ran phase
@@ -28,4 +28,4 @@ pub record FitsRun (workload : Workload) (did : List PageStep) (ran : List Ran) 
 pub record FitsRuns (workload : Workload) (runs : List (List Ran)) (last : ℕ) (steps : List PageStep)
     : Type 0 where
   pub in_turn : AreInTurn (initial_count workload.pages) last steps
-  pub each : (worker : ℕ) → FitsRun workload (steps_by worker steps) (run_of runs worker)
+  pub each : (worker : ℕ) → FitsRunList workload (steps_by worker steps) (run_of runs worker)
