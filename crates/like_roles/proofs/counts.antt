@@ -2,4 +2,3 @@
 pub mod Tallied
 pub mod Shown
 pub mod Steps
-pub mod RightCounts
