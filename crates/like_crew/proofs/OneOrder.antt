@@ -1,5 +1,5 @@
 -- The run lists that a run leaves are those of one thread.
-use Rattle.std.proofs.Common.{◌≡◌, ℕ, ◌<◌, ◌≤◌, ◌==◌, ◌&&◌, Bool, true, false, cond, List, [], length, map, filter, get_or, slice_get, Some, All, IfSome, count_by, inl, inr, refl, sym, ap, ap₂, ◌∙◌, subst, arith, ne_eqb}
+use Rattle.std.proofs.Common.{◌≡◌, ℕ, ◌≤◌, ◌==◌, ◌&&◌, Bool, true, false, cond, List, [], length, filter, get_or, slice_get, Some, All, IfSome, count_by, inl, inr, refl, sym, ap, ◌∙◌, subst, arith, ne_eqb}
 use Rattle.std.specs.Option.{option_map_or}
 use Rattle.std.proofs.lemmas.Bool.{cases_lt}
 use Rattle.std.proofs.lemmas.List.{length-map}
@@ -30,7 +30,7 @@ use Rattle.like_serial.proofs.Follows.{serial_is_between}
 use Rattle.like_serial.proofs.Logs.{logs_are_run_lists}
 use Rattle.like_serial.proofs.Serial.{no_run, runs_are_serial}
 use Rattle.like_serial.proofs.Totals.{weigh-marks}
-use Rattle.like_serial.proofs.Weigh.{only, sum-weigh, weigh, weigh-alike, weigh-filter}
+use Rattle.like_serial.proofs.Weigh.{only, sum-weigh, weigh-alike, weigh-filter}
 use Rattle.like_crew.specs.declared.ended.Ended.{Ended}
 use Rattle.like_crew.specs.declared.site.Site.{Site}
 use Rattle.like_crew.specs.Ended.{IsEnded, IsSeatOf}

@@ -19,9 +19,8 @@ use Rattle.like_core.specs.declared.view.PageCount.{PageCount}
 use Rattle.like_core.specs.Additions.{added_before}
 use Rattle.like_core.specs.PhaseMasks.{mask_of, AreMasksOf}
 use Rattle.like_core.specs.Post.{PostView, additions_of}
-use Rattle.like_core.specs.views.Reads.{AreBetween}
 use Rattle.like_board.specs.declared.worker_seat.WorkerSeat.{WorkerSeat}
-use Rattle.like_board.specs.Seats.{AreAll, AreCounted, BoardId, board_id, board_numbers, coord_view, last_count, seat_board, seat_meaning, seats_before, HaveReadBetween, HaveReadMasks}
+use Rattle.like_board.specs.Seats.{AreAll, AreCounted, BoardId, board_id, board_numbers, coord_view, last_count, seat_board, seat_meaning, seats_before, HaveReadMasks}
 use Rattle.like_board.proofs.InOrder.{all_in_order}
 use Rattle.like_board.proofs.Meanings.{same_board}
 use Rattle.like_core.specs.declared.worker_state.WorkerState.TheVariants.{Gone}
@@ -35,7 +34,6 @@ use Rattle.like_promises.proofs.LikesBelow.{likes_below}
 use Rattle.like_roles.proofs.choice.Choosing.{chosen-more}
 use Rattle.like_roles.proofs.choice.Releasing.{none-even}
 use Rattle.like_crew.proofs.additions.Earlier.{below-is}
-use Rattle.like_promises.specs.Replies.{HasRightCounts}
 use Rattle.like_promises.specs.Serial.{run_of}
 use Rattle.like_roles.specs.coordinator.Choice.{AreTotals, likes_counted}
 use Rattle.like_promises.specs.HotPages.{chosen_below, hot_by, likes_lately}
