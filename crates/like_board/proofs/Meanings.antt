@@ -26,6 +26,7 @@ is_fresh board v f = record {
   added_nothing = f.added_nothing;
   read_nothing = f.read_nothing;
   glanced_nothing = f.glanced_nothing;
+  did_nothing = f.did_nothing;
   no_masks = f.no_masks;
 }
 

@@ -1,4 +1,5 @@
 pub mod Additions
+pub mod PageSteps
 pub mod word
 pub mod Phase
 pub mod OpeningLimits

@@ -3,11 +3,14 @@ use Rattle.like_core.specs.declared.worker_state.WorkerState.{WorkerState}
 use Rattle.like_core.specs.declared.worker_state.WorkerState.TheVariants.{Runs, Answered, Gone}
 use Rattle.like_core.specs.declared.sight.Sight.{Sight}
 use Rattle.like_core.specs.declared.limits.Limits.{Limits}
+use Rattle.like_core.specs.declared.page_step.PageCall.TheVariants.{Add, Read, Glance}
+use Rattle.like_core.specs.declared.page_step.PageStep.{PageStep}
 use Rattle.like_core.specs.declared.view.Addition.{Addition}
 use Rattle.like_core.specs.declared.view.Look.{Look}
 use Rattle.like_core.specs.declared.view.PageRead.{PageRead}
 use Rattle.like_core.specs.declared.view.PhaseMask.{PhaseMask}
 use Rattle.like_core.specs.Additions.{addition, look_after, all_added, added_to, added_in, page_read}
+use Rattle.like_core.specs.PageSteps.{page_step}
 use Rattle.like_core.specs.Phase.{IsSplit, is_marked, split_by}
 use Rattle.like_core.specs.PhaseMasks.{mask_of, HasMask}
 use Rattle.like_core.specs.WorkerState.{IsRunning, SawEnding, phase_of, running_sight, seen}
@@ -32,6 +35,8 @@ pub record PostView : Type 0 where
   -- what it read of pages that were not sliced, and what it read at a glance of pages that were, each in order
   pub reads : List PageRead
   pub glances : List PageRead
+  -- all that it did at pages, in its order
+  pub did : List PageStep
   -- the masks of hot pages that it read, the latest first
   pub masks : List PhaseMask
 
@@ -55,6 +60,7 @@ pub record IsFresh (v : PostView) : Type 0 where
   pub added_nothing : v.additions ≡ []
   pub read_nothing : v.reads ≡ []
   pub glanced_nothing : v.glances ≡ []
+  pub did_nothing : v.did ≡ []
   pub no_masks : v.masks ≡ []
 
 -- whether the page is sliced in the post's phase
@@ -94,18 +100,24 @@ returned v phase = record v {
 
 -- the post after it added n to a page's count, which was `old` before
 abbrev pub added : PostView → ℕ → ℕ → ℕ → PostView
-added v page old n =
-    record v { additions = v.additions ++ addition (phase_of v.state) page old n ∷ [] }
+added v page old n = record v {
+  additions = v.additions ++ addition (phase_of v.state) page old n ∷ [];
+  did = v.did ++ page_step v.worker (phase_of v.state) page old (Add n) ∷ [];
+}
 
 -- the post after it read a page's count, which was this
 abbrev pub has_read : PostView → ℕ → ℕ → PostView
-has_read v page count =
-    record v { reads = v.reads ++ page_read (phase_of v.state) page count (length v.additions) ∷ [] }
+has_read v page count = record v {
+  reads = v.reads ++ page_read (phase_of v.state) page count (length v.additions) ∷ [];
+  did = v.did ++ page_step v.worker (phase_of v.state) page count Read ∷ [];
+}
 
 -- the post after it glanced at a page's count, which was this
 abbrev pub has_glanced : PostView → ℕ → ℕ → PostView
-has_glanced v page count =
-    record v { glances = v.glances ++ page_read (phase_of v.state) page count (length v.additions) ∷ [] }
+has_glanced v page count = record v {
+  glances = v.glances ++ page_read (phase_of v.state) page count (length v.additions) ∷ [];
+  did = v.did ++ page_step v.worker (phase_of v.state) page count Glance ∷ [];
+}
 
 -- the post after it read the mask of its phase's hot pages, which was this
 abbrev pub with_mask : PostView → ℕ → PostView

@@ -1,5 +1,6 @@
 //! What the seats at a board know, as contracts see it. No value of these types is made.
 use crate::opening::Opening;
+use crate::page_step::PageStep;
 use crate::sight::{CoordSight, Sight};
 use crate::worker_state::WorkerState;
 use std::collections::LinkedList;
@@ -56,6 +57,8 @@ pub struct WorkerSeatView {
     pub reads: LinkedList<PageRead>,
     /// The counts of sliced pages that it read.
     pub glances: LinkedList<PageRead>,
+    /// All that it did at pages, in its order.
+    pub did: LinkedList<PageStep>,
     /// The masks that it read, the latest first.
     pub masks: LinkedList<PhaseMask>,
     /// The pages of the first slots, as it read them in its split phase.

@@ -7,6 +7,7 @@ pub mod Makings
 pub mod Hot
 pub mod Whole
 pub mod Once
+pub mod OneOrder
 pub mod Ending
 pub mod Asked
 pub mod LastLikes

@@ -19,9 +19,8 @@ use Rattle.like_core.specs.declared.view.PageCount.{PageCount}
 use Rattle.like_core.specs.Additions.{added_before}
 use Rattle.like_core.specs.PhaseMasks.{mask_of, AreMasksOf}
 use Rattle.like_core.specs.Post.{PostView, additions_of}
-use Rattle.like_core.specs.views.Reads.{AreBetween}
 use Rattle.like_board.specs.declared.worker_seat.WorkerSeat.{WorkerSeat}
-use Rattle.like_board.specs.Seats.{AreAll, AreCounted, BoardId, board_id, board_numbers, coord_view, last_count, seat_board, seat_meaning, seats_before, HaveReadBetween, HaveReadMasks}
+use Rattle.like_board.specs.Seats.{AreAll, AreCounted, BoardId, board_id, board_numbers, coord_view, last_count, seat_board, seat_meaning, seats_before, HaveReadMasks}
 use Rattle.like_board.proofs.InOrder.{all_in_order}
 use Rattle.like_board.proofs.Meanings.{same_board}
 use Rattle.like_core.specs.declared.worker_state.WorkerState.TheVariants.{Gone}
@@ -34,8 +33,8 @@ use Rattle.like_promises.specs.Likes.{initial_count, last_like, likes, likes_amo
 use Rattle.like_promises.proofs.LikesBelow.{likes_below}
 use Rattle.like_roles.proofs.choice.Choosing.{chosen-more}
 use Rattle.like_roles.proofs.choice.Releasing.{none-even}
-use Rattle.like_roles.proofs.counts.RightCounts.{below-is, right-counts}
-use Rattle.like_promises.specs.Replies.{HasRightCounts}
+use Rattle.like_crew.proofs.additions.Earlier.{below-is}
+use Rattle.like_promises.specs.Serial.{run_of}
 use Rattle.like_roles.specs.coordinator.Choice.{AreTotals, likes_counted}
 use Rattle.like_promises.specs.HotPages.{chosen_below, hot_by, likes_lately}
 use Rattle.like_promises.specs.Workload.{Workload, submitters}
@@ -219,7 +218,7 @@ module _ (setup : Setup) (plans : List (List Request)) (site : Site) (e : Ended)
       let s = seat-at k seat at in
       same_board (seat_board seat) board (ap (λ (p : PostView). p.board) s.1.1 ∙ (server-at k s.0 s.1.0).board_is)
 
-  seat-worker : (k : ℕ) (seat : WorkerSeat) → slice_get e.seats.items k ≡ Some seat → (seat_meaning seat).worker ≡ k
+  pub seat-worker : (k : ℕ) (seat : WorkerSeat) → slice_get e.seats.items k ≡ Some seat → (seat_meaning seat).worker ≡ k
   seat-worker k seat at =
       let s = seat-at k seat at in
       ap (λ (p : PostView). p.worker) s.1.1 ∙ (server-at k s.0 s.1.0).whose
@@ -350,35 +349,18 @@ module _ (setup : Setup) (plans : List (List Request)) (site : Site) (e : Ended)
         within,
       )
 
-  -- the counts that looks were answered
-  pub seen-counts : HaveReadMasks (coord_view e.coord).masks e.seats.items → z.counts ≡ map (λ p. p.count) known.pages
-      → HaveReadBetween (coord_view e.coord).opening (coord_view e.coord).phase e.seats.items
-      → All (λ log. HasRightCounts served (runs_of e.logs.items) log.ran.items) e.logs.items
-  seen-counts masks initial reads = λ worker d within.
-      let log : WorkerLog = get_or e.logs.items worker d in
-      let at : slice_get e.logs.items worker ≡ Some log = slice_get-get_or e.logs.items worker d within in
-      let s = left-at IsLogOf h.servers e.logs.items worker log h.logs at in
-      let is = server-at worker s.0 s.1.0 in
-      let seat = right-at IsSeatOf h.servers e.seats.items worker s.0 h.seats s.1.0 in
-      let last : ℕ = (coord_view e.coord).phase in
-      let P : Opening → PostView → Type 0 =
-      λ y p. AreBetween y.counts (seats_before e.seats.items) last p.additions p.reads in
-      let own : P (coord_view e.coord).opening (seat_meaning seat.0) =
-      subst (λ (x : WorkerSeat). P (coord_view e.coord).opening (seat_meaning x))
-      (get_or_from_slice_get e.seats.items worker seat.0 seat.0 seat.1.0)
-      (reads worker seat.0 (slice_get_within e.seats.items worker seat.0 seat.1.0))
-      in
-      let between : P z s.0.worker.post =
-      subst (λ (y : Opening). P y s.0.worker.post) h.opening
-      (subst (P (coord_view e.coord).opening) seat.1.1 own) in
-      let right = s.1.1.each known (is.works hot_known, right-at-server masks worker s.0 s.1.0) in
-      right-counts served (runs_of e.logs.items) log.ran.items s.0.worker.post.additions s.0.worker.post.reads z.counts
-      (seats_before e.seats.items) last
-      (λ page. ap (λ cs. get_or cs page 0) initial ∙ initial-at known page)
-      (all-before masks)
-      right.by_phase
-      right.looks
-      between
+-- the run list of a log that stands at a place
+pub run-at : (logs : List WorkerLog) (k : ℕ) (log : WorkerLog) → slice_get logs k ≡ Some log
+    → run_of (runs_of logs) k ≡ log.ran.items
+run-at [] k log at = absurd (cc at)
+run-at (first ∷ logs) zero log at = let same : first ≡ log = cc at in ap (λ (l : WorkerLog). l.ran.items) same
+run-at (first ∷ logs) (suc k) log at = run-at logs k log at
+
+-- the log at a place within the list
+pub log-there : (logs : List WorkerLog) (k : ℕ) → k < length logs → (log : WorkerLog) × (slice_get logs k ≡ Some log)
+log-there [] k within = absurd (omega (arith, within))
+log-there (log ∷ logs) zero within = (log, refl)
+log-there (log ∷ logs) (suc k) within = log-there logs k (omega (arith, within))
 
 -- the last likes of all users
 pub last-likes-are : (workload : Workload) (workers : ℕ) (logs : List WorkerLog) (last : List (Option ℕ))
@@ -392,29 +374,18 @@ pub last-likes-are : (workload : Workload) (workers : ℕ) (logs : List WorkerLo
     → AreLastLikes workload workers logs last
 last-likes-are workload workers logs last sized some each users told =
     fill_by_all (λ user. last_like workload user
-    (get_or (runs_of logs) (worker_of workers (home (submitters workload) user)) [])) last workload.users None users
+    (run_of (runs_of logs) (worker_of workers (home (submitters workload) user)))) last workload.users None users
     (λ user there.
     let worker : ℕ = worker_of workers (home (submitters workload) user) in
     let within : worker < length logs = omega (arith, mod-lt (home (submitters workload) user) some, sized) in
     get_or_from_slice_get last user _ None
-    (by_log user there (slice_get logs worker) refl (cases_of logs worker within))) where
-      run-at : (xs : List WorkerLog) (k : ℕ) (x : WorkerLog) → slice_get xs k ≡ Some x
-          → get_or (runs_of xs) k [] ≡ x.ran.items
-      run-at [] k x at = absurd (cc at)
-      run-at (y ∷ ys) zero x at = let same : y ≡ x = cc at in ap (λ (log : WorkerLog). log.ran.items) same
-      run-at (y ∷ ys) (suc k) x at = run-at ys k x at
-
-      cases_of : (xs : List WorkerLog) (k : ℕ) → k < length xs → (x : WorkerLog) × (slice_get xs k ≡ Some x)
-      cases_of [] k h = absurd (omega (arith, h))
-      cases_of (x ∷ xs) zero h = (x, refl)
-      cases_of (x ∷ xs) (suc k) h = cases_of xs k (omega (arith, h))
-
+    (by_log user there (slice_get logs worker) refl (log-there logs worker within))) where
       by_log : (user : ℕ) → user < workload.users → (o : Option WorkerLog)
           → slice_get logs (worker_of workers (home (submitters workload) user)) ≡ o
           → ((x : WorkerLog) × (slice_get logs (worker_of workers (home (submitters workload) user)) ≡ Some x))
           → slice_get last user
           ≡ Some (last_like workload user
-          (get_or (runs_of logs) (worker_of workers (home (submitters workload) user)) []))
+          (run_of (runs_of logs) (worker_of workers (home (submitters workload) user))))
       by_log user there o e found =
           told user found.0 there (ap (λ n. slice_get logs (worker_of n (home (submitters workload) user))) sized ∙ found.1)
           ∙ ap Some ((each (worker_of workers (home (submitters workload) user)) found.0 found.1).last user

@@ -19,6 +19,7 @@ use Rattle.like_promises.specs.Likes.{likes_among, likes_within}
 use Rattle.like_promises.specs.Workload.{Workload}
 use Rattle.like_roles.specs.worker.WorkerView.{WorkerView, phase_at}
 use Rattle.like_promises.specs.Log.{IsLog, numbers_taken}
+use Rattle.like_serial.specs.StepsTold.{plain_told, steps_ran}
 
 -- the worker, the inboxes of its submitters by place, and how many items of each are open to it
 pub record ServerView : Type 0 where
@@ -115,14 +116,15 @@ abbrev pub HasWorkedFor : Workload → ServerView → Type 0
 HasWorkedFor workload s = WorksFor workload s × ReadMasksOf workload s
 
 -- a server's log is right for a workload: it is a log of the workload; its accepted likes are the additions of the
--- server's post, in all and phase by phase; its accepted looks are the post's reads; and the additions are noted if
--- they are to be
+-- server's post, in all and phase by phase; its accepted looks are the post's reads; the plain steps of its entries are
+-- the post's; and the additions are noted if they are to be
 pub record IsLogFor (workload : Workload) (s : ServerView) (log : WorkerLog) : Type 0 where
   pub is_log : IsLog workload s.worker.last.share.workers s.worker.last.share.worker log
   pub likes : (page : ℕ) → likes_among workload page log.ran.items ≡ additions_of s.worker.post page
   pub by_phase : (phase page : ℕ)
       → likes_within workload page log.ran.items phase ≡ additions_in s.worker.post phase page
   pub looks : shown_in workload log.ran.items ≡ map (shown_by s.worker.post.additions) s.worker.post.reads
+  pub steps : plain_told workload s.worker.post.did ≡ steps_ran workload log.ran.items
   pub noted : s.worker.notes ≡ true → AreNoted workload s.worker
 
 -- a server leaves this log: it is what its worker ran and noted, has nothing taken above the phase that it saw last,

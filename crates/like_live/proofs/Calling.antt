@@ -4,6 +4,7 @@ use Rattle.std.proofs.lemmas.Bool.{cases_eq, eq-eqb, ltb-true, ne_eqb}
 use Rattle.std.proofs.lemmas.List.{get_or-set_other, get_or-set_same}
 use Rattle.std.proofs.lemmas.List.Sums.{sum_by-append, sum_by-cons}
 use Rattle.like_core.specs.declared.view.Addition.{Addition}
+use Rattle.like_core.specs.declared.page_step.PageStep.{PageStep}
 use Rattle.like_core.specs.declared.view.PageRead.{PageRead}
 use Rattle.like_core.specs.Additions.{addition, added_to}
 use Rattle.like_core.specs.Post.{has_glanced, has_read, pages_of}
@@ -145,13 +146,13 @@ pub record LeavesLikes (v after : LiveView) : Type 0 where
   pub last : after.seat.last ≡ v.seat.last
 
 -- so reads, glances and looks that wait leave them, after a turn that does
-still-leaves : (u v : LiveView) (reads glances : List PageRead) (held : Waiting Asked)
+still-leaves : (u v : LiveView) (reads glances : List PageRead) (did : List PageStep) (held : Waiting Asked)
     → LeavesLikes u v
     → LeavesLikes u (with_seat v (record v.seat {
-      post = record v.seat.post { reads = reads; glances = glances };
+      post = record v.seat.post { reads = reads; glances = glances; did = did };
       held = held;
     }))
-still-leaves u v reads glances held turn =
+still-leaves u v reads glances did held turn =
     let same = turn.same in
     record {
       same = record { board = same.board; worker = same.worker; marks = same.marks; share = same.share };
@@ -167,12 +168,13 @@ pub LooksNow-leaves : (u v after : LiveView) (user page tag : ℕ) (answer : Loo
 LooksNow-leaves u v after user page tag answer turn (calls.refused fails a is) = subst (LeavesLikes u) (sym is) turn
 LooksNow-leaves u v after user page tag answer turn (calls.seen shown s accepted plain a read is) =
     subst (LeavesLikes u) (sym (is ∙ ap (with_seat v) read.read))
-    (still-leaves u v (has_read v.seat.post page shown.count).reads v.seat.post.glances v.seat.held turn)
+    (still-leaves u v (has_read v.seat.post page shown.count).reads v.seat.post.glances
+    (has_read v.seat.post page shown.count).did v.seat.held turn)
 LooksNow-leaves u v after user page tag answer turn (calls.no_room accepted split most a is) =
     subst (LeavesLikes u) (sym is) turn
 LooksNow-leaves u v after user page tag answer turn (calls.waits accepted split room a is) =
     subst (LeavesLikes u) (sym is)
-    (still-leaves u v v.seat.post.reads v.seat.post.glances (holding v.seat (asked_now v user page tag)).held turn)
+    (still-leaves u v v.seat.post.reads v.seat.post.glances v.seat.post.did (holding v.seat (asked_now v user page tag)).held turn)
 
 -- so does a glance
 pub GlancesNow-leaves : (u v after : LiveView) (user page : ℕ) (answer : GlanceAnswer)
@@ -182,7 +184,9 @@ pub GlancesNow-leaves : (u v after : LiveView) (user page : ℕ) (answer : Glanc
 GlancesNow-leaves u v after user page answer turn (calls.refused fails a is) = subst (LeavesLikes u) (sym is) turn
 GlancesNow-leaves u v after user page answer turn (calls.plain shown s accepted plain a read is) =
     subst (LeavesLikes u) (sym (is ∙ ap (with_seat v) read.read))
-    (still-leaves u v (has_read v.seat.post page shown.count).reads v.seat.post.glances v.seat.held turn)
+    (still-leaves u v (has_read v.seat.post page shown.count).reads v.seat.post.glances
+    (has_read v.seat.post page shown.count).did v.seat.held turn)
 GlancesNow-leaves u v after user page answer turn (calls.split shown s accepted split a glance is) =
     subst (LeavesLikes u) (sym (is ∙ ap (with_seat v) glance.glanced))
-    (still-leaves u v v.seat.post.reads (has_glanced v.seat.post page glance.count).glances v.seat.held turn)
+    (still-leaves u v v.seat.post.reads (has_glanced v.seat.post page glance.count).glances
+    (has_glanced v.seat.post page glance.count).did v.seat.held turn)

@@ -1,5 +1,5 @@
 -- What a report says of a whole run.
-use Rattle.std.specs.Prelude.{◌≡◌, ℕ, ◌+◌, ◌≤◌, List, [], length, map, slice_get, slice_index_or, All, Option, Some}
+use Rattle.std.specs.Prelude.{◌≡◌, ℕ, ◌+◌, ◌≤◌, List, length, map, slice_get, All, Option, Some}
 use Rattle.std.specs.List.{range_with_len}
 use Rattle.like_requests.specs.Verdict.{home}
 use Rattle.like_core.specs.Phase.{IsJoined}
@@ -12,6 +12,7 @@ use Rattle.like_promises.specs.HotPages.{chosen_below}
 use Rattle.like_promises.specs.Workload.{Workload, submitters}
 use Rattle.like_promises.specs.declared.report.Report.{Report}
 use Rattle.like_promises.specs.Collected.{IsCollected, rows_of, entries_in}
+use Rattle.like_promises.specs.Serial.{HasOneOrder, run_of}
 use Rattle.like_requests.specs.declared.request.Request.{Request}
 use Rattle.like_requests.specs.declared.setup.Setup.{Setup}
 use Rattle.like_promises.specs.WorkloadOf.{workload_of_run}
@@ -37,11 +38,13 @@ AreCounts workload runs counts =
 abbrev pub AreLastLikes : Workload → ℕ → List WorkerLog → List (Option ℕ) → Type 0
 AreLastLikes workload workers logs last =
     last ≡ map (λ user. last_like workload user
-    (slice_index_or (runs_of logs) (worker_of workers (home (submitters workload) user)) []))
+    (run_of (runs_of logs) (worker_of workers (home (submitters workload) user))))
     (range_with_len 0 workload.users)
 
--- end to end: logs, answers, final counts, last likes, shown counts, hot pages are right, and the last phase is joined
+-- end to end: the run lists are those of one thread; logs, answers, final counts, last likes, shown counts, hot pages are
+-- right; and the last phase is joined
 pub record IsEndToEnd (workload : Workload) (workers : ℕ) (r : Report) : Type 0 where
+  pub one_order : HasOneOrder workload workers (runs_of r.logs.items)
   pub workers_all : length r.logs.items ≡ workers
   pub logs : AreLogs workload workers r.phases r.logs.items
   pub replies : IsCollected (map length workload.plans) (entries_in r.logs.items) (rows_of r.replies)

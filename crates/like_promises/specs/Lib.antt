@@ -7,6 +7,7 @@ pub mod Replies
 pub mod HotPages
 pub mod Log
 pub mod Collected
+pub mod Serial
 pub mod EndToEnd
 pub mod WorkloadOf
 pub mod RunFault

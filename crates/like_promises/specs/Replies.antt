@@ -11,8 +11,8 @@ use Rattle.like_promises.specs.Likes.{Between, last_like, likes_within}
 use Rattle.like_promises.specs.Looks.{count_in, look_at}
 use Rattle.like_promises.specs.Workload.{Workload, request_of}
 
--- the reply to a submitter's request, after these entries: an accepted like is liked, an accepted look shows its user's
--- last like and a count, which right counts bound, and another request is refused with the verdict
+-- the reply to a submitter's request, after these entries, its count aside: an accepted like is liked, an accepted look
+-- shows its user's last like, and another request is refused with the verdict
 abbrev pub IsReplyTo : Workload → List Ran → ℕ → Request → Reply → Type 0
 IsReplyTo workload before submitter r Liked =
     (verdict_on workload submitter r ≡ Accepted) × (r.op ≡ Like)
@@ -26,7 +26,7 @@ abbrev pub IsRightAnswer : Workload → List Ran → Ran → Type 0
 IsRightAnswer workload before e =
     IsSomeAnd (request_of workload e) (λ r. IsReplyTo workload before e.submitter r e.reply)
 
--- each entry of a run list has the right answer, after the entries before it
+-- each entry of a list has the right answer, after the entries before it
 abbrev pub HasRightAnswers : Workload → List Ran → Type 0
 HasRightAnswers workload ran =
     (i : ℕ) (e : Ran) → slice_get ran i ≡ Some e → IsRightAnswer workload (take i ran) e

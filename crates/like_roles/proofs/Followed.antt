@@ -1,8 +1,8 @@
 -- Each turn leads a worker that follows the plans to one that does.
-use Rattle.std.proofs.Common.{◌≡◌, ◌≢◌, ℕ, ◌+◌, ◌%◌, ◌≤◌, ◌==◌, ◌&&◌, not, Bool, true, false, cond, List, [], ◌∷◌, ◌++◌, length, map, get_or, set, Some, None, refl, ap, sym, ◌∙◌, inl, inr, arith, subst, append_assoc}
+use Rattle.std.proofs.Common.{◌≡◌, ◌≢◌, ℕ, ◌+◌, ◌%◌, ◌≤◌, ◌==◌, ◌&&◌, ◌||◌, not, Bool, true, false, cond, List, [], ◌∷◌, ◌++◌, length, map, get_or, set, Some, None, refl, ap, sym, ◌∙◌, inl, inr, arith, subst, append_assoc}
 use Rattle.std.proofs.lemmas.Bool.{cases_eq}
 use Rattle.std.proofs.lemmas.List.{map-append, length-map, length-replicate}
-use Rattle.std.proofs.lemmas.List.Elements.{All-head, All-tail, All-push}
+use Rattle.std.proofs.lemmas.List.Elements.{All-head, All-map, All-tail, All-push}
 use Rattle.std.specs.List.{All}
 use Rattle.std.specs.Option.{option_map_or}
 use Rattle.std.specs.Prelude.{option_and_then}
@@ -17,10 +17,11 @@ use Rattle.like_core.specs.declared.worker_state.WorkerState.{WorkerState}
 use Rattle.like_core.specs.declared.worker_state.WorkerState.TheVariants as state
 use Rattle.like_core.specs.declared.view.Addition.{Addition}
 use Rattle.like_core.specs.declared.view.PhaseMask.{PhaseMask}
-use Rattle.like_core.specs.PhaseMasks.{AreMasksOf}
+use Rattle.like_core.specs.PageSteps.{step_adding}
+use Rattle.like_core.specs.PhaseMasks.{AreMasksOf, mask_of}
 use Rattle.like_core.proofs.PhaseMasks.{masks-before, split-known}
 use Rattle.like_core.specs.declared.limits.Limits.{Limits}
-use Rattle.like_core.specs.Phase.{IsJoined, IsSplit, split, split_by}
+use Rattle.like_core.specs.Phase.{IsJoined, IsSplit, is_hot_by, is_marked, split, split_by}
 use Rattle.like_core.specs.WorkerState.{IsRunning, RunsJoined, RunsSplit, RunsSome, phase_of, seen}
 use Rattle.like_core.specs.Post.{additions_in, answered, looked_at, pages_of, slices}
 use Rattle.like_tables.specs.declared.held.Held.{Held}
@@ -46,10 +47,11 @@ use Rattle.like_roles.proofs.Keeps.{runs-keeps, works-keeps}
 use Rattle.like_seat.proofs.Looking.{has-after, splits-after}
 use Rattle.like_roles.proofs.PageMerged as merge
 use Rattle.like_seat.proofs.MergedLikes.{cond_same}
-use Rattle.like_roles.proofs.notes.NotedMerge.{merge-noted}
+use Rattle.like_roles.proofs.notes.NotedMerge.{merge-noted, merges-split}
 use Rattle.like_roles.proofs.notes.Noting.{GivesReply-noted, running-unmerged, unmerged-running, unmerged-seen}
 use Rattle.like_roles.proofs.Served.{runs-split}
 use Rattle.like_roles.proofs.counts.Shown.{after-more, shown_by-more}
+use Rattle.like_roles.proofs.counts.Steps.{plain_told-split}
 use Rattle.like_roles.proofs.counts.Tallied.{GivesReply-tallied, accepted-true}
 
 -- a worker that runs a phase follows the plans
@@ -104,20 +106,24 @@ follows-run : (workload : Workload) (v after : WorkerView) (h : Held) (stashed :
     → (v.notes ≡ true → IsUnmerged workload v.adds v.post.state)
     → HasPhaseMask v.post
     → IsAsked workload h
+    → IsSliceInSplit v.post v.slice
     → ((page : ℕ) → verdict_at v h.submitter h.ask.request ≡ Accepted
-    → page_looked_at h.ask.request.op h.ask.request.page ≡ Some page → get_or v.slice page 0 ≡ 0)
+    → page_looked_at h.ask.request.op h.ask.request.page ≡ Some page → slices v.post page ≡ false)
     → All (IsAsked workload) v.held.held
     → FitsStash workload v.taken
     → HasNothingLater v (phase_at v)
     → ((e : HasRunOne v h stashed after) → IsInOrder workload (record v { ran = after.ran }))
     → Follows workload after
-follows-run workload v after h stashed run here none served sized t was un has asked clear held fits within ordered =
+follows-run workload v after h stashed run here none served sized t was un has asked kept plain held fits within
+    ordered =
     let e = Runs-effects v h stashed after run in
-    let done = GivesReply-tallied workload v h stashed run.reply run.served served sized t asked clear run.serves in
+    let alike = slices-alike workload v served here has in
+    let done = GivesReply-tallied workload v h stashed run.reply run.served served sized t asked kept alike plain
+    run.serves in
     let stays = (runs-keeps v h stashed after run).notes in
     let marked = λ (notes : v.notes ≡ true). GivesReply-noted workload v h stashed run.reply run.served served notes
     (was notes) (unmerged-running workload v.adds (λ _. Unit {0}) v.post.state here (un notes)) asked
-    (slices-alike workload v served here has) run.serves in
+    alike run.serves in
     let all : IsServed workload after × IsSized after × IsTallied workload after
     × (v.notes ≡ true
     → IsNoted workload after.post.additions after.post.reads after.adds after.ran
@@ -260,6 +266,7 @@ follows-saw workload v sight masks right f kept here none = record {
     looks =
         f.tallied.looks;
     after = f.tallied.after;
+    steps = f.tallied.steps;
     replies = f.tallied.replies;
     last = f.tallied.last;
   };
@@ -271,6 +278,12 @@ follows-saw workload v sight masks right f kept here none = record {
   stands = saw-stands v sight masks v.post.state f.stands here;
   trying = λ place e. absurd (cc (none, e));
 }
+
+-- no page is sliced in a joined phase
+unsliced-joined : (v : WorkerView) (page : ℕ) → IsJoined (phase_at v) → slices v.post page ≡ false
+unsliced-joined v page even =
+    ap (λ (n : ℕ). (n == 1)
+    && (is_marked v.post.marks page || is_hot_by v.post.limits.hot (mask_of v.post.masks (phase_at v)) page)) even
 
 -- the first of what is held runs in a joined phase
 follows-held : (workload : Workload) (v : WorkerView) (first : Held) (rest : List Held) (after : WorkerView)
@@ -307,12 +320,14 @@ follows-held workload v first rest after none f kept j e run =
       looks =
           f.tallied.looks;
       after = f.tallied.after;
+      steps = f.tallied.steps;
       replies = f.tallied.replies;
       last = f.tallied.last;
     })
     f.noted f.unmerged (λ odd. absurd (not-split v.post.state j odd))
     (All-head (IsAsked workload) first rest all)
-    (λ page _ _. empty-unsplit v.post.state v.slice (λ p some. (kept p some).0) (not-split v.post.state j) page)
+    kept
+    (λ page _ _. unsliced-joined v page even)
     (All-tail (IsAsked workload) first rest all) f.fits
     (within-of_running v IsJoined v.post.state j f.stands)
     (λ r. ap (λ n. map entry_of after.ran ++ map (entry_held n) rest) same
@@ -351,6 +366,7 @@ follows-trying workload v place f run empty =
       looks =
           f.tallied.looks;
       after = f.tallied.after;
+      steps = f.tallied.steps;
       replies = f.tallied.replies;
       last = f.tallied.last;
     })
@@ -386,6 +402,7 @@ follows-answered workload v P f run none empty =
         looks =
             f.tallied.looks;
         after = f.tallied.after;
+        steps = f.tallied.steps;
         replies = f.tallied.replies;
         last = f.tallied.last;
       };
@@ -410,11 +427,11 @@ follows-reported : (workload : Workload) (v : WorkerView) (adds : List Addition)
 follows-reported workload v adds merges f run none kept has =
     let odd = runs-phase IsSplit v.post.state run in
     let here = runs-weaker IsSplit (λ _. Unit {0}) v.post.state (λ _ _. tt) run in
+    let alike = slices-alike workload v f.served here has in
     let noted = λ (notes : v.notes ≡ true).
     merge-noted workload v adds merges f.tallied notes (f.noted notes)
     (unmerged-running workload v.adds IsSplit v.post.state run (f.unmerged notes))
-    (within-of_running v IsSplit v.post.state run f.stands).1 kept
-    (slices-alike workload v f.served here has)
+    (within-of_running v IsSplit v.post.state run f.stands).1 kept alike
     in
     record {
       served = record {
@@ -435,6 +452,10 @@ follows-reported workload v adds merges f run none kept has =
             ∙ sym (merge.merged-in (seat_of v) adds merges f.sized.slice phase page);
         looks = f.tallied.looks ∙ sym (shown_by-more v.post.additions adds v.post.reads f.tallied.after);
         after = after-more v.post.additions adds v.post.reads f.tallied.after;
+        steps = plain_told-split workload v.post.did (map (step_adding v.post.worker) adds)
+            (All-map (λ s. is_split_in workload s.phase s.page ≡ true) (step_adding v.post.worker) adds
+            (merges-split workload v adds merges kept alike))
+            ∙ f.tallied.steps;
         replies = f.tallied.replies;
         last = f.tallied.last;
       };
@@ -487,6 +508,7 @@ follows-works workload v ending answer after none f kept has (turns.retires j e 
         looks =
             f.tallied.looks;
         after = f.tallied.after;
+        steps = f.tallied.steps;
         replies = f.tallied.replies;
         last = f.tallied.last;
       };
@@ -564,6 +586,7 @@ follows-settled workload v f = record {
     looks =
         f.tallied.looks;
     after = f.tallied.after;
+    steps = f.tallied.steps;
     replies = f.tallied.replies;
     last = f.tallied.last;
   };
@@ -612,22 +635,17 @@ waits-alike workload v submitter number r asked s run has =
     (λ page. split-known v.post.limits.hot (λ p. get_or v.post.marks p false) workload.hot v.post.masks (phase_at v) page s.hot_alike
     (λ odd _ _. has (runs-split v.post.state run odd)) m) submitter r)
 
--- the slice has nothing of the page of a look that need not wait
-clear-prompt : (v : WorkerView) (submitter : ℕ) (r : Request) (page : ℕ)
-    → IsSliceInSplit v.post v.slice
+-- the page of a look that need not wait is not sliced
+plain-prompt : (v : WorkerView) (submitter : ℕ) (r : Request) (page : ℕ)
     → has_to_wait v submitter r ≡ false
     → verdict_at v submitter r ≡ Accepted
     → page_looked_at r.op r.page ≡ Some page
-    → get_or v.slice page 0 ≡ 0
-clear-prompt v submitter r page kept prompt accepted look = elim (cases_eq (get_or v.slice page 0) 0) [
-  | inl none ↦ none
-  | inr some ↦
-      let k = kept page some in
-      let yes = accepted-true v.last.share.users v.last.share.submitters submitter r accepted in
-      let waiting : has_to_wait v submitter r ≡ true =
-      (λ m. yes m && option_map_or (slices v.post) (look m) false) ∙ k.1 in
-      absurd (cc (waiting, prompt))
-]
+    → slices v.post page ≡ false
+plain-prompt v submitter r page prompt accepted look =
+    let yes = accepted-true v.last.share.users v.last.share.submitters submitter r accepted in
+    let waits : has_to_wait v submitter r ≡ slices v.post page =
+    λ m. yes m && option_map_or (slices v.post) (look m) false in
+    sym waits ∙ prompt
 
 -- no more comes out of the stash in a phase where what is taken runs at once
 fits-prompt : (workload : Workload) (xs : List Took) (t : Took)
@@ -702,6 +720,7 @@ follows-takes workload v place ask answer after none f kept has run empty asked 
       looks =
           f.tallied.looks;
       after = f.tallied.after;
+      steps = f.tallied.steps;
       replies = f.tallied.replies;
       last = f.tallied.last;
     })
@@ -753,12 +772,14 @@ follows-takes workload v place ask answer after none f kept has run empty asked 
       looks =
           f.tallied.looks;
       after = f.tallied.after;
+      steps = f.tallied.steps;
       replies = f.tallied.replies;
       last = f.tallied.last;
     })
     f.noted f.unmerged has
     (record { asked = asked; there = there })
-    (λ page a look. clear-prompt v (submitter_at v place) ask.request page kept w a look) f.held
+    kept
+    (λ page a look. plain-prompt v (submitter_at v place) ask.request page w a look) f.held
     (fits-prompt workload v.taken t at_once f.fits)
     (more, within.1)
     (λ e.
@@ -805,6 +826,7 @@ follows-give workload v took answer after can asked kept has room (turns.ends pl
       looks =
           f.tallied.looks;
       after = f.tallied.after;
+      steps = f.tallied.steps;
       replies = f.tallied.replies;
       last = f.tallied.last;
     })

@@ -24,6 +24,7 @@ use Rattle.like_roles.specs.worker.Turns as turns
 use Rattle.like_roles.specs.worker.Turns.{Pends, Turns, Works}
 use Rattle.like_roles.specs.worker.WorkerView.{WorkerView, phase_at, submitter_at}
 use Rattle.like_seat.specs.StationView.{IsSliceInSplit}
+use Rattle.like_serial.specs.StepsTold.{plain_told, steps_ran}
 use Rattle.like_roles.proofs.Effects.{Runs-effects}
 use Rattle.like_seat.proofs.MergedLikes.{cond_same, same_everywhere}
 use Rattle.like_roles.proofs.notes.NotedMerge.{noted-nothing, one-of_likes}
@@ -43,6 +44,7 @@ follows-new s sizes worker post notes v workload p new same =
     let state_is : v.post.state ≡ state.Runs 0 = ap (λ x. x.state) new.at_post ∙ p.fresh.runs in
     let held : v.held.held ≡ [] = ap (λ x. x.held) new.held in
     let reads : v.post.reads ≡ [] = ap (λ x. x.reads) new.at_post ∙ p.fresh.read_nothing in
+    let did : v.post.did ≡ [] = ap (λ x. x.did) new.at_post ∙ p.fresh.did_nothing in
     let masks : v.post.masks ≡ [] = ap (λ x. x.masks) new.at_post ∙ p.fresh.no_masks in
     let nothing : (page : ℕ) → additions_of v.post page ≡ 0 = λ page. ap (added_to page) additions in
     let in_slice : (page : ℕ) → get_or v.slice page 0 ≡ 0 =
@@ -77,6 +79,7 @@ follows-new s sizes worker post notes v workload p new same =
         looks = ap (shown_in workload) new.ran ∙ sym (ap (map (shown_by v.post.additions)) reads);
         after = subst (All (λ r. r.after ≤ length v.post.additions)) (sym reads)
             (All-nil (λ r. r.after ≤ length v.post.additions));
+        steps = ap (plain_told workload) did ∙ sym (ap (steps_ran workload) new.ran);
         replies = λ i e h. let k : None ≡ Some e = rw new.ran at h in cc k;
         last = λ user. ap (λ x. last_of x user) new.last ∙ same_everywhere s.users user None ∙ rw new.ran refl;
       };
@@ -133,6 +136,7 @@ follows-done workload v f gone s =
       likes = λ page. f.tallied.likes page ∙ omega (arith, empty-gone v gone s page);
       by_phase = in_phase;
       looks = f.tallied.looks;
+      steps = f.tallied.steps;
       noted = λ notes. (
           let noted = f.noted notes in
           record {

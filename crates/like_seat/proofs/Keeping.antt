@@ -7,6 +7,7 @@ use Rattle.std.proofs.lemmas.List.Sums.{sum_by-set}
 use Rattle.like_core.specs.declared.worker_state.WorkerState.{WorkerState}
 use Rattle.like_core.specs.declared.worker_state.WorkerState.TheVariants as state
 use Rattle.like_core.specs.Phase.{IsSplit, is_hot_by, is_marked}
+use Rattle.like_core.specs.declared.page_step.PageStep.{PageStep}
 use Rattle.like_core.specs.declared.view.Addition.{Addition}
 use Rattle.like_core.specs.declared.view.PageRead.{PageRead}
 use Rattle.like_core.specs.OpeningLimits.{AreLimits, has_slots}
@@ -156,16 +157,17 @@ pub sum-zeros : (n : ℕ) → sum (replicate n 0) ≡ 0
 sum-zeros n = sum_by-replicate (λ x. x) n 0 ∙ omega arith
 
 -- the tables of a post that made a step in its phase, which leaves the split pages
-pub Kept-written : {W C : Type 0} (post : PostView) (a : List Addition) (r gl : List PageRead) (t after : Tables W C)
+pub Kept-written : {W C : Type 0} (post : PostView) (a : List Addition) (r gl : List PageRead) (d : List PageStep)
+    (t after : Tables W C)
     → IsKept post t
     → after.marks.items ≡ t.marks.items → after.state ≡ t.state → after.held ≡ t.held
     → after.slice.splits ≡ t.slice.splits → length after.slice.counts ≡ length t.slice.counts → IsSplitSlice after.slice
     → sum (by_page after.slice (pages_of post)) ≡ sum after.slice.counts
-    → after.likes ≡ likes_of (view_of (record post { additions = a; reads = r; glances = gl }) after)
+    → after.likes ≡ likes_of (view_of (record post { additions = a; reads = r; glances = gl; did = d }) after)
     → after.likes ≤ post.limits.likes
-    → IsKept (record post { additions = a; reads = r; glances = gl }) after
-Kept-written {W} {C} post a r gl t after k marks state_is held splits long is sums likes few =
-    let now : PostView = record post { additions = a; reads = r; glances = gl } in
+    → IsKept (record post { additions = a; reads = r; glances = gl; did = d }) after
+Kept-written {W} {C} post a r gl d t after k marks state_is held splits long is sums likes few =
+    let now : PostView = record post { additions = a; reads = r; glances = gl; did = d } in
     let split : SplitsPages now after.slice = λ page.
     subst (λ (s : SplitPages). (is_split s page ≡ true)
     ↔ (RunsSplit post.state × (page < pages_of post) × (slices post page ≡ true))) (sym splits) (k.splits page) in
@@ -194,11 +196,11 @@ Kept-written {W} {C} post a r gl t after k marks state_is held splits long is su
     }
 
 -- the tables of a post that read or glanced
-pub Kept-read : {W C : Type 0} (post now : PostView) (r gl : List PageRead) (t : Tables W C) → IsKept post t
-    → now ≡ record post { reads = r; glances = gl } → IsKept now t
-Kept-read {W} {C} post now r gl t k is =
+pub Kept-read : {W C : Type 0} (post now : PostView) (r gl : List PageRead) (d : List PageStep) (t : Tables W C)
+    → IsKept post t → now ≡ record post { reads = r; glances = gl; did = d } → IsKept now t
+Kept-read {W} {C} post now r gl d t k is =
     subst (λ (p : PostView). IsKept p t) (sym is)
-    (Kept-written post post.additions r gl t t k refl refl refl refl refl k.slice k.sums k.likes
+    (Kept-written post post.additions r gl d t t k refl refl refl refl refl k.slice k.sums k.likes
     (omega (arith, k.likes, k.seat.few)))
 
 -- the tables hold other requests that wait

@@ -48,8 +48,8 @@ IsKept-merged {W} {C} post t page old likes after k split likes_are is total law
     ap (λ (s : SplitSlice). sum (by_page s n)) is
     ∙ sum-written t.slice n page 0 (sum after.counts) k.slice split there k.sums (omega (arith, total, likes_are)) in
     let more = all_added-push post.additions (addition (phase_of post.state) page old likes) in
-    Kept-written post (post.additions ++ addition (phase_of post.state) page old likes ∷ []) post.reads post.glances t
-    (record t { slice = after }) k refl refl refl (ap (λ (s : SplitSlice). s.splits) is)
+    Kept-written post (post.additions ++ addition (phase_of post.state) page old likes ∷ []) post.reads post.glances
+    (added post page old likes).did t (record t { slice = after }) k refl refl refl (ap (λ (s : SplitSlice). s.splits) is)
     (ap (λ (s : SplitSlice). length s.counts) is ∙ length-set t.slice.counts (bucket_in t.slice page) 0) lawful sums
     (omega (arith, k.likes, k.sums, total, sums, more)) (omega (arith, k.likes, k.seat.few))
 

@@ -3,6 +3,7 @@ use Rattle.std.specs.Prelude.{◌≡◌, ℕ, List, ◌++◌, map, replicate, sl
 use Rattle.std.specs.List.Sorted.{IsStrictlyIncreasing}
 use Rattle.like_core.specs.declared.view.Addition.{Addition}
 use Rattle.like_core.specs.Additions.{added_to}
+use Rattle.like_core.specs.PageSteps.{step_adding}
 use Rattle.like_core.specs.Post.{answered, pages_of}
 use Rattle.like_limits.specs.Buckets.{bucket}
 use Rattle.like_seat.specs.StationView.{StationView, phase_at}
@@ -18,7 +19,10 @@ pub record MergesAll (factor phase : ℕ) (slice : List ℕ) (adds : List Additi
 -- the slice is added to the board by these additions, and emptied
 abbrev pub merged : {W : Type 0} → StationView W → List Addition → StationView W
 merged s adds = record s {
-  post = record s.post { additions = s.post.additions ++ adds };
+  post = record s.post {
+    additions = s.post.additions ++ adds;
+    did = s.post.did ++ map (step_adding s.post.worker) adds;
+  };
   slice = replicate (pages_of s.post) 0;
 }
 

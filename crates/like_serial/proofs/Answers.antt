@@ -17,7 +17,7 @@ use Rattle.like_promises.specs.Accepted.{AcceptedRequest, accepted_as, verdict_o
 use Rattle.like_promises.specs.Likes.{last_in, last_like, like_ran, likes_ran}
 use Rattle.like_promises.specs.Replies.{HasRightAnswers, IsReplyTo, IsRightAnswer}
 use Rattle.like_promises.specs.Workload.{Workload, request_of, submitters}
-use Rattle.like_serial.specs.Serial.{entries_by}
+use Rattle.like_promises.specs.Serial.{entries_by}
 use Rattle.like_serial.proofs.Parts.{at_place, place_of_part, take_part}
 use Rattle.like_serial.proofs.Seen.{not_some, some_is}
 use Rattle.std.proofs.lemmas.List.Elements.{filter-append}

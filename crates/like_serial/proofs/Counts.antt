@@ -15,7 +15,9 @@ use Rattle.like_promises.specs.Accepted.{AcceptedRequest, accepted_as, verdict_o
 use Rattle.like_promises.specs.Likes.{initial_count, like_ran, likes_among}
 use Rattle.like_promises.specs.Looks.{count_in, look_at}
 use Rattle.like_promises.specs.Workload.{Workload, is_split_in, request_of}
-use Rattle.like_serial.specs.PageSteps.{AreInTurn, PageStep, add, adds_to, likes_of, read}
+use Rattle.like_core.specs.declared.page_step.PageCall.TheVariants.{Add, Read}
+use Rattle.like_core.specs.declared.page_step.PageStep.{PageStep}
+use Rattle.like_core.specs.PageSteps.{AreInTurn, adds_to, likes_of}
 use Rattle.like_serial.specs.StepsTold.{StepTold, count_told, is_plain, look_or_like, step_ran, steps_ran, step_told}
 use Rattle.like_serial.proofs.InTurn.{found_by_phase}
 use Rattle.like_serial.proofs.Parts.{Mapped, Passed, mapped, passed, reversed}
@@ -76,7 +78,7 @@ module _ (workload : Workload) (phase page : ℕ) (plain : is_split_in workload 
   like_adds : (e : Ran) (l : AcceptedRequest) (b : Bool)
       → is_split_in workload e.phase l.page ≡ b
       → option_map_or (told_adds phase page)
-      (cond b None (Some (record { phase = e.phase; page = l.page; call = add 1; count = 0 }))) 0
+      (cond b None (Some (record { phase = e.phase; page = l.page; call = Add 1; count = 0 }))) 0
       ≡ only (e.phase == phase) (is_like_of page l)
   like_adds e l false is = refl
   like_adds e l true is =
@@ -139,7 +141,7 @@ module _ (workload : Workload) (last : ℕ) (steps : List PageStep) (before : Li
     (marks : steps_ran workload (before ++ e ∷ after) ≡ map step_told (filter (is_plain workload) (reverse steps)))
     (look : look_at workload e.submitter e.number ≡ Some page) where
   abbrev the_read : StepTold
-  the_read = record { phase = e.phase; page = page; call = read; count = count_in e.reply }
+  the_read = record { phase = e.phase; page = page; call = Read; count = count_in e.reply }
 
   in_marks : map step_told (filter (is_plain workload) (reverse steps))
       ≡ steps_ran workload before ++ the_read ∷ steps_ran workload after
@@ -161,7 +163,7 @@ module _ (workload : Workload) (last : ℕ) (steps : List PageStep) (before : Li
       let s = m.source in
       let phase : s.phase ≡ e.phase = ap (λ (t : StepTold). t.phase) m.gives in
       let at : s.page ≡ page = ap (λ (t : StepTold). t.page) m.gives in
-      let call : s.call ≡ read = ap (λ (t : StepTold). t.call) m.gives in
+      let call : s.call ≡ Read = ap (λ (t : StepTold). t.call) m.gives in
       let count : s.found ≡ count_in e.reply =
       sym (ap (λ c. count_told c s.found) call) ∙ ap (λ (t : StepTold). t.count) m.gives
       in

@@ -8,7 +8,8 @@ use Rattle.like_promises.specs.Looks.{count_in, look_at}
 use Rattle.like_promises.specs.Replies.{HasRightAnswers, HasRightCounts, IsRightAnswer}
 use Rattle.like_promises.specs.Workload.{Workload}
 use Rattle.like_serial.specs.Example.{CrossedLooksHaveNoOrder, crossed, crossed_runs, ran}
-use Rattle.like_serial.specs.Serial.{AreRunLists, AreRising, IsSerial, run_of}
+use Rattle.like_promises.specs.Serial.{AreRising, IsSerial, run_of}
+use Rattle.like_serial.specs.RunLists.{AreRunLists}
 use Rattle.like_serial.proofs.Counts.{likes-weigh, likes_by}
 use Rattle.like_serial.proofs.Follows.{weigh-filter_less}
 use Rattle.like_serial.proofs.Interleaved.{with_key}

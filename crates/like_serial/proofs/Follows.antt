@@ -9,7 +9,7 @@ use Rattle.like_promises.specs.Looks.{count_in, look_at}
 use Rattle.like_promises.specs.EndToEnd.{runs_of}
 use Rattle.like_promises.specs.Workload.{Workload, submitters}
 use Rattle.like_serial.specs.Laws.{CountsAreSerial, LastLikesAreSerial, SerialIsBetween}
-use Rattle.like_serial.specs.Serial.{IsSerial, run_of}
+use Rattle.like_promises.specs.Serial.{IsSerial, run_of}
 use Rattle.like_serial.proofs.Answers.{last_of_own}
 use Rattle.like_serial.proofs.Counts.{likes-weigh, likes_by}
 use Rattle.like_serial.proofs.Interleaved.{with_key}

@@ -1,7 +1,8 @@
 -- A step of a list in turn, and those before it.
 use Rattle.std.proofs.Common.{◌≡◌, ℕ, suc, ◌+◌, ◌<◌, ◌≤◌, nat_lt, ◌==◌, List, [], ◌∷◌, ◌++◌, ap, sym, ◌∙◌, arith}
 use Rattle.std.specs.List.{AllByRecursion}
-use Rattle.like_serial.specs.PageSteps.{AreInTurn, PageStep, adds_to, likes_in}
+use Rattle.like_core.specs.declared.page_step.PageStep.{PageStep}
+use Rattle.like_core.specs.PageSteps.{AreInTurn, adds_to, likes_in}
 use Rattle.like_serial.proofs.Phases.{all_then, not_below}
 use Rattle.like_serial.proofs.Totals.{weigh-all_below, weigh-all_none, weigh-suc}
 use Rattle.like_serial.proofs.Weigh.{only, sum-weigh, weigh, weigh-append}

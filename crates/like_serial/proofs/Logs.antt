@@ -11,7 +11,7 @@ use Rattle.like_promises.specs.Order.{Entry, block, entry_in, entry_of, is_due, 
 use Rattle.like_promises.specs.Replies.{HasRightAnswers}
 use Rattle.like_promises.specs.Workload.{Workload}
 use Rattle.like_serial.specs.Laws.{LogsAreRunLists}
-use Rattle.like_serial.specs.Serial.{run_of}
+use Rattle.like_promises.specs.Serial.{run_of}
 use Rattle.like_serial.proofs.Parts.{not_cons}
 use Rattle.like_serial.proofs.Phases.{Rises, all_append, all_then, pairs_of, rec_all, rises-append, rises-same}
 use Rattle.like_serial.proofs.Seen.{not_some}

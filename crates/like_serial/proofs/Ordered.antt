@@ -1,11 +1,11 @@
 -- The premises of the law can be met.
-use Rattle.std.proofs.Common.{◌≡◌, ℕ, zero, suc, [], All, Some, false, eqb, ne_eqb, refl, arith}
+use Rattle.std.proofs.Common.{◌≡◌, ℕ, zero, suc, [], All, Some, false, ◌==◌, filter, eqb, ne_eqb, refl, arith}
 use Rattle.like_promises.specs.declared.reply.Reply.TheVariants.{Liked, Seen}
 use Rattle.like_promises.specs.Likes.{initial_count, likes_within}
 use Rattle.like_promises.specs.Replies.{HasRightAnswers}
 use Rattle.like_serial.specs.Example.{OrderedLooksFit, crossed, ordered_runs, ordered_steps, ran}
-use Rattle.like_serial.specs.PageSteps.{AreInTurn, likes_in}
-use Rattle.like_serial.specs.Serial.{AreRising, run_of, steps_in}
+use Rattle.like_core.specs.PageSteps.{AreInTurn, likes_in, steps_by}
+use Rattle.like_promises.specs.Serial.{AreRising, run_of}
 use Rattle.like_serial.specs.StepsTold.{plain_told, steps_ran}
 use Rattle.like_serial.proofs.Crossed.{right_two}
 use Rattle.like_serial.proofs.Phases.{pairs_of, rec_all}
@@ -37,25 +37,26 @@ first n = ne_eqb 0 (suc n) (λ e. absurd (omega (arith, e)))
 beyond : (n : ℕ) → eqb 1 (suc (suc n)) ≡ false
 beyond n = ne_eqb 1 (suc (suc n)) (λ e. absurd (omega (arith, e)))
 
-plain : (w : ℕ) → plain_told crossed w ordered_steps ≡ steps_ran crossed (run_of ordered_runs w)
+plain : (w : ℕ) → plain_told crossed (steps_by w ordered_steps) ≡ steps_ran crossed (run_of ordered_runs w)
 plain zero = refl
 plain (suc zero) = refl
 plain (suc (suc w)) = rw (beyond w, first (suc w)) refl
 
-by_phase : (w page phase : ℕ)
-    → likes_in page (steps_in w phase ordered_steps) ≡ likes_within crossed page (run_of ordered_runs w) phase
+by_phase : (w phase page : ℕ)
+    → likes_in page (filter (λ s. s.phase == phase) (steps_by w ordered_steps))
+    ≡ likes_within crossed page (run_of ordered_runs w) phase
 by_phase zero zero zero = refl
-by_phase zero (suc zero) zero = refl
-by_phase zero (suc (suc page)) zero = rw (beyond page) refl
-by_phase zero page (suc phase) = rw (first phase) refl
+by_phase zero zero (suc zero) = refl
+by_phase zero zero (suc (suc page)) = rw (beyond page, first (suc page)) refl
+by_phase zero (suc phase) page = rw (first phase) refl
 by_phase (suc zero) zero zero = refl
-by_phase (suc zero) (suc zero) zero = refl
-by_phase (suc zero) (suc (suc page)) zero = rw (beyond page, first (suc page)) refl
-by_phase (suc zero) page (suc phase) = rw (first phase) refl
-by_phase (suc (suc w)) page phase = rw (beyond w, first (suc w)) refl
+by_phase (suc zero) zero (suc zero) = refl
+by_phase (suc zero) zero (suc (suc page)) = rw (beyond page, first (suc page)) refl
+by_phase (suc zero) (suc phase) page = rw (first phase) refl
+by_phase (suc (suc w)) phase page = rw (beyond w, first (suc w)) refl
 
 pub ordered_looks_fit : OrderedLooksFit
 ordered_looks_fit = record {
   lists = record { own = own; rising = rising; answers = answers };
-  fits = record { in_turn = in_turn; plain = plain; by_phase = by_phase };
+  fits = record { in_turn = in_turn; each = λ w. record { plain = plain w; by_phase = by_phase w } };
 }

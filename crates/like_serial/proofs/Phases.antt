@@ -1,5 +1,5 @@
 -- A list sorted by phase, and what counts in it.
-use Rattle.std.proofs.Common.{◌≡◌, ℕ, zero, suc, ◌+◌, ◌<◌, ◌≤◌, ◌⊎◌, inl, inr, Bool, true, false, cond, eqb, nat_lt, ◌==◌, ◌&&◌, List, [], ◌∷◌, ◌++◌, filter, All, AllPairs, ap, ap₂, sym, ◌∙◌, refl, arith, eq-eqb, ne_eqb, eqb-true}
+use Rattle.std.proofs.Common.{◌≡◌, ℕ, zero, suc, ◌+◌, ◌<◌, ◌≤◌, ◌⊎◌, inl, inr, Bool, true, false, cond, eqb, nat_lt, ◌==◌, List, [], ◌∷◌, ◌++◌, filter, All, AllPairs, ap, ap₂, sym, ◌∙◌, refl, arith, eq-eqb, ne_eqb, eqb-true}
 use Rattle.std.specs.List.{AllByRecursion}
 use Rattle.std.proofs.lemmas.Bool.{cases_lt, false_from_ne_true, lt-ltb, ltb-true}
 use Rattle.std.proofs.lemmas.List.Elements.{All-cons, filter-append}
@@ -32,23 +32,6 @@ filter-swap {X} p q (x ∷ xs) = by (p x) refl (q x) refl (filter-swap p q xs) w
   by false is true has same =
       ap (λ d. cond d (x ∷ filter p (filter q xs)) (filter p (filter q xs))) is ∙ same
   by false is false has same = same
-
--- two filters are one
-pub filter-both : {X : Type 0} (p q : X → Bool) (xs : List X) → filter p (filter q xs) ≡ filter (λ x. p x && q x) xs
-filter-both p q [] = refl
-filter-both {X} p q (x ∷ xs) = by (p x) refl (q x) (filter-both p q xs) where
-  by : (b : Bool)
-      → p x ≡ b
-      → (c : Bool)
-      → filter p (filter q xs) ≡ filter (λ y. p y && q y) xs
-      → filter p (cond c (x ∷ filter q xs) (filter q xs))
-      ≡ cond (b && c) (x ∷ filter (λ y. p y && q y) xs) (filter (λ y. p y && q y) xs)
-  by true is true same =
-      ap (λ d. cond d (x ∷ filter p (filter q xs)) (filter p (filter q xs))) is ∙ ap (λ zs. x ∷ zs) same
-  by true is false same = same
-  by false is true same =
-      ap (λ d. cond d (x ∷ filter p (filter q xs)) (filter p (filter q xs))) is ∙ same
-  by false is false same = same
 
 -- sorted: the elements of the phases below this one, phase by phase
 abbrev pub sorted : {X : Type 0} → (X → ℕ) → List X → ℕ → List X

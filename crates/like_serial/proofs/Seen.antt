@@ -2,7 +2,8 @@
 use Rattle.std.proofs.Common.{◌≡◌, inl, inr, ℕ, zero, suc, ◌+◌, ◌<◌, ◌≤◌, cond, List, [], ◌∷◌, slice_get, Some, None, unwrap_or, is_some, true≢false, subst, ap, sym, ◌∙◌, refl, arith, eq-eqb}
 use Rattle.std.proofs.lemmas.Bool.{cases_lt}
 use Rattle.std.proofs.lemmas.List.Sums.{sum_by-cons}
-use Rattle.like_serial.specs.PageSteps.{AreInTurn, PageStep, adds_to, likes_in, likes_of}
+use Rattle.like_core.specs.declared.page_step.PageStep.{PageStep}
+use Rattle.like_core.specs.PageSteps.{AreInTurn, adds_to, likes_in, likes_of}
 use Rattle.like_serial.specs.OneSees.{OneSeesTheOther, ReadsLikes}
 
 pub some_is : {X : Type 0} (x y : X) → Some x ≡ Some y → x ≡ y

@@ -1,22 +1,24 @@
 -- Run lists that one order of page steps fits are serial.
-use Rattle.std.proofs.Common.{◌≡◌, ℕ, zero, suc, ◌+◌, ◌≤◌, ◌<◌, Bool, cond, nat_lt, ◌==◌, ◌&&◌, List, [], ◌∷◌, length, take, drop, map, filter, reverse, Some, subst, ap, ap₂, sym, ◌∙◌, refl, arith, eqb-true, true, false}
+use Rattle.std.proofs.Common.{◌≡◌, ℕ, zero, suc, ◌+◌, ◌≤◌, ◌<◌, Bool, cond, nat_lt, ◌==◌, List, [], ◌∷◌, length, take, drop, map, filter, reverse, Some, subst, ap, ap₂, sym, ◌∙◌, refl, arith, eqb-true, true, false}
 use Rattle.std.specs.List.{AllByRecursion}
 use Rattle.like_tables.specs.Share.{worker_of}
 use Rattle.like_promises.specs.declared.log.Ran.{Ran}
 use Rattle.like_promises.specs.Likes.{initial_count, likes_among}
 use Rattle.like_promises.specs.Looks.{count_in, look_at}
+use Rattle.like_promises.specs.Serial.{AreRising, HasExactCounts, IsSerial, run_of}
 use Rattle.like_promises.specs.Workload.{Workload}
 use Rattle.like_serial.specs.Laws.{RunsAreSerial}
-use Rattle.like_serial.specs.PageSteps.{PageStep, adds_to}
-use Rattle.like_serial.specs.Serial.{AreRunLists, FitsRuns, AreRising, HasExactCounts, IsSerial, run_of, steps_in}
+use Rattle.like_core.specs.declared.page_step.PageStep.{PageStep}
+use Rattle.like_core.specs.PageSteps.{adds_to, steps_by}
+use Rattle.like_serial.specs.RunLists.{AreRunLists, FitsRuns}
 use Rattle.like_serial.specs.StepsTold.{is_plain, step_ran, steps_ran, step_told}
 use Rattle.like_serial.proofs.Answers.{answers_of_own}
 use Rattle.like_serial.proofs.Counts.{likes-weigh, likes_by, look_shows}
 use Rattle.like_serial.proofs.Interleaved.{Interleaved, interleaved, with_key}
 use Rattle.like_serial.proofs.Parts.{Passed, at_place, passed}
-use Rattle.like_serial.proofs.Phases.{InBlock, above, all_above, all_rec, filter-both, in_block, pairs_of, rises_of, sorted, sorted-key, sorted-rises, sorted-same}
-use Rattle.like_serial.proofs.Totals.{only-both, same_below, same_in_all, weigh-sorted}
-use Rattle.like_serial.proofs.Weigh.{only, sum-weigh, weigh, weigh-alike, weigh-append, weigh-filter}
+use Rattle.like_serial.proofs.Phases.{InBlock, above, all_above, all_rec, filter-swap, in_block, pairs_of, rises_of, sorted, sorted-key, sorted-rises, sorted-same}
+use Rattle.like_serial.proofs.Totals.{same_below, same_in_all, weigh-reverse, weigh-sorted}
+use Rattle.like_serial.proofs.Weigh.{only, sum-weigh, weigh, weigh-append, weigh-filter}
 
 -- a worker that isn't there has run nothing
 pub no_run : (runs : List (List Ran)) (w : ℕ) → length runs ≤ w → run_of runs w ≡ []
@@ -44,8 +46,8 @@ module _ (workload : Workload) (workers last : ℕ) (runs : List (List Ran)) (st
       (filter (is_plain workload) (reverse steps)) (run_of runs)
       (λ w. all_rec (λ e. server_of workers e ≡ w) (run_of runs w) (lists.own w))
       (λ w past. no_run runs w past)
-      (λ w. ap (map step_told) (filter-both (λ (s : PageStep). s.worker == w) (is_plain workload) (reverse steps))
-      ∙ fits.plain w)
+      (λ w. ap (map step_told) (filter-swap (λ (s : PageStep). s.worker == w) (is_plain workload) (reverse steps))
+      ∙ (fits.each w).plain)
 
   module _ (m : Merged) where
     abbrev bound : ℕ
@@ -87,12 +89,12 @@ module _ (workload : Workload) (workers last : ℕ) (runs : List (List Ran)) (st
         m.entries
     worker_adds page phase w =
         sym
-        (weigh-alike (λ (s : PageStep). only ((s.worker == w) && (s.phase == phase)) (adds_to page s))
-        (λ s. only (s.worker == w) (only (s.phase == phase) (adds_to page s))) steps
-        (λ s. only-both (s.worker == w) (s.phase == phase) (adds_to page s)))
-        ∙ sym (weigh-filter (λ (s : PageStep). (s.worker == w) && (s.phase == phase)) (adds_to page) steps)
-        ∙ sym (sum-weigh (adds_to page) (steps_in w phase steps))
-        ∙ fits.by_phase w page phase
+        (weigh-reverse (λ (s : PageStep). only (s.worker == w) (only (s.phase == phase) (adds_to page s))) steps)
+        ∙ sym
+        (weigh-filter (λ (s : PageStep). s.worker == w) (λ s. only (s.phase == phase) (adds_to page s)) (reverse steps))
+        ∙ sym (weigh-filter (λ (s : PageStep). s.phase == phase) (adds_to page) (steps_by w steps))
+        ∙ sym (sum-weigh (adds_to page) (filter (λ (s : PageStep). s.phase == phase) (steps_by w steps)))
+        ∙ (fits.each w).by_phase phase page
         ∙ likes-weigh workload page (with_key phase_of phase (run_of runs w))
         ∙ weigh-filter (λ (e : Ran). e.phase == phase) (likes_by workload page) (run_of runs w)
         ∙ ap (weigh (λ (e : Ran). only (e.phase == phase) (likes_by workload page e))) (sym (m.own w))

@@ -1,5 +1,5 @@
 -- Totals of steps and of entries: what agrees for each worker agrees in all, phase by phase.
-use Rattle.std.proofs.Common.{◌≡◌, ℕ, zero, suc, ◌+◌, ◌<◌, ◌≤◌, ◌⊎◌, inl, inr, Bool, true, false, eqb, nat_lt, ◌==◌, ◌&&◌, List, [], ◌∷◌, reverse, filter_map, Option, Some, None, ap, ap₂, sym, ◌∙◌, refl, arith, eq-eqb, ne_eqb}
+use Rattle.std.proofs.Common.{◌≡◌, ℕ, zero, suc, ◌+◌, ◌<◌, ◌≤◌, ◌⊎◌, inl, inr, Bool, true, false, eqb, nat_lt, ◌==◌, List, [], ◌∷◌, reverse, filter_map, Option, Some, None, ap, ap₂, sym, ◌∙◌, refl, arith, eq-eqb, ne_eqb}
 use Rattle.std.specs.List.{AllByRecursion, cons_option}
 use Rattle.std.specs.Option.{option_map_or}
 use mathlib.Core.List.{reverse-cons}
@@ -11,10 +11,6 @@ use Rattle.like_serial.proofs.Weigh.{only, weigh, weigh-append, weigh-both, weig
 pub only-none : (b : Bool) → only b 0 ≡ 0
 only-none true = refl
 only-none false = refl
-
-pub only-both : (a b : Bool) (n : ℕ) → only (a && b) n ≡ only a (only b n)
-only-both true b n = refl
-only-both false b n = refl
 
 -- below the next number: below this one, or at it
 pub only-suc : (p n m : ℕ) → only (nat_lt p (suc n)) m ≡ only (nat_lt p n) m + only (eqb p n) m

@@ -8,9 +8,12 @@ use Rattle.like_promises.specs.declared.log.Ran.{Ran}
 use Rattle.like_promises.specs.declared.reply.Reply.{Reply}
 use Rattle.like_promises.specs.declared.reply.Reply.TheVariants.{Liked, Seen}
 use Rattle.like_promises.specs.Replies.{HasRightCounts}
+use Rattle.like_promises.specs.Serial.{IsSerial, run_of}
 use Rattle.like_promises.specs.Workload.{Workload}
-use Rattle.like_serial.specs.PageSteps.{PageCall, PageStep, add, read}
-use Rattle.like_serial.specs.Serial.{AreRunLists, FitsRuns, IsSerial, run_of}
+use Rattle.like_core.specs.declared.page_step.PageCall.{PageCall}
+use Rattle.like_core.specs.declared.page_step.PageCall.TheVariants.{Add, Read}
+use Rattle.like_core.specs.declared.page_step.PageStep.{PageStep}
+use Rattle.like_serial.specs.RunLists.{AreRunLists, FitsRuns}
 
 -- a page that nobody has liked yet
 abbrev pub new_page : Page
@@ -67,7 +70,7 @@ step worker page found call =
 
 -- the steps, the latest first
 abbrev pub ordered_steps : List PageStep
-ordered_steps = step 1 0 1 read ∷ step 1 1 0 (add 1) ∷ step 0 1 0 read ∷ step 0 0 0 (add 1) ∷ []
+ordered_steps = step 1 0 1 Read ∷ step 1 1 0 (Add 1) ∷ step 0 1 0 Read ∷ step 0 0 0 (Add 1) ∷ []
 
 -- each run list is right by itself, and the steps fit them
 pub record OrderedLooksFit : Type 0 where

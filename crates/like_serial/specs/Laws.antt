@@ -6,16 +6,17 @@ use Rattle.like_promises.specs.declared.log.WorkerLog.{WorkerLog}
 use Rattle.like_promises.specs.EndToEnd.{AreCounts, AreLastLikes, AreLogs, runs_of}
 use Rattle.like_promises.specs.Likes.{last_like}
 use Rattle.like_promises.specs.Replies.{HasRightCounts}
+use Rattle.like_promises.specs.Serial.{HasOneOrder, IsSerial, run_of}
 use Rattle.like_promises.specs.Workload.{Workload}
-use Rattle.like_serial.specs.PageSteps.{PageStep}
-use Rattle.like_serial.specs.Serial.{AreRunLists, FitsRuns, IsSerial, run_of}
+use Rattle.like_core.specs.declared.page_step.PageStep.{PageStep}
+use Rattle.like_serial.specs.RunLists.{AreRunLists, FitsRuns}
 
 -- where one order of page steps fits the run lists, there is a serial list of their entries
 abbrev pub RunsAreSerial : Type 0
 RunsAreSerial =
     (workload : Workload) (workers last : ℕ) (runs : List (List Ran)) (steps : List PageStep)
     → AreRunLists workload workers runs → FitsRuns workload runs last steps
-    → (serial : List Ran) × IsSerial workload workers runs serial
+    → HasOneOrder workload workers runs
 
 -- the run lists of logs that are right end to end are such
 abbrev pub LogsAreRunLists : Type 0

@@ -1,6 +1,5 @@
-pub mod PageSteps
 pub mod StepsTold
-pub mod Serial
+pub mod RunLists
 pub mod OneSees
 pub mod Laws
 pub mod Example

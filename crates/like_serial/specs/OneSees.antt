@@ -1,6 +1,8 @@
 -- Of two workers that each add to a page and then read the other's page, one at least reads the other's likes.
 use Rattle.std.specs.Prelude.{◌≡◌, ◌⊎◌, ℕ, ◌+◌, ◌<◌, ◌≤◌, List, slice_get, Some}
-use Rattle.like_serial.specs.PageSteps.{AreInTurn, PageStep, add, likes_of, read}
+use Rattle.like_core.specs.declared.page_step.PageCall.TheVariants.{Add, Read}
+use Rattle.like_core.specs.declared.page_step.PageStep.{PageStep}
+use Rattle.like_core.specs.PageSteps.{AreInTurn, likes_of}
 
 -- a worker's addition, and a read by which it later reads, by their places in the list of steps, the latest first
 pub record AddsThenReads (steps : List PageStep) (addition reading : PageStep) : Type 0 where
@@ -10,8 +12,8 @@ pub record AddsThenReads (steps : List PageStep) (addition reading : PageStep) :
   pub added : slice_get steps added_at ≡ Some addition
   pub was_read : slice_get steps read_at ≡ Some reading
   pub later : read_at < added_at
-  pub adds : addition.call ≡ add likes
-  pub reads : reading.call ≡ read
+  pub adds : addition.call ≡ Add likes
+  pub reads : reading.call ≡ Read
   pub own : reading.worker ≡ addition.worker
 
 -- a read shows at least what an addition left

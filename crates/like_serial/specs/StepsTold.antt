@@ -1,12 +1,14 @@
 -- What replies tell of steps at pages.
-use Rattle.std.specs.Prelude.{ℕ, ◌==◌, Bool, not, ◌&&◌, if◌then◌else◌, List, map, filter, reverse, Option, Some, None}
+use Rattle.std.specs.Prelude.{ℕ, Bool, not, if◌then◌else◌, List, map, filter, Option, Some, None}
 use Rattle.std.specs.List.{filter_map}
 use Rattle.like_promises.specs.declared.log.Ran.{Ran}
 use Rattle.like_promises.specs.Accepted.{AcceptedRequest}
 use Rattle.like_promises.specs.Likes.{like_ran}
 use Rattle.like_promises.specs.Looks.{count_in, look_at}
 use Rattle.like_promises.specs.Workload.{Workload, is_split_in}
-use Rattle.like_serial.specs.PageSteps.{PageCall, PageStep, add, read, glance}
+use Rattle.like_core.specs.declared.page_step.PageCall.{PageCall}
+use Rattle.like_core.specs.declared.page_step.PageCall.TheVariants.{Add, Read, Glance}
+use Rattle.like_core.specs.declared.page_step.PageStep.{PageStep}
 
 -- a step without the count that an addition found, which no reply tells: `count` is 0 then
 pub record StepTold : Type 0 where
@@ -17,9 +19,9 @@ pub record StepTold : Type 0 where
 
 -- the count that a step tells
 abbrev pub count_told : PageCall → ℕ → ℕ
-count_told (add n) found = 0
-count_told read found = found
-count_told glance found = found
+count_told (Add n) found = 0
+count_told Read found = found
+count_told Glance found = found
 
 -- what a step tells
 abbrev pub step_told : PageStep → StepTold
@@ -29,19 +31,18 @@ step_told s = record { phase = s.phase; page = s.page; call = s.call; count = co
 abbrev pub is_plain : Workload → PageStep → Bool
 is_plain workload s = not (is_split_in workload s.phase s.page)
 
--- what a worker's plain steps tell, in their order, by all steps, the latest first
-abbrev pub plain_told : Workload → ℕ → List PageStep → List StepTold
-plain_told workload worker steps =
-    map step_told (filter (λ s. (s.worker == worker) && is_plain workload s) (reverse steps))
+-- what the plain ones among steps tell, in their order
+abbrev pub plain_told : Workload → List PageStep → List StepTold
+plain_told workload steps = map step_told (filter (is_plain workload) steps)
 
 -- the plain step of an entry with this accepted look or like: a look reads what it shows; a like of a page that is not
 -- split in the phase adds 1
 abbrev pub look_or_like : Workload → Ran → Option ℕ → Option AcceptedRequest → Option StepTold
 look_or_like workload e (Some page) like =
-    Some (record { phase = e.phase; page = page; call = read; count = count_in e.reply })
+    Some (record { phase = e.phase; page = page; call = Read; count = count_in e.reply })
 look_or_like workload e None (Some l) =
     if is_split_in workload e.phase l.page then None
-    else Some (record { phase = e.phase; page = l.page; call = add 1; count = 0 })
+    else Some (record { phase = e.phase; page = l.page; call = Add 1; count = 0 })
 look_or_like workload e None None = None
 
 -- the plain step that an entry took, if it took one

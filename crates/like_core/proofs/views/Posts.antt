@@ -29,5 +29,6 @@ post_fresh z i =
       added_nothing = refl;
       read_nothing = refl;
       glanced_nothing = refl;
+      did_nothing = refl;
       no_masks = refl;
     }

@@ -7,11 +7,13 @@ use Rattle.like_core.specs.declared.event.Event.{Event}
 use Rattle.like_core.specs.declared.event.Event.TheVariants.{Like, Merge}
 use Rattle.like_core.specs.declared.limits.Limits.{Limits}
 use Rattle.like_core.specs.declared.opening.Opening.{Opening}
+use Rattle.like_core.specs.declared.page_step.PageCall.TheVariants.{Add, Read, Glance}
 use Rattle.like_core.specs.declared.view.WorkerSeatView.{WorkerSeatView}
 use Rattle.like_core.specs.declared.view.CoordSeatView.{CoordSeatView}
 use Rattle.like_core.specs.declared.view.View.{View}
 use Rattle.like_core.specs.declared.view.View.TheVariants.{Coord, Worker, Spent}
 use Rattle.like_core.specs.Additions.{addition, look_after, page_read}
+use Rattle.like_core.specs.PageSteps.{page_step}
 use Rattle.like_limits.specs.Limits.{hot_pages}
 use Rattle.like_core.specs.Phase.{IsJoined}
 use Rattle.like_core.specs.OpeningLimits.{has_slots}
@@ -31,6 +33,7 @@ fresh z worker = record {
   additions = [];
   reads = [];
   glances = [];
+  did = [];
   masks = [];
   slots = [];
 }
@@ -80,18 +83,24 @@ returned_view v phase = record v {
 
 -- a worker's view after it added n to a page's count, which was `old` before
 abbrev pub added_view : WorkerSeatView → ℕ → ℕ → ℕ → WorkerSeatView
-added_view v page old n =
-    record v { additions = v.additions ++ addition (phase_of v.state) page old n ∷ [] }
+added_view v page old n = record v {
+  additions = v.additions ++ addition (phase_of v.state) page old n ∷ [];
+  did = v.did ++ page_step v.worker (phase_of v.state) page old (Add n) ∷ [];
+}
 
 -- a worker's view after it read a page's count, which was this
 abbrev pub read_view : WorkerSeatView → ℕ → ℕ → WorkerSeatView
-read_view v page count =
-    record v { reads = v.reads ++ page_read (phase_of v.state) page count (length v.additions) ∷ [] }
+read_view v page count = record v {
+  reads = v.reads ++ page_read (phase_of v.state) page count (length v.additions) ∷ [];
+  did = v.did ++ page_step v.worker (phase_of v.state) page count Read ∷ [];
+}
 
 -- a worker's view after it glanced at a page's count, which was this
 abbrev pub glanced_view : WorkerSeatView → ℕ → ℕ → WorkerSeatView
-glanced_view v page count =
-    record v { glances = v.glances ++ page_read (phase_of v.state) page count (length v.additions) ∷ [] }
+glanced_view v page count = record v {
+  glances = v.glances ++ page_read (phase_of v.state) page count (length v.additions) ∷ [];
+  did = v.did ++ page_step v.worker (phase_of v.state) page count Glance ∷ [];
+}
 
 -- a worker's view after it read the mask of its phase's hot pages, which was this
 abbrev pub masked_view : WorkerSeatView → ℕ → WorkerSeatView
@@ -133,6 +142,7 @@ post_of v = record {
   additions = v.additions;
   reads = v.reads;
   glances = v.glances;
+  did = v.did;
   masks = v.masks;
 }
 

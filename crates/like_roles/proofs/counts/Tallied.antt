@@ -15,9 +15,12 @@ use Rattle.like_requests.specs.declared.request.PageRef.TheVariants as ref
 use Rattle.like_requests.specs.declared.request.Request.{Request}
 use Rattle.like_requests.specs.declared.verdict.Verdict.TheVariants as verdict
 use Rattle.like_core.specs.WorkerState.{phase_of}
+use Rattle.like_core.specs.declared.page_step.PageCall.TheVariants.{Read}
+use Rattle.like_core.specs.declared.page_step.PageStep.{PageStep}
 use Rattle.like_core.specs.declared.view.PageRead.{PageRead}
 use Rattle.like_core.specs.Additions.{addition, added_in}
-use Rattle.like_core.specs.Post.{additions_of, additions_in, pages_of}
+use Rattle.like_core.specs.PageSteps.{page_step}
+use Rattle.like_core.specs.Post.{additions_of, additions_in, pages_of, slices}
 use Rattle.like_core.proofs.core.Labels.{added_to-push, added_in-push}
 use Rattle.like_tables.specs.UserTable.{last_of}
 use Rattle.like_tables.specs.declared.held.Held.{Held}
@@ -33,13 +36,16 @@ use Rattle.like_promises.specs.Likes.{last_in, like_ran, likes_among, likes_ran,
 use Rattle.like_promises.specs.Looks.{page_looked_at}
 use Rattle.like_promises.specs.Replies.{HasRightAnswers, IsReplyTo, IsRightAnswer}
 use Rattle.like_roles.specs.worker.Serve.{GivesReply, refuses, likes, looks, with_addition, counted, liked, shown, ran_now, verdict_at}
-use Rattle.like_promises.specs.Workload.{Workload, request_of, submitters}
+use Rattle.like_promises.specs.Workload.{Workload, is_split_in, request_of, submitters}
 use Rattle.like_requests.specs.Setup.{IsThere}
 use Rattle.like_roles.specs.worker.WorkerView.{WorkerView, phase_at}
 use Rattle.like_promises.proofs.Lists.{last_in-push, slice_get-at_end, slice_get-before}
 use Rattle.like_roles.proofs.Served.{counted_by}
 use Rattle.like_seat.proofs.MergedLikes.{cond_same}
+use Rattle.like_seat.specs.StationView.{IsSliceInSplit}
 use Rattle.like_roles.proofs.counts.Shown.{after-more, shown_by-more, shown_in-none, shown_in-push}
+use Rattle.like_roles.proofs.counts.Steps.{counted-steps, plain_told-push, steps_ran-none, steps_ran-push}
+use Rattle.like_serial.specs.StepsTold.{look_or_like, plain_told, step_ran, step_told, steps_ran}
 
 -- how many of the likes are of the page
 abbrev pub page_likes : ℕ → List AcceptedRequest → ℕ
@@ -307,20 +313,23 @@ abbrev IsAfter : Workload → WorkerView → Held → Bool → Reply → WorkerV
 IsAfter workload v h stashed answer w =
     IsServed workload w × IsSized w × IsTallied workload (record w { ran = v.ran ++ ran_now v h stashed answer ∷ [] })
 
--- the worker, whose post has made these reads
-abbrev with_reads : WorkerView → List PageRead → WorkerView
-with_reads v reads = record v { post = record v.post { reads = reads } }
+-- the worker, whose post has made these reads, and has done this
+abbrev with_reads : WorkerView → List PageRead → List PageStep → WorkerView
+with_reads v reads did = record v { post = record v.post { reads = reads; did = did } }
 
--- an entry that is no accepted like changes neither likes nor last likes; these are the post's reads then
+-- an entry that is no accepted like changes neither likes nor last likes; these are the post's reads then, and what it
+-- did
 unchanged : (workload : Workload) (v : WorkerView) (h : Held) (stashed : Bool) (answer : Reply) (reads : List PageRead)
+    (did : List PageStep)
     → IsServed workload v
     → IsSized v
     → IsTallied workload v
     → like_ran workload (ran_now v h stashed answer) ≡ None → IsRightAnswer workload v.ran (ran_now v h stashed answer)
     → shown_in workload (v.ran ++ ran_now v h stashed answer ∷ []) ≡ map (shown_by v.post.additions) reads
     → All (λ r. r.after ≤ length v.post.additions) reads
-    → IsAfter workload v h stashed answer (with_reads v reads)
-unchanged workload v h stashed answer reads served sized t none right shows later =
+    → plain_told workload did ≡ steps_ran workload (v.ran ++ ran_now v h stashed answer ∷ [])
+    → IsAfter workload v h stashed answer (with_reads v reads did)
+unchanged workload v h stashed answer reads did served sized t none right shows later steps =
     let e = ran_now v h stashed answer in
     let same : likes_ran workload (v.ran ++ e ∷ []) ≡ likes_ran workload v.ran =
     likes_ran-push workload v.ran e None none ∙ append-nil _ in (
@@ -341,6 +350,7 @@ unchanged workload v h stashed answer reads served sized t none right shows late
         by_phase = λ phase page. within-none workload v.ran e page phase none ∙ t.by_phase phase page;
         looks = shows;
         after = later;
+        steps = steps;
         replies = HasRightAnswers-push workload v.ran e t.replies right;
         last = λ user. t.last user ∙ ap (last_page user) (sym same);
       },
@@ -356,8 +366,9 @@ one_like : (workload : Workload) (v : WorkerView) (h : Held) (stashed : Bool) (p
     → IsRightAnswer workload v.ran (ran_now v h stashed reply.Liked)
     → page < pages_of v.post
     → h.ask.request.user < v.last.share.users
+    → is_split_in workload (phase_at v) page ≡ slices v.post page
     → IsAfter workload v h stashed reply.Liked (liked v h.ask.request.user page old)
-one_like workload v h stashed page old served sized t like no_look right in_pages in_users =
+one_like workload v h stashed page old served sized t like no_look right in_pages in_users alike =
     let e = ran_now v h stashed reply.Liked in
     let user = h.ask.request.user in
     let l : AcceptedRequest = record { user = user; page = page } in
@@ -387,6 +398,7 @@ one_like workload v h stashed page old served sized t like no_look right in_page
             ∙ sym (counted-in v page old other phase in_slice);
         looks = shown_in-none workload v.ran e no_look ∙ (t.looks ∙ counted-shown v page old t.after);
         after = counted-after v page old t.after;
+        steps = counted-steps workload v e l old t.steps refl no_look like alike;
         replies = HasRightAnswers-push workload v.ran e t.replies right;
         last = λ other. elim (cases_eq user other) [
           | inl same ↦
@@ -402,6 +414,16 @@ one_like workload v h stashed page old served sized t like no_look right in_page
       },
     )
 
+-- the slice has nothing of a page that is not sliced
+clear : (v : WorkerView) (page : ℕ)
+    → IsSliceInSplit v.post v.slice
+    → slices v.post page ≡ false
+    → get_or v.slice page 0 ≡ 0
+clear v page kept unsliced = elim (cases_eq (get_or v.slice page 0) 0) [
+  | inl none ↦ none
+  | inr some ↦ let is = (kept page some).1 in absurd (cc (is, unsliced))
+]
+
 -- whatever the answer is
 pub GivesReply-tallied : (workload : Workload) (v : WorkerView) (h : Held) (stashed : Bool) (answer : Reply)
     (w : WorkerView)
@@ -409,10 +431,12 @@ pub GivesReply-tallied : (workload : Workload) (v : WorkerView) (h : Held) (stas
     → IsSized v
     → IsTallied workload v
     → IsAsked workload h
+    → IsSliceInSplit v.post v.slice
+    → ((page : ℕ) → is_split_in workload (phase_at v) page ≡ slices v.post page)
     → ((page : ℕ) → verdict_at v h.submitter h.ask.request ≡ verdict.Accepted
-    → page_looked_at h.ask.request.op h.ask.request.page ≡ Some page → get_or v.slice page 0 ≡ 0)
+    → page_looked_at h.ask.request.op h.ask.request.page ≡ Some page → slices v.post page ≡ false)
     → GivesReply v h.submitter h.ask.request answer w → IsAfter workload v h stashed answer w
-GivesReply-tallied workload v h stashed answer w served sized t asked clear (refuses n a e) =
+GivesReply-tallied workload v h stashed answer w served sized t asked kept alike plain (refuses n a e) =
     let r = h.ask.request in
     let V = verdict_at v h.submitter r in
     let V-is = verdict_at-served workload v h.submitter r served in
@@ -424,9 +448,10 @@ GivesReply-tallied workload v h stashed answer w served sized t asked clear (ref
     let right = right-by_request workload v.ran x r asked.asked (sym V-is, n) in
     subst (λ y. IsAfter workload v h stashed answer y) (sym e)
     (subst (λ y. IsAfter workload v h stashed y v) (sym a)
-    (unchanged workload v h stashed (reply.Refused V) v.post.reads served sized t none right
-    (shown_in-none workload v.ran x no_look ∙ t.looks) t.after))
-GivesReply-tallied workload v h stashed answer w served sized t asked clear (likes page a o p l e) =
+    (unchanged workload v h stashed (reply.Refused V) v.post.reads v.post.did served sized t none right
+    (shown_in-none workload v.ran x no_look ∙ t.looks) t.after
+    (t.steps ∙ sym (steps_ran-none workload v.ran x (λ m. look_or_like workload x (no_look m) (none m))))))
+GivesReply-tallied workload v h stashed answer w served sized t asked kept alike plain (likes page a o p l e) =
     let r = h.ask.request in
     let V-is = sym (verdict_at-served workload v h.submitter r served) ∙ a in
     let yes = accepted-true workload.users (submitters workload) h.submitter r V-is in
@@ -442,8 +467,8 @@ GivesReply-tallied workload v h stashed answer w served sized t asked clear (lik
     omega (arith, accepted_user workload.users (submitters workload) h.submitter r yes, served.users) in
     subst (λ y. IsAfter workload v h stashed answer y) (sym e.1)
     (subst (λ y. IsAfter workload v h stashed y (liked v r.user page e.0)) (sym l)
-    (one_like workload v h stashed page e.0 served sized t like no_look right in_pages in_users))
-GivesReply-tallied workload v h stashed answer w served sized t asked clear (looks page count a o p s n e) =
+    (one_like workload v h stashed page e.0 served sized t like no_look right in_pages in_users (alike page)))
+GivesReply-tallied workload v h stashed answer w served sized t asked kept alike plain (looks page count a o p s n e) =
     let r = h.ask.request in
     let V-is = sym (verdict_at-served workload v h.submitter r served) ∙ a in
     let yes = accepted-true workload.users (submitters workload) h.submitter r V-is in
@@ -454,9 +479,10 @@ GivesReply-tallied workload v h stashed answer w served sized t asked clear (loo
     let look : look_ran workload x ≡ Some page = look_ran-is workload x r asked.asked ∙ rw (yes, o, p) refl in
     let now : ℕ = phase_at v in
     let looked : page_looked_at r.op r.page ≡ Some page = rw (o, p) refl in
+    let unsliced = plain page a looked in
     let as_many : likes_within workload page v.ran now ≡ additions_in v.post now page =
     t.by_phase now page
-    ∙ (let none_kept = ap (λ (k : ℕ). cond (now == now) k 0) (clear page a looked) in
+    ∙ (let none_kept = ap (λ (k : ℕ). cond (now == now) k 0) (clear v page kept unsliced) in
     let zero_is = cond_same (now == now) 0 in omega arith)
     in
     let read : PageRead = record { phase = now; page = page; count = count; after = length v.post.additions } in
@@ -477,7 +503,15 @@ GivesReply-tallied workload v h stashed answer w served sized t asked clear (loo
     ∙ sym (map-append (shown_by v.post.additions) v.post.reads (read ∷ [])))))
     in
     let after = All-push (λ q. q.after ≤ length v.post.additions) v.post.reads read t.after (omega arith) in
+    let step : PageStep = page_step v.post.worker now page count Read in
+    let took : step_ran workload x ≡ Some (step_told step) =
+    ap (λ o. look_or_like workload x o (like_ran workload x)) look in
+    let steps : plain_told workload (v.post.did ++ step ∷ []) ≡ steps_ran workload (v.ran ++ x ∷ []) =
+    plain_told-push workload v.post.did step (alike page ∙ unsliced)
+    ∙ (ap (λ xs. xs ++ step_told step ∷ []) t.steps ∙ sym (steps_ran-push workload v.ran x (step_told step) took))
+    in
     let P : Reply → Type 0 = λ y. IsAfter workload v h stashed y (shown v page count) in
     subst (λ y. IsAfter workload v h stashed answer y) (sym e)
     (subst P (sym s)
-    (unchanged workload v h stashed seen (v.post.reads ++ read ∷ []) served sized t none right shows after))
+    (unchanged workload v h stashed seen (v.post.reads ++ read ∷ []) (v.post.did ++ step ∷ []) served sized t none right
+    shows after steps))

@@ -1,5 +1,5 @@
 -- What a merge does to the additions that are noted, and what stands of them at the start and at the end.
-use Rattle.std.proofs.Common.{◌≡◌, ◌≢◌, ℕ, zero, suc, ◌+◌, ◌<◌, ◌≤◌, ◌==◌, nat_le, nat_lt, Bool, true, false, not, ◌&&◌, cond, inl, inr, List, [], ◌∷◌, ◌++◌, All, length, get_or, map, drop, count_by, subst, refl, ap, sym, ◌∙◌, eq-eqb, arith}
+use Rattle.std.proofs.Common.{◌≡◌, ◌≢◌, ℕ, zero, suc, ◌+◌, ◌≤◌, ◌==◌, nat_le, nat_lt, Bool, true, false, not, ◌&&◌, cond, inl, inr, List, [], ◌∷◌, ◌++◌, All, length, get_or, map, drop, count_by, subst, refl, ap, sym, ◌∙◌, eq-eqb, arith}
 use Rattle.std.proofs.lemmas.Bool.{and_parts, cases_eq, eqb-true, le-leb, ne_eqb, cond-true}
 use Rattle.std.proofs.lemmas.List.{drop_all, map-append}
 use Rattle.std.proofs.lemmas.List.Elements.{All-nil, All-cons, All-append, All-head, All-tail, filter_passes}
@@ -129,6 +129,32 @@ noted-are : (n : ℕ) (adds : List Addition) → map addition_of (map (noted_at 
 noted-are n [] = refl
 noted-are n (b ∷ adds) = ap (λ (xs : List Addition). b ∷ xs) (noted-are n adds)
 
+-- each addition of a merge is of a slice
+merges-each : (v : WorkerView) (adds : List Addition)
+    → Merges (phase_at v) v.slice (pages_of v.post) adds
+    → All (IsOfSlice (phase_at v) v.slice) adds
+merges-each v adds merges =
+    let liked : All (λ (b : Addition). get_or v.slice b.page 0 ≢ 0) adds =
+    All-of_map (λ (b : Addition). b.page) (λ (page : ℕ). get_or v.slice page 0 ≢ 0) adds
+    (subst (All (λ (page : ℕ). get_or v.slice page 0 ≢ 0)) (sym merges.pages_are)
+    (liked-each v.slice (pages_of v.post))) in
+    λ i d inside.
+    (let likes = merges.likes_are i d inside in
+    (merges.phase_is i d inside, likes, λ none. liked i d inside (sym likes ∙ none)))
+
+-- and to a page that is split in its phase
+pub merges-split : (workload : Workload) (v : WorkerView) (adds : List Addition)
+    → Merges (phase_at v) v.slice (pages_of v.post) adds
+    → IsSliceInSplit v.post v.slice
+    → ((page : ℕ) → is_split_in workload (phase_at v) page ≡ slices v.post page)
+    → All (λ a. is_split_in workload a.phase a.page ≡ true) adds
+merges-split workload v adds merges kept alike =
+    λ i d inside.
+    (let b : Addition = get_or adds i d in
+    let q = merges-each v adds merges i d inside in
+    ap (λ (phase : ℕ). is_split_in workload phase b.page) q.0
+    ∙ (alike b.page ∙ (kept b.page (λ none. q.2 (q.1 ∙ none))).1))
+
 -- the additions of a merge are noted, by a worker that notes them
 pub merge-noted : (workload : Workload) (v : WorkerView) (adds : List Addition)
     → Merges (phase_at v) v.slice (pages_of v.post) adds
@@ -145,23 +171,8 @@ merge-noted workload v adds merges t notes was un within kept alike =
     let k = phase_at v in
     let note : Addition → Added = noted_at (length v.ran) in
     let more : List Added = map note adds in
-    let Q : Addition → Type 0 = IsOfSlice k v.slice in
-    let liked : All (λ (b : Addition). get_or v.slice b.page 0 ≢ 0) adds =
-    All-of_map (λ (b : Addition). b.page) (λ (page : ℕ). get_or v.slice page 0 ≢ 0) adds
-    (subst (All (λ (page : ℕ). get_or v.slice page 0 ≢ 0)) (sym merges.pages_are)
-    (liked-each v.slice (pages_of v.post))) in
-    let each : All Q adds =
-    λ i d inside.
-    (let likes = merges.likes_are i d inside in
-    (merges.phase_is i d inside, likes, λ none. liked i d inside (sym likes ∙ none))) in
-    let is_split : (i : ℕ) (d : Addition) → i < length adds
-    → is_split_in workload (get_or adds i d).phase (get_or adds i d).page ≡ true =
-    λ i d inside.
-    (let b : Addition = get_or adds i d in
-    let q = each i d inside in
-    ap (λ (phase : ℕ). is_split_in workload phase b.page) q.0
-    ∙ (alike b.page ∙ (kept b.page (λ none. q.2 (q.1 ∙ none))).1))
-    in
+    let each = merges-each v adds merges in
+    let is_split = merges-split workload v adds merges kept alike in
     let count : (phase page : ℕ)
     → adds_to phase page more ≡ count_by (λ b. (b.phase == phase) && (b.page == page)) adds =
     λ phase page. count-map note (is_add_to phase page) adds in

@@ -26,6 +26,7 @@ use Rattle.like_roles.specs.worker.Shown.{adds_before_looks, shown_by, shown_in}
 use Rattle.like_promises.specs.Order.{Entry, entry_of, is_due, order}
 use Rattle.like_promises.specs.Replies.{HasRightAnswers}
 use Rattle.like_promises.specs.Workload.{Workload, is_split_in, request_at, submitters}
+use Rattle.like_serial.specs.StepsTold.{plain_told, steps_ran}
 use Rattle.like_requests.specs.Setup.{IsThere}
 use Rattle.like_roles.specs.worker.WorkerView.{WorkerView, TookAllEnds, phase_at, submitter_at}
 
@@ -45,7 +46,8 @@ pub record IsSized (v : WorkerView) : Type 0 where
   pub users : length v.last.last ≡ v.last.share.users
 
 -- what a worker ran is what its post did: its accepted likes are its additions and its slice, by page and by phase; its
--- accepted looks are its reads, in order; each reply is right, its count aside; its table has each user's last like
+-- accepted looks are its reads, in order; the post's plain steps are those of its run list, in order; each reply is
+-- right, its count aside; its table has each user's last like
 pub record IsTallied (workload : Workload) (v : WorkerView) : Type 0 where
   pub likes : (page : ℕ)
       → likes_among workload page v.ran ≡ additions_of v.post page + slice_index v.slice page
@@ -54,6 +56,7 @@ pub record IsTallied (workload : Workload) (v : WorkerView) : Type 0 where
       + (if phase_at v == phase then slice_index v.slice page else 0)
   pub looks : shown_in workload v.ran ≡ map (shown_by v.post.additions) v.post.reads
   pub after : All (λ r. r.after ≤ length v.post.additions) v.post.reads
+  pub steps : plain_told workload v.post.did ≡ steps_ran workload v.ran
   pub replies : HasRightAnswers workload v.ran
   pub last : (user : ℕ) → last_of v.last user ≡ last_like workload user v.ran
 
@@ -167,8 +170,9 @@ pub record AreNoted (workload : Workload) (v : WorkerView) : Type 0 where
 
 -- what a worker that is gone has done: it ran what it took in run order, and in no phase more out of its stash than
 -- fits there; its post's additions are the accepted likes that it ran, in each phase, and its post's reads the accepted
--- looks; its additions are noted, if it notes them; each reply is right, its count aside; its table has each user's
--- last like; and it took the end mark of each of its submitters
+-- looks; the post's plain steps are those of its run list, in order; its additions are noted, if it notes them; each
+-- reply is right, its count aside; its table has each user's last like; and it took the end mark of each of its
+-- submitters
 pub record IsDone (workload : Workload) (v : WorkerView) : Type 0 where
   pub in_order : map entry_of v.ran ≡ order workload v.taken
   pub fits : FitsStash workload v.taken
@@ -176,6 +180,7 @@ pub record IsDone (workload : Workload) (v : WorkerView) : Type 0 where
   pub by_phase : (phase page : ℕ)
       → likes_within workload page v.ran phase ≡ additions_in v.post phase page
   pub looks : shown_in workload v.ran ≡ map (shown_by v.post.additions) v.post.reads
+  pub steps : plain_told workload v.post.did ≡ steps_ran workload v.ran
   pub noted : v.notes ≡ true → AreNoted workload v
   pub replies : HasRightAnswers workload v.ran
   pub last : (user : ℕ) → last_of v.last user ≡ last_like workload user v.ran

@@ -15,7 +15,8 @@ use Rattle.like_crew.specs.Gathered.{AreTables}
 use Rattle.like_promises.specs.EndToEnd.{runs_of}
 use Rattle.like_crew.proofs.additions.Tiled.{all-there, of-likes, placed-are, stand-are, tiles-are}
 use Rattle.like_crew.proofs.Once.{collected-at, memory-alone}
-use Rattle.like_crew.proofs.Whole.{all-gone, none-noted, all-here, are-all, chosen-are, counts-are, known, last-likes-are, log-at, logs-are, logs-size, runs-once, seen-counts, tables}
+use Rattle.like_crew.proofs.OneOrder.{one-order, seen-counts}
+use Rattle.like_crew.proofs.Whole.{all-gone, none-noted, all-here, are-all, chosen-are, counts-are, known, last-likes-are, log-at, logs-are, logs-size, runs-once, tables}
 use Rattle.like_crew.proofs.report.report_with.Goals as goal
 
 pub final_counts-counts-requires-clause-left : goal.final_counts-counts-requires-clause-left
@@ -94,7 +95,10 @@ returns-clause-report c =
     ∙ length-map c.args.setup.now.pages (λ (p : Page). p.count) in
     let logs = logs-are c.args.setup.now plans c.args.site e h told.closed.masks told.closed.counted
     told.closed.phases in
+    let order = one-order c.args.setup.now plans c.args.site e h told.closed.masks told.closed.steps told.closed.order
+    told.closed.counted told.closed.phases in
     record {
+      one_order = order;
       workers_all = size;
       logs = logs;
       replies = subst (λ sizes. IsCollected sizes (entries_in e.logs.items) (rows_of c.in_ok-replies.replies))
@@ -113,7 +117,7 @@ returns-clause-report c =
           c.deref.ensures.value
           ∙ ap (λ n. slice_get e.logs.items (worker_of (length e.logs.items) (home n user))) many ∙ at));
       joined = h.joined;
-      seen = seen-counts c.args.setup.now plans c.args.site e h told.closed.masks refl told.closed.reads;
+      seen = seen-counts (workload_of_run c.args.setup.now plans (runs_of e.logs.items)) workers e.logs.items order;
       hot = chosen-are c.args.setup.now plans c.args.site e h told.closed.masks told.closed.counted;
     }
 

@@ -1,6 +1,6 @@
 use Rattle.std.proofs.Common.{ℕ, ◌<◌, ◌∷◌, ◌++◌, [], refl, sym, ap, subst, ◌∙◌, arith}
 use Rattle.like_core.specs.Additions.{addition}
-use Rattle.like_core.specs.Post.{PostView}
+use Rattle.like_core.specs.Post.{PostView, added}
 use Rattle.like_core.specs.WorkerState.{phase_of}
 use Rattle.like_seat.specs.Kept.{IsKept, view_of}
 use Rattle.like_seat.specs.StationView.{StationView, likes_of}
@@ -21,8 +21,8 @@ invariant_of-self g c =
     let more = all_added-push p.additions one in
     subst (λ (q : PostView). IsKept q (record t { likes = c.count.new.self; last = c.set_at.new.self }))
     (sym c.add.ensures.view)
-    (Kept-written p (p.additions ++ one ∷ []) p.reads p.glances t (record t { likes = c.count.new.self; last = c.set_at.new.self })
-    k refl refl refl refl refl k.slice k.sums (omega (arith, k.likes, more, c.count.ensures)) (omega (arith, k.likes, room, c.count.ensures)))
+    (Kept-written p (p.additions ++ one ∷ []) p.reads p.glances (added p page c.add.result 1).did t
+    (record t { likes = c.count.new.self; last = c.set_at.new.self }) k refl refl refl refl refl k.slice k.sums (omega (arith, k.likes, more, c.count.ensures)) (omega (arith, k.likes, room, c.count.ensures)))
 
 pub returns-clause-seat : goal.returns-clause-seat
 returns-clause-seat g c = (invariant_of-self g c).seat

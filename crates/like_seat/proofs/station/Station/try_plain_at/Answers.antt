@@ -1,6 +1,6 @@
 use Rattle.std.proofs.Common.{◌≡◌, false, ℕ, ◌+◌, ◌^◌, ◌<◌, ◌≤◌, ◌∷◌, ◌++◌, [], refl, sym, ap, subst, ◌∙◌, arith}
 use Rattle.like_core.specs.Additions.{addition}
-use Rattle.like_core.specs.Post.{PostView, pages_of, slices}
+use Rattle.like_core.specs.Post.{PostView, added, pages_of, slices}
 use Rattle.like_core.specs.WorkerState.{IsRunning, phase_of}
 use Rattle.like_seat.specs.Kept.{IsKept, view_of}
 use Rattle.like_seat.specs.StationView.{StationView, likes_of}
@@ -24,8 +24,8 @@ invariant_of-self-2 g c =
     let more = all_added-push p.additions one in
     subst (λ (q : PostView). IsKept q (record t { likes = c.try_count.new.self; last = c.set_at.new.self }))
     (sym c.add.ensures.view)
-    (Kept-written p (p.additions ++ one ∷ []) p.reads p.glances t (record t { likes = c.try_count.new.self; last = c.set_at.new.self })
-    k refl refl refl refl refl k.slice k.sums (omega (arith, k.likes, more, one_more)) (omega (arith, few, most, one_more)))
+    (Kept-written p (p.additions ++ one ∷ []) p.reads p.glances (added p page c.add.result 1).did t
+    (record t { likes = c.try_count.new.self; last = c.set_at.new.self }) k refl refl refl refl refl k.slice k.sums (omega (arith, k.likes, more, one_more)) (omega (arith, few, most, one_more)))
 
 pub invariant_of-self : goal.invariant_of-self
 invariant_of-self g c =

@@ -1,13 +1,11 @@
 -- The run of one thread.
-use Rattle.std.specs.Prelude.{◌≡◌, ℕ, ◌+◌, ◌≤◌, ◌==◌, ◌&&◌, List, [], filter, take, slice_get, slice_index_or, All, AllPairs, Some}
+use Rattle.std.specs.Prelude.{◌≡◌, ℕ, ◌+◌, ◌≤◌, ◌==◌, List, [], filter, take, slice_get, slice_index_or, AllPairs, Some}
 use Rattle.like_tables.specs.Share.{worker_of}
 use Rattle.like_promises.specs.declared.log.Ran.{Ran}
-use Rattle.like_promises.specs.Likes.{initial_count, likes_among, likes_within}
+use Rattle.like_promises.specs.Likes.{initial_count, likes_among}
 use Rattle.like_promises.specs.Looks.{count_in, look_at}
 use Rattle.like_promises.specs.Replies.{HasRightAnswers}
 use Rattle.like_promises.specs.Workload.{Workload}
-use Rattle.like_serial.specs.PageSteps.{AreInTurn, PageStep, likes_in}
-use Rattle.like_serial.specs.StepsTold.{plain_told, steps_ran}
 
 -- the run list of a worker
 abbrev pub run_of : List (List Ran) → ℕ → List Ran
@@ -37,21 +35,6 @@ pub record IsSerial (workload : Workload) (workers : ℕ) (runs : List (List Ran
   pub answers : HasRightAnswers workload serial
   pub counts : HasExactCounts workload serial
 
--- run lists of workers: each is of its worker's submitters alone, its phases never fall, and its answers are right
-pub record AreRunLists (workload : Workload) (workers : ℕ) (runs : List (List Ran)) : Type 0 where
-  pub own : (worker : ℕ) → All (λ e. worker_of workers e.submitter ≡ worker) (run_of runs worker)
-  pub rising : (worker : ℕ) → AreRising (run_of runs worker)
-  pub answers : (worker : ℕ) → HasRightAnswers workload (run_of runs worker)
-
--- a worker's steps in a phase
-abbrev pub steps_in : ℕ → ℕ → List PageStep → List PageStep
-steps_in worker phase steps = filter (λ s. (s.worker == worker) && (s.phase == phase)) steps
-
--- one order of all page steps, the latest first, which fits the run lists: it is in turn, each worker's plain steps are
--- those of its run list, and its additions to a page in a phase are as many as its accepted likes
-pub record FitsRuns (workload : Workload) (runs : List (List Ran)) (last : ℕ) (steps : List PageStep)
-    : Type 0 where
-  pub in_turn : AreInTurn (initial_count workload.pages) last steps
-  pub plain : (worker : ℕ) → plain_told workload worker steps ≡ steps_ran workload (run_of runs worker)
-  pub by_phase : (worker page phase : ℕ)
-      → likes_in page (steps_in worker phase steps) ≡ likes_within workload page (run_of runs worker) phase
+-- one order: the run lists are those of one thread, which ran the same entries one after the other
+abbrev pub HasOneOrder : Workload → ℕ → List (List Ran) → Type 0
+HasOneOrder workload workers runs = (serial : List Ran) × IsSerial workload workers runs serial

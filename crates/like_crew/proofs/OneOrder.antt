@@ -1,0 +1,176 @@
+-- The run lists that a run leaves are those of one thread.
+use Rattle.std.proofs.Common.{◌≡◌, ℕ, ◌≤◌, ◌==◌, ◌&&◌, Bool, true, false, cond, List, [], length, filter, get_or, slice_get, Some, All, IfSome, count_by, inl, inr, refl, sym, ap, ◌∙◌, subst, arith, ne_eqb}
+use Rattle.std.specs.Option.{option_map_or}
+use Rattle.std.proofs.lemmas.Bool.{cases_lt}
+use Rattle.std.proofs.lemmas.List.{length-map}
+use Rattle.std.proofs.lemmas.Option.{get_or_from_slice_get, slice_get-get_or, slice_get_within}
+use Rattle.like_requests.specs.declared.request.Request.{Request}
+use Rattle.like_requests.specs.declared.setup.Setup.{Setup}
+use Rattle.like_core.specs.declared.opening.Opening.{Opening}
+use Rattle.like_core.specs.declared.page_step.PageCall.{PageCall}
+use Rattle.like_core.specs.declared.page_step.PageCall.TheVariants.{Add, Read, Glance}
+use Rattle.like_core.specs.declared.page_step.PageStep.{PageStep}
+use Rattle.like_core.specs.declared.view.Addition.{Addition}
+use Rattle.like_core.specs.Additions.{added_in}
+use Rattle.like_core.specs.PageSteps.{AreInTurn, adds_to, likes_in, likes_of, addition_by, addition_in, additions_among, steps_by}
+use Rattle.like_core.specs.views.Order.{HasDone}
+use Rattle.like_board.specs.declared.worker_seat.WorkerSeat.{WorkerSeat}
+use Rattle.like_board.specs.Seats.{AreCounted, AreOrdered, HaveReadMasks, coord_view, seat_meaning}
+use Rattle.like_promises.specs.declared.log.Ran.{Ran}
+use Rattle.like_promises.specs.declared.log.WorkerLog.{WorkerLog}
+use Rattle.like_promises.specs.EndToEnd.{runs_of}
+use Rattle.like_promises.specs.Likes.{initial_count, likes_within}
+use Rattle.like_promises.specs.Replies.{HasRightCounts}
+use Rattle.like_promises.specs.Serial.{HasOneOrder, run_of}
+use Rattle.like_promises.specs.Workload.{Workload}
+use Rattle.like_roles.proofs.notes.Noted.{count-none}
+use Rattle.like_serial.specs.RunLists.{FitsRunList}
+use Rattle.like_serial.specs.StepsTold.{plain_told, steps_ran}
+use Rattle.like_serial.proofs.Follows.{serial_is_between}
+use Rattle.like_serial.proofs.Logs.{logs_are_run_lists}
+use Rattle.like_serial.proofs.Serial.{no_run, runs_are_serial}
+use Rattle.like_serial.proofs.Totals.{weigh-marks}
+use Rattle.like_serial.proofs.Weigh.{only, sum-weigh, weigh-alike, weigh-filter}
+use Rattle.like_crew.specs.declared.ended.Ended.{Ended}
+use Rattle.like_crew.specs.declared.site.Site.{Site}
+use Rattle.like_crew.specs.Ended.{IsEnded, IsSeatOf}
+use Rattle.like_crew.specs.Server.{IsLogOf}
+use Rattle.like_crew.proofs.Whole.{hot_known, initial-at, known, left-at, log-there, logs-are, logs-size, right-at, right-at-server, run-at, seat-worker, seats-size, served, server-at}
+
+-- what an addition adds to a page in a phase
+abbrev adds_in : ℕ → ℕ → Addition → ℕ
+adds_in phase page a = cond ((a.phase == phase) && (a.page == page)) a.likes 0
+
+-- nothing is added to a page in a phase
+none-added : (a b : Bool) → 0 ≡ only a (cond b 0 0)
+none-added true true = refl
+none-added true false = refl
+none-added false b = refl
+
+-- a step adds what the addition does that it is
+adds_same : (phase page k q found : ℕ) (call : PageCall)
+    → option_map_or (adds_in phase page) (addition_by k q found call) 0
+    ≡ only (k == phase) (cond (q == page) (likes_of call) 0)
+adds_same phase page k q found (Add n) = both (k == phase) (q == page) where
+  both : (a b : Bool) → cond (a && b) n 0 ≡ only a (cond b n 0)
+  both true b = refl
+  both false b = refl
+adds_same phase page k q found Read = none-added (k == phase) (q == page)
+adds_same phase page k q found Glance = none-added (k == phase) (q == page)
+
+-- steps of a phase add what the additions among them do
+steps_add : (did : List PageStep) (phase page : ℕ)
+    → likes_in page (filter (λ s. s.phase == phase) did) ≡ added_in phase page (additions_among did)
+steps_add did phase page =
+    sum-weigh (adds_to page) (filter (λ (s : PageStep). s.phase == phase) did)
+    ∙ weigh-filter (λ (s : PageStep). s.phase == phase) (adds_to page) did
+    ∙ sym
+    (sum-weigh (adds_in phase page) (additions_among did)
+    ∙ weigh-marks (adds_in phase page) addition_in did
+    ∙ weigh-alike (λ (s : PageStep). option_map_or (adds_in phase page) (addition_in s) 0)
+    (λ s. only (s.phase == phase) (adds_to page s)) did
+    (λ s. adds_same phase page s.phase s.page s.found s.call))
+
+-- what a worker did fits its run list, if its plain steps and its additions do
+pub fits-run : (workload : Workload) (did : List PageStep) (additions : List Addition) (ran : List Ran)
+    → additions ≡ additions_among did
+    → plain_told workload did ≡ steps_ran workload ran
+    → ((phase page : ℕ) → likes_within workload page ran phase ≡ added_in phase page additions)
+    → FitsRunList workload did ran
+fits-run workload did additions ran are plain by_phase = record {
+  plain = plain;
+  by_phase = λ phase page. steps_add did phase page ∙ ap (added_in phase page) (sym are) ∙ sym (by_phase phase page);
+}
+
+-- where nothing ran, nothing was done
+fits-none : (workload : Workload) → FitsRunList workload [] []
+fits-none workload = record { plain = refl; by_phase = λ phase page. refl }
+
+module _ (setup : Setup) (plans : List (List Request)) (site : Site) (e : Ended) (h : IsEnded setup plans site e)
+    (masks : HaveReadMasks (coord_view e.coord).masks e.seats.items) (steps : List PageStep)
+    (order : AreOrdered (coord_view e.coord).opening (coord_view e.coord).phase e.seats.items steps) where
+  -- what the worker of a log did
+  fits-log : (worker : ℕ) (log : WorkerLog) → slice_get e.logs.items worker ≡ Some log
+      → FitsRunList (known setup plans site e h) (steps_by worker steps) log.ran.items
+  fits-log worker log at =
+      let s = left-at IsLogOf h.servers e.logs.items worker log h.logs at in
+      let is = server-at setup plans site e h worker s.0 s.1.0 in
+      let seat = right-at IsSeatOf h.servers e.seats.items worker s.0 h.seats s.1.0 in
+      let own : HasDone steps (seat_meaning seat.0) =
+      subst (λ (x : WorkerSeat). HasDone steps (seat_meaning x))
+      (get_or_from_slice_get e.seats.items worker seat.0 seat.0 seat.1.0)
+      (order.each worker seat.0 (slice_get_within e.seats.items worker seat.0 seat.1.0))
+      in
+      let post : HasDone steps s.0.worker.post = subst (HasDone steps) seat.1.1 own in
+      let right = s.1.1.each (known setup plans site e h)
+      (is.works (hot_known setup plans site e h), right-at-server setup plans site e h masks worker s.0 s.1.0) in
+      subst (λ did. FitsRunList (known setup plans site e h) did log.ran.items)
+      (sym post.did ∙ ap (λ i. steps_by i steps) is.whose)
+      (fits-run (known setup plans site e h) s.0.worker.post.did s.0.worker.post.additions log.ran.items post.additions
+      right.steps right.by_phase)
+
+  -- no seat is of a worker that is not there
+  none-seated : (worker : ℕ) → length e.logs.items ≤ worker
+      → count_by (λ seat. (seat_meaning seat).worker == worker) e.seats.items ≡ 0
+  none-seated worker past =
+      count-none (λ (seat : WorkerSeat). (seat_meaning seat).worker == worker) e.seats.items
+      (λ k d within.
+      let own = seat-worker setup plans site e h k (get_or e.seats.items k d)
+      (slice_get-get_or e.seats.items k d within) in
+      ne_eqb (seat_meaning (get_or e.seats.items k d)).worker worker
+      (λ same. absurd
+      (omega (arith, own, same, within, past, seats-size setup plans site e h, logs-size setup plans site e h))))
+
+  fits-worker : (worker : ℕ)
+      → FitsRunList (known setup plans site e h) (steps_by worker steps) (run_of (runs_of e.logs.items) worker)
+  fits-worker worker = elim (cases_lt worker (length e.logs.items)) [
+    | inl within ↦
+        let found = log-there e.logs.items worker within in
+        subst (FitsRunList (known setup plans site e h) (steps_by worker steps))
+        (sym (run-at e.logs.items worker found.0 found.1))
+        (fits-log worker found.0 found.1)
+    | inr past ↦
+        subst (λ did. FitsRunList (known setup plans site e h) did (run_of (runs_of e.logs.items) worker))
+        (sym (order.others worker (none-seated worker past)))
+        (subst (FitsRunList (known setup plans site e h) [])
+        (sym (no_run (runs_of e.logs.items) worker
+        (omega (arith, past, length-map e.logs.items (λ (log : WorkerLog). log.ran.items)))))
+        (fits-none (known setup plans site e h)))
+  ]
+
+  -- each page's count at the start
+  first-same : (λ page. get_or (coord_view e.coord).opening.counts page 0) ≡ initial_count setup.pages
+  first-same =
+      λ i page. (ap (λ (x : Opening). get_or x.counts page 0) h.opening
+      ∙ initial-at (known setup plans site e h) page) i
+
+  pub one-order : AreCounted (coord_view e.coord) e.seats.items
+      → All (λ seat. IfSome (seat_meaning seat).last (λ sight. sight.number ≤ (coord_view e.coord).phase)) e.seats.items
+      → HasOneOrder (served setup plans site e h) setup.workers (runs_of e.logs.items)
+  one-order counted phases =
+      let lists = logs_are_run_lists (served setup plans site e h) setup.workers e.phases e.logs.items
+      (logs-are setup plans site e h masks counted phases) in
+      let last : ℕ = (coord_view e.coord).phase in
+      let found = runs_are_serial (known setup plans site e h) setup.workers last (runs_of e.logs.items) steps
+      (record { own = lists.own; rising = lists.rising; answers = lists.answers })
+      (record {
+        in_turn = subst (λ (first : ℕ → ℕ). AreInTurn first last steps) first-same order.in_turn;
+        each = fits-worker;
+      }) in (
+        found.0,
+        record {
+          own = found.1.own;
+          rising = found.1.rising;
+          answers = found.1.answers;
+          counts = found.1.counts;
+        },
+      )
+
+-- so each count that a look was answered is between its bounds
+pub seen-counts : (workload : Workload) (workers : ℕ) (logs : List WorkerLog)
+    → HasOneOrder workload workers (runs_of logs)
+    → All (λ log. HasRightCounts workload (runs_of logs) log.ran.items) logs
+seen-counts workload workers logs order worker d within =
+    subst (HasRightCounts workload (runs_of logs))
+    (run-at logs worker (get_or logs worker d) (slice_get-get_or logs worker d within))
+    (serial_is_between workload workers worker (runs_of logs) order.0 order.1)
