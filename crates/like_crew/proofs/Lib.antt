@@ -12,3 +12,6 @@ pub mod Ending
 pub mod Asked
 pub mod LastLikes
 pub mod additions
+pub mod Leading
+pub mod Rounds
+pub mod Starting

@@ -3,3 +3,4 @@ pub mod Pairs
 pub mod Stepped
 pub mod Sums
 pub mod Deals
+pub mod Dealt

@@ -9,3 +9,5 @@ pub mod Later
 pub mod Opened
 pub mod Finishing
 pub mod Leaving
+pub mod Modelled
+pub mod Turning

@@ -1,6 +1,8 @@
 pub mod Crew
 pub mod Ended
+pub mod Fresh
 pub mod Gathered
+pub mod Progress
 pub mod Server
 pub mod ServerTurns
 pub mod Servers

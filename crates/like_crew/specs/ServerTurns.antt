@@ -1,32 +1,41 @@
 -- What a turn does to a server, and what it does to open the lists of its submitters.
-use Rattle.std.specs.Prelude.{◌≡◌, ◌≢◌, ℕ, ◌+◌, min, slice_get, slice_index, slice_set, Some, None}
+use Rattle.std.specs.Prelude.{◌≡◌, ◌≢◌, ℕ, ◌+◌, ◌≤◌, min, slice_get, slice_index, slice_set, Some, None}
 use Rattle.like_requests.specs.declared.request.Taken.{Taken}
+use Rattle.like_requests.specs.declared.request.Taken.TheVariants.{Nothing}
 use Rattle.like_queue.specs.Inbox.{HandsOver, InboxView, item_count}
 use Rattle.like_tables.specs.Share.{place_of}
 use Rattle.like_roles.specs.declared.turn.Turn.{Turn}
 use Rattle.like_roles.specs.declared.turn.Turn.TheVariants.{Try}
 use Rattle.like_roles.specs.worker.Turns.{Gives, Turns}
 use Rattle.like_roles.specs.worker.WorkerView.{WorkerView}
+use Rattle.like_crew.specs.Fresh.{IsModelled}
 use Rattle.like_crew.specs.Server.{ServerView}
 
 -- the place of a submitter's inbox
 abbrev pub place_at : ServerView → ℕ → ℕ
 place_at s submitter = place_of s.worker.last.share.workers submitter
 
--- a whole turn of a server: its worker's turn; if that tries a submitter, it is given what that inbox hands over
+-- a whole turn of a server: its worker's turn; if that tries a submitter, it is given what that inbox hands over, which
+-- is nothing only if no more items of it are open than were taken
 pub data ServerTurns (answer : Turn) (s t : ServerView) : Type 0 where
   tries_none : Turns s.worker answer t.worker → t.worker.pending ≡ None
       → t ≡ record s { worker = t.worker } → ServerTurns answer s t
   tries : (submitter : ℕ) (tried : WorkerView) (i j : InboxView) (took : Taken)
       → Turns s.worker (Try submitter) tried
       → slice_get s.inboxes (place_at s submitter) ≡ Some i → HandsOver i took j
+      → (took ≡ Nothing → slice_index s.opened (place_at s submitter) ≤ i.taken)
       → Gives tried took answer t.worker
       → t ≡ record s { worker = t.worker; inboxes = slice_set s.inboxes (place_at s submitter) j }
       → ServerTurns answer s t
 
+-- a whole turn of a server with this answer, which is one of the model's where its look is fresh
+pub record IsTurn (answer : Turn) (s t : ServerView) : Type 0 where
+  pub whole : ServerTurns answer s t
+  pub modelled : IsModelled s t
+
 -- some whole turn of a server
 abbrev pub MakesTurn : ServerView → ServerView → Type 0
-MakesTurn s t = (answer : Turn) × ServerTurns answer s t
+MakesTurn s t = (answer : Turn) × IsTurn answer s t
 
 -- one item more of a submitter's list is open, if not all were
 pub record OpensOne (submitter : ℕ) (s t : ServerView) : Type 0 where

@@ -1,5 +1,5 @@
 -- What a run uses.
-use Rattle.std.specs.Prelude.{◌≡◌, List, [], length, map}
+use Rattle.std.specs.Prelude.{◌≡◌, false, List, [], length, map}
 use Rattle.like_requests.specs.Pages.{counts_of, marks_of}
 use Rattle.like_requests.specs.declared.request.Request.{Request}
 use Rattle.like_requests.specs.declared.setup.Setup.{Setup}
@@ -23,6 +23,7 @@ pub record IsSite (setup : Setup) (plans : List (List Request)) (site : Site) : 
 pub record AreSeats (setup : Setup) (site : Site) (seats : Seats) : Type 0 where
   pub board : coord_board seats.coord ≡ board_id site.board
   pub start : (coord_view seats.coord).phase ≡ 0
+  pub running : (coord_view seats.coord).ending ≡ false
   pub no_masks : (coord_view seats.coord).masks ≡ []
   pub opening : (coord_view seats.coord).opening ≡ opening_of setup
   pub workers : length seats.workers.items ≡ setup.workers

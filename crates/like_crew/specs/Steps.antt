@@ -1,10 +1,13 @@
 -- What the steps of a crew do.
-use Rattle.std.specs.Prelude.{◌≡◌, ℕ, List, length, slice_get, slice_set, Some}
+use Rattle.std.specs.Prelude.{◌≡◌, ◌↔◌, ℕ, Bool, true, List, length, slice_get, slice_set, Some}
 use Rattle.std.specs.List.{AllZip}
 use Rattle.like_tables.specs.Share.{worker_of}
 use Rattle.like_roles.specs.coordinator.CoordTurns.{CoordTurns, CoordinatorView}
 use Rattle.like_roles.specs.declared.coord_turn.CoordTurn.{CoordTurn}
+use Rattle.like_roles.specs.declared.coord_turn.CoordTurn.TheVariants.{Ended}
 use Rattle.like_crew.specs.declared.crew.Crew.{Crew}
+use Rattle.like_crew.specs.Crew.{AreGone}
+use Rattle.like_crew.specs.Fresh.{LooksFresh, ShowsWorkers}
 use Rattle.like_crew.specs.Server.{ServerView}
 use Rattle.like_crew.specs.ServerTurns.{MakesTurn, OpensOne}
 
@@ -25,7 +28,22 @@ OpensMore submitter ss ts = AtServer (worker_of (length ss) submitter) (OpensOne
 abbrev pub LeadsOn : CoordinatorView → CoordinatorView → Type 0
 LeadsOn v w = (answer : CoordTurn) × CoordTurns v answer w
 
--- a round: a turn of the coordinator, and one of each worker
-pub record IsRound {I : Type 0} (c d : Crew I) : Type 0 where
-  pub coordinator : LeadsOn c.coordinator d.coordinator
+-- a turn of the coordinator, and whether it answered that the run has ended
+pub record Leads (ended : Bool) (v w : CoordinatorView) : Type 0 where
+  pub answer : CoordTurn
+  pub turn : CoordTurns v answer w
+  pub tells : (ended ≡ true) ↔ (answer ≡ Ended)
+
+-- a round: a turn of the coordinator, and one of each worker. The run ended with it if the coordinator answered that it
+-- has, and all workers are gone
+pub record IsRound {I : Type 0} (ended : Bool) (c d : Crew I) : Type 0 where
+  pub answer : CoordTurn
+  pub coordinator : CoordTurns c.coordinator answer d.coordinator
   pub servers : AllZip MakesTurn c.servers.items d.servers.items
+  pub tells : (ended ≡ true) ↔ ((answer ≡ Ended) × AreGone d.servers.items)
+
+-- the looks of a round are fresh: the coordinator looks first, and then the workers
+pub record LookFresh {I : Type 0} {ended : Bool} {c d : Crew I} (round : IsRound ended c d) : Type 0 where
+  pub coordinator : ShowsWorkers c.coordinator.seat.phase c.servers.items round.coordinator.sight
+  pub workers : let seat = d.coordinator.seat in
+      AllZip (LooksFresh seat.phase seat.ending) c.servers.items d.servers.items

@@ -7,8 +7,9 @@ ghost use Rattle.like_roles.specs.coordinator.CoordTurns.{CoordTurns, HasEndedJo
 ghost use Rattle.like_promises.specs.WorkloadOf.{lists_of};
 ghost use Rattle.like_crew.specs.Crew.{AreGone, GoesOn, HasInbox, IsCrew};
 ghost use Rattle.like_crew.specs.Ended.{HasEnded};
+ghost use Rattle.like_crew.specs.Progress.{IsNewCrew};
 ghost use Rattle.like_crew.specs.Server.{AreUntouched, plans_of, untouched};
-ghost use Rattle.like_crew.specs.ServerTurns.{OpensAll, ServerTurns};
+ghost use Rattle.like_crew.specs.ServerTurns.{IsTurn, OpensAll};
 ghost use Rattle.like_crew.specs.Site.{AreSeats, IsSite};
 ghost use Rattle.like_crew.specs.Steps.{AtServer, IsRound, OpensMore};
 
@@ -53,7 +54,8 @@ impl<'a, I: Inbox> Crew<'a, I> {
         requires untouched { AreUntouched (map I.view inboxes.items) }
         requires site { IsSite setup.now (plans_of (map I.view inboxes.items)) site.now }
         requires seats { AreSeats setup.now site.now seats }
-        ensures { IfOk result (IsCrew setup.now (plans_of (map I.view inboxes.items)) site.now) }
+        ensures crew { IfOk result (IsCrew setup.now (plans_of (map I.view inboxes.items)) site.now) }
+        ensures new { IfOk result (IsNewCrew setup.now (plans_of (map I.view inboxes.items))) }
     {
         let Seats { coord, workers } = seats;
         let servers = servers_of(
@@ -83,7 +85,8 @@ impl<'a, I: Inbox> Crew<'a, I> {
     pub fn finish(self, alloc: Global) -> Result<Ended, AllocError>
         requires ended { HasEndedJoined self.coordinator }
         requires gone { AreGone self.servers.items }
-        ensures { IfOk result (HasEnded self.entry) }
+        ensures ended { IfOk result (HasEnded self.entry) }
+        ensures phases { IfOk result (λ ended. ended.phases ≡ self.entry.coordinator.phase) }
     {
         let Crew {
             coordinator,
@@ -107,7 +110,8 @@ impl<'a> Crew<'a, ListInbox> {
         requires within { FitsRun setup.now (lists_of plans.items) }
         requires site { IsSite setup.now (lists_of plans.items) site.now }
         requires seats { AreSeats setup.now site.now seats }
-        ensures { IfOk result (IsCrew setup.now (lists_of plans.items) site.now) }
+        ensures crew { IfOk result (IsCrew setup.now (lists_of plans.items) site.now) }
+        ensures new { IfOk result (IsNewCrew setup.now (lists_of plans.items)) }
     {
         let inboxes = list_inboxes(alloc, plans)?;
         Crew::of_inboxes(alloc, setup, site, seats, inboxes)
@@ -115,7 +119,7 @@ impl<'a> Crew<'a, ListInbox> {
 
     /// Makes one turn of the coordinator and one of each worker, in order, and says whether the run ended with it.
     pub fn round(&mut self) -> bool
-        ensures round { IsRound self.old self.new }
+        ensures round { IsRound result self.old self.new }
         ensures goes_on { GoesOn self.old self.new }
         ensures ended { result ≡ true → HasEndedJoined self.new.coordinator }
         ensures gone { result ≡ true → AreGone self.new.servers.items }
@@ -138,7 +142,7 @@ impl<'a> Crew<'a, ListInbox> {
     pub fn turn_of(&mut self, worker: u32) -> Turn
         requires { worker < length self.old.servers.items }
         ensures case { AtServer worker
-            (ServerTurns result) self.old.servers.items self.new.servers.items }
+            (IsTurn result) self.old.servers.items self.new.servers.items }
         ensures rest { self.new.coordinator ≡ self.old.coordinator }
         ensures goes_on { GoesOn self.old self.new }
     {

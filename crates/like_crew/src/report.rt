@@ -38,6 +38,7 @@ pub fn report_of(
     ensures places { site.notes ≡ true
         → IfOk result (HasRightPlaces setup.now (lists_of plans.now.value.items)) }
     ensures none { site.notes ≡ false → IfOk result HasNoPlaces }
+    ensures phases { IfOk result (λ report. report.phases ≡ ended.phases) }
 {
     let collected = collect(alloc, &site.sizes, &ended.logs);
     report_with(alloc, setup, plans, site, ended, collected)
@@ -60,6 +61,7 @@ pub fn report_at_once<T: Threads + Sync>(
     ensures places { site.notes ≡ true
         → IfOk result (HasRightPlaces setup.now (lists_of plans.now.value.items)) }
     ensures none { site.notes ≡ false → IfOk result HasNoPlaces }
+    ensures phases { IfOk result (λ report. report.phases ≡ ended.phases) }
 {
     let collected = collect_at_once(rt, alloc, &site.sizes, &ended.logs, starts);
     report_with(alloc, setup, plans, site, ended, collected)
@@ -84,6 +86,7 @@ fn report_with(
     ensures places { site.notes ≡ true
         → IfOk result (HasRightPlaces setup.now (lists_of plans.now.value.items)) }
     ensures none { site.notes ≡ false → IfOk result HasNoPlaces }
+    ensures phases { IfOk result (λ report. report.phases ≡ ended.phases) }
 {
     let Site {
         sizes,

@@ -1,4 +1,4 @@
-ghost use Rattle.std.specs.Prelude.{◌≡◌, ℕ};
+ghost use Rattle.std.specs.Prelude.{◌≡◌, ◌≤◌, ℕ};
 ghost use Rattle.like_queue.specs.Inbox.{HandsOver, InboxView};
 
 use like_requests::Taken;
@@ -7,14 +7,17 @@ use like_requests::Taken;
 pub trait Inbox: Drop {
     ghost view: { Self → InboxView };
 
-    /// How many of its items are open to the worker. Of a line's all are.
+    /// How many of its items are open to the worker: a take hands over each of them. Of a line none is, since a take
+    /// finds an item only once it was sent.
     ghost opened: { Self → ℕ };
 }
 
 /// An inbox that takes with a runtime of type `R`.
 pub trait TakeWith<R>: Inbox {
-    /// Takes the next item, if there is one; after the end mark, that again.
+    /// Takes the next item, if there is one; after the end mark, that again. It finds nothing only if no more items are
+    /// open than were taken.
     fn take_with(&mut self, rt: &R) -> Taken
         ensures handed { HandsOver (Self.view self.old) result (Self.view self.new) }
-        ensures opened { Self.opened self.new ≡ Self.opened self.old };
+        ensures opened { Self.opened self.new ≡ Self.opened self.old }
+        ensures nothing { result ≡ Taken.Nothing → Self.opened self.old ≤ (Self.view self.old).taken };
 }

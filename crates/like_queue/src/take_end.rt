@@ -48,11 +48,9 @@ impl TakeEnd<'_> {
 }
 
 impl Inbox for TakeEnd<'_> {
-    ghost use Rattle.like_queue.specs.Inbox.{item_count};
-
     ghost view = { inbox_of };
 
-    ghost opened = { λ e. item_count e.line.plan };
+    ghost opened = { λ _. 0 };
 }
 
 impl<R: Wait> TakeWith<R> for TakeEnd<'_> {

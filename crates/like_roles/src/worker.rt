@@ -1,4 +1,4 @@
-ghost use Rattle.std.specs.Prelude.{◌≡◌, ◌<◌, true, IfOk, IfErr, IsSome, None, Some, length};
+ghost use Rattle.std.specs.Prelude.{◌≡◌, ◌<◌, ◌≤◌, true, IfOk, IfErr, IsSome, None, Some, length};
 ghost use Rattle.like_core.specs.declared.worker_state.WorkerState.TheVariants.{Gone};
 ghost use Rattle.like_core.specs.PhaseMasks.{AreMasksOf};
 ghost use Rattle.like_requests.specs.Pages.{ArePages, marks_of};
@@ -153,6 +153,7 @@ impl<P: Post> Worker<P> {
         ensures pending { Pends result self.new }
         ensures retired { result ≡ Turn.Retired → self.new.post.state ≡ Gone }
         ensures slice { IsSliceInSplit self.new.post self.new.slice }
+        ensures stash { 1 ≤ self.new.held.capacity }
     {
         self.desk.turn(&mut self.seat, gate)
     }
@@ -175,6 +176,7 @@ impl<P: Post> Worker<P> {
         ensures takes { HasTaken self.old taken self.new }
         ensures settled { self.new.pending ≡ None }
         ensures slice { IsSliceInSplit self.new.post self.new.slice }
+        ensures stash { 1 ≤ self.new.held.capacity }
     {
         self.desk.give(&mut self.seat, gate, taken)
     }

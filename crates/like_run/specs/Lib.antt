@@ -1,3 +1,4 @@
+pub mod Fresh
 pub mod Report
 pub mod Room
 pub mod Rounds

@@ -1,4 +1,4 @@
-ghost use Rattle.std.specs.Prelude.{◌≡◌, ◌≤◌, ℕ, All, IfErr, IfOk, OnOk, length, false, true};
+ghost use Rattle.std.specs.Prelude.{◌≡◌, ◌≤◌, All, IfErr, IfOk, OnErr, OnOk, length, false, true};
 ghost use Rattle.like_requests.specs.Setup.{FitsRun};
 ghost use Rattle.like_roles.specs.coordinator.CoordTurns.{HasEndedJoined};
 ghost use Rattle.like_requests.specs.Script.{IsInRun};
@@ -7,8 +7,8 @@ ghost use Rattle.like_promises.specs.WorkloadOf.{lists_of};
 ghost use Rattle.like_crew.specs.Crew.{AreGone, GoesOn};
 ghost use Rattle.like_crew.specs.Ended.{HasEnded};
 ghost use Rattle.like_run.specs.Report.{IsReportOf};
-ghost use Rattle.like_run.specs.Rounds.{CanMake, CanReplayScript, IsReplayFaultUnderWay, IsReplayFault};
-ghost use Rattle.like_run.specs.Script.{FollowsScript, Makes, MakesAll, MakesRounds};
+ghost use Rattle.like_run.specs.Rounds.{CanMake, CanReplayScript, HasEndedIn, IsPlayFault, IsReplayFaultUnderWay, IsReplayFault};
+ghost use Rattle.like_run.specs.Script.{EndsInTime, FollowsScript, Makes, MakesAll, MakesMostRounds};
 
 use like_crew::{Crew, Ended, Site, report_of};
 use like_promises::Report;
@@ -36,6 +36,8 @@ pub fn replay(
 ) -> Result<Report, ReplayFault>
     requires { length script.now ≤ max_entries }
     ensures report { IfOk result (IsReportOf setup.now (lists_of plans.items) true) }
+    ensures ended { IfOk result
+        (λ report. HasEndedIn setup.now (lists_of plans.items) script.now report.phases) }
     ensures fits { OnOk result (CanReplayScript setup.now (lists_of plans.items) script.now) }
     ensures fault { IfErr result (IsReplayFault setup.now (lists_of plans.items) script.now) }
 {
@@ -53,6 +55,8 @@ pub fn replay_noting(
 ) -> Result<Report, ReplayFault>
     requires { length script.now ≤ max_entries }
     ensures report { IfOk result (IsReportOf setup.now (lists_of plans.items) notes) }
+    ensures ended { IfOk result
+        (λ report. HasEndedIn setup.now (lists_of plans.items) script.now report.phases) }
     ensures fits { OnOk result (CanReplayScript setup.now (lists_of plans.items) script.now) }
     ensures fault { IfErr result (IsReplayFault setup.now (lists_of plans.items) script.now) }
 {
@@ -72,7 +76,9 @@ fn replay_within(
     requires within { FitsRun setup.now (lists_of plans.items) }
     requires script { All (IsInRun setup.now.workers (length plans.items)) script.now }
     ensures report { IfOk result (IsReportOf setup.now (lists_of plans.items) notes) }
-    ensures fault { IfErr result IsReplayFaultUnderWay }
+    ensures ended { IfOk result
+        (λ report. HasEndedIn setup.now (lists_of plans.items) script.now report.phases) }
+    ensures fault { IfErr result (IsReplayFaultUnderWay setup.now (lists_of plans.items) script.now) }
 {
     let (site, seats) = Site::new(alloc, setup, &plans, notes)?;
     let lists = Snapshot::of(&plans);
@@ -86,7 +92,7 @@ fn play(alloc: Global, crew: Crew<'_, ListInbox>, script: &[Turned]) -> Result<E
     requires { All (CanMake crew.servers.items) script.now }
     ensures script { IfOk result (FollowsScript script.now crew.entry) }
     ensures ended { IfOk result (HasEnded crew.entry) }
-    ensures fault { IfErr result IsReplayFaultUnderWay }
+    ensures fault { IfErr result (IsPlayFault script.now crew.entry) }
 {
     let mut crew = crew;
     make_all(&mut crew, script);
@@ -130,11 +136,12 @@ fn make(crew: &mut Crew<'_, ListInbox>, entry: &Turned)
 
 // Makes rounds until the run ended.
 fn make_rounds(crew: &mut Crew<'_, ListInbox>) -> Result<(), ReplayFault>
-    ensures rounds { OnOk result ((n : ℕ) × MakesRounds n crew.old crew.new) }
+    ensures rounds { OnOk result (EndsInTime crew.old crew.new) }
     ensures goes_on { GoesOn crew.old crew.new }
     ensures ended { OnOk result (HasEndedJoined crew.new.coordinator) }
     ensures gone { OnOk result (AreGone crew.new.servers.items) }
     ensures fault { IfErr result (λ fault. fault ≡ ReplayFault.Unfinished) }
+    ensures all { OnErr result (MakesMostRounds crew.old crew.new) }
 {
     for _ in 0..MAX_ROUNDS {
         if crew.round() {

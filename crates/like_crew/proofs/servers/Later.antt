@@ -63,3 +63,16 @@ gone-more servers i s within before gone k d below =
       | inr other ↦ ap (λ (x : ServerView). x.worker.post.state) (get_or-set_other servers i k s d other)
           ∙ before k d (omega (arith, below, other))
     ]
+
+-- and back: if they are gone with this one, the first ones are, and this one is
+pub gone-less : (servers : List ServerView) (i : ℕ) (s : ServerView)
+    → i < length servers
+    → ((k : ℕ) (d : ServerView) → k < i + 1 → (get_or (set servers i s) k d).worker.post.state ≡ Gone)
+    → ((k : ℕ) (d : ServerView) → k < i → (get_or servers k d).worker.post.state ≡ Gone)
+    × (s.worker.post.state ≡ Gone)
+gone-less servers i s within gone = (
+  λ k d below. ap (λ (x : ServerView). x.worker.post.state)
+      (sym (get_or-set_other servers i k s d (λ e. absurd (omega (arith, below, e)))))
+      ∙ gone k d (omega (arith, below)),
+  ap (λ (x : ServerView). x.worker.post.state) (sym (get_or-set_same servers i s s within)) ∙ gone i s (omega arith),
+)

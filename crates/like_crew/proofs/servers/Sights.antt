@@ -96,7 +96,7 @@ seen-look v sight mask i h = (
 )
 
 -- who runs a phase is not gone
-running_here : (P : ℕ → Type 0) (s : WorkerState) → RunsSome P s → s ≢ state.Gone
+pub running_here : (P : ℕ → Type 0) (s : WorkerState) → RunsSome P s → s ≢ state.Gone
 running_here P (state.Runs k) r = λ e. cc e
 running_here P (state.Answered k) r = absurd r
 running_here P state.Gone r = absurd r
@@ -108,7 +108,7 @@ liked-last v user page old = by_test (slices v.post page) where
   by_test true = refl
   by_test false = refl
 
-serves-last : (v : WorkerView) (submitter : ℕ) (r : Request) (reply : Reply) (w : WorkerView)
+pub serves-last : (v : WorkerView) (submitter : ℕ) (r : Request) (reply : Reply) (w : WorkerView)
     → GivesReply v submitter r reply w
     → w.post.last ≡ v.post.last
 serves-last v submitter r reply w (refuses n a e) = ap (λ x. x.post.last) e

@@ -3,6 +3,7 @@ ghost use Rattle.like_core.specs.OpeningLimits.{run_limits};
 ghost use Rattle.like_board.specs.Seats.{board_id, coord_board, coord_view};
 ghost use Rattle.like_roles.specs.coordinator.CoordTurns.{CoordTurns, HasEndedJoined};
 ghost use Rattle.like_crew.specs.Crew.{CoordinatorGoesOn};
+ghost use Rattle.like_crew.specs.Steps.{Leads};
 
 use like_board::{Board, CoordSeat};
 use like_roles::{CoordTurn, Coordinator};
@@ -48,6 +49,7 @@ impl<'a> CoordinatorAt<'a> {
         ensures board { IfOk result (λ coordinator. coordinator.board ≡ board_id board.now) }
         ensures seat { IfOk result (λ coordinator. coordinator.seat ≡ coord_view seat) }
         ensures turns { IfOk result (λ coordinator. coordinator.turns ≡ turns) }
+        ensures left { IfOk result (λ coordinator. coordinator.left ≡ turns) }
         ensures hot { IfOk result (λ coordinator. coordinator.choice.hot ≡ hot) }
     {
         match Coordinator::new(alloc, seat, turns, hot, counts) {
@@ -68,7 +70,7 @@ impl<'a> CoordinatorAt<'a> {
 
     /// Makes its next turn, and says whether it found the run ended.
     pub fn ends(&mut self) -> bool
-        ensures case { (answer : CoordTurn) × CoordTurns self.old answer self.new }
+        ensures leads { Leads result self.old self.new }
         ensures goes_on { CoordinatorGoesOn self.old self.new }
         ensures ended { result ≡ true → HasEndedJoined self.new }
     {

@@ -4,7 +4,7 @@ ghost use Rattle.like_board.specs.Seats.{board_id, board_numbers};
 ghost use Rattle.like_roles.specs.worker.New.{AreNewSeats};
 ghost use Rattle.like_promises.specs.WorkloadOf.{workload_of};
 ghost use Rattle.like_crew.specs.Server.{AreUntouched, plans_of};
-ghost use Rattle.like_crew.specs.Servers.{AreServers};
+ghost use Rattle.like_crew.specs.Servers.{AreNewServers, AreServers};
 
 use crate::crew::hands::deal;
 use crate::crew::server::Server;
@@ -28,9 +28,11 @@ pub fn servers_of<'a, I: Inbox>(
     requires sizes { sizes.now ≡ map length (plans_of (map I.view inboxes.items)) }
     requires len { length seats.items ≡ setup.now.workers }
     requires seats { AreNewSeats (board_id board.now) setup.now.pages seats.items }
-    ensures { IfOk result (λ servers. let board_is = board_numbers (board_id board.now) in
+    ensures servers { IfOk result (λ servers. let board_is = board_numbers (board_id board.now) in
         let workload = workload_of setup.now (plans_of (map I.view inboxes.items)) in
         AreServers workload setup.now.workers board_is notes servers.items) }
+    ensures new { IfOk result (λ servers.
+        AreNewServers setup.now.workers (map I.view inboxes.items) servers.items) }
 {
     let mut hands = deal(alloc, inboxes, setup.workers)?;
     let mut servers = Vec::new(alloc);

@@ -1,10 +1,11 @@
-ghost use Rattle.std.specs.Prelude.{◌≡◌, ◌<◌, ℕ, IfOk, IfErr, length, map};
+ghost use Rattle.std.specs.Prelude.{◌≡◌, ◌<◌, ℕ, [], IfOk, IfErr, length, map};
 ghost use Rattle.like_core.specs.declared.worker_state.WorkerState.TheVariants.{Gone};
 ghost use Rattle.like_tables.specs.Share.{share_of};
 ghost use Rattle.like_requests.specs.Setup.{IsWithin};
 ghost use Rattle.like_roles.specs.worker.New.{IsPostOf};
 ghost use Rattle.like_promises.specs.Workload.{Workload};
 ghost use Rattle.like_roles.specs.worker.Follows.{IsWorkloadOf};
+ghost use Rattle.like_crew.specs.Fresh.{IsModelled};
 ghost use Rattle.like_crew.specs.Server.{AreInboxesFor, AreOwnPlans, IsLogOf, ServerGoesOn, WorksFor};
 ghost use Rattle.like_crew.specs.ServerTurns.{OpensAll, OpensOne, OpensWhole, ServerTurns, place_at};
 
@@ -59,6 +60,8 @@ impl<P: Post, I: Inbox> Server<P, I> {
             server.worker.last.share ≡ share_of setup.now.users (length sizes.now) setup.now.workers number) }
         ensures at_post { IfOk result (λ server. server.worker.post ≡ P.view post) }
         ensures notes { IfOk result (λ server. server.worker.notes ≡ notes) }
+        ensures held { IfOk result (λ server. server.worker.held.held ≡ []) }
+        ensures inboxes { IfOk result (λ server. server.inboxes ≡ map I.view inboxes.items) }
         ensures works { IfOk result (λ server. (workload : Workload)
             → IsWorkloadOf setup.now sizes.now workload
             → AreOwnPlans workload setup.now.workers number (map I.view inboxes.items) → WorksFor workload server) }
@@ -84,6 +87,7 @@ impl<P: Post, I: Inbox> Server<P, I> {
     where
         I: TakeWith<R>,
         ensures case { ServerTurns result self.old self.new }
+        ensures modelled { IsModelled self.old self.new }
         ensures goes_on { ServerGoesOn self.old self.new }
         ensures retired { result ≡ Turn.Retired → self.new.worker.post.state ≡ Gone }
     {

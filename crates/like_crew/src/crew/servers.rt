@@ -1,9 +1,9 @@
-ghost use Rattle.std.specs.Prelude.{◌≡◌, ◌<◌, IfOk, length, true};
+ghost use Rattle.std.specs.Prelude.{◌≡◌, ◌↔◌, ◌<◌, IfOk, length, true};
 ghost use Rattle.std.specs.List.{AllZip};
 ghost use Rattle.like_core.specs.declared.worker_state.WorkerState.TheVariants.{Gone};
 ghost use Rattle.like_crew.specs.Crew.{AreGone, HasInbox};
 ghost use Rattle.like_crew.specs.Server.{IsLogOf, ServerGoesOn};
-ghost use Rattle.like_crew.specs.ServerTurns.{MakesTurn, OpensAll, ServerTurns};
+ghost use Rattle.like_crew.specs.ServerTurns.{IsTurn, MakesTurn, OpensAll};
 ghost use Rattle.like_crew.specs.Steps.{AtServer, OpensMore};
 ghost use Rattle.like_crew.specs.Ended.{IsSeatOf};
 
@@ -19,7 +19,7 @@ use std::alloc::{AllocError, Global};
 pub fn turns<P: Post>(servers: &mut Vec<Server<P, ListInbox>>) -> bool
     ensures turns { AllZip MakesTurn servers.old.items servers.new.items }
     ensures go_on { AllZip ServerGoesOn servers.old.items servers.new.items }
-    ensures gone { result ≡ true → AreGone servers.new.items }
+    ensures gone { (result ≡ true) ↔ AreGone servers.new.items }
 {
     let mut gone = true;
     for worker in 0..servers.len() {
@@ -33,7 +33,7 @@ pub fn turns<P: Post>(servers: &mut Vec<Server<P, ListInbox>>) -> bool
 fn retires<P: Post>(server: &mut Server<P, ListInbox>) -> bool
     ensures turns { MakesTurn server.old server.new }
     ensures goes_on { ServerGoesOn server.old server.new }
-    ensures gone { result ≡ true → server.new.worker.post.state ≡ Gone }
+    ensures gone { (result ≡ true) ↔ (server.new.worker.post.state ≡ Gone) }
 {
     match server.turn(&(), &NoGate) {
         Turn::Retired => true,
@@ -44,7 +44,7 @@ fn retires<P: Post>(server: &mut Server<P, ListInbox>) -> bool
 /// Makes one turn of a worker.
 pub fn turn_of<P: Post>(servers: &mut Vec<Server<P, ListInbox>>, worker: u32) -> Turn
     requires { worker < length servers.old.items }
-    ensures case { AtServer worker (ServerTurns result) servers.old.items servers.new.items }
+    ensures case { AtServer worker (IsTurn result) servers.old.items servers.new.items }
     ensures go_on { AllZip ServerGoesOn servers.old.items servers.new.items }
 {
     servers[worker as usize].turn(&(), &NoGate)

@@ -56,12 +56,12 @@ when-fits setup plans script (Err fault) fits = tt
 
 run-fault : (setup : Setup) (plans : List (List Request)) (script : List Turned) (r : Result Report ReplayFault)
     → CanReplayScript setup plans script
-    → IfErr r IsReplayFaultUnderWay
+    → IfErr r (IsReplayFaultUnderWay setup plans script)
     → IfErr r (IsReplayFault setup plans script)
 run-fault setup plans script (Ok report) fits h = tt
 run-fault setup plans script (Err (Settings why)) fits h = absurd h
 run-fault setup plans script (Err Memory) fits h = fits
-run-fault setup plans script (Err Unfinished) fits h = fits
+run-fault setup plans script (Err Unfinished) fits h = (fits, h)
 
 -- what was tested fits
 tested : (setup : Setup) (plans : List (Vec Request Global)) (script : List Turned) (many : ℕ)

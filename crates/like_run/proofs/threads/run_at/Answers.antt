@@ -94,7 +94,7 @@ returns-clause-ended g c =
     (lists_of c.args.plans.items) c.in_ok-lines.field-0 c.in_ok-sends.takes.items c.in_ok-lines.ensures
     (c.in_ok-sends.ensures.takes ∙ ap (map new_taker) c.deref.ensures.value) in
     let crew = subst (λ asked. IsCrew c.args.setup.now asked c.args.site.now c.in_ok-crew.crew) plans
-    c.in_ok-crew.ensures in
+    c.in_ok-crew.ensures.crew in
     ended-at c.args.setup.now
     (lists_of c.args.plans.items) c.args.site.now c.args.starts c.in_ok-crew.crew c.in_ok-sends.sends.items
     c.on_threads.result crew c.on_threads.ensures.ended
@@ -105,7 +105,7 @@ returns-clause-enough g c =
     (lists_of c.args.plans.items) c.in_ok-lines.field-0 c.in_ok-sends.takes.items c.in_ok-lines.ensures
     (c.in_ok-sends.ensures.takes ∙ ap (map new_taker) c.deref.ensures.value) in
     let crew = subst (λ asked. IsCrew c.args.setup.now asked c.args.site.now c.in_ok-crew.crew) plans
-    c.in_ok-crew.ensures in
+    c.in_ok-crew.ensures.crew in
     let many = many-ends
     (lists_of c.args.plans.items) c.in_ok-lines.field-0 c.in_ok-sends.sends.items c.in_ok-lines.ensures
     (c.in_ok-sends.ensures.sends ∙ ap (map new_sender) c.deref.ensures.value) in

@@ -8,8 +8,8 @@ use Rattle.like_crew.proofs.Coordinated.{coordinator-same}
 use Rattle.like_crew.proofs.servers.Later.{all-same}
 use Rattle.like_crew.proofs.crew.Crew.finish.Goals as goal
 
-pub returns : goal.returns
-returns g c =
+pub returns-clause-ended : goal.returns-clause-ended
+returns-clause-ended g c =
     let servers = c.args.self.servers.items in
     record {
       left = record {
@@ -25,3 +25,6 @@ returns g c =
       later = coordinator-same c.args.self.coordinator;
       coordinator_is = c.new.ensures.coordinator;
     }
+
+pub returns-clause-phases : goal.returns-clause-phases
+returns-clause-phases g c = c.new.ensures.coordinator.phases

@@ -16,7 +16,7 @@ use Rattle.like_tables.proofs.Dealt.{map-dealt}
 use Rattle.like_promises.specs.Workload.{Workload}
 use Rattle.like_roles.specs.worker.Follows.{IsWorkloadOf}
 use Rattle.like_roles.specs.worker.New.{IsPostOf}
-use Rattle.like_crew.specs.Servers.{IsServer}
+use Rattle.like_crew.specs.Servers.{IsNewServer, IsServer}
 use Rattle.like_promises.specs.WorkloadOf.{workload_of}
 use Rattle.like_crew.specs.Server.{AreInboxesFor, AreOwnPlans, AreUntouched, ServerView, WorksFor, plans_of}
 use Rattle.like_crew.proofs.Makings.{hand-at, inboxes-for, is-server, one-pushed, remove-drop}
@@ -143,11 +143,22 @@ loop-seat-preserved g c =
     let both = one-pushed R k
     (length (l.yielded ++ c.in-Some.seat ∷ [])) l.servers.items _ c.in-Ok.server c.in_ok-push-in-Ok.ensures.items
     l.invariant.len longer l.invariant.servers server in
+    let Q : ℕ → ServerView → Type 0 = IsNewServer workers inboxes in
+    let none_done : Q k c.in-Ok.server =
+    record {
+      runs = ap (λ (p : PostView). p.state) (c.in-Ok.ensures.at_post ∙ c.at.ensures.meaning) ∙ fresh.1.fresh.runs;
+      none = c.in-Ok.ensures.held;
+      own = c.in-Ok.ensures.inboxes ∙ is;
+    } in
+    let news = one-pushed Q k
+    (length (l.yielded ++ c.in-Some.seat ∷ [])) l.servers.items _ c.in-Ok.server c.in_ok-push-in-Ok.ensures.items
+    l.invariant.len longer l.invariant.new none_done in
     record {
       hands = others c.in_ok-hands.hands.items l.hands.items _ k _ l.invariant.hands c.remove-inboxes.ensures.items
           longer;
       len = both.0;
       servers = both.1;
+      new = news.1;
     }
 
 pub deal-requires : goal.deal-requires
@@ -165,6 +176,8 @@ loop-seat-init g c = record {
   servers = none-made
       (IsServer (workload_of c.args.setup.now (plans_of (map g.I.Inbox.view c.args.inboxes.items))) c.args.setup.now.workers
       (board_numbers (board_id c.args.board.now)) c.args.notes) c.new-servers.result.items c.new-servers.ensures.items;
+  new = none-made (IsNewServer c.args.setup.now.workers (map g.I.Inbox.view c.args.inboxes.items))
+      c.new-servers.result.items c.new-servers.ensures.items;
 }
 
 -- the number of a worker is small
@@ -211,8 +224,8 @@ remove-inboxes-requires g c =
     (hand-left c.in_ok-hands.hands.items l.hands.items (length l.yielded) c.args.setup.now.workers l.invariant.hands
     c.in_ok-hands.ensures.len (subst (λ n. length l.yielded < n) c.requires.len turn.0))
 
-pub returns : goal.returns
-returns g c =
+pub returns-clause-servers : goal.returns-clause-servers
+returns-clause-servers g c =
     let l = c.loop-seat in
     let from = c.into_iter-seat-iterator.ensures.into_iter_gives in
     let all = YieldsList-from_vec {s = c.into_iter-seat-iterator.result} c.args.seats.items from.0
@@ -221,6 +234,16 @@ returns g c =
     subst (λ n. AllZip (IsServer (workload_of c.args.setup.now (plans_of (map g.I.Inbox.view c.args.inboxes.items)))
     c.args.setup.now.workers (board_numbers (board_id c.args.board.now)) c.args.notes) (range_with_len 0 n)
     l.servers.items) (t.1 ∙ c.requires.len) l.invariant.servers
+
+pub returns-clause-new : goal.returns-clause-new
+returns-clause-new g c =
+    let l = c.loop-seat in
+    let from = c.into_iter-seat-iterator.ensures.into_iter_gives in
+    let all = YieldsList-from_vec {s = c.into_iter-seat-iterator.result} c.args.seats.items from.0
+    (from.1 ∙ c.args.seats.ok.0) in
+    let t = YieldsList-end all l.yielded _ l.yielded_by _ c.next.new.self c.in-None.is c.next.ensures.steps in
+    subst (λ n. AllZip (IsNewServer c.args.setup.now.workers (map g.I.Inbox.view c.args.inboxes.items))
+    (range_with_len 0 n) l.servers.items) (t.1 ∙ c.requires.len) l.invariant.new
 
 pub at-requires : goal.at-requires
 at-requires g c =

@@ -1,7 +1,7 @@
 use Rattle.std.proofs.Common.{◌≡◌, drop, length, map}
 use Rattle.std.specs.List.{AllZip, range_with_len}
 use Rattle.like_board.specs.Seats.{board_id, board_numbers}
-use Rattle.like_crew.specs.Servers.{IsServer}
+use Rattle.like_crew.specs.Servers.{IsNewServer, IsServer}
 use Rattle.like_promises.specs.WorkloadOf.{workload_of}
 use Rattle.like_crew.specs.Server.{plans_of}
 use Rattle.like_crew.proofs.crew.new_servers.servers_of.Given as goal
@@ -13,4 +13,6 @@ invariant-loop-seat g l = record {
   servers : AllZip
       (IsServer (workload_of l.setup (plans_of (map g.I.Inbox.view l.fn.inboxes.items))) l.setup.workers
       (board_numbers (board_id l.board)) l.notes) (range_with_len 0 (length l.yielded)) l.servers.items;
+  new : AllZip (IsNewServer l.setup.workers (map g.I.Inbox.view l.fn.inboxes.items)) (range_with_len 0 (length l.yielded))
+      l.servers.items;
 }

@@ -11,7 +11,7 @@ returns-clause-case g c =
       after = c.turn.new.self;
       here = slice_get_read servers
           (length servers) c.args.worker c.index_mut.result.now refl c.requires c.index_mut.ensures.value;
-      step = c.turn.ensures.case;
+      step = record { whole = c.turn.ensures.case; modelled = c.turn.ensures.modelled };
       rest = refl;
     }
 

@@ -39,6 +39,7 @@ returns-clause-seats c =
     record {
       board = c.in_ok-board.ensures.coord_here;
       start = ap (λ (v : CoordSeatView). v.phase) c.in_ok-board.ensures.coord;
+      running = ap (λ (v : CoordSeatView). v.ending) c.in_ok-board.ensures.coord;
       no_masks = ap (λ (v : CoordSeatView). v.masks) c.in_ok-board.ensures.coord;
       opening = ap (λ (v : CoordSeatView). v.opening) c.in_ok-board.ensures.coord
           ∙ ap (λ (xs : List ℕ). opening c.args.setup.now.workers xs c.deref-2.result.now) counts

@@ -26,3 +26,6 @@ returns-in-Ok-clause-turns c = ap (λ (w : CoordinatorView). w.turns) c.in-Ok.en
 
 pub returns-in-Ok-clause-hot : goal.returns-in-Ok-clause-hot
 returns-in-Ok-clause-hot c = ap (λ (w : CoordinatorView). w.choice.hot) c.in-Ok.ensures.new
+
+pub returns-in-Ok-clause-left : goal.returns-in-Ok-clause-left
+returns-in-Ok-clause-left c = ap (λ (w : CoordinatorView). w.left) c.in-Ok.ensures.new

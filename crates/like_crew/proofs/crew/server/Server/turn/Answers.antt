@@ -1,7 +1,8 @@
-use Rattle.std.proofs.Common.{◌≡◌, ℕ, ◌/◌, ◌<◌, List, length, get_or, map, option_map, set, slice_get, Some, refl, sym, ap, ◌∙◌, subst, arith}
-use Rattle.std.proofs.lemmas.Option.{same_Some, slice_get-map, slice_get_read}
+use Rattle.std.proofs.Common.{◌≡◌, ℕ, ◌/◌, ◌<◌, ◌≤◌, List, length, get_or, map, option_map, set, slice_get, Some, refl, sym, ap, ◌∙◌, subst, arith}
+use Rattle.std.proofs.lemmas.Option.{get_or_from_slice_get, same_Some, slice_get-map, slice_get_read, slice_get_within}
 use Rattle.std.proofs.Math.Seq.{map-set_same}
 use Rattle.like_requests.specs.declared.request.Taken.{Taken}
+use Rattle.like_requests.specs.declared.request.Taken.TheVariants.{Nothing}
 use Rattle.like_queue.specs.Inbox.{HandsOver, InboxView}
 use Rattle.like_tables.specs.Share.{Share}
 use Rattle.like_roles.specs.worker.WorkerView.{WorkerView, submitter_at}
@@ -12,6 +13,7 @@ use Rattle.like_roles.specs.worker.Turns.{Gives, Turns}
 use Rattle.like_crew.specs.ServerTurns.{ServerTurns, place_at, tries, tries_none}
 use Rattle.like_crew.specs.Server.{Agree, ServerGoesOn, WorksFor, ServerView}
 use Rattle.like_crew.proofs.servers.Agreeing.{agree-give, agree-turn, can-give, none-pending, notes-given, serves-give, serves-turn, share-given}
+use Rattle.like_crew.proofs.servers.Modelled.{server-modelled}
 use Rattle.like_crew.proofs.servers.Numbers.{place-own}
 use Rattle.like_crew.proofs.servers.Posts.{gives-whose, turns-whose, whose}
 use Rattle.like_crew.proofs.servers.Sights.{turns-tries}
@@ -100,6 +102,7 @@ turns-tried : {J : Type 0} (view : J → InboxView) (opened : J → ℕ) (u v w 
     → i ≡ get_or lists place i
     → HandsOver (view i) took (view j)
     → opened j ≡ opened i
+    → (took ≡ Nothing → opened i ≤ (view i).taken)
     → Gives v took answer w
     → ServerTurns answer (record { worker = u; inboxes = map view lists; opened = map opened lists })
     (record {
@@ -109,13 +112,22 @@ turns-tried : {J : Type 0} (view : J → InboxView) (opened : J → ℕ) (u v w 
       opened =
           map opened (set lists place j);
     })
-turns-tried view opened u v w lists place submitter i j took answer at turns here is hands opens gives =
+turns-tried view opened u v w lists place submitter i j took answer at turns here is hands opens none gives =
     let before : ServerView = record { worker = u; inboxes = map view lists; opened = map opened lists } in
     let inboxes : map view (set lists place j) ≡ set (map view lists) (place_at before submitter) (view j) =
     map-set view lists place j ∙ ap (λ p. set (map view lists) p (view j)) at in
     let all : map opened (set lists place j) ≡ map opened lists =
     map-set_same opened lists place j i (opens ∙ ap opened is) in
-    tries submitter v (view i) (view j) took turns (ap (slice_get (map view lists)) (sym at) ∙ here) hands gives
+    let open_now : get_or (map opened lists) (place_at before submitter) 0 ≡ opened i =
+    get_or_from_slice_get (map opened lists) (place_at before submitter) (opened i) 0
+    (slice_get-map opened lists (place_at before submitter)
+    ∙ ap (option_map opened)
+    (slice_get_read lists (length lists) (place_at before submitter) i refl
+    (subst (λ p. p < length lists) at
+    (omega (arith, slice_get_within (map view lists) place (view i) here, length-map lists view)))
+    (is ∙ ap (λ p. get_or lists p i) at))) in
+    tries submitter v (view i) (view j) took turns (ap (slice_get (map view lists)) (sym at) ∙ here) hands
+    (λ e. omega (arith, none e, open_now)) gives
     (λ m. record { worker = w; inboxes = inboxes m; opened = all m })
 
 pub returns-in-Try-clause-case : goal.returns-in-Try-clause-case
@@ -145,7 +157,7 @@ returns-in-Try-clause-case g c =
     (place-tried u v p.0 place c.in-Try.submitter here.0 p.1.1 a.is_worker c.turn.ensures.takes.share)
     (subst (λ answer. Turns u answer v) c.in-Try.is c.turn.ensures.case)
     (ap (slice_get (map view lists)) here.0 ∙ here.1) c.index_mut.ensures.value c.take_with-taken.ensures.handed
-    c.take_with-taken.ensures.opened c.give.ensures.case)
+    c.take_with-taken.ensures.opened c.take_with-taken.ensures.nothing c.give.ensures.case)
 
 pub returns-in_default-clause-case : goal.returns-in_default-clause-case
 returns-in_default-clause-case g c =
@@ -248,3 +260,15 @@ never-retired v w took answer (turns.asks place ask p t (turns.runs h is s)) ret
 
 pub returns-in-Try-clause-retired : goal.returns-in-Try-clause-retired
 returns-in-Try-clause-retired g c = λ e. absurd (never-retired _ _ _ _ c.give.ensures.case e)
+
+pub returns-in-Try-clause-modelled : goal.returns-in-Try-clause-modelled
+returns-in-Try-clause-modelled g c =
+    server-modelled c.give.result c.args.self.now _
+    (subst (λ (s : ServerView). Agree s.worker s.inboxes) c.self.view_is c.self.invariant.2)
+    (returns-in-Try-clause-case g c)
+
+pub returns-in_default-clause-modelled : goal.returns-in_default-clause-modelled
+returns-in_default-clause-modelled g c =
+    server-modelled c.turn.result c.args.self.now _
+    (subst (λ (s : ServerView). Agree s.worker s.inboxes) c.self.view_is c.self.invariant.2)
+    (returns-in_default-clause-case g c)

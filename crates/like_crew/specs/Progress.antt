@@ -1,0 +1,47 @@
+-- How far a crew is, in the words of the model of `like_ending`.
+use Rattle.std.specs.Prelude.{◌≡◌, ℕ, ◌-◌, List, length, map}
+use Rattle.std.specs.List.{sum_by}
+use Rattle.like_requests.specs.declared.request.Request.{Request}
+use Rattle.like_requests.specs.declared.setup.Setup.{Setup}
+use Rattle.like_queue.specs.Inbox.{InboxView, item_count}
+use Rattle.like_ending.specs.Progress.{CrewProgress, IsStart, WorkerProgress, items_in}
+use Rattle.like_roles.specs.coordinator.CoordTurns.{CoordinatorView}
+use Rattle.like_crew.specs.declared.crew.Crew.{Crew}
+use Rattle.like_crew.specs.Server.{ServerView}
+
+-- how many items of an inbox are left: the requests that were not taken, and the end mark until it was
+abbrev pub items_left : InboxView → ℕ
+items_left i = item_count i.plan - i.taken
+
+-- how far a server's worker is
+abbrev pub progress_of : ServerView → WorkerProgress
+progress_of s = record {
+  state = s.worker.post.state;
+  items = sum_by items_left s.inboxes;
+  looks = length s.worker.held.held;
+}
+
+-- how far a coordinator with these servers is
+abbrev pub progress_with : CoordinatorView → List ServerView → CrewProgress
+progress_with v servers = record {
+  phase = v.seat.phase;
+  ending = v.seat.ending;
+  turns = v.turns;
+  left = v.left;
+  workers = map progress_of servers;
+}
+
+-- how far a crew is
+abbrev pub progress_in : {I : Type 0} → Crew I → CrewProgress
+progress_in c = progress_with c.coordinator c.servers.items
+
+-- how many items plans have: the requests, and an end mark each
+abbrev pub items_of : List (List Request) → ℕ
+items_of plans = sum_by item_count plans
+
+-- a new crew is at the start, with the turns and the workers of the settings and all items of the plans
+pub record IsNewCrew {I : Type 0} (setup : Setup) (plans : List (List Request)) (c : Crew I) : Type 0 where
+  pub start : IsStart (progress_in c)
+  pub turns : c.coordinator.turns ≡ setup.turns
+  pub workers : length c.servers.items ≡ setup.workers
+  pub items : items_in (progress_in c) ≡ items_of plans
