@@ -35,13 +35,13 @@ static std::string text(likes_status status) {
 
 static std::string text(const likes::Look &look) {
     std::string shown = text(look.outcome);
-    return look.outcome == LIKES_SEEN ? shown + text(look.seen.last) + " " + std::to_string(look.seen.count) : shown;
+    return look.seen ? shown + text(look.seen->last) + " " + std::to_string(look.seen->count) : shown;
 }
 
-static std::string text(const std::vector<std::uint32_t> &lasts) {
+static std::string text(const std::vector<likes::Last> &lasts) {
     std::string all = "ok";
-    for (std::uint32_t last : lasts)
-        all += text(likes::last_of(last));
+    for (likes::Last last : lasts)
+        all += text(last);
     return all;
 }
 
@@ -67,11 +67,11 @@ struct Service {
         if (rarely())
             return draw(2) == 0 ? options.users + draw(3) : UINT32_MAX;
         std::uint32_t user = draw(options.users);
-        return draw(8) == 0 ? user : user - user % options.seats + seat;
+        return draw(8) == 0 ? user : user - user % *options.seats + seat;
     }
 
     void take_all() {
-        for (std::uint32_t i = 0; i <= options.seats; i++) {
+        for (std::uint32_t i = 0; i <= *options.seats; i++) {
             auto seat = driver.take_seat();
             std::cout << "seat " << text(seat ? LIKES_OK : LIKES_ALL_TAKEN) << "\n";
             if (seat)
@@ -116,8 +116,8 @@ struct Service {
             std::cout << "none\n";
             return;
         }
-        std::cout << "found " << found->tag << " " << found->count << " " << found->asked << " " << found->ran << " "
-                  << found->user << " " << found->page << text(likes::last_of(found->last)) << "\n";
+        std::cout << "found " << found->tag << " " << found->seen.count << " " << found->asked << " " << found->ran << " "
+                  << found->user << " " << found->page << text(found->seen.last) << "\n";
     }
 
     void tell_lasts(std::uint32_t number, bool is_one) {
@@ -131,8 +131,7 @@ struct Service {
     }
 
     void write_lasts(std::uint32_t number, std::uint32_t from, std::uint32_t length) {
-        std::vector<std::uint32_t> lasts(length);
-        say("lasts", [&] { return seats[number].lasts(from, lasts), text(lasts); });
+        say("lasts", [&] { return text(seats[number].lasts(from, length)); });
     }
 
     void write_counts(bool is_snapshot, std::uint32_t from, std::uint32_t length) {
@@ -185,7 +184,7 @@ struct Service {
     }
 
     void call() {
-        std::uint32_t number = draw(options.seats), kind = draw(20);
+        std::uint32_t number = draw(*options.seats), kind = draw(20);
         if (kind < 9) {
             like_or_look(number, kind);
         } else if (kind == 9) {
@@ -215,8 +214,8 @@ struct Service {
             std::cout << "driver " << text(status) << "\n";
         } while (status != LIKES_ENDED);
         write_counts(false, 0, pages);
-        for (std::uint32_t i = 0; i < options.seats; i++)
-            write_lasts(i, 0, (options.users + options.seats - 1 - i) / options.seats);
+        for (std::uint32_t i = 0; i < *options.seats; i++)
+            write_lasts(i, 0, (options.users + *options.seats - 1 - i) / *options.seats);
     }
 };
 
@@ -231,20 +230,20 @@ static std::vector<std::uint64_t> draw_opening(likes::Options &options) {
     options.seats = rarely() ? 65 + draw(2) : 1 + draw(3);
     options.users = rarely() ? 0 : 1 + draw(12);
     options.room = rarely() ? LIKES_MAX_ROOM + 1 : 1 + draw(3);
-    options.hot = rarely() ? LIKES_MAX_HOT + 1 : 512 * draw(2);
+    options.hot = rarely() ? LIKES_MAX_HOT + 1 : draw(2) == 0 ? likes::no_hot : 512;
     options.marks.resize(draw(3));
     for (std::uint32_t &mark : options.marks)
         mark = draw_page(pages);
     if (draw(3) != 0)
         options.lasts.resize(options.users + rarely());
-    for (std::uint32_t &last : options.lasts)
-        last = draw(2) == 0 ? LIKES_NO_PAGE : draw_page(pages);
+    for (likes::Last &last : options.lasts)
+        last = draw(2) == 0 ? likes::Last() : draw_page(pages);
     return counts;
 }
 
 int main() {
     for (int number = 0; number < services; number++) {
-        likes::Options options = {0, 0};
+        likes::Options options;
         std::vector<std::uint64_t> counts = draw_opening(options);
         std::optional<likes::Driver> driver;
         say("open", [&] { return driver.emplace(options, counts), text(LIKES_OK); });
