@@ -189,7 +189,8 @@ func TestDefaults(t *testing.T) {
 }
 
 func TestDeadline(t *testing.T) {
-	options := Options{Seats: 1, Users: 2, Room: 4, Hot: NoHot, Marks: []uint32{0}, Period: 100 * time.Second}
+	// With less room, looks that wait would end the phase early.
+	options := Options{Seats: 1, Users: 2, Room: 64, Hot: NoHot, Marks: []uint32{0}, Period: 100 * time.Second}
 	service := start(t, options, 0, 0)
 	defer service.Close()
 	for service.Phase()%2 == 0 {

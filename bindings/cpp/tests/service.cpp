@@ -140,7 +140,9 @@ static void marks() {
 
 // A look whose answer comes too late is none.
 static void deadlines() {
-    likes::Service service(marked(9, 1, 100s), {5, 7});
+    likes::Options options = marked(9, 1, 100s);
+    options.room = 64; // else looks that wait end the phase early
+    likes::Service service(options, {5, 7});
     while (service.phase() % 2 == 0)
         service.like(4, 0);
     hold(!service.look_within(4, 1, 1ms) && !service.look_within(4, 1, -1s), "a look that is late");

@@ -144,7 +144,7 @@ fn many_looks_wait_at_a_seat_with_little_room() {
 #[test]
 fn a_look_has_a_deadline() {
     let period = Some(Duration::from_secs(100));
-    let service = Service::open(&Options { marks: &[0], period, ..options(1, 2, 4) }, &[0, 0]).unwrap();
+    let service = Service::open(&Options { marks: &[0], period, ..options(1, 2, 64) }, &[0, 0]).unwrap();
     while service.phase() % 2 == 0 {
         service.like(0, 1).unwrap();
     }
