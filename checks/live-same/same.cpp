@@ -1,10 +1,10 @@
-// Makes the calls that README.md draws, by likes_core.hpp, and prints what each answers.
-#include "likes_core.hpp"
+// Makes the calls that README.md draws, by likes.hpp, and prints what each answers.
+#include "likes.hpp"
 
 #include <iostream>
 #include <string>
 
-constexpr int services = 300, calls = 400;
+constexpr int services = 300, calls = 400, shared_services = 100, shared_calls = 100;
 
 static std::uint64_t state = 1;
 
@@ -241,6 +241,162 @@ static std::vector<std::uint64_t> draw_opening(likes::Options &options) {
     return counts;
 }
 
+// A service that threads share.
+struct Shared {
+    std::uint32_t users, pages, seats;
+    likes::Service &service;
+
+    std::uint32_t draw_user() const {
+        if (rarely())
+            return draw(2) == 0 ? users + draw(3) : UINT32_MAX;
+        return draw(users);
+    }
+
+    static std::string shown(const likes::Seen &seen) { return text(seen.last) + " " + std::to_string(seen.count); }
+
+    static std::string listed(const std::vector<std::uint64_t> &counts) {
+        std::string all;
+        for (std::uint64_t count : counts)
+            all += " " + std::to_string(count);
+        return all;
+    }
+
+    static std::string listed(const std::vector<likes::Last> &lasts) {
+        std::string all;
+        for (likes::Last last : lasts)
+            all += text(last);
+        return all;
+    }
+
+    // Prints what a call answers behind its name, or its error.
+    template <typename Call> static void tell(const char *name, Call answer) {
+        try {
+            std::string told = answer();
+            std::cout << name << told << "\n";
+        } catch (const likes::Error &error) {
+            std::cout << name << " " << error.what() << "\n";
+        }
+    }
+
+    // Prints that a call is done, or its error.
+    template <typename Call> static void done(const char *name, Call call) {
+        tell(name, [&] { return call(), " ok"; });
+    }
+
+    void like_or_look(std::uint32_t kind) {
+        std::uint32_t user = draw_user(), page = draw_page(pages);
+        if (kind < 4)
+            done("like", [&] { service.like(user, page); });
+        else if (kind == 4)
+            tell("look", [&] { return shown(service.look(user, page)); });
+        else if (kind == 5)
+            tell("within", [&] { return shown(service.look_within(user, page, std::chrono::seconds(10)).value()); });
+        else
+            tell("glance", [&] { return text(service.glance(user, page).last); });
+    }
+
+    void tell_all(std::uint32_t kind) {
+        if (kind == 7) {
+            std::uint32_t user = draw_user();
+            tell("last", [&] { return text(service.last(user)); });
+        } else if (kind == 8) {
+            tell("lasts", [&] { return listed(service.lasts()); });
+        } else if (kind == 9) {
+            tell("counts", [&] { return listed(service.counts()); });
+        } else {
+            tell("snapshot", [&] { return moment(service.snapshot()); });
+        }
+    }
+
+    static std::string moment(const likes::Moment &moment) { return listed(moment.counts) + listed(moment.lasts); }
+
+    void write() {
+        likes::Writer writer = service.writer();
+        for (std::uint32_t i = 0, length = draw(100); i < length; i++) {
+            std::uint32_t user = draw_user(), page = draw_page(pages);
+            try {
+                writer.like(user, page);
+            } catch (const likes::Error &error) {
+                std::cout << "kept " << error.what() << "\n";
+            }
+        }
+        std::uint32_t user = draw_user(), page = draw_page(pages);
+        tell("shown", [&] { return text(writer.look(user, page).last); });
+        done("flush", [&] { writer.flush(); });
+        done("stop", [&] { service.stop(); });
+        done("close", [&] { writer.close(); });
+    }
+
+    void propose() {
+        std::vector<std::uint32_t> proposed(draw(3));
+        for (std::uint32_t &page : proposed)
+            page = draw_page(pages);
+        done("propose", [&] { service.propose(proposed); });
+    }
+
+    void run() {
+        std::uint32_t number = draw(seats);
+        std::vector<likes_request> row(draw(5));
+        std::vector<likes_answer> answers;
+        for (likes_request &request : row) {
+            request.op = draw(2) == 0 ? LIKES_LIKE : LIKES_GLANCE;
+            request.user = draw_user();
+            request.page = draw_page(pages);
+        }
+        service.hold(number).run(row, answers);
+        for (const likes_answer &answer : answers) {
+            std::optional<likes::Seen> seen = likes::seen(answer);
+            std::string refused = std::string(" ") + likes_status_text(answer.status);
+            std::cout << "row" << (answer.status == LIKES_LIKED ? " ok" : seen ? text(seen->last) : refused) << "\n";
+        }
+    }
+
+    void leave() {
+        std::uint32_t number = draw(seats + 1);
+        done("retire", [&] { service.retire_seat(number); });
+        done("like", [&] { service.like(0, 0); });
+        done("back", [&] { service.bring_back_seat(number); });
+    }
+
+    void call() {
+        std::uint32_t kind = draw(16);
+        if (kind < 7) {
+            like_or_look(kind);
+        } else if (kind < 11) {
+            tell_all(kind);
+        } else if (kind == 11) {
+            write();
+        } else if (kind == 12) {
+            propose();
+        } else if (kind == 13) {
+            run();
+        } else if (kind == 14) {
+            leave();
+        } else {
+            likes::Statistics told = service.statistics();
+            std::cout << "statistics " << told.likes << " " << told.looks << "\n";
+        }
+    }
+};
+
+static void open_and_call_shared() {
+    likes::Options options;
+    std::vector<std::uint64_t> counts(1 + draw(6));
+    for (std::uint64_t &count : counts)
+        count = draw(100);
+    options.seats = 1 + draw(3);
+    options.users = 1 + draw(12);
+    options.hot = likes::no_hot;
+    options.period = std::chrono::microseconds(200);
+    options.marks.resize(draw(2));
+    likes::Service service(options, counts);
+    std::cout << "share ok\n";
+    Shared it = {options.users, static_cast<std::uint32_t>(counts.size()), *options.seats, service};
+    for (int i = 0; i < shared_calls; i++)
+        it.call();
+    std::cout << "stop" << Shared::moment(service.stop()) << "\n";
+}
+
 int main() {
     for (int number = 0; number < services; number++) {
         likes::Options options;
@@ -255,4 +411,6 @@ int main() {
             it.call();
         it.end();
     }
+    for (int number = 0; number < shared_services; number++)
+        open_and_call_shared();
 }
