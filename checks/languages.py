@@ -28,7 +28,7 @@ ANSWERS = [
     *["unknown page", "the range goes past the end", "pages is 1 to 16777216", "marks are at most 64 pages"],
     *["an initial count is at most 1000000000000000000", "seats is 1 to 64", "users is 1 to 4294967295"],
     *["room is 1 to 4096", "hot is 1 to 1000000", "last likes are one for each user", "unknown seat"],
-    *["a writer of the service is open"],
+    *["a writer is open"],
 ]
 
 # The folder of the bindings in a package, which their pages name.
@@ -52,7 +52,7 @@ def of_cpp(live, compiler, build):
 
 
 def typed(page):
-    """The shell commands of a page, and what they print: a program on it is written to the file that is named before."""
+    """The shell commands of a page, and what they print. A program is written to the file named before it."""
     commands, printed = "", ""
     for before, language, block in pages.BLOCK.findall(pages.text_of(page)):
         if language == "sh":

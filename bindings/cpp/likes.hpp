@@ -74,8 +74,8 @@ struct Statistics {
 };
 
 // Likes at full speed, of one thread at a time: it keeps them in rows, and hands a row over as a whole. Others see a
-// like once its row is full, at the writer's first call after a period, or by flush(), look() and close(). Without calls
-// there is no bound in time, so a thread flushes before it rests. A writer is destroyed before its service.
+// like once its row is full, at the writer's first call after a period, or by flush(), look() and close(). Without
+// calls there is no bound in time, so a thread flushes before it rests. A writer is destroyed before its service.
 class [[nodiscard]] Writer {
 public:
     explicit Writer(likes_service *service) { expect(likes_writer_open(service, &writer_), LIKES_OK); }

@@ -83,7 +83,9 @@ public:
 
 private:
     // In C, 0 is the default, and here it is a wrong number.
-    static std::uint32_t given(std::optional<std::uint32_t> number) { return number == 0u ? UINT32_MAX : number.value_or(0); }
+    static std::uint32_t given(std::optional<std::uint32_t> number) {
+        return number == 0u ? UINT32_MAX : number.value_or(0);
+    }
 
     static std::uint32_t microseconds(std::optional<std::chrono::microseconds> period) {
         if (!period)

@@ -5,8 +5,8 @@ import (
 	"time"
 )
 
-// gate counts the calls that have begun, so that an end waits for them. It counts in several places, each in cache lines
-// of its own, so that goroutines hardly meet at one.
+// gate counts the calls that have begun, so that an end waits for them. It counts in several places, each in cache
+// lines of its own, so that goroutines hardly meet at one.
 type gate struct {
 	isShut atomic.Bool
 	places [16]struct {

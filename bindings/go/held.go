@@ -14,9 +14,9 @@ type Held struct {
 	number  C.uint32_t
 }
 
-// WithSeat holds a seat while work runs, for rows of requests. Nobody else does the seat's phase work meanwhile. So work
-// makes calls of the seat and waits for nothing; its other calls of the service are ErrHoldsSeat. It gives the error of
-// work, or ErrUnknownSeat.
+// WithSeat holds a seat while work runs, for rows of requests. Nobody else does the seat's phase work meanwhile, so work
+// makes calls of the seat and waits for nothing. Its other calls of the service are ErrHoldsSeat. WithSeat gives the
+// error of work, or ErrUnknownSeat.
 func (s *Service) WithSeat(number uint32, work func(*Held) error) error {
 	return s.call(number, func() error {
 		// In C, it is a thread that holds a seat.

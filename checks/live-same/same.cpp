@@ -116,8 +116,8 @@ struct Service {
             std::cout << "none\n";
             return;
         }
-        std::cout << "found " << found->tag << " " << found->seen.count << " " << found->asked << " " << found->ran << " "
-                  << found->user << " " << found->page << text(found->seen.last) << "\n";
+        std::cout << "found " << found->tag << " " << found->seen.count << " " << found->asked << " " << found->ran
+                  << " " << found->user << " " << found->page << text(found->seen.last) << "\n";
     }
 
     void tell_lasts(std::uint32_t number, bool is_one) {

@@ -1,7 +1,7 @@
 """The live core for Python, by ctypes. Nothing here is proved: it calls likes.h and likes_service.h.
 
-Most programs need the class Likes, and a Writer for each thread with many likes. A program that changes phases by itself
-opens a Driver and takes its Seats and its Phase.
+Most programs need the class Likes, and a Writer for each thread with many likes. A program that changes phases by
+itself opens a Driver and takes its Seats and its Phase.
 
 A number that C would cut, below 0 or over 2^32 - 1, is a ValueError, and what isn't a whole number is a TypeError; then
 nothing was done. What the library refuses is a Refused with its Status, and any call after close is Closed.

@@ -39,7 +39,7 @@ class _Handled:
                 raise Closed
             return call(self._at, *words)
 
-    def _free(self, free: Any) -> None:
+    def _end(self, free: Any) -> None:
         with self._lock:
             free(self._at)
 
@@ -116,8 +116,8 @@ class Seat(_Handled):
         """The phase that the seat runs or has answered last, and 0 once it is gone."""
         return int(self._call(self._library.likes_seat_phase))
 
-    def free(self) -> None:
-        self._free(self._library.likes_seat_free)
+    def _free(self) -> None:
+        self._end(self._library.likes_seat_free)
 
 
 def _seen_or_outcome(answer: Any) -> Told:
@@ -129,10 +129,11 @@ class Phase(_Handled):
     """The phase that a driver has last released."""
 
     def now(self) -> int:
+        """The phase. It may be over by then."""
         return int(self._call(self._library.likes_phase_now))
 
-    def free(self) -> None:
-        self._free(self._library.likes_phase_free)
+    def _free(self) -> None:
+        self._end(self._library.likes_phase_free)
 
 
 class Driver(_Handled):
@@ -220,5 +221,5 @@ class Driver(_Handled):
     def close(self) -> None:
         """Frees the seats, the phase and the driver."""
         for owned in self._owned:
-            owned.free()
-        self._free(self._library.likes_driver_free)
+            owned._free()
+        self._end(self._library.likes_driver_free)

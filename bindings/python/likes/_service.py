@@ -72,8 +72,8 @@ class Calls:
 class Likes:
     """A service. Any thread may call it.
 
-    What isn't given has the default of likes.h; with NO_HOT as hot, no page gets hot by itself. marks has the numbers of
-    the pages that are split in every split phase. period is the time from the end of one split phase to that of the
+    What isn't given has the default of likes.h; with NO_HOT as hot, no page gets hot by itself. marks has the numbers
+    of the pages that are split in every split phase. period is the time from the end of one split phase to that of the
     next, in seconds. lasts has the page of each user's last like, or None; if it is empty, nobody has one. With the
     Moment of another service, a service goes on from there.
     """
@@ -239,8 +239,8 @@ class Likes:
         check(self._call(self._library.likes_service_bring_back_seat, whole("seat", number)), Status.OK)
 
     def stop(self) -> Moment:
-        """Ends the service, and gives its last moment, each time the same. It waits for calls that have begun, and later
-        ones raise Closed. Where a writer is open it raises Refused, with OPEN_WRITER, and nothing is done."""
+        """Ends the service, and gives its last moment, each time the same. It waits for calls that have begun, and
+        later ones raise Closed. Where a writer is open it raises Refused, with OPEN_WRITER, and nothing is done."""
         with self._ending:
             if self._end is None:
                 self._calls.shut()
@@ -265,10 +265,11 @@ class Likes:
 
 
 class Writer:
-    """Likes of a thread, which it keeps in rows and hands over as a whole. Calls by several threads wait for each other.
+    """Likes of a thread, which it keeps in rows and hands over as a whole. Calls by several threads wait for each
+    other.
 
-    Others see a like once its row of 64 is full, at the writer's first call after a period, or by flush, look and close.
-    Without calls there is no bound in time, so a thread flushes before it rests. Likes of a user by one writer are
+    Others see a like once its row of 64 is full, at the writer's first call after a period, or by flush, look and
+    close. Without calls there is no bound in time, so a thread flushes before it rests. Likes of a user by one writer are
     counted in their order.
     """
 

@@ -230,7 +230,7 @@ impl Service {
         pages
     }
 
-    /// Lends a seat to a closure, for rows of requests. Nobody else does the seat's phase work meanwhile. So the closure
+    /// Lends a seat to a closure, for rows of requests. Nobody else does the seat's phase work meanwhile, so the closure
     /// makes calls of the seat, and waits for nothing.
     ///
     /// # Errors
