@@ -74,10 +74,17 @@ static void openings() {
     hold(open([](auto &it) { it.users = 0; }, {0}) == LIKES_WRONG_USERS, "no users");
     hold(open([](auto &it) { it.marks = {2}; }, {5, 7}) == LIKES_WRONG_MARKS, "a wrong mark");
     hold(open([](auto &) {}, {0}) == LIKES_OK, "a right opening");
+}
+
+// What isn't given has its default: a page that many like is found, and split.
+static void defaults() {
     likes::Options options;
-    options.users = 9;
-    likes::Service service(options, {0});
+    options.users = 100;
+    likes::Service service(options, std::vector<std::uint64_t>(100));
     hold(service.seats() >= 16, "the default of seats");
+    while (service.split_pages() != std::vector<std::uint32_t>{7})
+        for (std::uint32_t user = 0; user < 100; user++)
+            service.like(user, 7);
 }
 
 // A service that goes on from the last moment of another.
@@ -234,6 +241,7 @@ static void late(likes::Service &service) {
 int main() {
     fields();
     openings();
+    defaults();
     again();
     proposals();
     marks();
