@@ -8,6 +8,7 @@ import shutil
 import signal
 import subprocess
 
+import pages
 import runs
 
 BINDINGS, EXAMPLES, SAME = f"{runs.ROOT}/bindings", f"{runs.ROOT}/examples", f"{runs.ROOT}/checks/live-same"
@@ -26,8 +27,12 @@ ANSWERS = [
     *["released", "ended", "counted", "no moment", "not ended", "all taken", "unknown user", "other seat"],
     *["unknown page", "the range goes past the end", "pages is 1 to 16777216", "marks are at most 64 pages"],
     *["an initial count is at most 1000000000000000000", "seats is 1 to 64", "users is 1 to 4294967295"],
-    *["room is 1 to 4096", "hot is 1 to 1000000", "last likes are one for each user"],
+    *["room is 1 to 4096", "hot is 1 to 1000000", "last likes are one for each user", "unknown seat"],
+    *["a writer is open"],
 ]
+
+# The folder of the bindings in a package, which their pages name.
+PACKAGED = "/usr/share/liblikes-dev/"
 
 
 def is_same(text):
@@ -46,19 +51,65 @@ def of_cpp(live, compiler, build):
             live.hold(os.path.basename(file), f"{compiler}, {build}", [program], is_right)
 
 
+def typed(page):
+    """The shell commands of a page, and what they print. A program is written to the file named before it."""
+    commands, printed = "", ""
+    for before, language, block in pages.BLOCK.findall(pages.text_of(page)):
+        if language == "sh":
+            commands += block
+        elif not language:
+            printed += block
+        else:
+            name = re.search(r"`([\w./]+)`:\s*$", before)[1]
+            commands += f"cat > {name} <<'END OF BLOCK'\n{block}END OF BLOCK\n"
+    return commands, printed
+
+
+def of_page(live, language, by, environment=None):
+    """The program of a language's README, and the tests that are run from a copy, by the page's commands."""
+    commands, printed = typed(f"bindings/{language}/README.md")
+    folder = f"{live.folder}/of-{language}"
+    os.mkdir(folder)
+    words = ["sh", "-e", "-c", commands.replace(PACKAGED, f"{runs.ROOT}/")]
+    live.hold("the README's commands", by, words, is_same(printed.encode()), 600, folder, env=environment)
+
+
 def python_environment(live):
     library = f"{live.prefix}/lib/liblikes.so"
     names = {"LIKES_LIBRARY": library, "PYTHONPATH": f"{BINDINGS}/python", "PYTHONDONTWRITEBYTECODE": "1"}
     return {**os.environ, **names}
 
 
+def has_private_names(out):
+    """Whether all that the package shows beside what it lists begins with an underline."""
+    return out.split() == [b"[]"]
+
+
+SHOWN = """\
+import inspect, likes
+names = [name for name in vars(likes) if not name.startswith("_") and name not in likes.__all__]
+for it in map(likes.__dict__.get, likes.__all__):
+    if inspect.isclass(it) and it.__module__.startswith("likes") and not issubclass(it, tuple):
+        names += [name for name in vars(it) if not name.startswith("_") and not getattr(it, name).__doc__]
+print(names)
+"""
+
+
 def of_python(live):
     folder, environment = f"{BINDINGS}/python", python_environment(live)
     tests = ["python3", "-m", "unittest", "discover", "-s", f"{folder}/tests", "-t", folder]
     live.hold("the package's tests", "python3", tests, is_any, env=environment)
+    live.hold("the package's names", "python3", ["python3", "-c", SHOWN], has_private_names, env=environment)
     if shutil.which("mypy"):
-        types = ["mypy", f"--cache-dir={live.folder}/mypy", "likes"]
+        types = ["mypy", "--strict", f"--cache-dir={live.folder}/mypy", "likes", "tests"]
         live.hold("the package's types", "mypy", types, is_any, folder=folder)
+    else:
+        print("mypy is not installed: skipped")
+    if subprocess.run(["python3", "-c", "import ensurepip, pip"], capture_output=True).returncode == 0:
+        # The package as pip installs it, and not that of the repository.
+        of_page(live, "python", "python3", {**environment, "PYTHONPATH": "", "PIP_NO_INDEX": "1"})
+    else:
+        print("pip is not installed: skipped")
     live.hold("threads.py", "python3", ["python3", f"{EXAMPLES}/python/threads.py"], is_same(PYTHON), env=environment)
 
 
@@ -68,9 +119,17 @@ def of_rust(live):
     manifest = ["--offline", "--quiet", "--manifest-path", f"{BINDINGS}/rust/Cargo.toml"]
     kinds = {"test": [], "doc": ["--no-deps"]}
     if shutil.which("cargo-clippy"):
-        kinds["clippy"] = ["--all-targets", "--", "-D", "warnings"]
+        kinds["clippy"] = ["--all-targets", "--", "-D", "warnings", "-D", "clippy::pedantic"]
+    else:
+        print("cargo clippy is not installed: skipped")
+    if shutil.which("rustfmt"):
+        kinds["fmt"] = ["--check"]
+    else:
+        print("rustfmt is not installed: skipped")
     for kind, words in kinds.items():
-        live.hold(f"cargo {kind}", "cargo", ["cargo", kind, *manifest, *words], is_any, 600, env=environment)
+        own = [word for word in manifest if kind != "fmt" or word != "--offline"]
+        live.hold(f"cargo {kind}", "cargo", ["cargo", kind, *own, *words], is_any, 600, env=environment)
+    of_page(live, "rust", "cargo", environment)
 
 
 @contextlib.contextmanager
@@ -102,6 +161,7 @@ def of_go(live):
     if live.call(["go", "vet", "."], f"{BINDINGS}/go"):
         tests = ["go", "test", "-race", "-count=1", "."]
         live.hold("the module's tests", "go", tests, is_any, 600, f"{BINDINGS}/go")
+    of_page(live, "go", "go")
     if live.call(["go", "build", "-o", f"{live.folder}/pool", "./pool"], f"{EXAMPLES}/go"):
         live.hold("pool", "go", ["./pool"], is_same(POOL))
     if live.call(["go", "build", "-o", live.folder, "./server", "./load"], f"{EXAMPLES}/http"):
@@ -157,11 +217,19 @@ def of_same(live):
 def of_all(live):
     """All languages that are there."""
     os.environ["GOCACHE"], os.environ["GOPROXY"] = f"{live.folder}/go-cache", "off"
+    os.environ["LIKES_LIBRARY"] = f"{live.prefix}/lib/liblikes.so"
     os.environ["CARGO_TARGET_DIR"], os.environ["LIKES_PREFIX"] = f"{live.folder}/cargo", live.prefix
-    for compiler in filter(shutil.which, ("g++", "clang++")):
+    for compiler in ("g++", "clang++"):
+        if not shutil.which(compiler):
+            print(f"{compiler} is not installed: skipped")
+            continue
         for build in ("plain", "addresses", "threads"):
             if live.has_sanitizer(compiler, build):
                 of_cpp(live, compiler, build)
+            else:
+                print(f"{compiler} has no sanitizer for {build}: skipped")
+    if shutil.which("c++"):
+        of_page(live, "cpp", "c++")
     of_python(live)
     for command, check in (("cargo", of_rust), ("go", of_go)):
         if shutil.which(command):

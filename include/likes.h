@@ -2,7 +2,7 @@
  *
  * A service counts likes exactly while several threads add them. A host, that is, your program, opens a service and
  * takes its seats. Its threads call likes_seat_like and likes_seat_look on the seats, and somebody calls
- * likes_driver_turn when a phase is due. likes_service.h does that part for you: begin there. docs/EMBEDDING.md is the
+ * likes_driver_turn when a phase is due. likes_service.h does that part for you: begin there. EMBEDDING.md is the
  * guide.
  *
  * Rules for the host
@@ -36,7 +36,7 @@ extern "C" {
 #endif
 
 /* The version of this file and of the library, 0.5: 1,000 times the number of the ABI, plus a number within it.
- * docs/EMBEDDING.md says when it changes. */
+ * EMBEDDING.md says when it changes. */
 #define LIKES_VERSION 5
 
 /* The version of the library that the program runs with. A shared library may be newer than this file. */
@@ -85,7 +85,7 @@ typedef struct likes_options {
     uint32_t seats;         /* 1 to LIKES_MAX_SEATS; 0: 16 for each processor, and at most 64 */
     uint32_t room;      /* how many looks a seat keeps, waiting and found ones together: 1 to LIKES_MAX_ROOM; 0: 64 */
     uint32_t hot;       /* about how many likes between two choices make a page hot; earlier likes count too, but less
-                           ("Hot pages" of docs/EMBEDDING.md): 1 to LIKES_MAX_HOT, of which 1 to 511 act as 512; 0:
+                           ("Hot pages" of EMBEDDING.md): 1 to LIKES_MAX_HOT, of which 1 to 511 act as 512; 0:
                            512. LIKES_NO_HOT: only marked and proposed pages are split. */
     uint32_t period_us; /* of a service of likes_service.h: from the end of one split phase to that of the next, in
                            microseconds: 1 to LIKES_MAX_PERIOD_US; 0: 1,000 */

@@ -1,26 +1,37 @@
 // The live core as C++17 classes. Nothing here is proved. Service calls likes_service.h, and likes_core.hpp has the
 // classes of a program that changes phases by itself.
+//
+// What a call of likes_service.h refuses is thrown as likes::Error, with its status. A call by a thread that holds a
+// seat of the service waits for nobody: it throws LIKES_HOLDS_SEAT.
 #pragma once
 
 #include <likes_service.h>
+
+#include <algorithm>
 
 #include "likes_core.hpp"
 
 namespace likes {
 
+// Throws a status that isn't the wanted one.
+inline void expect(std::uint32_t status, std::uint32_t wanted) {
+    if (status != wanted)
+        throw Error(status);
+}
+
 // A seat of a service that this thread holds, until the end of the scope. It waits for nothing meanwhile.
-class Held {
+class [[nodiscard]] Held {
 public:
-    Held(likes_service *service, std::uint32_t number)
-        : service_(service), number_(number), seat_(likes_service_lock(service, number)) {
-        if (seat_ == nullptr)
+    Held(likes_service *service, std::uint32_t number) : service_(service), number_(number) {
+        if (likes_service_lock(service, number) == nullptr)
             throw Error(likes_service_seat_fault(service, number));
     }
     ~Held() { likes_service_unlock(service_, number_); }
     Held(const Held &) = delete;
     Held &operator=(const Held &) = delete;
 
-    // Runs a row of requests, and gives how many were done: all, or those before a look without room.
+    // Runs a row of requests, and gives how many were done: all, or those before a look without room. Tags of looks are
+    // below 2^63.
     std::size_t run(const std::vector<likes_request> &requests, std::vector<likes_answer> &answers,
                     std::size_t from = 0) {
         answers.resize(requests.size());
@@ -30,11 +41,11 @@ public:
                                         answers.data() + from);
     }
 
-    std::optional<likes_found> take_found() {
+    // The next found look of such a row, in the order of asking.
+    std::optional<Found> take_found() {
         likes_found found;
-        if (!likes_service_take_found(service_, number_, &found))
-            return std::nullopt;
-        return found;
+        bool is_found = likes_service_take_found(service_, number_, &found);
+        return is_found ? std::optional<Found>(found_of(found)) : std::nullopt;
     }
 
     // Lets a phase end that is due, so that there is room again.
@@ -43,77 +54,159 @@ public:
 private:
     likes_service *service_;
     std::uint32_t number_;
-    likes_seat *seat_;
 };
 
-// The counts of all pages and all last likes, by user number, at one moment.
+// The counts of all pages and all last likes, by user number, at one moment. With them, another service goes on.
 struct Moment {
-    std::vector<std::uint64_t> counts;
-    std::vector<std::uint32_t> lasts;
+    std::vector<std::uint64_t> counts = {};
+    std::vector<Last> lasts = {};
+};
+
+// What a service has done so far.
+struct Statistics {
+    std::uint64_t phases = 0; // how many have ended
+    std::uint64_t likes = 0;  // how many were counted
+    std::uint64_t looks = 0;  // how many were answered
+    std::uint64_t waits = 0;  // how many of these looks had to wait
+    std::uint64_t late = 0;   // how many had no answer in time
+    std::chrono::nanoseconds wait_time = {};    // how long looks waited in all
+    std::chrono::nanoseconds longest_wait = {}; // and one of them at most
+};
+
+// Likes at full speed, of one thread at a time: it keeps them in rows, and hands a row over as a whole. Others see a
+// like once its row is full, at the writer's first call after a period, or by flush(), look() and close(). Without
+// calls there is no bound in time, so a thread flushes before it rests. A writer is destroyed before its service.
+class [[nodiscard]] Writer {
+public:
+    explicit Writer(likes_service *service) { expect(likes_writer_open(service, &writer_), LIKES_OK); }
+
+    // It is flushed. Likes for a seat that has left are forgotten: close() tells of them.
+    ~Writer() {
+        if (likes_writer_close(writer_) == LIKES_OK)
+            return;
+        likes_writer_drop(writer_);
+        likes_writer_close(writer_);
+    }
+    Writer(Writer &&other) noexcept : writer_(std::exchange(other.writer_, nullptr)) {}
+    Writer &operator=(Writer &&other) noexcept {
+        std::swap(writer_, other.writer_);
+        return *this;
+    }
+
+    void like(std::uint32_t user, std::uint32_t page) { expect(likes_writer_like(writer_, user, page), LIKES_OK); }
+
+    // The look of a service, which shows what this writer was told before.
+    Seen look(std::uint32_t user, std::uint32_t page) {
+        likes_answer answer = {};
+        expect(likes_writer_look(writer_, user, page, &answer), LIKES_SEEN);
+        return *seen(answer);
+    }
+
+    // Hands over all likes: now each is counted. Those of a seat that has left stay kept, and LIKES_GONE is thrown.
+    void flush() { expect(likes_writer_flush(writer_), LIKES_OK); }
+
+    // Forgets the likes that are kept, and gives their number.
+    std::size_t drop() { return likes_writer_drop(writer_); }
+
+    // Flushes, and ends the writer. Where flush() throws, so does this, and the writer stays open.
+    void close() {
+        expect(likes_writer_close(writer_), LIKES_OK);
+        writer_ = nullptr;
+    }
+
+private:
+    likes_writer *writer_ = nullptr;
 };
 
 // A service with its driver's thread. Threads share it; the destructor ends it.
 class Service {
 public:
-    // The period is in microseconds.
-    Service(const Options &options, const std::vector<std::uint64_t> &counts, std::uint32_t period = 1000)
-        : totals_(counts.size()), lasts_(options.users) {
-        likes_options numbers = options.numbers(counts, period);
-        check(likes_service_open(&numbers, &service_), LIKES_OK);
+    Service(const Options &options, const std::vector<std::uint64_t> &counts)
+        : pages_(counts.size()), users_(options.users) {
+        expect(likes_service_open(Opening(options, counts).numbers(), &service_), LIKES_OK);
         seats_ = likes_service_seats(service_);
     }
-    ~Service() {
-        end();
-        likes_service_close(service_);
-    }
+    ~Service() { likes_service_close(service_); }
     Service(const Service &) = delete;
     Service &operator=(const Service &) = delete;
 
     void like(std::uint32_t user, std::uint32_t page) {
-        check(likes_service_like(service_, user, page), LIKES_LIKED);
+        expect(likes_service_like(service_, user, page), LIKES_LIKED);
     }
 
     // The exact count. It may wait for about a phase.
     Seen look(std::uint32_t user, std::uint32_t page) {
-        likes_answer answer;
-        check(likes_service_look(service_, user, page, &answer), LIKES_SEEN);
-        return seen(answer);
+        likes_answer answer = {};
+        expect(likes_service_look(service_, user, page, &answer), LIKES_SEEN);
+        return *seen(answer);
     }
 
-    // The same, but no answer if it takes longer than so many microseconds.
-    std::optional<Seen> look_within(std::uint32_t user, std::uint32_t page, std::uint32_t microseconds) {
-        likes_answer answer;
-        if (likes_service_look_within(service_, user, page, microseconds, &answer) == LIKES_LATE)
-            return std::nullopt;
-        check(answer.status, LIKES_SEEN);
+    // The same, but no answer if it takes longer.
+    std::optional<Seen> look_within(std::uint32_t user, std::uint32_t page, std::chrono::microseconds time) {
+        likes_answer answer = {};
+        auto limit = std::clamp<std::chrono::microseconds::rep>(time.count(), 0, UINT32_MAX);
+        auto status = likes_service_look_within(service_, user, page, static_cast<std::uint32_t>(limit), &answer);
+        if (status != LIKES_LATE)
+            expect(status, LIKES_SEEN);
         return seen(answer);
     }
 
     // A count at once, which may lack other seats' likes of the present phase.
     Seen glance(std::uint32_t user, std::uint32_t page) {
-        likes_answer answer;
-        check(likes_service_glance(service_, user, page, &answer), LIKES_SEEN);
-        return seen(answer);
+        likes_answer answer = {};
+        expect(likes_service_glance(service_, user, page, &answer), LIKES_SEEN);
+        return *seen(answer);
     }
 
-    // The page of a user's last like, if there is one.
-    std::optional<std::uint32_t> last(std::uint32_t user) {
-        std::uint32_t page;
-        check(likes_service_last(service_, user, &page), LIKES_OK);
+    // A thread's likes at full speed.
+    Writer writer() { return Writer(service_); }
+
+    Last last(std::uint32_t user) {
+        std::uint32_t page = LIKES_NO_PAGE;
+        expect(likes_service_last(service_, user, &page), LIKES_OK);
         return last_of(page);
     }
 
-    // The page of each user's last like, by user number, or LIKES_NO_PAGE. After stop() they are final: with the final
-    // counts, another service goes on from them.
-    std::vector<std::uint32_t> lasts() {
-        std::vector<std::uint32_t> now(lasts_.size());
-        return likes_service_lasts(service_, now.data(), now.size()) == LIKES_OK ? now : lasts_;
+    // Each user's last like. Those of one seat are of one moment.
+    std::vector<Last> lasts() {
+        std::vector<std::uint32_t> now(users_);
+        expect(likes_service_lasts(service_, now.data(), now.size()), LIKES_OK);
+        return lasts_of(now);
+    }
+
+    // The counts of all pages at one moment, the end of a joined phase.
+    std::vector<std::uint64_t> counts() {
+        std::vector<std::uint64_t> now(pages_);
+        expect(likes_service_counts(service_, now.data(), now.size()), LIKES_COUNTED);
+        return now;
+    }
+
+    // The same with all last likes of that moment. Likes and looks wait meanwhile.
+    Moment snapshot() {
+        std::vector<std::uint64_t> counts(pages_);
+        std::vector<std::uint32_t> lasts(users_);
+        expect(likes_service_snapshot(service_, counts.data(), counts.size(), lasts.data(), lasts.size()),
+               LIKES_COUNTED);
+        return {std::move(counts), lasts_of(lasts)};
+    }
+
+    Statistics statistics() {
+        likes_statistics told;
+        expect(likes_service_statistics(service_, &told), LIKES_OK);
+        using time = std::chrono::nanoseconds;
+        return {told.phases,
+                told.likes,
+                told.looks,
+                told.waits,
+                told.late,
+                time(static_cast<time::rep>(told.wait_time)),
+                time(static_cast<time::rep>(told.longest_wait))};
     }
 
     // Proposes pages to be split, the first 64, in place of those that the service finds by itself. If there are none,
     // it finds them again.
     void propose(const std::vector<std::uint32_t> &pages) {
-        check(likes_service_propose(service_, pages.data(), pages.size()), LIKES_OK);
+        expect(likes_service_propose(service_, pages.data(), pages.size()), LIKES_OK);
     }
 
     // The pages that are split in the present split phase, or were in the last one.
@@ -123,60 +216,41 @@ public:
         return pages;
     }
 
-    // The counts of all pages at one moment, the end of a joined phase. The calling thread holds no seat.
-    std::vector<std::uint64_t> counts() {
-        std::vector<std::uint64_t> now(totals_.size());
-        check(likes_service_counts(service_, now.data(), now.size()), LIKES_COUNTED);
-        return now;
-    }
-
-    // What another service is opened with to go on from this moment. The calling thread holds no seat.
-    Moment snapshot() {
-        Moment now{std::vector<std::uint64_t>(totals_.size()), std::vector<std::uint32_t>(lasts_.size())};
-        check(likes_service_snapshot(service_, now.counts.data(), now.counts.size(), now.lasts.data(),
-                                     now.lasts.size()),
-              LIKES_COUNTED);
-        return now;
-    }
-
-    // What the service has done so far.
-    likes_statistics statistics() {
-        likes_statistics told;
-        check(likes_service_statistics(service_, &told), LIKES_OK);
-        return told;
-    }
-
     // The phase that was last released, and 0 after the end.
     std::uint64_t phase() { return likes_service_phase(service_); }
 
+    // User u belongs to seat u % seats().
     std::uint32_t seats() const { return seats_; }
 
     // A seat below seats().
     Held hold(std::uint32_t number) { return Held(service_, number); }
 
-    // Ends the service, and gives the final counts, each time the same. All threads are done with it.
-    std::vector<std::uint64_t> stop() {
-        end();
-        return totals_;
+    // A busy thread may call it once in some 256 requests: then no phase waits until the driver's thread gets a
+    // processor.
+    void tick() { likes_service_tick(service_); }
+
+    // Has a seat leave, and come back. Meanwhile likes and looks of its users throw LIKES_GONE.
+    void retire_seat(std::uint32_t number) { expect(likes_service_retire_seat(service_, number), LIKES_OK); }
+    void bring_back_seat(std::uint32_t number) { expect(likes_service_bring_back_seat(service_, number), LIKES_OK); }
+
+    // Ends the service, and gives its last moment, each time the same. All threads are done with it. Later calls throw
+    // LIKES_NOT_STARTED. Where a writer is open, it throws LIKES_OPEN_WRITER, and nothing is done.
+    Moment stop() {
+        if (!end_) {
+            std::vector<std::uint64_t> counts(pages_);
+            expect(likes_service_retire(service_), LIKES_OK);
+            std::vector<Last> last = lasts();
+            expect(likes_service_stop(service_, counts.data(), counts.size()), LIKES_OK);
+            end_ = Moment{std::move(counts), std::move(last)};
+        }
+        return *end_;
     }
 
 private:
-    // What is stopped is left alone.
-    void end() {
-        likes_service_retire(service_);
-        likes_service_lasts(service_, lasts_.data(), lasts_.size());
-        likes_service_stop(service_, totals_.data(), totals_.size());
-    }
-
-    static void check(std::uint32_t status, std::uint32_t wanted) {
-        if (status != wanted)
-            throw Error(status);
-    }
-
     likes_service *service_ = nullptr;
-    std::vector<std::uint64_t> totals_;
-    std::vector<std::uint32_t> lasts_;
+    std::size_t pages_ = 0, users_ = 0;
     std::uint32_t seats_ = 0;
+    std::optional<Moment> end_ = {};
 };
 
 } // namespace likes

@@ -6,6 +6,7 @@
 
 #include <likes.h>
 
+#include <chrono>
 #include <cstdint>
 #include <memory>
 #include <mutex>
@@ -28,51 +29,102 @@ inline likes_status outcome(std::uint32_t status) {
     return static_cast<likes_status>(status);
 }
 
-// What a service is opened with. marks has the pages that are split in every split phase, and lasts the page of each
-// user's last like, or LIKES_NO_PAGE; if it is empty, nobody has one. seats 0 and room 0 are the defaults of likes.h,
-// and hot 0 is LIKES_NO_HOT.
+// The page of a user's last like, if there is one.
+using Last = std::optional<std::uint32_t>;
+
+inline Last last_of(std::uint32_t page) {
+    return page == LIKES_NO_PAGE ? std::nullopt : Last(page);
+}
+
+inline std::vector<Last> lasts_of(const std::vector<std::uint32_t> &pages) {
+    std::vector<Last> made;
+    made.reserve(pages.size());
+    for (std::uint32_t page : pages)
+        made.push_back(last_of(page));
+    return made;
+}
+
+// Instead of Options::hot: the library finds no hot pages.
+inline constexpr std::uint32_t no_hot = LIKES_NO_HOT;
+
+// What a service is opened with. What isn't given has the default of likes.h.
 struct Options {
-    std::uint32_t seats, users, room = LIKES_MAX_ROOM, hot = 0;
-    std::vector<std::uint32_t> marks = {}, lasts = {};
+    std::uint32_t users = 0;                               // how many: 1 or more
+    std::optional<std::uint32_t> seats = {};               // by default 16 for each processor, and at most 64
+    std::optional<std::uint32_t> room = {};                // how many looks a seat keeps: 64
+    std::optional<std::uint32_t> hot = {};                 // about how many likes make a page hot: 512. Or no_hot
+    std::optional<std::chrono::microseconds> period = {};  // of a Service, between ends of split phases: 1 ms
+    std::vector<std::uint32_t> marks = {};                 // pages that are split in every split phase
+    std::vector<Last> lasts = {};                          // each user's last like. Empty: nobody has one
+};
 
-    // The same for C, with the counts. It points into these options.
-    likes_options numbers(const std::vector<std::uint64_t> &counts, std::uint32_t period = 0) const {
-        likes_options made = {};
-        made.counts = counts.data();
-        made.pages = counts.size();
-        made.marks = marks.data();
-        made.marks_len = marks.size();
-        made.lasts = lasts.data();
-        made.lasts_len = lasts.size();
-        made.users = users;
-        made.seats = seats;
-        made.room = room;
-        made.hot = hot == 0 ? LIKES_NO_HOT : hot;
-        made.period_us = period;
-        return made;
+// Options and counts as C takes them. It points into these two.
+class Opening {
+public:
+    Opening(const Options &options, const std::vector<std::uint64_t> &counts) {
+        for (const Last &last : options.lasts)
+            lasts_.push_back(last.value_or(LIKES_NO_PAGE));
+        numbers_.counts = counts.data();
+        numbers_.pages = counts.size();
+        numbers_.marks = options.marks.data();
+        numbers_.marks_len = options.marks.size();
+        numbers_.lasts = lasts_.data();
+        numbers_.lasts_len = lasts_.size();
+        numbers_.users = options.users;
+        numbers_.seats = given(options.seats);
+        numbers_.room = given(options.room);
+        numbers_.hot = options.hot.value_or(0);
+        numbers_.period_us = microseconds(options.period);
     }
+    Opening(const Opening &) = delete;
+    Opening &operator=(const Opening &) = delete;
+
+    const likes_options *numbers() const { return &numbers_; }
+
+private:
+    // In C, 0 is the default, and here it is a wrong number.
+    static std::uint32_t given(std::optional<std::uint32_t> number) {
+        return number == 0u ? UINT32_MAX : number.value_or(0);
+    }
+
+    static std::uint32_t microseconds(std::optional<std::chrono::microseconds> period) {
+        if (!period)
+            return 0;
+        bool is_right = period->count() > 0 && period->count() <= LIKES_MAX_PERIOD_US;
+        return is_right ? static_cast<std::uint32_t>(period->count()) : UINT32_MAX;
+    }
+
+    std::vector<std::uint32_t> lasts_;
+    likes_options numbers_ = {};
 };
 
-// The page of a last like, if there is one.
-inline std::optional<std::uint32_t> last_of(std::uint32_t page) {
-    return page == LIKES_NO_PAGE ? std::nullopt : std::optional<std::uint32_t>(page);
-}
-
-// What a look shows: the page of the user's last like, if there is one, and the count of the page looked at.
+// What a look shows: the user's last like, and the count of the page looked at.
 struct Seen {
-    std::optional<std::uint32_t> last;
-    std::uint64_t count;
+    Last last = {};
+    std::uint64_t count = 0;
 };
 
-inline Seen seen(const likes_answer &answer) {
-    return {last_of(answer.last), answer.count};
+// What an answer of LIKES_SEEN shows.
+inline std::optional<Seen> seen(const likes_answer &answer) {
+    return answer.status == LIKES_SEEN ? std::optional<Seen>({last_of(answer.last), answer.count}) : std::nullopt;
 }
 
-// What a look did. Of LIKES_SEEN it has what it shows.
+// What a look did, and of LIKES_SEEN what it shows.
 struct Look {
-    likes_status outcome;
-    Seen seen;
+    likes_status outcome = LIKES_OK;
+    std::optional<Seen> seen = {};
 };
+
+// A look that had to wait: the phases in which it was asked and in which it ran, and what it shows.
+struct Found {
+    std::uint64_t tag = 0, asked = 0, ran = 0;
+    std::uint32_t user = 0, page = 0;
+    Seen seen = {};
+};
+
+inline Found found_of(const likes_found &it) {
+    return {it.tag, it.asked, it.ran, it.user, it.page, {last_of(it.last), it.count}};
+}
 
 // Seats that were destroyed before they could retire. The driver's turns have them retire.
 class Leaving {
@@ -131,14 +183,14 @@ public:
 
     // LIKES_SEEN, WAITS, BETWEEN, NO_ROOM or GONE.
     Look look(std::uint32_t user, std::uint32_t page, std::uint64_t tag) {
-        likes_answer answer;
+        likes_answer answer = {};
         likes_seat_look(&handle_, user, page, tag, &answer);
         return {outcome(answer.status), seen(answer)};
     }
 
     // Looks at once: LIKES_SEEN, BETWEEN or GONE.
     Look glance(std::uint32_t user, std::uint32_t page) {
-        likes_answer answer;
+        likes_answer answer = {};
         likes_seat_glance(&handle_, user, page, &answer);
         return {outcome(answer.status), seen(answer)};
     }
@@ -155,21 +207,22 @@ public:
     }
 
     // The next found look, in the order of asking.
-    std::optional<likes_found> take_found() {
+    std::optional<Found> take_found() {
         likes_found found;
-        return likes_seat_take_found(&handle_, &found) ? std::optional<likes_found>(found) : std::nullopt;
+        return likes_seat_take_found(&handle_, &found) ? std::optional<Found>(found_of(found)) : std::nullopt;
     }
 
-    // The page of a user's last like, if there is one.
-    std::optional<std::uint32_t> last(std::uint32_t user) {
-        std::uint32_t page;
+    Last last(std::uint32_t user) {
+        std::uint32_t page = LIKES_NO_PAGE;
         outcome(likes_seat_last(&handle_, user, &page));
         return last_of(page);
     }
 
-    // Writes the last likes of the seat's users number from, from + 1 and so on, as many as the vector has.
-    void lasts(std::uint32_t from, std::vector<std::uint32_t> &pages) {
+    // The last likes of the seat's users number from, from + 1 and so on.
+    std::vector<Last> lasts(std::uint32_t from, std::size_t length) {
+        std::vector<std::uint32_t> pages(length);
         outcome(likes_seat_lasts(&handle_, from, pages.data(), pages.size()));
+        return lasts_of(pages);
     }
 
     // Does what the phase asks of the seat: LIKES_RUNS, BETWEEN or GONE.
@@ -189,7 +242,7 @@ private:
     friend class Driver;
     Seat(likes_seat handle, std::shared_ptr<Leaving> leaving) : handle_(handle), leaving_(std::move(leaving)) {}
 
-    likes_seat handle_;
+    likes_seat handle_ = {};
     std::shared_ptr<Leaving> leaving_;
 };
 
@@ -209,15 +262,14 @@ private:
     friend class Driver;
     explicit Phase(likes_phase handle) : handle_(handle) {}
 
-    likes_phase handle_;
+    likes_phase handle_ = {};
 };
 
 // The coordinator of a service, which it opens. If it is destroyed, its seats stay in the phase that they run.
 class Driver {
 public:
     Driver(const Options &options, const std::vector<std::uint64_t> &counts) : leaving_(std::make_shared<Leaving>()) {
-        likes_options numbers = options.numbers(counts);
-        outcome(likes_open(&numbers, &handle_));
+        outcome(likes_open(Opening(options, counts).numbers(), &handle_));
     }
     ~Driver() { likes_driver_free(&handle_); }
     Driver(Driver &&other) noexcept : handle_(std::exchange(other.handle_, {})), leaving_(other.leaving_) {}

@@ -24,18 +24,28 @@ import (
 	"time"
 )
 
-// Options of a service, as in likes.h. Marks has the pages that are split in every split phase, and Lasts the page of
-// each user's last like, or NoPage; if it is empty, nobody has one. A service that is given the final counts and last
-// likes of another goes on where that has ended. Period is of Open: the time from the end of one split phase to that of
-// the next. Seats, Room and Period 0 are the defaults of likes.h, and Hot 0 is LIKES_NO_HOT.
+// NoHot in place of Options.Hot: no page gets hot by itself.
+const NoHot = C.LIKES_NO_HOT
+
+// Options of a service. Only Users must be given: what is left out has its default.
 type Options struct {
-	Seats, Users, Room, Hot uint32
-	Marks, Lasts            []uint32
-	Period                  time.Duration
+	// Users is how many there are: 1 or more.
+	Users uint32
+	// Seats is 1 to 64, or by default 16 for each processor and at most 64.
+	Seats uint32
+	// Room is how many looks a seat keeps: 1 to 4,096, or by default 64.
+	Room uint32
+	// Hot is about how many likes make a page hot, by default 512; or NoHot.
+	Hot uint32
+	// Period is of Open: the time from the end of one split phase to that of the next, by default a millisecond.
+	Period time.Duration
+	// Marks has the pages that are split in every split phase.
+	Marks []uint32
+	// Lasts has the page of each user's last like, or NoPage. Without any, nobody has one.
+	Lasts []uint32
 }
 
-// numbers is what C takes of the options, but for arrays. A period that is too long is the longest one, and one below a
-// microsecond is refused.
+// numbers is what C takes of the options, but for arrays. A period that is too long or below a microsecond is refused.
 func (o *Options) numbers() C.likes_options {
 	made := C.likes_options{
 		users:     C.uint32_t(o.Users),
@@ -44,15 +54,22 @@ func (o *Options) numbers() C.likes_options {
 		hot:       C.uint32_t(o.Hot),
 		period_us: math.MaxUint32,
 	}
-	if o.Hot == 0 {
-		made.hot = C.LIKES_NO_HOT
-	}
-	if length := o.Period.Microseconds(); length > C.LIKES_MAX_PERIOD_US {
-		made.period_us = C.LIKES_MAX_PERIOD_US
-	} else if length > 0 || o.Period == 0 {
+	if length := o.Period.Microseconds(); o.Period == 0 || length > 0 && length <= C.LIKES_MAX_PERIOD_US {
 		made.period_us = C.uint32_t(length)
 	}
 	return made
+}
+
+// microseconds is a time limit for C.
+func microseconds(limit time.Duration) C.uint32_t {
+	length := limit.Microseconds()
+	if length < 0 {
+		return 0
+	}
+	if length > math.MaxUint32 {
+		return math.MaxUint32
+	}
+	return C.uint32_t(length)
 }
 
 // End says whether a turn may end the phase.
@@ -156,8 +173,8 @@ func (d *Driver) Propose(pages ...uint32) error {
 	return wanted(C.likes_driver_propose(&d.c, pagesAt(pages), C.size_t(len(pages))), OK)
 }
 
-// Free frees the seats, the phase and the driver. Calls of them answer Empty then.
-func (d *Driver) Free() {
+// Close frees the seats, the phase and the driver. Their calls are ErrClosed then; those without an error give nothing.
+func (d *Driver) Close() error {
 	d.mutex.Lock()
 	defer d.mutex.Unlock()
 	for _, seat := range d.seats {
@@ -167,6 +184,7 @@ func (d *Driver) Free() {
 		d.phase.free()
 	}
 	C.likes_driver_free(&d.c)
+	return nil
 }
 
 // Phase is the phase that a driver has last released. Any goroutine may call it.

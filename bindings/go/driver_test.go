@@ -1,6 +1,7 @@
 package likes
 
 import (
+	"errors"
 	"reflect"
 	"sync"
 	"testing"
@@ -14,11 +15,11 @@ type two struct {
 }
 
 func open(t *testing.T) *two {
-	driver, err := OpenDriver(Options{Seats: 2, Users: 4, Room: 2, Marks: []uint32{0}}, []uint64{10, 0})
+	driver, err := OpenDriver(Options{Seats: 2, Users: 4, Room: 2, Hot: NoHot, Marks: []uint32{0}}, []uint64{10, 0})
 	if err != nil {
 		t.Fatal(err)
 	}
-	t.Cleanup(driver.Free)
+	t.Cleanup(func() { driver.Close() })
 	return &two{t, driver, [2]*Seat{driver.TakeSeat(), driver.TakeSeat()}}
 }
 
@@ -27,8 +28,19 @@ func (it *two) is(right Status) func(Status, error) {
 	it.Helper()
 	return func(status Status, err error) {
 		it.Helper()
-		if status != right || (err != nil) != (right >= Empty) {
+		if status != right || err != nil {
 			it.Errorf("%v, %v, and not %v", status, err, right)
+		}
+	}
+}
+
+// fails holds that a call gave this error.
+func (it *two) fails(right error) func(Status, error) {
+	it.Helper()
+	return func(_ Status, err error) {
+		it.Helper()
+		if !errors.Is(err, right) {
+			it.Errorf("%v, and not %v", err, right)
 		}
 	}
 }
@@ -96,21 +108,23 @@ func TestThreePhases(t *testing.T) {
 func TestRefusals(t *testing.T) {
 	it := open(t)
 	first := it.seats[0]
-	it.is(UnknownUser)(first.Like(4, 0))
-	it.waits(OtherSeat)(first.Look(1, 0, 0))
-	it.waits(UnknownPage)(first.Glance(0, 2))
-	it.is(UnknownEnd)(it.driver.Turn(3))
-	it.is(WrongRange)(it.driver.Snapshot(1, make([]uint64, 2)))
-	it.is(WrongRange)(it.driver.LastCounts(3, nil))
-	_, err := first.Last(4)
-	it.same(err, UnknownUser)
-	it.same(first.Lasts(1, make([]uint32, 2)), WrongRange)
+	it.fails(ErrUnknownUser)(first.Like(4, 0))
+	_, _, err := first.Look(1, 0, 0)
+	it.same(err, ErrOtherSeat)
+	_, _, err = first.Glance(0, 2)
+	it.same(err, ErrUnknownPage)
+	it.fails(ErrUnknownEnd)(it.driver.Turn(3))
+	it.fails(ErrWrongRange)(it.driver.Snapshot(1, make([]uint64, 2)))
+	it.fails(ErrWrongRange)(it.driver.LastCounts(3, nil))
+	_, err = first.Last(4)
+	it.same(err, ErrUnknownUser)
+	it.same(first.Lasts(1, make([]uint32, 2)), ErrWrongRange)
 	it.same(it.driver.TakeSeat(), (*Seat)(nil))
 	_, err = OpenDriver(Options{Seats: 65, Users: 1, Room: 1}, []uint64{0})
-	it.same(err, WrongSeats)
+	it.same(err, ErrWrongSeats)
 	_, err = OpenDriver(Options{Seats: 1, Users: 1, Room: 1, Lasts: []uint32{1}}, []uint64{0})
-	it.same(err, WrongLasts)
-	it.same(UnknownUser.Error(), "unknown user")
+	it.same(err, ErrWrongLasts)
+	it.same(ErrUnknownUser.Error(), "unknown user")
 }
 
 func TestRows(t *testing.T) {
@@ -121,8 +135,13 @@ func TestRows(t *testing.T) {
 	answers := make([]Answer, len(row))
 	it.same(it.seats[0].Run(row, nil), 0)
 	it.same(it.seats[0].Run(row, answers), 5)
-	for i, right := range []Status{Liked, UnknownPage, UnknownOp, Waits, Waits, NoRoom} {
-		it.same(answers[i].Status, right)
+	for i, right := range []Status{Liked, OK, OK, Waits, Waits, NoRoom} {
+		if right != OK {
+			it.same(answers[i].Status, right)
+		}
+	}
+	for i, right := range []error{nil, ErrUnknownPage, ErrUnknownOp, nil} {
+		it.same(answers[i].Err(), right)
 	}
 }
 
@@ -170,9 +189,10 @@ func TestLastCounts(t *testing.T) {
 	it.is(Counted)(it.driver.LastCounts(0, counts))
 	it.is(Ended)(it.driver.Turn(NoEnd))
 	it.same(counts, []uint64{10, 1})
-	it.driver.Free()
-	it.is(Empty)(it.seats[0].Turn())
-	it.is(Empty)(it.driver.Turn(NoEnd))
+	it.same(it.driver.Close(), nil)
+	it.same(it.driver.Close(), nil)
+	it.fails(ErrClosed)(it.seats[0].Turn())
+	it.fails(ErrClosed)(it.driver.Turn(NoEnd))
 }
 
 func TestComeBack(t *testing.T) {

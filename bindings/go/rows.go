@@ -36,6 +36,12 @@ type Answer struct {
 	Status Status
 }
 
+// Err is why a request of a row was refused, or nil.
+func (a Answer) Err() error {
+	_, err := outcome(C.uint32_t(a.Status))
+	return err
+}
+
 // Found is a look that had to wait, with the phases in which it was asked and in which it ran.
 type Found struct {
 	Tag, Count, Asked, Ran uint64
@@ -47,6 +53,11 @@ type Found struct {
 type Seen struct {
 	Last  uint32
 	Count uint64
+}
+
+// seenBy is what a look of a service shows, or why it shows nothing.
+func seenBy(answer C.likes_answer) (Seen, error) {
+	return Seen{Last: uint32(answer.last), Count: uint64(answer.count)}, wanted(answer.status, SeenNow)
 }
 
 // Rows are handed to C as they are.

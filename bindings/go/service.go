@@ -1,9 +1,10 @@
 // Package likes is the live core for Go, by cgo. Nothing here is proved.
 //
-// Most programs need a Service. One that changes phases by itself has OpenDriver.
+// Most programs need a Service, and with many likes a Writer for each goroutine, or a Pool of writers that goroutines
+// share. A program that changes phases by itself has OpenDriver.
 //
-// In a service, a goroutine for each seat collects what other goroutines ask for, and hands it over in rows of up to 64
-// requests. So one call into C serves many requests, and no goroutine waits in C for a phase.
+// What is refused is an error of this package, such as ErrUnknownUser, for errors.Is. A call of something that is
+// closed is ErrClosed.
 package likes
 
 /*
@@ -22,237 +23,309 @@ static uint32_t open_service(const likes_options *numbers, const uint64_t *count
 	options.lasts_len = lasts_len;
 	return likes_service_open(&options, service);
 }
-
-// Runs a row at a seat, and takes found looks. The seat is locked no longer than that.
-static size_t run_row(likes_service *service, uint32_t number, const likes_request *requests, size_t length,
-                      likes_answer *answers, likes_found *found, size_t room, size_t *taken) {
-	likes_seat *seat = likes_service_lock(service, number);
-	size_t done = likes_service_run(service, number, requests, length, answers);
-	if (done < length)
-		likes_service_drive(service); // a look has no room: let the phase end
-	likes_seat_turn(seat);
-	*taken = likes_seat_take_all_found(seat, found, room);
-	likes_service_unlock(service, number);
-	return done;
-}
 */
 import "C"
 
 import (
 	"sync"
+	"sync/atomic"
 	"time"
 )
 
-const row = 64
+// How many looks of a service wait in C at a time: each takes a thread of the system. Others wait as goroutines.
+const looksInC = 64
 
-// How often a seat with waiting looks is asked for found ones while nobody asks for anything else.
-const poll = 200 * time.Microsecond
-
-// Service is a service with its seats and its driver's thread. Any goroutine may call it.
+// Service is a service with its driver's thread. Any goroutine may call it.
 type Service struct {
-	c     *C.likes_service
-	pages int
-	users int
-	seats []*seat
-	all   sync.WaitGroup
+	c            *C.likes_service
+	pages, users int
+	seats        uint32
+	period       time.Duration
+	gate         gate
+	looks        chan struct{}
+	writers      atomic.Int64
+	ending       sync.Mutex
 }
 
-type call struct {
-	request C.likes_request
-	reply   chan<- C.likes_answer
+// Moment is the counts of all pages and the last likes of all users at one moment. With them as initial counts and as
+// Options.Lasts, another service goes on from there.
+type Moment struct {
+	Counts []uint64
+	Lasts  []uint32
+}
+
+// Statistics is what a service has done so far.
+type Statistics struct {
+	Phases, Likes, Looks  uint64 // phases that have ended, likes that were counted, looks that were answered
+	Waits, Late           uint64 // looks that had to wait, and looks without an answer in time
+	WaitTime, LongestWait time.Duration
 }
 
 // Open opens a service with these initial counts.
 func Open(options Options, counts []uint64) (*Service, error) {
-	service := &Service{pages: len(counts), users: int(options.Users)}
+	s := &Service{pages: len(counts), users: int(options.Users), looks: make(chan struct{}, looksInC)}
 	numbers := options.numbers()
 	told := C.open_service(&numbers, countsAt(counts), C.size_t(len(counts)), pagesAt(options.Marks),
-		C.size_t(len(options.Marks)), pagesAt(options.Lasts), C.size_t(len(options.Lasts)), &service.c)
+		C.size_t(len(options.Marks)), pagesAt(options.Lasts), C.size_t(len(options.Lasts)), &s.c)
 	if err := wanted(told, OK); err != nil {
 		return nil, err
 	}
-	for number := uint32(0); number < uint32(C.likes_service_seats(service.c)); number++ {
-		it := &seat{calls: make(chan call, 4*row), waits: map[uint64]chan<- C.likes_answer{}}
-		service.seats = append(service.seats, it)
-		service.all.Add(1)
-		go service.serve(number, it)
+	s.seats = uint32(C.likes_service_seats(s.c))
+	if s.period = options.Period; s.period == 0 {
+		s.period = time.Millisecond
 	}
-	return service, nil
+	return s, nil
+}
+
+// call makes a call of C while the service is open. The number, such as a user's, says where it is counted.
+func (s *Service) call(number uint32, make func() error) error {
+	if !s.gate.enter(number) {
+		return ErrClosed
+	}
+	defer s.gate.leave(number)
+	return make()
 }
 
 // Like adds one like.
 func (s *Service) Like(user, page uint32) error {
-	return wanted(s.ask(C.LIKES_LIKE, user, page).status, Liked)
+	if !s.gate.enter(user) {
+		return ErrClosed
+	}
+	defer s.gate.leave(user)
+	return wanted(C.likes_service_like(s.c, C.uint32_t(user), C.uint32_t(page)), Liked)
 }
 
 // Look gives the exact count. It may take about a phase.
-func (s *Service) Look(user, page uint32) (Seen, error) {
-	return s.see(C.LIKES_LOOK, user, page)
+func (s *Service) Look(user, page uint32) (seen Seen, err error) {
+	err = s.call(user, func() error {
+		if !s.beginLook(nil) {
+			return ErrHoldsSeat
+		}
+		defer s.endLook()
+		var answer C.likes_answer
+		C.likes_service_look(s.c, C.uint32_t(user), C.uint32_t(page), &answer)
+		seen, err = seenBy(answer)
+		return err
+	})
+	return seen, err
+}
+
+// LookWithin is Look with a time limit, after which it gives ErrLate.
+func (s *Service) LookWithin(user, page uint32, limit time.Duration) (seen Seen, err error) {
+	until := time.Now().Add(limit)
+	err = s.call(user, func() error {
+		timer := time.NewTimer(limit)
+		defer timer.Stop()
+		if !s.beginLook(timer.C) {
+			return s.lateOrHeld()
+		}
+		defer s.endLook()
+		var answer C.likes_answer
+		told := C.likes_service_look_within(s.c, C.uint32_t(user), C.uint32_t(page), microseconds(time.Until(until)), &answer)
+		if Error(told) == ErrLate {
+			return ErrLate
+		}
+		seen, err = seenBy(answer)
+		return err
+	})
+	return seen, err
 }
 
 // Glance gives a count at once, which may lack other seats' likes of the present phase.
-func (s *Service) Glance(user, page uint32) (Seen, error) {
-	return s.see(C.LIKES_GLANCE, user, page)
+func (s *Service) Glance(user, page uint32) (seen Seen, err error) {
+	err = s.call(user, func() error {
+		var answer C.likes_answer
+		C.likes_service_glance(s.c, C.uint32_t(user), C.uint32_t(page), &answer)
+		seen, err = seenBy(answer)
+		return err
+	})
+	return seen, err
+}
+
+// beginLook waits until a look may wait in C. It is false for a goroutine that holds a seat, for which those that wait
+// there would wait in turn, and where a timer comes first.
+func (s *Service) beginLook(late <-chan time.Time) bool {
+	select {
+	case s.looks <- struct{}{}:
+		return true
+	default:
+	}
+	if s.holdsSeat() {
+		return false
+	}
+	select {
+	case s.looks <- struct{}{}:
+		return true
+	case <-late:
+		return false
+	}
+}
+
+func (s *Service) endLook() {
+	<-s.looks
+}
+
+// holdsSeat says whether this goroutine holds a seat, by WithSeat.
+func (s *Service) holdsSeat() bool {
+	return Error(C.likes_service_seat_fault(s.c, 0)) == ErrHoldsSeat
+}
+
+func (s *Service) lateOrHeld() error {
+	if s.holdsSeat() {
+		return ErrHoldsSeat
+	}
+	return ErrLate
 }
 
 // Last gives the page of a user's last like, or NoPage.
 func (s *Service) Last(user uint32) (uint32, error) {
 	page := C.uint32_t(NoPage)
-	err := wanted(C.likes_service_last(s.c, C.uint32_t(user), &page), OK)
+	err := s.call(user, func() error { return wanted(C.likes_service_last(s.c, C.uint32_t(user), &page), OK) })
 	return uint32(page), err
+}
+
+// Lasts gives the pages of all users' last likes. Those of one seat are of one moment.
+func (s *Service) Lasts() ([]uint32, error) {
+	lasts := make([]uint32, s.users)
+	err := s.call(0, func() error { return wanted(C.likes_service_lasts(s.c, pagesAt(lasts), C.size_t(s.users)), OK) })
+	if err != nil {
+		return nil, err
+	}
+	return lasts, nil
+}
+
+// Counts gives the counts of all pages at one moment.
+func (s *Service) Counts() ([]uint64, error) {
+	counts := make([]uint64, s.pages)
+	err := s.call(0, func() error {
+		return wanted(C.likes_service_counts(s.c, countsAt(counts), C.size_t(s.pages)), Counted)
+	})
+	if err != nil {
+		return nil, err
+	}
+	return counts, nil
+}
+
+// Snapshot gives the counts of all pages and all last likes at one moment. Likes and looks wait meanwhile.
+func (s *Service) Snapshot() (*Moment, error) {
+	m := &Moment{make([]uint64, s.pages), make([]uint32, s.users)}
+	if err := s.ReadSnapshot(m); err != nil {
+		return nil, err
+	}
+	return m, nil
+}
+
+// ReadSnapshot writes a snapshot over another one, whose memory it takes. ErrWrongRange: that is of another service.
+func (s *Service) ReadSnapshot(m *Moment) error {
+	return s.call(0, func() error {
+		return wanted(C.likes_service_snapshot(s.c, countsAt(m.Counts), C.size_t(len(m.Counts)), pagesAt(m.Lasts),
+			C.size_t(len(m.Lasts))), Counted)
+	})
+}
+
+// Statistics gives what the service has done so far.
+func (s *Service) Statistics() (Statistics, error) {
+	var told C.likes_statistics
+	err := s.call(0, func() error { return wanted(C.likes_service_statistics(s.c, &told), OK) })
+	return Statistics{
+		Phases: uint64(told.phases), Likes: uint64(told.likes), Looks: uint64(told.looks),
+		Waits: uint64(told.waits), Late: uint64(told.late),
+		WaitTime: time.Duration(told.wait_time), LongestWait: time.Duration(told.longest_wait),
+	}, err
 }
 
 // Propose proposes pages to be split, as Driver.Propose does.
 func (s *Service) Propose(pages ...uint32) error {
-	return wanted(C.likes_service_propose(s.c, pagesAt(pages), C.size_t(len(pages))), OK)
+	return s.call(0, func() error {
+		return wanted(C.likes_service_propose(s.c, pagesAt(pages), C.size_t(len(pages))), OK)
+	})
 }
 
 // SplitPages gives the pages that are split in the present split phase, or were in the last one.
-func (s *Service) SplitPages() []uint32 {
+func (s *Service) SplitPages() ([]uint32, error) {
 	pages := make([]uint32, MaxSplit)
-	return pages[:C.likes_service_split_pages(s.c, pagesAt(pages), C.size_t(len(pages)))]
-}
-
-// Phase gives the phase that was last released.
-func (s *Service) Phase() uint64 {
-	return uint64(C.likes_service_phase(s.c))
-}
-
-// Counts gives the counts of all pages at one moment.
-func (s *Service) Counts() []uint64 {
-	counts := make([]uint64, s.pages)
-	if C.likes_service_counts(s.c, countsAt(counts), C.size_t(s.pages)) != C.LIKES_COUNTED {
+	err := s.call(0, func() error {
+		pages = pages[:C.likes_service_split_pages(s.c, pagesAt(pages), C.size_t(len(pages)))]
 		return nil
+	})
+	if err != nil {
+		return nil, err
 	}
-	return counts
+	return pages, nil
 }
 
-// Snapshot writes the counts of all pages and the last likes of all users, of one moment, as Open takes them: as many
-// as the service has of each. Likes and looks wait meanwhile.
-func (s *Service) Snapshot(counts []uint64, lasts []uint32) error {
-	// No row runs, so no seat is held, for which the snapshot would wait in vain.
-	for _, it := range s.seats {
-		it.runs.Lock()
-		defer it.runs.Unlock()
-	}
-	told := C.likes_service_snapshot(s.c, countsAt(counts), C.size_t(len(counts)), pagesAt(lasts), C.size_t(len(lasts)))
-	return wanted(told, Counted)
+// Phase gives the phase that was last released, and 0 after the end.
+func (s *Service) Phase() (phase uint64) {
+	s.call(0, func() error {
+		phase = uint64(C.likes_service_phase(s.c))
+		return nil
+	})
+	return phase
 }
 
-// Close ends the service and gives the final counts. No goroutine calls it any more.
-func (s *Service) Close() []uint64 {
-	counts, _ := s.CloseWithLasts()
-	return counts
+// Seats is how many seats there are. User u belongs to seat u % Seats().
+func (s *Service) Seats() uint32 {
+	return s.seats
 }
 
-// CloseWithLasts does the same, and gives the last likes too, as Options takes them.
-func (s *Service) CloseWithLasts() ([]uint64, []uint32) {
-	for _, it := range s.seats {
-		close(it.calls)
+// RetireSeat has a seat leave, in a few phases. Then likes and looks of its users are ErrGone.
+func (s *Service) RetireSeat(number uint32) error {
+	return s.call(number, func() error { return wanted(C.likes_service_retire_seat(s.c, C.uint32_t(number)), OK) })
+}
+
+// BringBackSeat brings a seat back that has left.
+func (s *Service) BringBackSeat(number uint32) error {
+	return s.call(number, func() error { return wanted(C.likes_service_bring_back_seat(s.c, C.uint32_t(number)), OK) })
+}
+
+// Tick does what is due for the phases. A busy goroutine may call it once in some 256 requests: then no phase waits
+// until the driver's thread gets a processor.
+func (s *Service) Tick() {
+	s.call(0, func() error {
+		C.likes_service_tick(s.c)
+		return nil
+	})
+}
+
+// Stop ends the service, and gives its last moment. It waits for calls that have begun; later ones are ErrClosed, as is
+// a second Stop. ErrOpenWriter: a writer or a pool is open, and nothing is done.
+func (s *Service) Stop() (*Moment, error) {
+	if err := s.call(0, s.mayEnd); err != nil {
+		return nil, err
 	}
-	s.all.Wait()
-	totals, lasts := make([]uint64, s.pages), make([]uint32, s.users)
-	C.likes_service_retire(s.c)
-	C.likes_service_lasts(s.c, pagesAt(lasts), C.size_t(s.users))
-	C.likes_service_stop(s.c, countsAt(totals), C.size_t(s.pages))
+	s.ending.Lock()
+	defer s.ending.Unlock()
+	if s.c == nil {
+		return nil, ErrClosed
+	}
+	s.gate.shut()
+	if err := wanted(C.likes_service_retire(s.c), OK); err != nil {
+		s.gate.open()
+		return nil, err
+	}
+	end := &Moment{make([]uint64, s.pages), make([]uint32, s.users)}
+	C.likes_service_lasts(s.c, pagesAt(end.Lasts), C.size_t(s.users))
+	C.likes_service_stop(s.c, countsAt(end.Counts), C.size_t(s.pages))
 	C.likes_service_close(s.c)
 	s.c = nil
-	return totals, lasts
+	return end, nil
 }
 
-func (s *Service) see(op, user, page uint32) (Seen, error) {
-	answer := s.ask(op, user, page)
-	return Seen{Last: uint32(answer.last), Count: uint64(answer.count)}, wanted(answer.status, SeenNow)
-}
-
-// ask hands a request to the goroutine of its user's seat, and waits for the answer.
-func (s *Service) ask(op, user, page uint32) C.likes_answer {
-	reply := make(chan C.likes_answer, 1)
-	request := C.likes_request{user: C.uint32_t(user), page: C.uint32_t(page), op: C.uint32_t(op)}
-	s.seats[int(user)%len(s.seats)].calls <- call{request, reply}
-	return <-reply
-}
-
-// seat is what the goroutine of a seat keeps: the row that it runs, and the looks that wait, by tag. While a row runs,
-// runs is held.
-type seat struct {
-	runs     sync.Mutex
-	calls    chan call
-	replies  []chan<- C.likes_answer
-	requests []C.likes_request
-	answers  [row]C.likes_answer
-	found    [row]C.likes_found
-	waits    map[uint64]chan<- C.likes_answer
-	tag      uint64
-	isClosed bool
-}
-
-// serve is the goroutine of a seat.
-func (s *Service) serve(number uint32, it *seat) {
-	defer s.all.Done()
-	for it.collect() {
-		var first *C.likes_request
-		if len(it.requests) > 0 {
-			first = &it.requests[0]
-		}
-		var taken C.size_t
-		it.runs.Lock()
-		done := C.run_row(s.c, C.uint32_t(number), first, C.size_t(len(it.requests)), &it.answers[0], &it.found[0], row, &taken)
-		it.runs.Unlock()
-		it.tell(int(done), int(taken))
+// mayEnd says why the service can't be ended now.
+func (s *Service) mayEnd() error {
+	if s.holdsSeat() {
+		return ErrHoldsSeat
 	}
+	if s.writers.Load() > 0 {
+		return ErrOpenWriter
+	}
+	return nil
 }
 
-// collect fills the row: it waits for a request, or for a moment where looks wait, and takes what is there. It is false
-// where there is nothing left to do.
-func (it *seat) collect() bool {
-	if len(it.requests) == 0 && !it.isClosed {
-		if len(it.waits) == 0 {
-			it.put(<-it.calls)
-		} else {
-			select {
-			case next := <-it.calls:
-				it.put(next)
-			case <-time.After(poll):
-			}
-		}
+// Close is Stop for a program that needs no last moment. A service that is closed already stays so, without an error.
+func (s *Service) Close() error {
+	if _, err := s.Stop(); err != ErrClosed {
+		return err
 	}
-	for len(it.requests) < row && !it.isClosed {
-		select {
-		case next := <-it.calls:
-			it.put(next)
-		default:
-			return true
-		}
-	}
-	return !it.isClosed || len(it.requests) > 0 || len(it.waits) > 0
-}
-
-// put adds a request to the row. One without a reply says that the channel is closed.
-func (it *seat) put(next call) {
-	if next.reply == nil {
-		it.isClosed = true
-		return
-	}
-	it.tag++
-	next.request.tag = C.uint64_t(it.tag)
-	it.requests = append(it.requests, next.request)
-	it.replies = append(it.replies, next.reply)
-}
-
-// tell hands out the answers, and keeps what was not done for the next row.
-func (it *seat) tell(done, taken int) {
-	for i := 0; i < done; i++ {
-		if it.answers[i].status == C.LIKES_WAITS {
-			it.waits[uint64(it.requests[i].tag)] = it.replies[i]
-		} else {
-			it.replies[i] <- it.answers[i]
-		}
-	}
-	it.requests = append(it.requests[:0], it.requests[done:]...)
-	it.replies = append(it.replies[:0], it.replies[done:]...)
-	for _, found := range it.found[:taken] {
-		it.waits[uint64(found.tag)] <- C.likes_answer{count: found.count, last: found.last, status: C.LIKES_SEEN}
-		delete(it.waits, uint64(found.tag))
-	}
+	return nil
 }

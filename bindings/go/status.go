@@ -3,52 +3,65 @@ package likes
 // #include <likes_service.h>
 import "C"
 
-// Status is what calls answer: an outcome, or from Empty on an error.
+// Status is an outcome of a call. In the row of a seat, an answer's may also be an error's number: Answer.Err.
 type Status uint32
 
-// The statuses of likes.h, and from NoThread on those of likes_service.h.
+// The outcomes of likes.h.
 const (
-	OK            Status = C.LIKES_OK
-	Liked         Status = C.LIKES_LIKED
-	SeenNow       Status = C.LIKES_SEEN
-	Waits         Status = C.LIKES_WAITS
-	Runs          Status = C.LIKES_RUNS
-	Between       Status = C.LIKES_BETWEEN
-	NoRoom        Status = C.LIKES_NO_ROOM
-	LikeLimit     Status = C.LIKES_LIKE_LIMIT
-	Gone          Status = C.LIKES_GONE
-	GoesOn        Status = C.LIKES_GOES_ON
-	Announced     Status = C.LIKES_ANNOUNCED
-	NotAllIn      Status = C.LIKES_NOT_ALL_IN
-	Released      Status = C.LIKES_RELEASED
-	Ended         Status = C.LIKES_ENDED
-	Counted       Status = C.LIKES_COUNTED
-	NoMoment      Status = C.LIKES_NO_MOMENT
-	NotEnded      Status = C.LIKES_NOT_ENDED
-	AllTaken      Status = C.LIKES_ALL_TAKEN
-	Empty         Status = C.LIKES_EMPTY
-	InUse         Status = C.LIKES_IN_USE
-	NoMemory      Status = C.LIKES_NO_MEMORY
-	UnknownUser   Status = C.LIKES_UNKNOWN_USER
-	OtherSeat     Status = C.LIKES_OTHER_SEAT
-	UnknownPage   Status = C.LIKES_UNKNOWN_PAGE
-	UnknownOp     Status = C.LIKES_UNKNOWN_OP
-	UnknownEnd    Status = C.LIKES_UNKNOWN_END
-	WrongRange    Status = C.LIKES_WRONG_RANGE
-	WrongReserved Status = C.LIKES_WRONG_RESERVED
-	WrongPages    Status = C.LIKES_WRONG_PAGES
-	WrongMarks    Status = C.LIKES_WRONG_MARKS
-	WrongCount    Status = C.LIKES_WRONG_COUNT
-	WrongSeats    Status = C.LIKES_WRONG_SEATS
-	WrongUsers    Status = C.LIKES_WRONG_USERS
-	WrongRoom     Status = C.LIKES_WRONG_ROOM
-	WrongHot      Status = C.LIKES_WRONG_HOT
-	WrongLasts    Status = C.LIKES_WRONG_LASTS
-	NoThread      Status = C.LIKES_NO_THREAD
-	WrongPeriod   Status = C.LIKES_WRONG_PERIOD
-	NotStarted    Status = C.LIKES_NOT_STARTED
-	UnknownSeat   Status = C.LIKES_UNKNOWN_SEAT
-	Late          Status = C.LIKES_LATE
+	OK        Status = C.LIKES_OK
+	Liked     Status = C.LIKES_LIKED
+	SeenNow   Status = C.LIKES_SEEN
+	Waits     Status = C.LIKES_WAITS
+	Runs      Status = C.LIKES_RUNS
+	Between   Status = C.LIKES_BETWEEN
+	NoRoom    Status = C.LIKES_NO_ROOM
+	LikeLimit Status = C.LIKES_LIKE_LIMIT
+	Gone      Status = C.LIKES_GONE
+	GoesOn    Status = C.LIKES_GOES_ON
+	Announced Status = C.LIKES_ANNOUNCED
+	NotAllIn  Status = C.LIKES_NOT_ALL_IN
+	Released  Status = C.LIKES_RELEASED
+	Ended     Status = C.LIKES_ENDED
+	Counted   Status = C.LIKES_COUNTED
+	NoMoment  Status = C.LIKES_NO_MOMENT
+	NotEnded  Status = C.LIKES_NOT_ENDED
+	AllTaken  Status = C.LIKES_ALL_TAKEN
+)
+
+// Error says why a call is refused: what was asked for isn't done.
+type Error uint32
+
+// The errors of likes.h and likes_service.h.
+const (
+	ErrNoMemory    Error = C.LIKES_NO_MEMORY
+	ErrUnknownUser Error = C.LIKES_UNKNOWN_USER
+	ErrOtherSeat   Error = C.LIKES_OTHER_SEAT
+	ErrUnknownPage Error = C.LIKES_UNKNOWN_PAGE
+	ErrUnknownOp   Error = C.LIKES_UNKNOWN_OP
+	ErrUnknownEnd  Error = C.LIKES_UNKNOWN_END
+	ErrWrongRange  Error = C.LIKES_WRONG_RANGE
+	ErrWrongPages  Error = C.LIKES_WRONG_PAGES
+	ErrWrongMarks  Error = C.LIKES_WRONG_MARKS
+	ErrWrongCount  Error = C.LIKES_WRONG_COUNT
+	ErrWrongSeats  Error = C.LIKES_WRONG_SEATS
+	ErrWrongUsers  Error = C.LIKES_WRONG_USERS
+	ErrWrongRoom   Error = C.LIKES_WRONG_ROOM
+	ErrWrongHot    Error = C.LIKES_WRONG_HOT
+	ErrWrongLasts  Error = C.LIKES_WRONG_LASTS
+	ErrNoThread    Error = C.LIKES_NO_THREAD
+	ErrWrongPeriod Error = C.LIKES_WRONG_PERIOD
+	ErrUnknownSeat Error = C.LIKES_UNKNOWN_SEAT
+	ErrLate        Error = C.LIKES_LATE        // the look had no answer in time
+	ErrHoldsSeat   Error = C.LIKES_HOLDS_SEAT  // the goroutine holds a seat, by WithSeat
+	ErrOpenWriter  Error = C.LIKES_OPEN_WRITER // a writer or a pool is open
+	ErrWrongTag    Error = C.LIKES_WRONG_TAG
+	ErrClosed      Error = C.LIKES_NOT_STARTED // what was called is closed
+
+	// Of a service, these outcomes of its seats are errors.
+	ErrNoRoom    Error = C.LIKES_NO_ROOM    // looks of rows fill the seat
+	ErrLikeLimit Error = C.LIKES_LIKE_LIMIT // the seat has had 2^56 likes
+	ErrGone      Error = C.LIKES_GONE       // the user's seat has left
+	ErrNoMoment  Error = C.LIKES_NO_MOMENT  // a seat was held for so long that nothing is of one moment
 )
 
 // String is the name of a status, for messages.
@@ -56,23 +69,40 @@ func (s Status) String() string {
 	return C.GoString(C.likes_status_text(C.uint32_t(s)))
 }
 
-// Error is the same.
-func (s Status) Error() string {
-	return s.String()
+// Error is the text of an error, for messages.
+func (e Error) Error() string {
+	if e == ErrClosed {
+		return "closed"
+	}
+	return Status(e).String()
 }
 
-// outcome splits a status: an error is returned as one.
+// outcome splits a status: an error is returned as one. An empty handle is one that was freed.
 func outcome(told C.uint32_t) (Status, error) {
-	if told >= C.LIKES_FIRST_ERROR {
-		return Status(told), Status(told)
+	switch {
+	case told == C.LIKES_EMPTY:
+		return Status(told), ErrClosed
+	case told >= C.LIKES_FIRST_ERROR:
+		return Status(told), Error(told)
 	}
 	return Status(told), nil
 }
 
 // wanted gives an error unless a call was answered as it is wanted.
 func wanted(told C.uint32_t, right Status) error {
-	if Status(told) != right {
-		return Status(told)
+	if Status(told) == right {
+		return nil
 	}
-	return nil
+	if told == C.LIKES_EMPTY {
+		return ErrClosed
+	}
+	return Error(told)
+}
+
+// ignoreClosed takes it for no error that something is closed already.
+func ignoreClosed(err error) error {
+	if err == ErrClosed {
+		return nil
+	}
+	return err
 }

@@ -1,10 +1,10 @@
-/* Makes the calls that README.md draws, by likes.h, and prints what each answers. */
+/* Makes the calls that README.md draws, by likes.h and likes_service.h, and prints what each answers. */
 #include "../live-opening.h"
 
 #include <inttypes.h>
 #include <stdio.h>
 
-enum { SERVICES = 300, CALLS = 400, FEW = 16 };
+enum { SERVICES = 300, CALLS = 400, SHARED = 100, SHARED_CALLS = 100, FEW = 16 };
 
 /* A service with its seats. */
 typedef struct {
@@ -257,6 +257,181 @@ static void end(service *it) {
     likes_driver_free(&it->driver);
 }
 
+/* A service that threads share. */
+typedef struct {
+    uint32_t users, pages, seats;
+    likes_service *at;
+} shared;
+
+static uint32_t draw_any_user(const shared *it) {
+    if (rarely())
+        return draw(2) == 0 ? it->users + draw(3) : UINT32_MAX;
+    return draw(it->users);
+}
+
+/* What was asked for is done, or why it isn't. */
+static void say_done(const char *name, uint32_t status) {
+    printf("%s %s\n", name, likes_is_success(status) ? "ok" : likes_status_text(status));
+}
+
+static void say_shown(const char *name, uint32_t status, const likes_answer *answer, bool has_count) {
+    printf("%s", name);
+    if (status == LIKES_SEEN)
+        say_last(answer->last);
+    else
+        printf(" %s", likes_status_text(status));
+    if (status == LIKES_SEEN && has_count)
+        printf(" %" PRIu64, answer->count);
+    printf("\n");
+}
+
+static void list_counts(const shared *it, const uint64_t *counts) {
+    for (uint32_t i = 0; i < it->pages; i++)
+        printf(" %" PRIu64, counts[i]);
+}
+
+static void list_lasts(const shared *it, const uint32_t *lasts) {
+    for (uint32_t i = 0; i < it->users; i++)
+        say_last(lasts[i]);
+    printf("\n");
+}
+
+static void like_or_look_shared(shared *it, uint32_t kind) {
+    likes_answer answer;
+    uint32_t user = draw_any_user(it), page = draw_page(it->pages);
+    if (kind < 4)
+        say_done("like", likes_service_like(it->at, user, page));
+    else if (kind == 4)
+        say_shown("look", likes_service_look(it->at, user, page, &answer), &answer, true);
+    else if (kind == 5)
+        say_shown("within", likes_service_look_within(it->at, user, page, 10000000, &answer), &answer, true);
+    else
+        say_shown("glance", likes_service_glance(it->at, user, page, &answer), &answer, false);
+}
+
+static void tell_shared(shared *it, uint32_t kind) {
+    uint64_t counts[FEW];
+    uint32_t lasts[FEW];
+    if (kind == 7) {
+        uint32_t status = likes_service_last(it->at, draw_any_user(it), lasts);
+        printf("last");
+        if (status == LIKES_OK)
+            say_last(lasts[0]);
+        else
+            printf(" %s", likes_status_text(status));
+        printf("\n");
+    } else if (kind == 8) {
+        likes_service_lasts(it->at, lasts, it->users);
+        printf("lasts");
+        list_lasts(it, lasts);
+    } else if (kind == 9) {
+        likes_service_counts(it->at, counts, it->pages);
+        printf("counts");
+        list_counts(it, counts);
+        printf("\n");
+    } else {
+        likes_service_snapshot(it->at, counts, it->pages, lasts, it->users);
+        printf("snapshot");
+        list_counts(it, counts);
+        list_lasts(it, lasts);
+    }
+}
+
+static void write_shared(shared *it) {
+    likes_writer *writer = NULL;
+    likes_answer answer;
+    uint64_t counts[FEW];
+    likes_writer_open(it->at, &writer);
+    for (uint32_t i = 0, length = draw(100); i < length; i++) {
+        uint32_t user = draw_any_user(it), page = draw_page(it->pages);
+        uint32_t status = likes_writer_like(writer, user, page);
+        if (status != LIKES_OK)
+            say_done("kept", status);
+    }
+    uint32_t user = draw_any_user(it), page = draw_page(it->pages);
+    say_shown("shown", likes_writer_look(writer, user, page, &answer), &answer, false);
+    say_done("flush", likes_writer_flush(writer));
+    say_done("stop", likes_service_stop(it->at, counts, it->pages));
+    say_done("close", likes_writer_close(writer));
+}
+
+static void propose_shared(shared *it) {
+    uint32_t pages[FEW], length = draw(3);
+    for (uint32_t i = 0; i < length; i++)
+        pages[i] = draw_page(it->pages);
+    say_done("propose", likes_service_propose(it->at, pages, length));
+}
+
+static void run_shared(shared *it) {
+    likes_request row[FEW];
+    likes_answer answers[FEW];
+    uint32_t number = draw(it->seats), length = draw(5);
+    for (uint32_t i = 0; i < length; i++) {
+        row[i] = (likes_request){.op = draw(2) == 0 ? LIKES_LIKE : LIKES_GLANCE};
+        row[i].user = draw_any_user(it);
+        row[i].page = draw_page(it->pages);
+    }
+    likes_service_lock(it->at, number);
+    likes_service_run(it->at, number, row, length, answers);
+    likes_service_unlock(it->at, number);
+    for (uint32_t i = 0; i < length; i++) {
+        if (answers[i].status == LIKES_LIKED)
+            say_done("row", LIKES_OK);
+        else
+            say_shown("row", answers[i].status, &answers[i], false);
+    }
+}
+
+static void leave_shared(shared *it) {
+    uint32_t number = draw(it->seats + 1);
+    say_done("retire", likes_service_retire_seat(it->at, number));
+    say_done("like", likes_service_like(it->at, 0, 0));
+    say_done("back", likes_service_bring_back_seat(it->at, number));
+}
+
+static void call_shared(shared *it) {
+    likes_statistics told;
+    uint32_t kind = draw(16);
+    if (kind < 7) {
+        like_or_look_shared(it, kind);
+    } else if (kind < 11) {
+        tell_shared(it, kind);
+    } else if (kind == 11) {
+        write_shared(it);
+    } else if (kind == 12) {
+        propose_shared(it);
+    } else if (kind == 13) {
+        run_shared(it);
+    } else if (kind == 14) {
+        leave_shared(it);
+    } else {
+        likes_service_statistics(it->at, &told);
+        printf("statistics %" PRIu64 " %" PRIu64 "\n", told.likes, told.looks);
+    }
+}
+
+static void open_and_call_shared(void) {
+    shared it = {0};
+    uint64_t counts[FEW];
+    uint32_t lasts[FEW], mark = 0;
+    it.pages = 1 + draw(6);
+    for (uint32_t i = 0; i < it.pages; i++)
+        counts[i] = draw(100);
+    it.seats = 1 + draw(3);
+    it.users = 1 + draw(12);
+    likes_options options = {.seats = it.seats, .users = it.users};
+    say_done("share", open_shared(options, counts, it.pages, &mark, draw(2), NULL, 0, 200, &it.at));
+    for (int calls = 0; calls < SHARED_CALLS; calls++)
+        call_shared(&it);
+    likes_service_retire(it.at);
+    likes_service_lasts(it.at, lasts, it.users);
+    likes_service_stop(it.at, counts, it.pages);
+    likes_service_close(it.at);
+    printf("stop");
+    list_counts(&it, counts);
+    list_lasts(&it, lasts);
+}
+
 int main(void) {
     for (int services = 0; services < SERVICES; services++) {
         service it = {0};
@@ -267,5 +442,7 @@ int main(void) {
             call(&it);
         end(&it);
     }
+    for (int services = 0; services < SHARED; services++)
+        open_and_call_shared();
     return 0;
 }

@@ -1,10 +1,10 @@
-// Makes the calls that README.md draws, by likes_core.hpp, and prints what each answers.
-#include "likes_core.hpp"
+// Makes the calls that README.md draws, by likes.hpp, and prints what each answers.
+#include "likes.hpp"
 
 #include <iostream>
 #include <string>
 
-constexpr int services = 300, calls = 400;
+constexpr int services = 300, calls = 400, shared_services = 100, shared_calls = 100;
 
 static std::uint64_t state = 1;
 
@@ -35,13 +35,13 @@ static std::string text(likes_status status) {
 
 static std::string text(const likes::Look &look) {
     std::string shown = text(look.outcome);
-    return look.outcome == LIKES_SEEN ? shown + text(look.seen.last) + " " + std::to_string(look.seen.count) : shown;
+    return look.seen ? shown + text(look.seen->last) + " " + std::to_string(look.seen->count) : shown;
 }
 
-static std::string text(const std::vector<std::uint32_t> &lasts) {
+static std::string text(const std::vector<likes::Last> &lasts) {
     std::string all = "ok";
-    for (std::uint32_t last : lasts)
-        all += text(likes::last_of(last));
+    for (likes::Last last : lasts)
+        all += text(last);
     return all;
 }
 
@@ -67,11 +67,11 @@ struct Service {
         if (rarely())
             return draw(2) == 0 ? options.users + draw(3) : UINT32_MAX;
         std::uint32_t user = draw(options.users);
-        return draw(8) == 0 ? user : user - user % options.seats + seat;
+        return draw(8) == 0 ? user : user - user % *options.seats + seat;
     }
 
     void take_all() {
-        for (std::uint32_t i = 0; i <= options.seats; i++) {
+        for (std::uint32_t i = 0; i <= *options.seats; i++) {
             auto seat = driver.take_seat();
             std::cout << "seat " << text(seat ? LIKES_OK : LIKES_ALL_TAKEN) << "\n";
             if (seat)
@@ -116,8 +116,8 @@ struct Service {
             std::cout << "none\n";
             return;
         }
-        std::cout << "found " << found->tag << " " << found->count << " " << found->asked << " " << found->ran << " "
-                  << found->user << " " << found->page << text(likes::last_of(found->last)) << "\n";
+        std::cout << "found " << found->tag << " " << found->seen.count << " " << found->asked << " " << found->ran
+                  << " " << found->user << " " << found->page << text(found->seen.last) << "\n";
     }
 
     void tell_lasts(std::uint32_t number, bool is_one) {
@@ -131,8 +131,7 @@ struct Service {
     }
 
     void write_lasts(std::uint32_t number, std::uint32_t from, std::uint32_t length) {
-        std::vector<std::uint32_t> lasts(length);
-        say("lasts", [&] { return seats[number].lasts(from, lasts), text(lasts); });
+        say("lasts", [&] { return text(seats[number].lasts(from, length)); });
     }
 
     void write_counts(bool is_snapshot, std::uint32_t from, std::uint32_t length) {
@@ -185,7 +184,7 @@ struct Service {
     }
 
     void call() {
-        std::uint32_t number = draw(options.seats), kind = draw(20);
+        std::uint32_t number = draw(*options.seats), kind = draw(20);
         if (kind < 9) {
             like_or_look(number, kind);
         } else if (kind == 9) {
@@ -215,8 +214,8 @@ struct Service {
             std::cout << "driver " << text(status) << "\n";
         } while (status != LIKES_ENDED);
         write_counts(false, 0, pages);
-        for (std::uint32_t i = 0; i < options.seats; i++)
-            write_lasts(i, 0, (options.users + options.seats - 1 - i) / options.seats);
+        for (std::uint32_t i = 0; i < *options.seats; i++)
+            write_lasts(i, 0, (options.users + *options.seats - 1 - i) / *options.seats);
     }
 };
 
@@ -231,20 +230,176 @@ static std::vector<std::uint64_t> draw_opening(likes::Options &options) {
     options.seats = rarely() ? 65 + draw(2) : 1 + draw(3);
     options.users = rarely() ? 0 : 1 + draw(12);
     options.room = rarely() ? LIKES_MAX_ROOM + 1 : 1 + draw(3);
-    options.hot = rarely() ? LIKES_MAX_HOT + 1 : 512 * draw(2);
+    options.hot = rarely() ? LIKES_MAX_HOT + 1 : draw(2) == 0 ? likes::no_hot : 512;
     options.marks.resize(draw(3));
     for (std::uint32_t &mark : options.marks)
         mark = draw_page(pages);
     if (draw(3) != 0)
         options.lasts.resize(options.users + rarely());
-    for (std::uint32_t &last : options.lasts)
-        last = draw(2) == 0 ? LIKES_NO_PAGE : draw_page(pages);
+    for (likes::Last &last : options.lasts)
+        last = draw(2) == 0 ? likes::Last() : draw_page(pages);
     return counts;
+}
+
+// A service that threads share.
+struct Shared {
+    std::uint32_t users, pages, seats;
+    likes::Service &service;
+
+    std::uint32_t draw_user() const {
+        if (rarely())
+            return draw(2) == 0 ? users + draw(3) : UINT32_MAX;
+        return draw(users);
+    }
+
+    static std::string shown(const likes::Seen &seen) { return text(seen.last) + " " + std::to_string(seen.count); }
+
+    static std::string listed(const std::vector<std::uint64_t> &counts) {
+        std::string all;
+        for (std::uint64_t count : counts)
+            all += " " + std::to_string(count);
+        return all;
+    }
+
+    static std::string listed(const std::vector<likes::Last> &lasts) {
+        std::string all;
+        for (likes::Last last : lasts)
+            all += text(last);
+        return all;
+    }
+
+    // Prints what a call answers behind its name, or its error.
+    template <typename Call> static void tell(const char *name, Call answer) {
+        try {
+            std::string told = answer();
+            std::cout << name << told << "\n";
+        } catch (const likes::Error &error) {
+            std::cout << name << " " << error.what() << "\n";
+        }
+    }
+
+    // Prints that a call is done, or its error.
+    template <typename Call> static void done(const char *name, Call call) {
+        tell(name, [&] { return call(), " ok"; });
+    }
+
+    void like_or_look(std::uint32_t kind) {
+        std::uint32_t user = draw_user(), page = draw_page(pages);
+        if (kind < 4)
+            done("like", [&] { service.like(user, page); });
+        else if (kind == 4)
+            tell("look", [&] { return shown(service.look(user, page)); });
+        else if (kind == 5)
+            tell("within", [&] { return shown(service.look_within(user, page, std::chrono::seconds(10)).value()); });
+        else
+            tell("glance", [&] { return text(service.glance(user, page).last); });
+    }
+
+    void tell_all(std::uint32_t kind) {
+        if (kind == 7) {
+            std::uint32_t user = draw_user();
+            tell("last", [&] { return text(service.last(user)); });
+        } else if (kind == 8) {
+            tell("lasts", [&] { return listed(service.lasts()); });
+        } else if (kind == 9) {
+            tell("counts", [&] { return listed(service.counts()); });
+        } else {
+            tell("snapshot", [&] { return moment(service.snapshot()); });
+        }
+    }
+
+    static std::string moment(const likes::Moment &moment) { return listed(moment.counts) + listed(moment.lasts); }
+
+    void write() {
+        likes::Writer writer = service.writer();
+        for (std::uint32_t i = 0, length = draw(100); i < length; i++) {
+            std::uint32_t user = draw_user(), page = draw_page(pages);
+            try {
+                writer.like(user, page);
+            } catch (const likes::Error &error) {
+                std::cout << "kept " << error.what() << "\n";
+            }
+        }
+        std::uint32_t user = draw_user(), page = draw_page(pages);
+        tell("shown", [&] { return text(writer.look(user, page).last); });
+        done("flush", [&] { writer.flush(); });
+        done("stop", [&] { service.stop(); });
+        done("close", [&] { writer.close(); });
+    }
+
+    void propose() {
+        std::vector<std::uint32_t> proposed(draw(3));
+        for (std::uint32_t &page : proposed)
+            page = draw_page(pages);
+        done("propose", [&] { service.propose(proposed); });
+    }
+
+    void run() {
+        std::uint32_t number = draw(seats);
+        std::vector<likes_request> row(draw(5));
+        std::vector<likes_answer> answers;
+        for (likes_request &request : row) {
+            request.op = draw(2) == 0 ? LIKES_LIKE : LIKES_GLANCE;
+            request.user = draw_user();
+            request.page = draw_page(pages);
+        }
+        service.hold(number).run(row, answers);
+        for (const likes_answer &answer : answers) {
+            std::optional<likes::Seen> seen = likes::seen(answer);
+            std::string refused = std::string(" ") + likes_status_text(answer.status);
+            std::cout << "row" << (answer.status == LIKES_LIKED ? " ok" : seen ? text(seen->last) : refused) << "\n";
+        }
+    }
+
+    void leave() {
+        std::uint32_t number = draw(seats + 1);
+        done("retire", [&] { service.retire_seat(number); });
+        done("like", [&] { service.like(0, 0); });
+        done("back", [&] { service.bring_back_seat(number); });
+    }
+
+    void call() {
+        std::uint32_t kind = draw(16);
+        if (kind < 7) {
+            like_or_look(kind);
+        } else if (kind < 11) {
+            tell_all(kind);
+        } else if (kind == 11) {
+            write();
+        } else if (kind == 12) {
+            propose();
+        } else if (kind == 13) {
+            run();
+        } else if (kind == 14) {
+            leave();
+        } else {
+            likes::Statistics told = service.statistics();
+            std::cout << "statistics " << told.likes << " " << told.looks << "\n";
+        }
+    }
+};
+
+static void open_and_call_shared() {
+    likes::Options options;
+    std::vector<std::uint64_t> counts(1 + draw(6));
+    for (std::uint64_t &count : counts)
+        count = draw(100);
+    options.seats = 1 + draw(3);
+    options.users = 1 + draw(12);
+    options.hot = likes::no_hot;
+    options.period = std::chrono::microseconds(200);
+    options.marks.resize(draw(2));
+    likes::Service service(options, counts);
+    std::cout << "share ok\n";
+    Shared it = {options.users, static_cast<std::uint32_t>(counts.size()), *options.seats, service};
+    for (int i = 0; i < shared_calls; i++)
+        it.call();
+    std::cout << "stop" << Shared::moment(service.stop()) << "\n";
 }
 
 int main() {
     for (int number = 0; number < services; number++) {
-        likes::Options options = {0, 0};
+        likes::Options options;
         std::vector<std::uint64_t> counts = draw_opening(options);
         std::optional<likes::Driver> driver;
         say("open", [&] { return driver.emplace(options, counts), text(LIKES_OK); });
@@ -256,4 +411,6 @@ int main() {
             it.call();
         it.end();
     }
+    for (int number = 0; number < shared_services; number++)
+        open_and_call_shared();
 }

@@ -3,18 +3,20 @@ package main
 
 import (
 	"bufio"
-	"errors"
 	"fmt"
 	"math"
 	"os"
 	"strings"
+	"time"
 
 	"likes"
 )
 
 const (
-	services = 300
-	calls    = 400
+	services       = 300
+	calls          = 400
+	sharedServices = 100
+	sharedCalls    = 100
 )
 
 var (
@@ -65,7 +67,18 @@ func lastText(last uint32) string {
 	return fmt.Sprint(last)
 }
 
-func seenText(seen likes.Seen, status likes.Status) string {
+// statusText is an outcome, or the error in its place.
+func statusText(status likes.Status, err error) string {
+	if err != nil {
+		return err.Error()
+	}
+	return status.String()
+}
+
+func seenText(seen likes.Seen, status likes.Status, err error) string {
+	if err != nil {
+		return err.Error()
+	}
 	if status != likes.SeenNow {
 		return status.String()
 	}
@@ -83,8 +96,8 @@ func lastsText(lasts []uint32, err error) string {
 	return strings.Join(words, " ")
 }
 
-func countsText(counts []uint64, status likes.Status) string {
-	text := status.String()
+func countsText(counts []uint64, status likes.Status, err error) string {
+	text := statusText(status, err)
 	for i := 0; status == likes.Counted && i < len(counts); i++ {
 		text += fmt.Sprintf(" %d", counts[i])
 	}
@@ -136,14 +149,11 @@ func (it *service) likeOrLook(number, kind uint32) {
 	page := drawPage(it.pages)
 	switch {
 	case kind < 6:
-		status, _ := seat.Like(user, page)
-		fmt.Fprintln(out, "like", status)
+		fmt.Fprintln(out, "like", statusText(seat.Like(user, page)))
 	case kind < 8:
-		seen, status, _ := seat.Look(user, page, next())
-		fmt.Fprintln(out, "look", seenText(seen, status))
+		fmt.Fprintln(out, "look", seenText(seat.Look(user, page, next())))
 	default:
-		seen, status, _ := seat.Glance(user, page)
-		fmt.Fprintln(out, "glance", seenText(seen, status))
+		fmt.Fprintln(out, "glance", seenText(seat.Glance(user, page)))
 	}
 }
 
@@ -158,7 +168,8 @@ func (it *service) run(number uint32) {
 	done := it.seats[number].Run(row, answers)
 	told := []string{}
 	for i := 0; i < len(row) && i <= done; i++ {
-		told = append(told, seenText(likes.Seen{Last: answers[i].Last, Count: answers[i].Count}, answers[i].Status))
+		seen := likes.Seen{Last: answers[i].Last, Count: answers[i].Count}
+		told = append(told, seenText(seen, answers[i].Status, answers[i].Err()))
 	}
 	fmt.Fprintln(out, strings.TrimRight("run "+strings.Join(told, ", "), " "))
 }
@@ -192,11 +203,11 @@ func (it *service) someLasts(number uint32, isOne bool) {
 func (it *service) counts(isSnapshot bool, from, length uint32) {
 	counts := make([]uint64, length)
 	if isSnapshot {
-		status, _ := it.driver.Snapshot(from, counts)
-		fmt.Fprintln(out, "snapshot", countsText(counts, status))
+		status, err := it.driver.Snapshot(from, counts)
+		fmt.Fprintln(out, "snapshot", countsText(counts, status, err))
 	} else {
-		status, _ := it.driver.LastCounts(from, counts)
-		fmt.Fprintln(out, "counts", countsText(counts, status))
+		status, err := it.driver.LastCounts(from, counts)
+		fmt.Fprintln(out, "counts", countsText(counts, status, err))
 	}
 }
 
@@ -259,11 +270,9 @@ func (it *service) call() {
 	case kind < 13:
 		it.someLasts(number, kind == 11)
 	case kind < 15:
-		status, _ := seat.Turn()
-		fmt.Fprintln(out, "turn", status)
+		fmt.Fprintln(out, "turn", statusText(seat.Turn()))
 	case kind < 17:
-		status, _ := it.driver.Turn(likes.End(draw(3)))
-		fmt.Fprintln(out, "driver", status)
+		fmt.Fprintln(out, "driver", statusText(it.driver.Turn(likes.End(draw(3)))))
 	case kind < 19:
 		from := draw(it.pages + 1)
 		it.counts(kind == 17, from, draw(it.pages+1))
@@ -285,7 +294,7 @@ func (it *service) end() {
 	for number := uint32(0); number < it.total; number++ {
 		it.lasts(number, 0, (it.users+it.total-1-number)/it.total)
 	}
-	it.driver.Free()
+	it.driver.Close()
 }
 
 // drawOpening draws what a service is opened with.
@@ -301,7 +310,7 @@ func drawOpening() (options likes.Options, counts []uint64) {
 	options.Seats = pick(rarely(), func() uint32 { return 65 + draw(2) }, func() uint32 { return 1 + draw(3) })
 	options.Users = pick(rarely(), fixed(0), func() uint32 { return 1 + draw(12) })
 	options.Room = pick(rarely(), fixed(4097), func() uint32 { return 1 + draw(3) })
-	options.Hot = pick(rarely(), fixed(1000001), func() uint32 { return 512 * draw(2) })
+	options.Hot = pick(rarely(), fixed(1000001), func() uint32 { return [2]uint32{likes.NoHot, 512}[draw(2)] })
 	options.Marks = make([]uint32, draw(3))
 	for i := range options.Marks {
 		options.Marks[i] = drawPage(pages)
@@ -315,14 +324,197 @@ func drawOpening() (options likes.Options, counts []uint64) {
 	return options, counts
 }
 
+// shared is a service that goroutines share.
+type shared struct {
+	service      *likes.Service
+	users, pages uint32
+}
+
+func (it *shared) user() uint32 {
+	if rarely() {
+		return pick(draw(2) == 0, func() uint32 { return it.users + draw(3) }, fixed(math.MaxUint32))
+	}
+	return draw(it.users)
+}
+
+// tell prints what a call answers, or why it is refused.
+func tell(name, text string, err error) {
+	if err != nil {
+		text = " " + err.Error()
+	}
+	fmt.Fprintln(out, name+text)
+}
+
+// done prints that a call is done, or why it is refused.
+func done(name string, err error) {
+	tell(name, " ok", err)
+}
+
+// listed is numbers, each behind a space.
+func listed(numbers []uint64) (text string) {
+	for _, number := range numbers {
+		text += fmt.Sprint(" ", number)
+	}
+	return text
+}
+
+func listedLasts(lasts []uint32) (text string) {
+	for _, last := range lasts {
+		text += " " + lastText(last)
+	}
+	return text
+}
+
+func tellMoment(name string, m *likes.Moment, err error) {
+	text := ""
+	if err == nil {
+		text = listed(m.Counts) + listedLasts(m.Lasts)
+	}
+	tell(name, text, err)
+}
+
+func tellSeen(name string, seen likes.Seen, err error) {
+	tell(name, fmt.Sprint(" ", lastText(seen.Last), " ", seen.Count), err)
+}
+
+func (it *shared) likeOrLook(kind uint32) {
+	user := it.user()
+	page := drawPage(it.pages)
+	switch {
+	case kind < 4:
+		done("like", it.service.Like(user, page))
+	case kind == 4:
+		seen, err := it.service.Look(user, page)
+		tellSeen("look", seen, err)
+	case kind == 5:
+		seen, err := it.service.LookWithin(user, page, 10*time.Second)
+		tellSeen("within", seen, err)
+	default:
+		seen, err := it.service.Glance(user, page)
+		tell("glance", " "+lastText(seen.Last), err)
+	}
+}
+
+func (it *shared) tellAll(kind uint32) {
+	switch kind {
+	case 7:
+		last, err := it.service.Last(it.user())
+		tell("last", " "+lastText(last), err)
+	case 8:
+		lasts, err := it.service.Lasts()
+		tell("lasts", listedLasts(lasts), err)
+	case 9:
+		counts, err := it.service.Counts()
+		tell("counts", listed(counts), err)
+	default:
+		m, err := it.service.Snapshot()
+		tellMoment("snapshot", m, err)
+	}
+}
+
+func (it *shared) write() {
+	writer, err := it.service.NewWriter()
+	if err != nil {
+		panic(err)
+	}
+	for i, length := uint32(0), draw(100); i < length; i++ {
+		user := it.user()
+		if err := writer.Like(user, drawPage(it.pages)); err != nil {
+			fmt.Fprintln(out, "kept", err)
+		}
+	}
+	user := it.user()
+	seen, err := writer.Look(user, drawPage(it.pages))
+	tell("shown", " "+lastText(seen.Last), err)
+	done("flush", writer.Flush())
+	_, err = it.service.Stop()
+	done("stop", err)
+	done("close", writer.Close())
+}
+
+func (it *shared) propose() {
+	pages := make([]uint32, draw(3))
+	for i := range pages {
+		pages[i] = drawPage(it.pages)
+	}
+	done("propose", it.service.Propose(pages...))
+}
+
+func (it *shared) run() {
+	number := draw(it.service.Seats())
+	row := make([]likes.Request, draw(5))
+	for i := range row {
+		row[i].Op = likes.Op(pick(draw(2) == 0, fixed(uint32(likes.Like)), fixed(uint32(likes.Glance))))
+		row[i].User = it.user()
+		row[i].Page = drawPage(it.pages)
+	}
+	answers := make([]likes.Answer, len(row))
+	err := it.service.WithSeat(number, func(seat *likes.Held) error {
+		seat.Run(row, answers)
+		return nil
+	})
+	for _, answer := range answers {
+		if answer.Status == likes.SeenNow {
+			tell("row", " "+lastText(answer.Last), err)
+		} else {
+			done("row", answer.Err())
+		}
+	}
+}
+
+func (it *shared) leave() {
+	number := draw(it.service.Seats() + 1)
+	done("retire", it.service.RetireSeat(number))
+	done("like", it.service.Like(0, 0))
+	done("back", it.service.BringBackSeat(number))
+}
+
+func (it *shared) call() {
+	kind := draw(16)
+	switch {
+	case kind < 7:
+		it.likeOrLook(kind)
+	case kind < 11:
+		it.tellAll(kind)
+	case kind == 11:
+		it.write()
+	case kind == 12:
+		it.propose()
+	case kind == 13:
+		it.run()
+	case kind == 14:
+		it.leave()
+	default:
+		told, err := it.service.Statistics()
+		tell("statistics", fmt.Sprint(" ", told.Likes, " ", told.Looks), err)
+	}
+}
+
+func openAndCallShared() {
+	counts := make([]uint64, 1+draw(6))
+	for i := range counts {
+		counts[i] = uint64(draw(100))
+	}
+	options := likes.Options{Seats: 1 + draw(3), Hot: likes.NoHot, Period: 200 * time.Microsecond}
+	options.Users = 1 + draw(12)
+	options.Marks = make([]uint32, draw(2))
+	service, err := likes.Open(options, counts)
+	done("share", err)
+	it := &shared{service, options.Users, uint32(len(counts))}
+	for i := 0; i < sharedCalls; i++ {
+		it.call()
+	}
+	m, err := service.Stop()
+	tellMoment("stop", m, err)
+}
+
 func main() {
 	defer out.Flush()
 	for i := 0; i < services; i++ {
 		options, counts := drawOpening()
 		driver, err := likes.OpenDriver(options, counts)
-		var refused likes.Status
-		if errors.As(err, &refused) {
-			fmt.Fprintln(out, "open", refused)
+		if err != nil {
+			fmt.Fprintln(out, "open", err)
 			continue
 		}
 		fmt.Fprintln(out, "open ok")
@@ -332,5 +524,8 @@ func main() {
 			it.call()
 		}
 		it.end()
+	}
+	for i := 0; i < sharedServices; i++ {
+		openAndCallShared()
 	}
 }

@@ -1,9 +1,10 @@
 #!/usr/bin/env python3
 """Makes the calls that README.md draws, by the package likes, and prints what each answers."""
 
-from likes import Driver, End, Op, Refused, Seen, Status
+from likes import LIKED, NO_HOT, Driver, End, Likes, Op, Refused, Seen, Status
 
 SERVICES, CALLS = 300, 400
+SHARED, SHARED_CALLS = 100, 100
 
 
 class Draws:
@@ -176,11 +177,131 @@ def opening(draws):
     seats = 65 + draw(2) if rarely() else 1 + draw(3)
     users = 0 if rarely() else 1 + draw(12)
     room = 4097 if rarely() else 1 + draw(3)
-    hot = 1000001 if rarely() else 512 * draw(2)
+    hot = 1000001 if rarely() else (NO_HOT, 512)[draw(2)]
     marks = [draws.page(pages) for _ in range(draw(3))]
     length = 0 if draw(3) == 0 else users + rarely()
     lasts = [None if draw(2) == 0 else draws.page(pages) for _ in range(length)]
     return {"counts": counts, "users": users, "seats": seats, "room": room, "hot": hot, "marks": marks, "lasts": lasts}
+
+
+class Shared:
+    """A service that threads share."""
+
+    def __init__(self, draws, service, users, pages):
+        self.draws, self.service, self.users, self.pages = draws, service, users, pages
+
+    def user(self):
+        draw = self.draws.draw
+        if self.draws.rarely():
+            return self.users + draw(3) if draw(2) == 0 else 2**32 - 1
+        return draw(self.users)
+
+    def page(self):
+        return self.draws.page(self.pages)
+
+    @staticmethod
+    def tell(name, answer, *shown):
+        """Prints what a call answers, as words that are made of it, or why it is refused."""
+        try:
+            told = answer()
+            print(name, *[word for words in shown for word in words(told)] if shown else ["ok"])
+        except Refused as refused:
+            print(name, refused)
+
+    @staticmethod
+    def last(seen):
+        return [last_of(seen.last)]
+
+    @staticmethod
+    def count(seen):
+        return [seen.count]
+
+    @staticmethod
+    def lasts(lasts):
+        return map(last_of, lasts)
+
+    @staticmethod
+    def moment(moment):
+        return [*moment.counts, *map(last_of, moment.lasts)]
+
+    def like_or_look(self, kind):
+        user, page, it = self.user(), self.page(), self.service
+        if kind < 4:
+            self.tell("like", lambda: it.like(user, page))
+        elif kind == 4:
+            self.tell("look", lambda: it.look(user, page), self.last, self.count)
+        elif kind == 5:
+            self.tell("within", lambda: it.look_within(user, page, 10), self.last, self.count)
+        else:
+            self.tell("glance", lambda: it.glance(user, page), self.last)
+
+    def tell_all(self, kind):
+        if kind == 7:
+            user = self.user()
+            self.tell("last", lambda: [self.service.last(user)], self.lasts)
+        elif kind == 8:
+            self.tell("lasts", self.service.lasts, self.lasts)
+        elif kind == 9:
+            self.tell("counts", self.service.counts, list)
+        else:
+            self.tell("snapshot", self.service.snapshot, self.moment)
+
+    def write(self):
+        writer = self.service.writer()
+        for _ in range(self.draws.draw(100)):
+            user, page = self.user(), self.page()
+            try:
+                writer.like(user, page)
+            except Refused as refused:
+                print("kept", refused)
+        user, page = self.user(), self.page()
+        self.tell("shown", lambda: writer.look(user, page), self.last)
+        for name, call in (("flush", writer.flush), ("stop", self.service.stop), ("close", writer.close)):
+            self.tell(name, call)
+
+    def row(self):
+        number, row = self.draws.draw(self.service.seats), []
+        for _ in range(self.draws.draw(5)):
+            op = Op.LIKE if self.draws.draw(2) == 0 else Op.GLANCE
+            row.append((op, self.user(), self.page()))
+        for told in self.service.run(number, row):
+            print("row", last_of(told.last) if isinstance(told, Seen) else "ok" if told == LIKED else told.text)
+
+    def leave(self):
+        number = self.draws.draw(self.service.seats + 1)
+        self.tell("retire", lambda: self.service.retire_seat(number))
+        self.tell("like", lambda: self.service.like(0, 0))
+        self.tell("back", lambda: self.service.bring_back_seat(number))
+
+    def call(self):
+        kind = self.draws.draw(16)
+        if kind < 7:
+            self.like_or_look(kind)
+        elif kind < 11:
+            self.tell_all(kind)
+        elif kind == 11:
+            self.write()
+        elif kind == 12:
+            pages = [self.page() for _ in range(self.draws.draw(3))]
+            self.tell("propose", lambda: self.service.propose(pages))
+        elif kind == 13:
+            self.row()
+        elif kind == 14:
+            self.leave()
+        else:
+            self.tell("statistics", self.service.statistics, lambda told: [told.likes, told.looks])
+
+
+def open_and_call_shared(draws):
+    draw = draws.draw
+    counts = [draw(100) for _ in range(1 + draw(6))]
+    seats, users = 1 + draw(3), 1 + draw(12)
+    service = Likes(counts, users, seats, hot=NO_HOT, marks=[0] * draw(2), period=0.0002)
+    print("share ok")
+    it = Shared(draws, service, users, len(counts))
+    for _ in range(SHARED_CALLS):
+        it.call()
+    it.tell("stop", service.stop, it.moment)
 
 
 def main():
@@ -197,6 +318,8 @@ def main():
         for _ in range(CALLS):
             service.call()
         service.end()
+    for _ in range(SHARED):
+        open_and_call_shared(draws)
 
 
 main()

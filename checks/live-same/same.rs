@@ -2,12 +2,15 @@
 
 use std::fmt::Display;
 use std::io::{self, BufWriter, Write};
+use std::time::Duration;
 
-use likes::{Answer, Driver, End, Error, Glance, Last, LastCounts, Look, Op, Options, Outcome, Phase, Request, Seat};
-use likes::{Seen, Snapshot, Turn, MAX_COUNT, MAX_HOT, MAX_ROOM};
+use likes::{Answer, Driver, End, Error, Glance, Hot, Last, LastCounts, Look, Moment, Op, Options, Outcome, Phase};
+use likes::{Request, Seat, Seen, Snapshot, Turn, MAX_COUNT, MAX_HOT, MAX_ROOM};
 
 const SERVICES: u32 = 300;
 const CALLS: u32 = 400;
+const SHARED: u32 = 100;
+const SHARED_CALLS: u32 = 100;
 
 /// Numbers, always the same.
 struct Draws(u64);
@@ -60,7 +63,8 @@ fn listed<T: Display>(status: impl Display, numbers: impl IntoIterator<Item = T>
 /// What a service is opened with.
 struct Opening {
     counts: Vec<u64>,
-    numbers: [u32; 4],
+    numbers: [u32; 3],
+    hot: Hot,
     marks: Vec<u32>,
     lasts: Vec<Last>,
 }
@@ -75,17 +79,19 @@ impl Opening {
         let seats = if draws.rarely() { 65 + draws.draw(2) } else { 1 + draws.draw(3) };
         let users = if draws.rarely() { 0 } else { 1 + draws.draw(12) };
         let room = if draws.rarely() { MAX_ROOM + 1 } else { 1 + draws.draw(3) };
-        let hot = if draws.rarely() { MAX_HOT + 1 } else { 512 * draws.draw(2) };
+        let hot =
+            if draws.rarely() { Hot::From(MAX_HOT + 1) } else { [Hot::Never, Hot::Usual][draws.draw(2) as usize] };
         let marks = (0..draws.draw(3)).map(|_| draws.page(pages)).collect();
         let length = if draws.draw(3) == 0 { 0 } else { users + u32::from(draws.rarely()) };
         let last = |_| if draws.draw(2) == 0 { Last::NONE } else { Last::of(draws.page(pages)) };
         let lasts = (0..length).map(last).collect();
-        Self { counts, numbers: [seats, users, room, hot], marks, lasts }
+        Self { counts, numbers: [seats, users, room], hot, marks, lasts }
     }
 
     fn open(&self) -> Result<Driver, Error> {
-        let [seats, users, room, hot] = self.numbers;
-        Driver::open(&Options { seats, users, room, hot, marks: &self.marks, lasts: &self.lasts }, &self.counts)
+        let [seats, users, room] = self.numbers;
+        let (seats, room, marks, lasts) = (Some(seats), Some(room), &self.marks[..], &self.lasts[..]);
+        Driver::open(&Options { seats, room, hot: self.hot, marks, lasts, ..Options::new(users) }, &self.counts)
     }
 }
 
@@ -263,6 +269,149 @@ impl<'a> Service<'a> {
     }
 }
 
+/// Words behind a name, each behind a space.
+fn words<T: Display>(words: impl IntoIterator<Item = T>) -> String {
+    listed("", words)
+}
+
+/// What a call of a shared service answers, or why it is refused.
+fn told<T>(answer: Result<T, Error>, shown: impl FnOnce(T) -> String) -> String {
+    answer.map_or_else(|error| format!(" {error}"), shown)
+}
+
+/// The same of a call that only does something.
+fn done(answer: Result<(), Error>) -> String {
+    told(answer, |()| " ok".into())
+}
+
+fn moment_text(moment: Moment) -> String {
+    words(moment.counts) + &words(moment.lasts.into_iter().map(last_text))
+}
+
+/// A service that threads share.
+struct Shared<'a> {
+    draws: &'a mut Draws,
+    out: &'a mut dyn Write,
+    users: u32,
+    pages: u32,
+    service: &'a likes::Service,
+}
+
+impl Shared<'_> {
+    fn user(&mut self) -> u32 {
+        if self.draws.rarely() {
+            return if self.draws.draw(2) == 0 { self.users + self.draws.draw(3) } else { u32::MAX };
+        }
+        self.draws.draw(self.users)
+    }
+
+    fn user_and_page(&mut self) -> (u32, u32) {
+        (self.user(), self.draws.page(self.pages))
+    }
+
+    fn like_or_look(&mut self, kind: u32) -> String {
+        let (user, page) = self.user_and_page();
+        let shown = |seen: Seen| format!(" {} {}", last_text(seen.last), seen.count);
+        match kind {
+            0..=3 => format!("like{}", done(self.service.like(user, page))),
+            4 => format!("look{}", told(self.service.look(user, page), shown)),
+            5 => {
+                let seen = self.service.look_within(user, page, Duration::from_secs(10));
+                format!("within{}", told(seen, |seen| shown(seen.expect("a look in time"))))
+            }
+            _ => format!("glance{}", told(self.service.glance(user, page), |seen| words([last_text(seen.last)]))),
+        }
+    }
+
+    fn write(&mut self) -> io::Result<String> {
+        let mut writer = self.service.writer().expect("a writer");
+        for _ in 0..self.draws.draw(100) {
+            let (user, page) = self.user_and_page();
+            if let Err(error) = writer.like(user, page) {
+                writeln!(self.out, "kept {error}")?;
+            }
+        }
+        let (user, page) = self.user_and_page();
+        writeln!(self.out, "shown{}", told(writer.look(user, page), |seen| words([last_text(seen.last)])))?;
+        writeln!(self.out, "flush{}", done(writer.flush()))?;
+        // No service can be stopped here while it has a writer: the compiler refuses that.
+        writeln!(self.out, "stop {}", Error::OpenWriter)?;
+        Ok(format!("close{}", done(writer.close().map_err(|(_, error)| error))))
+    }
+
+    fn propose(&mut self) -> String {
+        let pages: Vec<_> = (0..self.draws.draw(3)).map(|_| self.draws.page(self.pages)).collect();
+        format!("propose{}", done(self.service.propose(&pages)))
+    }
+
+    fn row(&mut self) -> String {
+        let number = self.draws.draw(self.service.seats());
+        let mut row = Vec::new();
+        for _ in 0..self.draws.draw(5) {
+            let op = if self.draws.draw(2) == 0 { Op::Like } else { Op::Glance };
+            let (user, page) = self.user_and_page();
+            row.push(Request::new(op, user, page, 0));
+        }
+        let mut answers = vec![Answer::NONE; row.len()];
+        let ran = self.service.with_seat(number, |seat| seat.run(&row, &mut answers));
+        assert_eq!(ran, Ok(row.len()));
+        let line = |answer: &Answer| match answer.outcome() {
+            Ok(Outcome::Liked) => "row ok".into(),
+            Ok(Outcome::Seen(seen)) => format!("row {}", last_text(seen.last)),
+            other => format!("row {}", text(other, outcome_text)),
+        };
+        answers.iter().map(line).collect::<Vec<_>>().join("\n")
+    }
+
+    fn leave(&mut self) -> String {
+        let number = self.draws.draw(self.service.seats() + 1);
+        let retired = done(self.service.retire_seat(number));
+        let liked = done(self.service.like(0, 0));
+        format!("retire{retired}\nlike{liked}\nback{}", done(self.service.bring_back_seat(number)))
+    }
+
+    fn call(&mut self) -> io::Result<()> {
+        let lasts_text = |lasts: Vec<Last>| words(lasts.into_iter().map(last_text));
+        let lines = match self.draws.draw(16) {
+            kind @ 0..=6 => self.like_or_look(kind),
+            7 => {
+                let user = self.user();
+                format!("last{}", told(self.service.last(user), |last| words([last_text(last)])))
+            }
+            8 => format!("lasts{}", told(self.service.lasts(), lasts_text)),
+            9 => format!("counts{}", told(self.service.counts(), words)),
+            10 => format!("snapshot{}", told(self.service.snapshot(), moment_text)),
+            11 => self.write()?,
+            12 => self.propose(),
+            13 => self.row(),
+            14 => self.leave(),
+            _ => {
+                let told = self.service.statistics();
+                format!("statistics {} {}", told.likes, told.looks)
+            }
+        };
+        if lines.is_empty() {
+            return Ok(());
+        }
+        writeln!(self.out, "{lines}")
+    }
+}
+
+fn open_and_call_shared(draws: &mut Draws, out: &mut dyn Write) -> io::Result<()> {
+    let counts: Vec<_> = (0..1 + draws.draw(6)).map(|_| u64::from(draws.draw(100))).collect();
+    let (seats, users) = (Some(1 + draws.draw(3)), 1 + draws.draw(12));
+    let marks = &[0][..draws.draw(2) as usize];
+    let period = Some(Duration::from_micros(200));
+    let options = Options { seats, hot: Hot::Never, period, marks, ..Options::new(users) };
+    let service = likes::Service::open(&options, &counts).expect("a service");
+    writeln!(out, "share ok")?;
+    let pages = counts.len() as u32;
+    for _ in 0..SHARED_CALLS {
+        Shared { draws, out, users, pages, service: &service }.call()?;
+    }
+    writeln!(out, "stop{}", told(service.stop(), moment_text))
+}
+
 fn main() -> io::Result<()> {
     let mut draws = Draws(1);
     let mut out = BufWriter::new(io::stdout().lock());
@@ -276,6 +425,9 @@ fn main() -> io::Result<()> {
             service.call()?;
         }
         service.end()?;
+    }
+    for _ in 0..SHARED {
+        open_and_call_shared(&mut draws, &mut out)?;
     }
     out.flush()
 }

@@ -1,4 +1,4 @@
-// Four threads like and look, one by one and in rows, and the totals are printed.
+// Four threads like and look, by a writer and in rows, and the totals are printed.
 #include "likes.hpp"
 
 #include <iostream>
@@ -6,14 +6,16 @@
 
 constexpr std::uint32_t threads = 4, users = 1000, likes_each = 50000;
 
-// Likes and looks one by one. A thread's users are its own, so it knows their last likes.
-void call_singly(likes::Service &service, std::uint32_t number) {
+// Likes and looks by a writer. A thread's users are its own here, so it knows their last likes.
+void call_by_writer(likes::Service &service, std::uint32_t number) {
+    likes::Writer writer = service.writer();
     for (std::uint32_t i = 0; i < likes_each; i++) {
         std::uint32_t user = number + threads * (i % (users / threads)), page = i % 3;
-        service.like(user, page);
-        if (i % 100 == 0 && service.look(user, 0).last != page)
+        writer.like(user, page);
+        if (i % 100 == 0 && writer.look(user, 0).last != page)
             throw std::logic_error("another last like");
     }
+    writer.close();
 }
 
 // The same likes in rows of 100, at a seat that the thread holds for each row.
@@ -32,10 +34,13 @@ void call_in_rows(likes::Service &service, std::uint32_t number) {
 
 int main() {
     try {
-        likes::Service service({threads, users, 64, 512}, {0, 0, 0, 0});
+        likes::Options options;
+        options.users = users;
+        options.seats = threads; // one for each thread that holds its seat
+        likes::Service service(options, {0, 0, 0, 0});
         std::vector<std::thread> all;
         for (std::uint32_t number = 0; number < threads; number++)
-            all.emplace_back(number % 2 ? call_in_rows : call_singly, std::ref(service), number);
+            all.emplace_back(number % 2 ? call_in_rows : call_by_writer, std::ref(service), number);
         for (auto &thread : all)
             thread.join();
         try {
@@ -43,7 +48,7 @@ int main() {
         } catch (const likes::Error &error) {
             std::cout << "a like of user " << users << ": " << error.what() << "\n";
         }
-        for (std::uint64_t total : service.stop())
+        for (std::uint64_t total : service.stop().counts)
             std::cout << total << "\n";
     } catch (const std::exception &error) {
         std::cerr << error.what() << "\n";

@@ -1,5 +1,5 @@
 #!/usr/bin/env python3
-"""Four threads like and look, one by one and in rows, and the totals are printed."""
+"""Four threads like and look in rows, and the totals are printed."""
 
 import threading
 
@@ -21,7 +21,7 @@ def in_rows(service, number, wrong):
 
 def main():
     wrong = []
-    service = Likes(counts=[10, 0, 0], users=USERS, seats=SEATS, hot=512)
+    service = Likes(counts=[10, 0, 0], users=USERS, seats=SEATS)
     service.like(7, 1)
     print(service.look(7, 1), service.glance(8, 0))
     threads = [threading.Thread(target=in_rows, args=(service, number, wrong)) for number in range(SEATS)]
@@ -33,7 +33,7 @@ def main():
         service.like(USERS, 0)
     except Refused as refused:
         print("a like of an unknown user:", refused)
-    print(service.close())
+    print(service.stop().counts)
     return 1 if wrong else 0
 
 

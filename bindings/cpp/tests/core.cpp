@@ -23,9 +23,24 @@ template <typename Call> static std::uint32_t thrown(Call call) {
     return LIKES_OK;
 }
 
+static likes::Options with(std::uint32_t users, std::uint32_t seats) {
+    likes::Options options;
+    options.users = users;
+    options.seats = seats;
+    return options;
+}
+
+static likes::Options two_seats() {
+    likes::Options options = with(4, 2);
+    options.room = 2;
+    options.hot = likes::no_hot;
+    options.marks = {0};
+    return options;
+}
+
 // Two seats, page 0 marked and page 1 not.
 struct Two {
-    likes::Driver driver = likes::Driver({2, 4, 2, 0, {0}, {}}, {10, 0});
+    likes::Driver driver = likes::Driver(two_seats(), {10, 0});
     std::vector<likes::Seat> seats;
 
     Two() {
@@ -55,7 +70,7 @@ struct Two {
 };
 
 static bool shows(const likes::Look &look, std::optional<std::uint32_t> last, std::uint64_t count) {
-    return look.outcome == LIKES_SEEN && look.seen.last == last && look.seen.count == count;
+    return look.outcome == LIKES_SEEN && look.seen && look.seen->last == last && look.seen->count == count;
 }
 
 static void three_phases() {
@@ -65,29 +80,31 @@ static void three_phases() {
     two.change_phase();
     hold(first.like(0, 0) == LIKES_LIKED && first.like(2, 0) == LIKES_LIKED, "likes of seat 0 in phase 1");
     hold(second.like(1, 0) == LIKES_LIKED, "a like of seat 1 in phase 1");
-    hold(first.look(0, 0, 7).outcome == LIKES_WAITS && !first.take_found(), "a look that waits");
+    likes::Look waits = first.look(0, 0, 7);
+    hold(waits.outcome == LIKES_WAITS && !waits.seen && !first.take_found(), "a look that waits");
     hold(shows(first.glance(0, 0), 0, 13) && shows(second.glance(3, 0), std::nullopt, 12), "glances");
     hold(shows(first.look(0, 1, 8), 0, 0) && first.phase() == 1, "a look at a page that isn't split");
     two.change_phase();
     hold(two.driver.phase() == 2 && first.like(0, 1) == LIKES_LIKED, "a like in phase 2");
-    std::optional<likes_found> found = first.take_found();
-    hold(found && found->tag == 7 && found->count == 14 && found->asked == 1 && found->ran == 2, "a found look");
+    std::optional<likes::Found> found = first.take_found();
+    hold(found && found->tag == 7 && found->seen.count == 14 && found->seen.last == 0u && found->asked == 1 && found->ran == 2, "a found look");
     hold(!first.take_found(), "a look is found twice");
 }
 
 static void refusals() {
     Two two;
     likes::Seat &first = two.seats[0];
-    std::vector<std::uint32_t> pages(2);
     std::vector<std::uint64_t> counts(2);
     hold(thrown([&] { first.like(4, 0); }) == LIKES_UNKNOWN_USER, "a user too many");
     hold(thrown([&] { first.look(1, 0, 0); }) == LIKES_OTHER_SEAT, "another seat's user");
     hold(thrown([&] { first.glance(0, 2); }) == LIKES_UNKNOWN_PAGE, "a page too many");
     hold(thrown([&] { first.last(5); }) == LIKES_UNKNOWN_USER, "the last like of a user too many");
-    hold(thrown([&] { first.lasts(1, pages); }) == LIKES_WRONG_RANGE, "last likes past the last");
+    hold(thrown([&] { first.lasts(1, 2); }) == LIKES_WRONG_RANGE, "last likes past the last");
     hold(thrown([&] { two.driver.snapshot(1, counts); }) == LIKES_WRONG_RANGE, "a snapshot past the last page");
     hold(thrown([&] { two.driver.last_counts(1, counts); }) == LIKES_WRONG_RANGE, "last counts past the last page");
-    hold(thrown([&] { likes::Driver({65, 4}, {0}); }) == LIKES_WRONG_SEATS, "a service with 65 seats");
+    hold(thrown([&] { likes::Driver(with(4, 65), {0}); }) == LIKES_WRONG_SEATS, "a service with 65 seats");
+    hold(thrown([&] { likes::Driver(with(4, 0), {0}); }) == LIKES_WRONG_SEATS, "a service with no seats");
+    hold(thrown([&] { likes::Driver(likes::Options(), {0}); }) == LIKES_WRONG_USERS, "a service with no users");
     likes::Seat moved = std::move(first);
     hold(thrown([&] { first.turn(); }) == LIKES_EMPTY && moved.turn() == LIKES_RUNS, "a seat that was moved");
 }
@@ -107,7 +124,6 @@ static void rows() {
 
 static void snapshots() {
     Two two;
-    std::vector<std::uint32_t> pages(2);
     std::vector<std::uint64_t> counts(2), one(1);
     two.seats[1].like(3, 1);
     hold(two.driver.snapshot(0, counts) == LIKES_NO_MOMENT, "a snapshot of no moment");
@@ -115,8 +131,8 @@ static void snapshots() {
     hold(two.driver.turn() == LIKES_NOT_ALL_IN && two.seats[1].turn() == LIKES_BETWEEN, "a seat is missing");
     hold(two.driver.snapshot(0, counts) == LIKES_COUNTED && counts[0] == 10 && counts[1] == 1, "a snapshot");
     hold(two.driver.snapshot(1, one) == LIKES_COUNTED && one[0] == 1, "a snapshot of a page");
-    two.seats[1].lasts(0, pages);
-    hold(pages[0] == LIKES_NO_PAGE && pages[1] == 1 && two.seats[1].last(3) == 1u, "last likes");
+    const std::vector<likes::Last> lasts = {std::nullopt, 1u};
+    hold(two.seats[1].lasts(0, 2) == lasts && two.seats[1].last(3) == 1u, "last likes");
 }
 
 static void split_pages() {
@@ -141,7 +157,9 @@ static void again() {
     hold(two.driver.last_counts(0, counts) == LIKES_NOT_ENDED, "last counts too early");
     two.end();
     two.last_counts({10, 1});
-    likes::Driver driver({1, 1, 4, 0, {}, {1}}, {10, 1});
+    likes::Options options = with(1, 1);
+    options.lasts = {1u};
+    likes::Driver driver(options, {10, 1});
     hold(shows(driver.take_seat()->look(0, 1, 0), 1, 1), "a service that goes on");
 }
 

@@ -1,13 +1,16 @@
-// Wrong uses of likes::Service: seats and users that don't exist, wrong numbers for a new service, empty rows,
-// and calls after the end. Each has to throw likes::Error with its status, or to do nothing.
+// Each call of likes::Service, its writers and its held seats, and wrong uses of them: each has to throw likes::Error
+// with its status, or to do nothing.
 //
 // It ends with status 1 and a line where something else happens.
 #include "likes.hpp"
 
-#include <chrono>
 #include <cstdlib>
+#include <cstring>
 #include <iostream>
+#include <new>
 #include <thread>
+
+using namespace std::chrono_literals;
 
 static void hold(bool is_right, const char *text) {
     if (!is_right) {
@@ -26,105 +29,230 @@ template <typename Call> static std::uint32_t thrown(Call call) {
     return LIKES_OK;
 }
 
-static void openings() {
-    auto open = [](likes::Options options, std::vector<std::uint64_t> counts, std::uint32_t period) {
-        return thrown([&] { likes::Service service(options, counts, period); });
-    };
-    hold(open({2, 9, 4, 0}, {}, 1000) == LIKES_WRONG_PAGES, "no pages");
-    hold(open({2, 9, 4, 0}, {0}, LIKES_MAX_PERIOD_US + 1) == LIKES_WRONG_PERIOD, "a period too long");
-    hold(open({65, 9, 4, 0}, {0}, 1000) == LIKES_WRONG_SEATS, "65 seats");
-    hold(open({2, 9, 4, 0}, {0}, 1000) == LIKES_OK, "a right opening");
-    hold(open({0, 9, 0, 0}, {0}, 0) == LIKES_OK, "an opening with defaults");
-    hold(open({2, 9}, {0}, 1000) == LIKES_OK, "an opening with the usual room");
+// Two seats and little room.
+static likes::Options two_seats(std::uint32_t users) {
+    likes::Options options;
+    options.users = users;
+    options.seats = 2;
+    options.room = 4;
+    options.hot = likes::no_hot;
+    return options;
 }
 
-// A service that goes on from the final counts and last likes of another.
+// The same, with a page that is split in every split phase.
+static likes::Options marked(std::uint32_t users, std::uint32_t page, std::chrono::microseconds period) {
+    likes::Options options = two_seats(users);
+    options.marks = {page};
+    options.period = period;
+    return options;
+}
+
+// Every field has a value, whatever was in its memory.
+static void fields() {
+    alignas(likes::Options) unsigned char memory[sizeof(likes::Options)];
+    std::memset(memory, 0xff, sizeof memory);
+    likes::Options *options = new (memory) likes::Options;
+    hold(options->users == 0 && !options->seats && !options->room && !options->hot && !options->period, "options");
+    options->~Options();
+    hold(likes::Seen().count == 0 && !likes::Seen().last && !likes::Look().seen && likes::Found().tag == 0, "looks");
+    hold(likes::Statistics().likes == 0 && likes::Statistics().wait_time == 0ns, "statistics");
+}
+
+static void openings() {
+    auto open = [](auto change, std::vector<std::uint64_t> counts) {
+        likes::Options options = two_seats(9);
+        change(options);
+        return thrown([&] { likes::Service service(options, counts); });
+    };
+    hold(open([](auto &) {}, {}) == LIKES_WRONG_PAGES, "no pages");
+    hold(open([](auto &it) { it.period = 0us; }, {0}) == LIKES_WRONG_PERIOD, "a period of 0");
+    hold(open([](auto &it) { it.period = -1s; }, {0}) == LIKES_WRONG_PERIOD, "a period below 0");
+    hold(open([](auto &it) { it.period = 1001s; }, {0}) == LIKES_WRONG_PERIOD, "a period too long");
+    hold(open([](auto &it) { it.seats = 65; }, {0}) == LIKES_WRONG_SEATS, "65 seats");
+    hold(open([](auto &it) { it.seats = 0; }, {0}) == LIKES_WRONG_SEATS, "no seats");
+    hold(open([](auto &it) { it.room = 0; }, {0}) == LIKES_WRONG_ROOM, "no room");
+    hold(open([](auto &it) { it.users = 0; }, {0}) == LIKES_WRONG_USERS, "no users");
+    hold(open([](auto &it) { it.marks = {2}; }, {5, 7}) == LIKES_WRONG_MARKS, "a wrong mark");
+    hold(open([](auto &) {}, {0}) == LIKES_OK, "a right opening");
+}
+
+// What isn't given has its default: a page that many like is found, and split.
+static void defaults() {
+    likes::Options options;
+    options.users = 100;
+    likes::Service service(options, std::vector<std::uint64_t>(100));
+    hold(service.seats() >= 16, "the default of seats");
+    while (service.split_pages() != std::vector<std::uint32_t>{7})
+        for (std::uint32_t user = 0; user < 100; user++)
+            service.like(user, 7);
+}
+
+// A service that goes on from the last moment of another.
 static void again() {
-    likes::Service first({2, 3, 4, 0}, {5, 7});
+    likes::Service first(two_seats(3), {5, 7});
     first.like(2, 1);
     hold(first.last(2) == 1u && !first.last(0), "last likes");
     hold(thrown([&] { first.last(3); }) == LIKES_UNKNOWN_USER, "the last like of a user too many");
-    const std::vector<std::uint32_t> lasts = {LIKES_NO_PAGE, LIKES_NO_PAGE, 1};
+    const std::vector<likes::Last> lasts = {std::nullopt, std::nullopt, 1u};
     hold(first.lasts() == lasts, "all last likes");
     likes::Moment moment = first.snapshot();
     hold(moment.counts == std::vector<std::uint64_t>({5, 8}) && moment.lasts == lasts, "a snapshot");
-    std::optional<likes::Seen> look = first.look_within(2, 1, 1000000);
+    std::optional<likes::Seen> look = first.look_within(2, 1, 1s);
     hold(look && look->count == 8 && look->last == 1u, "a look with a deadline");
-    hold(thrown([&] { first.look_within(3, 1, 1000000); }) == LIKES_UNKNOWN_USER, "a look of a user too many");
+    hold(thrown([&] { first.look_within(3, 1, 1s); }) == LIKES_UNKNOWN_USER, "a look of a user too many");
     hold(first.statistics().likes == 1 && first.statistics().looks == 1, "the statistics");
-    std::vector<std::uint64_t> counts = first.stop();
-    hold(first.lasts() == lasts, "all last likes after the end");
-    likes::Service second({2, 3, 4, 0, {}, first.lasts()}, counts);
+    moment = first.stop();
+    hold(moment.lasts == lasts, "all last likes after the end");
+    likes::Options options = two_seats(3);
+    options.lasts = moment.lasts;
+    likes::Service second(options, moment.counts);
     likes::Seen seen = second.look(2, 1);
     hold(seen.last == 1u && seen.count == 8, "a look at a service that goes on");
-    hold(thrown([&] { likes::Service service({2, 3, 4, 0, {}, {0, 1}}, counts); }) == LIKES_WRONG_LASTS,
-         "last likes of two users of three");
+    options.lasts = {0u, 1u};
+    hold(thrown([&] { likes::Service service(options, {5, 8}); }) == LIKES_WRONG_LASTS, "last likes of two of three");
 }
 
 // A page that is proposed is split after a while, and no other.
 static void proposals() {
-    likes::Service service({2, 9, 4, 0}, {5, 7}, 100);
+    likes::Options options = two_seats(9);
+    options.period = 100us;
+    likes::Service service(options, {5, 7});
     hold(service.split_pages().empty(), "a page is split that nobody proposed");
     for (std::uint32_t page : {1u, 0u}) {
         service.propose({page, 2, UINT32_MAX});
         while (service.split_pages() != std::vector<std::uint32_t>{page})
-            std::this_thread::sleep_for(std::chrono::microseconds(100));
+            std::this_thread::sleep_for(100us);
         service.like(4, page);
     }
     service.propose({});
     hold(service.look(4, 1).count == 8, "a look after a page was split");
-    hold(service.stop() == std::vector<std::uint64_t>{6, 8}, "final counts of pages that were split");
+    hold(service.stop().counts == std::vector<std::uint64_t>{6, 8}, "final counts of pages that were split");
     hold(thrown([&] { service.propose({1}); }) == LIKES_NOT_STARTED, "a proposal after the end");
     hold(service.split_pages().empty(), "split pages after the end");
 }
 
 // A marked page is split in every split phase, which come by themselves. Its counts are those of one moment.
 static void marks() {
-    hold(thrown([] { likes::Service service({2, 9, 4, 0, {2}, {}}, {5, 7}); }) == LIKES_WRONG_MARKS, "a wrong mark");
-    likes::Service service({2, 9, 4, 0, {1}, {}}, {5, 7}, 100);
+    likes::Service service(marked(9, 1, 100us), {5, 7});
     hold(service.split_pages() == std::vector<std::uint32_t>{1}, "a marked page isn't split");
     service.like(4, 1);
-    while (service.phase() < 4)
-        std::this_thread::sleep_for(std::chrono::microseconds(100));
+    while (service.phase() < 4) {
+        std::this_thread::sleep_for(100us);
+        hold(service.glance(4, 1).last == 1u, "a glance");
+    }
     hold(service.counts() == std::vector<std::uint64_t>{5, 8}, "the counts of a moment");
     service.stop();
     hold(thrown([&] { service.counts(); }) == LIKES_NOT_STARTED && service.phase() == 0, "counts after the end");
 }
 
-// Only seats 0 and 1 can be held.
+// A look whose answer comes too late is none.
+static void deadlines() {
+    likes::Options options = marked(9, 1, 100s);
+    options.room = 64; // else looks that wait end the phase early
+    likes::Service service(options, {5, 7});
+    while (service.phase() % 2 == 0)
+        service.like(4, 0);
+    hold(!service.look_within(4, 1, 1ms) && !service.look_within(4, 1, -1s), "a look that is late");
+    hold(service.statistics().late >= 1, "looks that are late");
+    hold(service.look_within(4, 0, 0ms).has_value(), "a look that needn't wait");
+}
+
+// Threads that serve any user, by writers: each like is counted once, and a look shows what the writer was told before.
+static void writers() {
+    constexpr std::uint32_t threads = 4, users = 40, each = 20000;
+    likes::Service service(marked(users, 0, 200us), {0, 0, 0});
+    std::vector<std::thread> all;
+    for (std::uint32_t number = 0; number < threads; number++)
+        all.emplace_back([&service, number] {
+            likes::Writer writer = service.writer();
+            for (std::uint32_t i = 0; i < each; i++) {
+                std::uint32_t user = (i * 7 + number) % users;
+                writer.like(user, i % 3);
+                hold(i % 500 != 0 || writer.look(user, 0).last.has_value(), "a look of a writer");
+            }
+            hold(thrown([&] { writer.like(users, 0); }) == LIKES_UNKNOWN_USER, "a writer's like of a user too many");
+            writer.flush();
+        });
+    for (std::thread &thread : all)
+        thread.join();
+    std::vector<std::uint64_t> counts = service.counts();
+    hold(counts[0] + counts[1] + counts[2] == threads * each, "likes of writers");
+    likes::Writer writer = service.writer();
+    writer.like(3, 1);
+    hold(writer.look(3, 1).last == 1u && writer.look(3, 1).count == counts[1] + 1, "a writer's own like");
+    hold(thrown([&] { service.stop(); }) == LIKES_OPEN_WRITER, "an end under a writer");
+    likes::Writer other = std::move(writer);
+    hold(thrown([&] { writer.like(3, 1); }) == LIKES_NOT_STARTED, "a like of a writer that was moved");
+    other.like(3, 1);
+    hold(other.drop() == 1 && other.drop() == 0, "a like that is dropped");
+    other.close();
+    hold(thrown([&] { other.flush(); }) == LIKES_NOT_STARTED, "a flush after the end of a writer");
+    hold(service.stop().counts[1] == counts[1] + 1, "the final counts");
+}
+
+// A seat leaves and comes back. Likes of its users stay kept by a writer meanwhile.
+static void leaving() {
+    likes::Service service(marked(4, 0, 200us), {0, 0});
+    likes::Writer writer = service.writer();
+    service.retire_seat(1);
+    hold(thrown([&] { service.like(1, 0); }) == LIKES_GONE, "a like of a seat that has left");
+    writer.like(1, 0);
+    writer.like(2, 0);
+    hold(thrown([&] { writer.flush(); }) == LIKES_GONE, "a flush to a seat that has left");
+    hold(thrown([&] { writer.close(); }) == LIKES_GONE, "an end of a writer with likes that are kept");
+    hold(service.counts()[0] == 1, "a seat that is there counts");
+    service.bring_back_seat(1);
+    writer.close();
+    hold(service.look(1, 0).count == 2, "a seat that came back counts");
+    hold(thrown([&] { service.retire_seat(2); }) == LIKES_UNKNOWN_SEAT, "a seat too many leaves");
+}
+
+// Only seats 0 and 1 can be held, one by a thread. Other calls of the thread don't wait for itself.
 static void seats(likes::Service &service) {
     for (std::uint32_t number : {2u, 15u, 16u, 1000u, UINT32_MAX})
-        hold(thrown([&] { service.hold(number); }) == LIKES_UNKNOWN_SEAT, "a seat too many was held");
+        hold(thrown([&] { (void)service.hold(number); }) == LIKES_UNKNOWN_SEAT, "a seat too many was held");
     for (std::uint32_t number : {0u, 1u}) {
         std::vector<likes_answer> answers;
         likes::Held seat = service.hold(number);
         hold(seat.run({}, answers) == 0 && answers.empty(), "an empty row");
         hold(seat.run({likes_request{}}, answers, 5) == 1, "a row from behind its end");
         hold(!seat.take_found(), "a look was found");
+        for (std::uint32_t user : {0u, 1u})
+            hold(thrown([&] { service.like(user, 0); }) == LIKES_HOLDS_SEAT, "a like by a thread with a seat");
+        hold(thrown([&] { service.look(0, 0); }) == LIKES_HOLDS_SEAT, "a look by a thread with a seat");
+        hold(thrown([&] { service.counts(); }) == LIKES_HOLDS_SEAT, "counts for a thread with a seat");
+        hold(thrown([&] { (void)service.hold(1 - number); }) == LIKES_HOLDS_SEAT, "a second seat");
     }
 }
 
-// Calls after the end. A second end gives the same counts.
+// Calls after the end. A second end gives the same moment.
 static void late(likes::Service &service) {
-    const std::vector<std::uint64_t> totals = {5, 8};
     for (int times = 0; times < 3; times++)
-        hold(service.stop() == totals, "other final counts");
+        hold(service.stop().counts == std::vector<std::uint64_t>{5, 8}, "other final counts");
     hold(thrown([&] { service.like(4, 0); }) == LIKES_NOT_STARTED, "a like after the end");
     hold(thrown([&] { service.look(4, 0); }) == LIKES_NOT_STARTED, "a look after the end");
     hold(thrown([&] { service.glance(4, 0); }) == LIKES_NOT_STARTED, "a glance after the end");
-    hold(thrown([&] { service.hold(0); }) == LIKES_NOT_STARTED, "a seat after the end");
+    hold(thrown([&] { (void)service.hold(0); }) == LIKES_NOT_STARTED, "a seat after the end");
+    hold(thrown([&] { (void)service.writer(); }) == LIKES_NOT_STARTED, "a writer after the end");
+    hold(thrown([&] { service.snapshot(); }) == LIKES_NOT_STARTED, "a snapshot after the end");
+    hold(thrown([&] { service.statistics(); }) == LIKES_NOT_STARTED, "statistics after the end");
 }
 
 int main() {
+    fields();
     openings();
+    defaults();
     again();
     proposals();
     marks();
-    likes::Service service({2, 9, 4, 0}, {5, 7});
+    deadlines();
+    writers();
+    leaving();
+    likes::Service service(two_seats(9), {5, 7});
     service.like(4, 1);
     hold(thrown([&] { service.like(9, 1); }) == LIKES_UNKNOWN_USER, "a user too many");
     hold(thrown([&] { service.look(4, 2); }) == LIKES_UNKNOWN_PAGE, "a page too many");
     seats(service);
     late(service);
-    std::cout << "all wrong uses refused\n";
+    std::cout << "all calls answered\n";
 }

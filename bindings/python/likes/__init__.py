@@ -1,6 +1,7 @@
-"""The live core for Python, by ctypes. Nothing here is proved: it calls likes.h.
+"""The live core for Python, by ctypes. Nothing here is proved: it calls likes.h and likes_service.h.
 
-Most programs need the class Likes. One that changes phases by itself opens a Driver and takes its Seats and its Phase.
+Most programs need the class Likes, and a Writer for each thread with many likes. A program that changes phases by
+itself opens a Driver and takes its Seats and its Phase.
 
 A number that C would cut, below 0 or over 2^32 - 1, is a ValueError, and what isn't a whole number is a TypeError; then
 nothing was done. What the library refuses is a Refused with its Status, and any call after close is Closed.
@@ -8,11 +9,11 @@ nothing was done. What the library refuses is a Refused with its Status, and any
 The library is the file that LIKES_LIBRARY names, or else the shared library of this version, where the system finds it.
 """
 
-from .core import Driver, Found, Phase, Seat
-from .errors import Closed, Refused
-from .rows import Seen, Told
-from .service import Likes
-from .statuses import GLANCE, LIKE, LIKED, LOOK, MAX_SPLIT, End, Op, Status
+from ._core import Driver, Found, Phase, Seat
+from ._errors import Closed, Refused
+from ._rows import Asked, Seen, Told
+from ._service import Likes, Moment, Statistics, Writer
+from ._statuses import GLANCE, LIKE, LIKED, LOOK, MAX_SPLIT, NO_HOT, End, Op, Status
 
 __all__ = [
     "GLANCE",
@@ -20,16 +21,21 @@ __all__ = [
     "LIKED",
     "LOOK",
     "MAX_SPLIT",
+    "NO_HOT",
+    "Asked",
     "Closed",
     "Driver",
     "End",
     "Found",
     "Likes",
+    "Moment",
     "Op",
     "Phase",
     "Refused",
     "Seat",
     "Seen",
+    "Statistics",
     "Status",
     "Told",
+    "Writer",
 ]

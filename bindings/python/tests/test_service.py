@@ -1,40 +1,87 @@
-"""What the class Likes refuses, calls after its end, services that go on, and threads."""
+"""The class Likes and its writers: right calls, wrong ones, calls after the end, services that go on, and threads."""
 
 import threading
 import unittest
+from typing import Any, Callable, Dict, List, Tuple
 
-from likes import GLANCE, LIKE, LIKED, LOOK, Closed, Likes, Refused, Seen, Status
+from likes import GLANCE, LIKE, LIKED, LOOK, NO_HOT, Closed, Likes, Moment, Refused, Seen, Status, Told
 
 from .numbers import OUTSIDE, WRONG
 
-RIGHT = {"counts": [0], "users": 9, "seats": 2, "room": 4, "hot": 0}
+RIGHT: Dict[str, Any] = {"counts": [0], "users": 9, "seats": 2, "room": 4, "hot": NO_HOT}
+
+
+def opened(**words: Any) -> Likes:
+    """A service of two seats and nine users, or with other words."""
+    given: Dict[str, Any] = {**RIGHT, "counts": [5, 0], **words}
+    return Likes(**given)
+
+
+def in_threads(work: Callable[[int], None], number: int) -> None:
+    """Does something in several threads, and waits for them."""
+    threads = [threading.Thread(target=work, args=(i,)) for i in range(number)]
+    for thread in threads:
+        thread.start()
+    for thread in threads:
+        thread.join()
 
 
 class Openings(unittest.TestCase):
-    def test_cut_numbers(self):
+    def test_cut_numbers(self) -> None:
         for value, kind in WRONG:
             for name in ("users", "seats", "room", "hot"):
-                self.assertRaises(kind, Likes, **{**RIGHT, name: value})
+                if value is not None or name == "users":
+                    self.assertRaises(kind, Likes, **{**RIGHT, name: value})
             self.assertRaises(kind, Likes, **RIGHT, marks=[value])
             if value is not None:
                 self.assertRaises(kind, Likes, **RIGHT, lasts=[value] * 9)
             if not isinstance(value, int) or not 0 <= value < 2**64:
                 self.assertRaises(kind, Likes, **{**RIGHT, "counts": [0, value]})
 
-    def test_refusals(self):
-        self.assertRaises(ValueError, Likes, **RIGHT, period=0)
-        self.assertRaises(ValueError, Likes, **RIGHT, period=-1)
-        wrong = [{"seats": 65}, {"seats": 2**32 - 1}, {"counts": []}, {"marks": [1]}, {"marks": [0, 0]}]
-        for words in [*wrong, {"lasts": [None] * 8 + [1]}, {"lasts": [0] * 8}]:
-            self.assertRaises(Refused, Likes, **{**RIGHT, **words})
+    def test_refusals(self) -> None:
+        for period in (0, -1, float("nan")):
+            self.assertRaises(ValueError, Likes, **RIGHT, period=period)
+        wrong: List[Tuple[Dict[str, Any], Status]] = [
+            ({"seats": 65}, Status.WRONG_SEATS),
+            ({"seats": 0}, Status.WRONG_SEATS),
+            ({"seats": 2**32 - 1}, Status.WRONG_SEATS),
+            ({"room": 0}, Status.WRONG_ROOM),
+            ({"hot": 1000001}, Status.WRONG_HOT),
+            ({"users": 0}, Status.WRONG_USERS),
+            ({"period": 1001}, Status.WRONG_PERIOD),
+            ({"counts": []}, Status.WRONG_PAGES),
+            ({"marks": [1]}, Status.WRONG_MARKS),
+            ({"marks": [0, 0]}, Status.WRONG_MARKS),
+            ({"lasts": [None] * 8 + [1]}, Status.WRONG_LASTS),
+            ({"lasts": [0] * 8}, Status.WRONG_LASTS),
+        ]
+        for words, status in wrong:
+            with self.assertRaises(Refused) as caught:
+                Likes(**{**RIGHT, **words})
+            self.assertEqual(caught.exception.status, status)
+
+    def test_defaults(self) -> None:
+        """A page that many like is found, and split."""
+        with Likes([0] * 100, users=100) as service:
+            self.assertGreaterEqual(service.seats, 16)
+            while service.split_pages() != [7]:
+                for user in range(100):
+                    service.like(user, 7)
 
 
 class Service(unittest.TestCase):
-    def test_wrong_requests(self):
+    def refused(self, status: Status, call: Callable[..., object], *words: Any) -> None:
+        with self.assertRaises(Refused) as caught:
+            call(*words)
+        self.assertEqual(caught.exception.status, status)
+
+    def test_wrong_requests(self) -> None:
         """Wrong numbers in requests, alone and behind a right one, which isn't run then."""
-        with Likes(counts=[5, 0], users=9, seats=2) as service:
+        with opened() as service, service.writer() as writer:
+            calls: List[Callable[[Any, Any], object]]
+            calls = [service.like, service.look, service.glance, writer.like, writer.look]
             for value, kind in WRONG:
-                for call in (service.like, service.look, service.glance):
+                for call in calls:
                     self.assertRaises(kind, call, value, 0)
                     self.assertRaises(kind, call, 4, value)
                 for row in ((value, 4, 0), (LIKE, value, 0), (LIKE, 4, value)):
@@ -42,73 +89,194 @@ class Service(unittest.TestCase):
                 self.assertRaises(kind, service.propose, [0, value])
             for number in (-1, 2, 2**32):
                 self.assertRaises(ValueError, service.run, number, [(LIKE, 4, 0)])
-        self.assertEqual(service.close(), [5, 0])
+            for call in calls:
+                self.refused(Status.UNKNOWN_USER, call, 9, 0)
+                self.refused(Status.UNKNOWN_PAGE, call, 4, 2)
+            self.refused(Status.UNKNOWN_SEAT, service.retire_seat, 2)
+            self.refused(Status.UNKNOWN_USER, service.look_within, 9, 0, 1)
+            self.assertRaises(ValueError, service.look_within, 4, 0, -1)
+        self.assertEqual(service.stop().counts, [5, 0])
 
-    def test_rows(self):
-        with Likes(counts=[5, 0], users=9, seats=2) as service:
+    def test_rows(self) -> None:
+        with opened() as service:
             service.like(4, 1)
             rows = [(LIKE, 4, 0), (GLANCE, 4, 0), (LOOK, 6, 1), (LIKE, 4, 2), (LIKE, 9, 0), (3, 4, 0)]
             told = service.run(0, rows)
         self.assertEqual(told[:3], [LIKED, Seen(0, 6), Seen(None, 1)])
         self.assertEqual(told[3:], [Status.UNKNOWN_PAGE, Status.UNKNOWN_USER, Status.UNKNOWN_OP])
 
-    def test_calls_after_the_end(self):
-        service = Likes(counts=[5, 0], users=9, seats=2)
-        self.assertEqual((service.close(), service.close()), ([5, 0], [5, 0]))
-        for call in (service.like, service.look, service.glance):
-            self.assertRaises(Closed, call, 4, 0)
+    def test_rows_that_wait(self) -> None:
+        """Rows with many more looks than there is room for, at a page that is split in every split phase."""
+        wrong: List[Tuple[int, List[Told]]] = []
+        with opened(marks=[0], period=0.0002) as service:
+
+            def work(number: int) -> None:
+                for _ in range(20):
+                    told = service.run(number % 2, [(LIKE, number % 2, 1), *[(LOOK, number % 2, 0)] * 20])
+                    if told != [LIKED] + [Seen(1, 5)] * 20:
+                        wrong.append((number, told))
+
+            in_threads(work, 4)
+        self.assertEqual((wrong, service.stop().counts), ([], [5, 80]))
+
+    def test_calls_after_the_end(self) -> None:
+        service = opened()
+        writer = service.writer()
+        writer.close()
+        writer.close()
+        self.assertEqual((service.stop(), service.stop()), (Moment([5, 0], [None] * 9),) * 2)
+        service.close()
+        pairs: List[Callable[[int, int], object]]
+        pairs = [service.like, service.look, service.glance, writer.like, writer.look]
+        for pair in pairs:
+            self.assertRaises(Closed, pair, 4, 0)
         for row in ([(LIKE, 4, 0)], []):
             self.assertRaises(Closed, service.run, 0, row)
-        for call in (service.drive, service.turns, service.last_likes, service.split_pages, service.counts):
+        calls: List[Callable[[], object]]
+        calls = [service.lasts, service.split_pages, service.counts, service.snapshot, service.statistics]
+        for call in [*calls, service.phase, service.writer, service.tick, writer.flush]:
             self.assertRaises(Closed, call)
-        for call, word in ((service.seat_of, 4), (service.last, 4), (service.propose, [0]), (service.propose, [])):
-            self.assertRaises(Closed, call, word)
+        for single in (service.last, service.retire_seat, service.bring_back_seat):
+            self.assertRaises(Closed, single, 0)
+        for pages in ([0], []):
+            self.assertRaises(Closed, service.propose, pages)
+        self.assertRaises(Closed, service.look_within, 4, 0, 1)
+        self.assertEqual(writer.drop(), 0)
 
-    def test_going_on(self):
-        """A service that goes on from the final counts and last likes of another."""
+    def test_going_on(self) -> None:
+        """A service that goes on from the last moment of another."""
         lasts = [None, None, 1]
-        with Likes(counts=[5, 0], users=3, seats=2) as first:
+        with opened(users=3) as first:
             first.like(2, 1)
-            self.assertEqual([first.last(user) for user in range(3)], lasts)
-            self.assertRaises(Refused, first.last, 3)
+            self.assertEqual(([first.last(user) for user in range(3)], first.lasts()), (lasts, lasts))
+            self.refused(Status.UNKNOWN_USER, first.last, 3)
             for value in OUTSIDE:
                 self.assertRaises(ValueError, first.last, value)
-        with Likes(counts=first.close(), users=3, seats=2, lasts=first.lasts) as second:
+        end = first.stop()
+        self.assertEqual(end, Moment([5, 1], [None, None, 1]))
+        with opened(counts=end.counts, users=3, lasts=end.lasts) as second:
             self.assertEqual([second.look(user, 1) for user in range(3)], [(last, 1) for last in lasts])
-        self.assertEqual((first.lasts, second.lasts), (lasts, lasts))
+        self.assertEqual(second.stop(), end)
 
-    def test_proposals(self):
+    def test_proposals(self) -> None:
         """A page that is proposed is split after a while, and no other."""
-        with Likes(counts=[5, 7, 0], users=3, seats=2, period=0.0001) as service:
+        with opened(counts=[5, 7, 0], users=3, period=0.0001) as service:
             self.assertEqual(service.split_pages(), [])
             for page in (1, 0):
                 service.propose([3, page, page, 2**32 - 1])
                 while service.split_pages() != [page]:
-                    service.turns()
+                    service.like(0, 2)
                 service.like(2, page)
             service.propose(())
-            self.assertEqual(service.counts(), [6, 8, 0])
-        self.assertEqual(service.close(), [6, 8, 0])
+            self.assertEqual(service.counts()[:2], [6, 8])
 
-    def test_threads(self):
-        """Likes, looks and snapshots of several threads, page 0 split in every split phase."""
-        seats, each, wrong = 4, 300, []
-        with Likes(counts=[0, 0], users=40, seats=seats, room=8, marks=[0], period=0.0002) as service:
+    def test_deadlines(self) -> None:
+        # With less room, looks that wait would end the phase early.
+        with opened(room=64, marks=[0], period=100) as service:
+            while service.phase() % 2 == 0:
+                service.like(4, 1)
+            for seconds in (0, 0.001):
+                self.assertIsNone(service.look_within(4, 0, seconds))
+            seen = service.look_within(4, 1, 10)
+            self.assertTrue(seen and seen.last == 1)
+            self.assertGreaterEqual(service.statistics().late, 1)
 
-            def call(number):
-                for i in range(each):
-                    service.like(number + seats * (i % 10), i % 2)
-                    if service.look(number + seats * (i % 10), 0).last != i % 2:
+    def test_snapshots(self) -> None:
+        """Each user likes page 1 and then page 2. So in one moment, page 1 has as many more likes than page 2 as there
+        are users who liked it last."""
+        wrong: List[Moment] = []
+        with opened(counts=[0, 0, 0], marks=[1], period=0.0002) as service:
+
+            def work(number: int) -> None:
+                for i in range(1000):
+                    if number < 4:
+                        service.like(number, 1 + i % 2)
+                    elif i % 10 == 0:
+                        moment = service.snapshot()
+                        if moment.counts[1] != moment.counts[2] + moment.lasts.count(1):
+                            wrong.append(moment)
+
+            in_threads(work, 5)
+            self.assertEqual(service.snapshot(), service.stop())
+        self.assertEqual(wrong, [])
+
+    def test_writers(self) -> None:
+        """Threads that serve any user, by writers."""
+        threads, each, wrong = 4, 2000, []
+        with opened(users=40, counts=[0, 0, 0], marks=[0], period=0.0002) as service:
+
+            def work(number: int) -> None:
+                with service.writer() as writer:
+                    for i in range(each):
+                        user, page = number + threads * (i % 10), i % 3
+                        writer.like(user, page)
+                        if i % 100 == 0 and writer.look(user, 0).last != page:
+                            wrong.append((number, i))
+
+            in_threads(work, threads)
+            self.assertEqual((wrong, sum(service.counts())), ([], threads * each))
+            self.assertEqual(service.statistics().likes, threads * each)
+            writer = service.writer()
+            self.refused(Status.OPEN_WRITER, service.close)
+            writer.like(0, 0)
+            self.assertEqual((writer.drop(), writer.drop()), (1, 0))
+            writer.close()
+        self.assertEqual(sum(service.stop().counts), threads * each)
+
+    def test_leaving(self) -> None:
+        """Likes of a seat that has left stay kept until it is back."""
+        with opened(users=4) as service:
+            writer = service.writer()
+            service.retire_seat(1)
+            self.refused(Status.GONE, service.like, 1, 0)
+            writer.like(1, 0)
+            writer.like(2, 0)
+            self.refused(Status.GONE, writer.flush)
+            self.refused(Status.GONE, writer.close)
+            self.assertEqual(service.counts(), [6, 0])
+            service.bring_back_seat(1)
+            writer.close()
+            self.assertEqual(service.look(1, 0), Seen(0, 7))
+
+    def test_threads(self) -> None:
+        """Likes, looks and counts of several threads, page 0 split in every split phase."""
+        threads, each, wrong = 4, 300, []
+        with opened(counts=[0, 0], users=40, seats=4, room=8, marks=[0], period=0.0002) as service:
+            totals: List[int] = []
+
+            def work(number: int) -> None:
+                for i in range(each if number < threads else 20):
+                    if number == threads:
+                        totals.append(sum(service.counts()))
+                        continue
+                    service.like(number + threads * (i % 10), i % 2)
+                    if service.look(number + threads * (i % 10), 0).last != i % 2:
                         wrong.append((number, i))
 
-            threads = [threading.Thread(target=call, args=(number,)) for number in range(seats)]
-            for thread in threads:
-                thread.start()
-            totals = [sum(service.counts()) for _ in range(20)]
-            for thread in threads:
-                thread.join()
+            in_threads(work, threads + 1)
             self.assertEqual(totals, sorted(totals))
-        self.assertEqual((wrong, service.close()), ([], [seats * each // 2] * 2))
+        self.assertEqual((wrong, service.stop().counts), ([], [threads * each // 2] * 2))
+
+    def test_closing_under_calls(self) -> None:
+        """A call is done, or raises Closed."""
+        for _ in range(10):
+            service, done = opened(marks=[0], period=0.0002), [0] * 4
+
+            def work(number: int) -> None:
+                if number == 4:
+                    service.look(0, 0)
+                    service.close()
+                    return
+                try:
+                    while True:
+                        service.like(number, 0)
+                        done[number] += 1
+                        service.look(number, 0)
+                except Closed:
+                    pass
+
+            in_threads(work, 5)
+            self.assertEqual(service.stop().counts, [5 + sum(done), 0])
 
 
 if __name__ == "__main__":

@@ -2,7 +2,9 @@
 
 use std::error;
 use std::fmt;
+use std::time::Duration;
 
+use crate::ffi::RawStatistics;
 use crate::status;
 
 /// An enum of statuses, each with its number.
@@ -35,6 +37,7 @@ macro_rules! statuses {
 
 statuses! {
     /// What [`Seat::like`](crate::Seat::like) did.
+    #[must_use]
     Like {
         /// One like was added, and the page is now its user's last.
         Liked = LIKED,
@@ -77,6 +80,7 @@ statuses! {
 
 statuses! {
     /// What [`Driver::snapshot`](crate::Driver::snapshot) did.
+    #[must_use]
     Snapshot {
         /// The counts of these pages were written.
         Counted = COUNTED,
@@ -87,6 +91,7 @@ statuses! {
 
 statuses! {
     /// What [`Driver::last_counts`](crate::Driver::last_counts) did.
+    #[must_use]
     LastCounts {
         /// The counts of these pages were written.
         Counted = COUNTED,
@@ -127,16 +132,27 @@ statuses! {
         WrongHot = WRONG_HOT,
         /// There is too little memory for a service.
         NoMemory = NO_MEMORY,
-        /// Of a [`Service`](crate::Service): looks of [`Lent`](crate::Lent) seats fill the seat. Take found ones.
+        /// Of a [`Service`](crate::Service): looks of [`Held`](crate::Held) seats fill the seat. Take found ones.
         NoRoom = NO_ROOM,
         /// Of a [`Service`](crate::Service): the seat has had 2^56 likes.
         LikeLimit = LIKE_LIMIT,
+        /// Of a [`Service`](crate::Service): the user's seat has left.
+        Gone = GONE,
+        /// Of a [`Service`](crate::Service): a thread has held its seat for too long, so there are no counts and last
+        /// likes of one moment.
+        NoMoment = NO_MOMENT,
+        /// Of a [`Service`](crate::Service): its thread can't be started.
+        NoThread = NO_THREAD,
+        /// Of a [`Service`](crate::Service): [`Options::period`](crate::Options::period) is wrong.
+        WrongPeriod = WRONG_PERIOD,
         /// Of a [`Service`](crate::Service): it has fewer seats.
         UnknownSeat = UNKNOWN_SEAT,
-        /// Of a [`Service`](crate::Service): its period is 0.
-        WrongPeriod = WRONG_PERIOD,
-        /// Of a [`Service`](crate::Service): the driver's thread can't be started.
-        NoThread = NO_THREAD,
+        /// Of a [`Service`](crate::Service): the thread holds a seat.
+        HoldsSeat = HOLDS_SEAT,
+        /// Of a [`Service`](crate::Service): a writer is open.
+        OpenWriter = OPEN_WRITER,
+        /// Of [`Held::run`](crate::Held::run): the tag of a look is 2^63 or more.
+        WrongTag = WRONG_TAG,
     }
 }
 
@@ -160,6 +176,42 @@ pub(crate) fn check(number: u32) -> Result<(), Error> {
     }
 }
 
+/// Ok where a status is the wanted one, or else the error that it is.
+pub(crate) fn wanted(number: u32, right: u32) -> Result<(), Error> {
+    if number == right {
+        Ok(())
+    } else {
+        Err(error(number))
+    }
+}
+
+/// What a [`Service`](crate::Service) has done so far.
+#[derive(Clone, Copy, Debug, Default, PartialEq, Eq)]
+pub struct Statistics {
+    /// How many phases have ended.
+    pub phases: u64,
+    /// How many likes were counted.
+    pub likes: u64,
+    /// How many looks were answered.
+    pub looks: u64,
+    /// How many of these looks had to wait.
+    pub waits: u64,
+    /// How long they waited in all.
+    pub wait_time: Duration,
+    /// How long one of them waited at most.
+    pub longest_wait: Duration,
+    /// How many looks had no answer in time.
+    pub late: u64,
+}
+
+impl From<RawStatistics> for Statistics {
+    fn from(told: RawStatistics) -> Self {
+        let RawStatistics { phases, likes, looks, waits, late, .. } = told;
+        let [wait_time, longest_wait] = [told.wait_time, told.longest_wait].map(Duration::from_nanos);
+        Self { phases, likes, looks, waits, wait_time, longest_wait, late }
+    }
+}
+
 /// The page of a user's last like, or none.
 #[derive(Clone, Copy, Debug, PartialEq, Eq, Hash)]
 #[repr(transparent)]
@@ -170,11 +222,13 @@ impl Last {
     pub const NONE: Self = Self(u32::MAX);
 
     /// The last like is of this page. (`u32::MAX` is no page.)
+    #[must_use]
     pub const fn of(page: u32) -> Self {
         Self(page)
     }
 
     /// The page, if the user has a last like.
+    #[must_use]
     pub const fn page(self) -> Option<u32> {
         match self {
             Self::NONE => None,
@@ -200,6 +254,7 @@ pub struct Seen {
 
 /// What [`Seat::look`](crate::Seat::look) did.
 #[derive(Clone, Copy, Debug, PartialEq, Eq)]
+#[must_use]
 pub enum Look {
     /// The look was answered.
     Seen(Seen),
@@ -215,6 +270,7 @@ pub enum Look {
 
 /// What [`Seat::glance`](crate::Seat::glance) did.
 #[derive(Clone, Copy, Debug, PartialEq, Eq)]
+#[must_use]
 pub enum Glance {
     /// The glance was answered.
     Seen(Seen),
@@ -226,6 +282,7 @@ pub enum Glance {
 
 /// What was done for a request of a row.
 #[derive(Clone, Copy, Debug, PartialEq, Eq)]
+#[must_use]
 pub enum Outcome {
     /// One like was added, and the page is now its user's last.
     Liked,

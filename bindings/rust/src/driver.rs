@@ -3,7 +3,7 @@
 use std::sync::Arc;
 
 use crate::answers::{check, error, unlisted, Error, LastCounts, Snapshot, Turn};
-use crate::ffi::{self, Handle, Numbers};
+use crate::ffi::{self, Handle};
 use crate::leaving::Leaving;
 use crate::options::Options;
 use crate::phase::Phase;
@@ -35,38 +35,24 @@ impl Driver {
     ///
     /// With the counts and the last likes of an earlier service, it goes on where that ended.
     ///
+    /// # Errors
+    ///
+    /// A wrong number of the options or the counts, or [`Error::NoMemory`].
+    ///
     /// # Panics
     ///
     /// If the library is of another version than this crate.
     pub fn open(options: &Options, counts: &[u64]) -> Result<Self, Error> {
-        let Options { seats, users, room, hot, marks, lasts } = *options;
-        let numbers = Numbers {
-            counts: counts.as_ptr(),
-            pages: counts.len(),
-            marks: marks.as_ptr(),
-            marks_len: marks.len(),
-            lasts: lasts.as_ptr(),
-            lasts_len: lasts.len(),
-            users,
-            seats: given(seats),
-            room: given(room),
-            hot: if hot == 0 { ffi::NO_HOT } else { hot },
-            period_us: 0,
-            reserved: 0,
-            reserved_too: [0; 5],
-        };
+        ffi::check_version();
         let mut handle = Handle::default();
         // SAFETY: each slice has the length that is told, and the handle is empty.
-        let told = unsafe {
-            assert_eq!(ffi::likes_version(), ffi::VERSION, "the version of the library");
-            ffi::likes_open(&numbers, &mut handle)
-        };
-        check(told)?;
+        check(unsafe { ffi::likes_open(&options.numbers(counts), &mut handle) })?;
         Ok(Self { handle, leaving: Arc::default() })
     }
 
     /// Hands out the seats, at the first call seat 0, then 1 and so on, and none once all are taken. A phase changes
     /// only when every seat has answered, so take them all.
+    #[must_use]
     pub fn take_seat(&mut self) -> Option<Seat> {
         let mut seat = SeatHandle::default();
         // SAFETY: the driver is borrowed for this call, and the seat's handle is empty.
@@ -75,6 +61,7 @@ impl Driver {
     }
 
     /// Hands out the phase, once.
+    #[must_use]
     pub fn take_phase(&mut self) -> Option<Phase> {
         let mut phase = Handle::default();
         // SAFETY: the driver is borrowed for this call, and the phase's handle is empty.
@@ -96,6 +83,10 @@ impl Driver {
     /// Writes the counts of the pages `from`, `from + 1` and so on, where a joined phase is ending and every seat has
     /// answered it or is gone. They have all likes of that phase and of those before it. Until a turn releases the next
     /// phase, further calls write the counts of other pages at the same moment.
+    ///
+    /// # Errors
+    ///
+    /// [`Error::WrongRange`].
     pub fn snapshot(&mut self, from: u32, counts: &mut [u64]) -> Result<Snapshot, Error> {
         let (at, length) = (counts.as_mut_ptr(), counts.len());
         // SAFETY: the driver is borrowed for this call, and the slice has the length that is told.
@@ -108,6 +99,10 @@ impl Driver {
     ///
     /// At [`LastCounts::NotEnded`], call [`turn`](Self::turn) with [`End::IfItServes`] until it is [`Turn::Ended`], and
     /// try again.
+    ///
+    /// # Errors
+    ///
+    /// [`Error::WrongRange`].
     pub fn last_counts(&mut self, from: u32, counts: &mut [u64]) -> Result<LastCounts, Error> {
         let (at, length) = (counts.as_mut_ptr(), counts.len());
         // SAFETY: the driver is borrowed for this call, and the slice has the length that is told.
@@ -153,14 +148,5 @@ impl Drop for Driver {
     fn drop(&mut self) {
         // SAFETY: nobody else has the handle.
         unsafe { ffi::likes_driver_free(&mut self.handle) }
-    }
-}
-
-/// A number that has to be given: in C, 0 would be its default.
-const fn given(number: u32) -> u32 {
-    if number == 0 {
-        u32::MAX
-    } else {
-        number
     }
 }

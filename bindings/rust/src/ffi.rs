@@ -47,10 +47,43 @@ pub struct Numbers {
 /// `LIKES_NO_HOT`: no page gets hot by itself.
 pub const NO_HOT: u32 = u32::MAX;
 
+/// `likes_service`, which only the library knows.
+#[repr(C)]
+pub struct RawService {
+    unknown: [u8; 0],
+}
+
+/// `likes_writer`, which only the library knows.
+#[repr(C)]
+pub struct RawWriter {
+    unknown: [u8; 0],
+}
+
+/// `likes_statistics`.
+#[derive(Default)]
+#[repr(C)]
+pub struct RawStatistics {
+    pub phases: u64,
+    pub likes: u64,
+    pub looks: u64,
+    pub waits: u64,
+    pub wait_time: u64,
+    pub longest_wait: u64,
+    pub late: u64,
+    reserved: [u64; 9],
+}
+
+/// Panics if the library is of another version than this crate.
+pub fn check_version() {
+    // SAFETY: the call takes nothing.
+    assert_eq!(unsafe { likes_version() }, VERSION, "the version of the library");
+}
+
 const _: () = {
     assert!(cfg!(target_endian = "little"));
     assert!(size_of::<Handle>() == 16 && size_of::<Last>() == 4);
     assert!(size_of::<Numbers>() == 112 && offset_of!(Numbers, hot) == 60 && offset_of!(Numbers, reserved_too) == 72);
+    assert!(size_of::<RawStatistics>() == 128);
     assert!(size_of::<Request>() == 24 && size_of::<Answer>() == 16 && size_of::<Found>() == 48);
 };
 
@@ -90,4 +123,56 @@ extern "C" {
 
     pub fn likes_phase_now(phase: *const Handle) -> u64;
     pub fn likes_phase_free(phase: *mut Handle);
+
+    pub fn likes_service_open(options: *const Numbers, service: *mut *mut RawService) -> u32;
+    pub fn likes_service_seats(service: *const RawService) -> u32;
+    pub fn likes_service_close(service: *mut RawService) -> u32;
+    pub fn likes_service_seat_fault(service: *const RawService, number: u32) -> u32;
+    pub fn likes_service_like(service: *mut RawService, user: u32, page: u32) -> u32;
+    pub fn likes_service_look(service: *mut RawService, user: u32, page: u32, answer: *mut Answer) -> u32;
+    pub fn likes_service_look_within(
+        service: *mut RawService,
+        user: u32,
+        page: u32,
+        microseconds: u32,
+        answer: *mut Answer,
+    ) -> u32;
+    pub fn likes_service_glance(service: *mut RawService, user: u32, page: u32, answer: *mut Answer) -> u32;
+    pub fn likes_service_last(service: *mut RawService, user: u32, page: *mut Last) -> u32;
+    pub fn likes_service_lasts(service: *mut RawService, lasts: *mut Last, users: usize) -> u32;
+    pub fn likes_service_counts(service: *mut RawService, counts: *mut u64, pages: usize) -> u32;
+    pub fn likes_service_snapshot(
+        service: *mut RawService,
+        counts: *mut u64,
+        pages: usize,
+        lasts: *mut Last,
+        users: usize,
+    ) -> u32;
+    pub fn likes_service_phase(service: *mut RawService) -> u64;
+    pub fn likes_service_statistics(service: *mut RawService, statistics: *mut RawStatistics) -> u32;
+    pub fn likes_service_propose(service: *mut RawService, pages: *const u32, pages_len: usize) -> u32;
+    pub fn likes_service_split_pages(service: *mut RawService, pages: *mut u32, pages_len: usize) -> usize;
+    pub fn likes_service_lock(service: *mut RawService, number: u32) -> *mut Handle;
+    pub fn likes_service_unlock(service: *mut RawService, number: u32);
+    pub fn likes_service_run(
+        service: *mut RawService,
+        number: u32,
+        requests: *const Request,
+        length: usize,
+        answers: *mut Answer,
+    ) -> usize;
+    pub fn likes_service_take_found(service: *mut RawService, number: u32, found: *mut Found) -> bool;
+    pub fn likes_service_drive(service: *mut RawService) -> u32;
+    pub fn likes_service_tick(service: *mut RawService);
+    pub fn likes_service_retire_seat(service: *mut RawService, number: u32) -> u32;
+    pub fn likes_service_bring_back_seat(service: *mut RawService, number: u32) -> u32;
+    pub fn likes_service_retire(service: *mut RawService) -> u32;
+    pub fn likes_service_stop(service: *mut RawService, counts: *mut u64, pages: usize) -> u32;
+
+    pub fn likes_writer_open(service: *mut RawService, writer: *mut *mut RawWriter) -> u32;
+    pub fn likes_writer_like(writer: *mut RawWriter, user: u32, page: u32) -> u32;
+    pub fn likes_writer_look(writer: *mut RawWriter, user: u32, page: u32, answer: *mut Answer) -> u32;
+    pub fn likes_writer_flush(writer: *mut RawWriter) -> u32;
+    pub fn likes_writer_drop(writer: *mut RawWriter) -> usize;
+    pub fn likes_writer_close(writer: *mut RawWriter) -> u32;
 }

@@ -1,20 +1,22 @@
 //! Likes, counted exactly by several threads at full speed: the live core, as a library that is proved. This crate
 //! calls it by its C API, `likes.h`. The crate itself isn't proved.
 //!
-//! Most programs need [`Service`], which has a thread of its own that changes phases:
+//! Most programs need [`Service`], which threads share, and a [`Writer`] for each thread with many likes:
 //!
 //! ```
-//! use std::time::Duration;
 //! use likes::{Error, Options, Service};
 //!
-//! let options = Options { hot: 512, ..Options::new(2, 1000) };
-//! let service = Service::start(&options, &[10, 0], Duration::from_millis(1))?;
+//! let service = Service::open(&Options::new(1000), &[10, 0])?;
 //! service.like(7, 1)?;
 //! service.like(7, 0)?;
 //! let seen = service.look(7, 1)?;
 //! assert_eq!((seen.last.page(), seen.count), (Some(0), 1));
 //! assert_eq!(service.like(7, 2), Err(Error::UnknownPage));
-//! assert_eq!(service.stop().counts, [11, 1]);
+//! let mut writer = service.writer()?;
+//! writer.like(8, 1)?;
+//! writer.flush()?;
+//! drop(writer);
+//! assert_eq!(service.stop()?.counts, [11, 2]);
 //! # Ok::<(), Error>(())
 //! ```
 //!
@@ -38,10 +40,10 @@ mod seat;
 mod service;
 pub mod status;
 
-pub use answers::{Error, Glance, Last, LastCounts, Like, Look, Outcome, Seen, Snapshot, State, Turn};
+pub use answers::{Error, Glance, Last, LastCounts, Like, Look, Outcome, Seen, Snapshot, State, Statistics, Turn};
 pub use driver::{Driver, End};
-pub use options::{Options, MAX_COUNT, MAX_HOT, MAX_MARKS, MAX_PAGES, MAX_ROOM, MAX_SEATS, MAX_SPLIT};
+pub use options::{Hot, Options, MAX_COUNT, MAX_HOT, MAX_MARKS, MAX_PAGES, MAX_PERIOD, MAX_ROOM, MAX_SEATS, MAX_SPLIT};
 pub use phase::Phase;
 pub use rows::{Answer, Found, Op, Request};
 pub use seat::Seat;
-pub use service::{Final, Lent, Service};
+pub use service::{Held, Moment, Service, Writer};

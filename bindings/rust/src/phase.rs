@@ -16,6 +16,7 @@ impl Phase {
     }
 
     /// The phase that the driver has last released. It may be over by then.
+    #[must_use]
     pub fn now(&self) -> u64 {
         // SAFETY: it may be called by several threads at once, and the handle is freed by the last owner alone.
         unsafe { ffi::likes_phase_now(&self.handle) }

@@ -32,21 +32,25 @@ pub struct Request {
 
 impl Request {
     /// A like.
+    #[must_use]
     pub const fn like(user: u32, page: u32) -> Self {
         Self::new(Op::Like, user, page, 0)
     }
 
     /// A look with a tag.
+    #[must_use]
     pub const fn look(user: u32, page: u32, tag: u64) -> Self {
         Self::new(Op::Look, user, page, tag)
     }
 
     /// A glance.
+    #[must_use]
     pub const fn glance(user: u32, page: u32) -> Self {
         Self::new(Op::Glance, user, page, 0)
     }
 
     /// A request of any kind.
+    #[must_use]
     pub const fn new(op: Op, user: u32, page: u32, tag: u64) -> Self {
         Self { tag, user, page, op, reserved: 0 }
     }
@@ -66,6 +70,10 @@ impl Answer {
     pub const NONE: Self = Self { count: 0, last: Last::NONE, status: status::OK };
 
     /// What was done, or why the request was refused.
+    ///
+    /// # Errors
+    ///
+    /// Why the request was refused.
     pub fn outcome(&self) -> Result<Outcome, Error> {
         match self.status {
             status::OK => Ok(Outcome::NotRun),
@@ -94,14 +102,12 @@ impl Answer {
         }
     }
 
-    /// Whether it is a look that waits.
-    pub(crate) fn waits(&self) -> bool {
-        self.status == status::WAITS
-    }
-
-    /// Whether a row has stopped here since the seat is between two phases.
-    pub(crate) fn is_between(&self) -> bool {
-        self.status == status::BETWEEN
+    /// The same, of a look of a service.
+    pub(crate) fn seen(&self) -> Result<Seen, Error> {
+        match self.status {
+            status::SEEN => Ok(Seen { last: self.last, count: self.count }),
+            _ => Err(answers::error(self.status)),
+        }
     }
 }
 
@@ -132,6 +138,7 @@ impl Found {
         Self { tag: 0, count: 0, asked: 0, ran: 0, user: 0, page: 0, last: Last::NONE, reserved: 0 };
 
     /// What the look shows.
+    #[must_use]
     pub const fn seen(&self) -> Seen {
         Seen { last: self.last, count: self.count }
     }

@@ -59,6 +59,10 @@ impl Seat {
     }
 
     /// Adds one like.
+    ///
+    /// # Errors
+    ///
+    /// [`Error::UnknownUser`], [`Error::OtherSeat`] and [`Error::UnknownPage`].
     pub fn like(&mut self, user: u32, page: u32) -> Result<Like, Error> {
         // SAFETY: the seat is borrowed for this call.
         let number = unsafe { ffi::likes_seat_like(self.at(), user, page) };
@@ -67,6 +71,10 @@ impl Seat {
 
     /// Looks at a user's last like and a page's count. The tag is any number of yours, which comes back when the look
     /// is found.
+    ///
+    /// # Errors
+    ///
+    /// Those of [`like`](Self::like).
     pub fn look(&mut self, user: u32, page: u32, tag: u64) -> Result<Look, Error> {
         let mut answer = Answer::NONE;
         // SAFETY: the seat is borrowed for this call, which writes the answer.
@@ -76,6 +84,10 @@ impl Seat {
 
     /// Looks at once, in split phases too. The count has all likes of earlier phases and the seat's own. It may lack
     /// other seats' likes of the present phase.
+    ///
+    /// # Errors
+    ///
+    /// Those of [`like`](Self::like).
     pub fn glance(&mut self, user: u32, page: u32) -> Result<Glance, Error> {
         let mut answer = Answer::NONE;
         // SAFETY: the seat is borrowed for this call, which writes the answer.
@@ -86,6 +98,7 @@ impl Seat {
     /// Runs requests one by one, and gives the number of those done. It stops before the first that is
     /// [`Outcome::Between`](crate::Outcome::Between) or [`Outcome::NoRoom`](crate::Outcome::NoRoom), and at the end of
     /// the shorter slice. The answer at which it stopped says why, and those behind it stay as they were.
+    #[must_use]
     pub fn run(&mut self, requests: &[Request], answers: &mut [Answer]) -> usize {
         let (asked, told) = (requests.len(), answers.len());
         // SAFETY: the seat is borrowed for this call, and each slice has the length that is told.
@@ -100,6 +113,10 @@ impl Seat {
     }
 
     /// A user's last like. It works at any time, also when the seat is gone.
+    ///
+    /// # Errors
+    ///
+    /// [`Error::UnknownUser`] and [`Error::OtherSeat`].
     pub fn last(&mut self, user: u32) -> Result<Last, Error> {
         let mut last = Last::NONE;
         // SAFETY: the seat is borrowed for this call, which writes a last like.
@@ -112,6 +129,10 @@ impl Seat {
     ///
     /// After [`Snapshot::Counted`](crate::Snapshot::Counted), and until a turn releases the next phase, the last likes
     /// of all seats are of the same moment as the counts.
+    ///
+    /// # Errors
+    ///
+    /// [`Error::WrongRange`].
     pub fn lasts(&mut self, from: u32, lasts: &mut [Last]) -> Result<(), Error> {
         // SAFETY: the seat is borrowed for this call, and the slice has the length that is told.
         check(unsafe { ffi::likes_seat_lasts(self.at(), from, lasts.as_mut_ptr(), lasts.len()) })

@@ -1,33 +1,44 @@
-//! A service with a thread that changes its phases.
+//! A service that threads share.
 
-mod lent;
-mod pace;
-mod shared;
+mod held;
+mod writer;
 
-use std::sync::atomic::Ordering;
-use std::sync::Arc;
-use std::thread::{self, JoinHandle};
+use std::ptr;
 use std::time::Duration;
 
-use crate::answers::{unlisted, Error, Glance, Last, LastCounts, Like, Look, Seen, Snapshot, Turn};
-use crate::driver::End;
+use crate::answers::{check, error, wanted, Error, Last, Seen, Statistics};
+use crate::ffi::{self, RawService};
 use crate::options::{Options, MAX_SPLIT};
+use crate::rows::Answer;
 use crate::status;
 
-pub use lent::Lent;
-use shared::{lock, Shared};
+pub use held::Held;
+pub use writer::Writer;
 
-/// A service whose phases a thread of its own changes. Threads share it by reference or in an [`Arc`].
+/// A service with a thread of its own that changes its phases. Threads share it by reference or in an
+/// [`Arc`](std::sync::Arc).
 ///
-/// At its end all seats retire and the thread is joined. [`stop`](Self::stop) also gives the final counts.
+/// It ends with its drop; [`stop`](Self::stop) also gives its last moment.
+///
+/// A thread that holds a seat ([`with_seat`](Self::with_seat)) makes no other call of the service: it is answered
+/// [`Error::HoldsSeat`], and never waits for itself.
+#[derive(Debug)]
 pub struct Service {
-    shared: Arc<Shared>,
-    thread: Option<JoinHandle<()>>,
+    at: *mut RawService,
+    pages: usize,
+    users: usize,
+    seats: u32,
 }
 
-/// What a service ended with. Another that is opened with it goes on from there.
-#[derive(Clone, Debug, PartialEq, Eq)]
-pub struct Final {
+// SAFETY: the library takes calls on a service from any threads at once, but for its end, which owns it.
+unsafe impl Send for Service {}
+// SAFETY: the same.
+unsafe impl Sync for Service {}
+
+/// The counts of all pages and the last likes of all users at one moment. Another service that is opened with them goes
+/// on from there.
+#[derive(Clone, Debug, Default, PartialEq, Eq)]
+pub struct Moment {
     /// The count of each page.
     pub counts: Vec<u64>,
     /// The last like of each user.
@@ -35,167 +46,252 @@ pub struct Final {
 }
 
 impl Service {
-    /// Opens a service with the initial count of each page, and starts its thread. The period is the time from the end
-    /// of one split phase to that of the next, up to an hour: no look waits much longer. A millisecond suits most
-    /// programs.
-    pub fn start(options: &Options, counts: &[u64], period: Duration) -> Result<Self, Error> {
-        if period.is_zero() {
-            return Err(Error::WrongPeriod);
-        }
-        let shared = Arc::new(Shared::open(options, counts, period)?);
-        let own = shared.clone();
-        let thread = thread::Builder::new().name("likes".into()).spawn(move || own.change_phases());
-        Ok(Self { shared, thread: Some(thread.map_err(|_| Error::NoThread)?) })
+    /// Opens a service with the initial count of each page, and starts its thread.
+    ///
+    /// # Errors
+    ///
+    /// A wrong number of the options or the counts; [`Error::NoMemory`]; [`Error::NoThread`].
+    ///
+    /// # Panics
+    ///
+    /// If the library is of another version than this crate.
+    pub fn open(options: &Options, counts: &[u64]) -> Result<Self, Error> {
+        ffi::check_version();
+        let mut at = ptr::null_mut();
+        // SAFETY: each slice has the length that is told, and the pointer is NULL.
+        check(unsafe { ffi::likes_service_open(&options.numbers(counts), &mut at) })?;
+        // SAFETY: the service was opened.
+        let seats = unsafe { ffi::likes_service_seats(at) };
+        Ok(Self { at, pages: counts.len(), users: options.users as usize, seats })
     }
 
     /// Adds one like.
+    ///
+    /// # Errors
+    ///
+    /// [`Error::UnknownUser`], [`Error::UnknownPage`], [`Error::LikeLimit`], [`Error::HoldsSeat`], and
+    /// [`Error::Gone`] where the user's seat has left.
     pub fn like(&self, user: u32, page: u32) -> Result<(), Error> {
-        self.shared.desk_of(user).with(|place| {
-            let mut tries = 0;
-            loop {
-                match place.seat.like(user, page)? {
-                    Like::Liked => return Ok(()),
-                    Like::Between => self.shared.pause(&mut tries),
-                    Like::LikeLimit => return Err(Error::LikeLimit),
-                    Like::Gone => unlisted(status::GONE),
-                }
-            }
-        })
+        // SAFETY: the service is open as long as it is borrowed.
+        wanted(unsafe { ffi::likes_service_like(self.at, user, page) }, status::LIKED)
     }
 
     /// Looks at a user's last like and a page's exact count, and waits for about a phase if it has to.
+    ///
+    /// # Errors
+    ///
+    /// Those of [`like`](Self::like) but [`Error::LikeLimit`], and [`Error::NoRoom`] where looks of held seats fill
+    /// the seat.
     pub fn look(&self, user: u32, page: u32) -> Result<Seen, Error> {
-        let desk = self.shared.desk_of(user);
-        let mut place = desk.lock();
-        let mut tries = 0;
-        loop {
-            // What may be found before this look has to have room.
-            if place.left_over() > self.shared.room {
-                return Err(Error::NoRoom);
-            }
-            match place.seat.look(user, page, 0)? {
-                Look::Seen(seen) => return Ok(seen),
-                Look::Waits => return Ok(desk.await_look(place)),
-                Look::Between => self.shared.pause(&mut tries),
-                Look::NoRoom if place.is_awaited() => place = desk.await_room(place),
-                Look::NoRoom => return Err(Error::NoRoom),
-                Look::Gone => unlisted(status::GONE),
-            }
+        let mut answer = Answer::NONE;
+        // SAFETY: the service is open as long as it is borrowed, and the call writes the answer.
+        unsafe { ffi::likes_service_look(self.at, user, page, &mut answer) };
+        answer.seen()
+    }
+
+    /// The same with a time limit, which it hardly exceeds: then there is no answer. A look that was made keeps its
+    /// place in the seat's room until the phase ends.
+    ///
+    /// # Errors
+    ///
+    /// Those of [`look`](Self::look).
+    pub fn look_within(&self, user: u32, page: u32, limit: Duration) -> Result<Option<Seen>, Error> {
+        let mut answer = Answer::NONE;
+        let limit = u32::try_from(limit.as_micros()).unwrap_or(u32::MAX);
+        // SAFETY: the service is open as long as it is borrowed, and the call writes the answer.
+        match unsafe { ffi::likes_service_look_within(self.at, user, page, limit, &mut answer) } {
+            status::LATE => Ok(None),
+            _ => answer.seen().map(Some),
         }
     }
 
     /// Looks at once. The count may lack other seats' likes of the present phase.
+    ///
+    /// # Errors
+    ///
+    /// Those of [`like`](Self::like) but [`Error::LikeLimit`].
     pub fn glance(&self, user: u32, page: u32) -> Result<Seen, Error> {
-        self.shared.desk_of(user).with(|place| {
-            let mut tries = 0;
-            loop {
-                match place.seat.glance(user, page)? {
-                    Glance::Seen(seen) => return Ok(seen),
-                    Glance::Between => self.shared.pause(&mut tries),
-                    Glance::Gone => unlisted(status::GONE),
-                }
-            }
-        })
+        let mut answer = Answer::NONE;
+        // SAFETY: the service is open as long as it is borrowed, and the call writes the answer.
+        unsafe { ffi::likes_service_glance(self.at, user, page, &mut answer) };
+        answer.seen()
+    }
+
+    /// Opens a writer, for a thread's likes at full speed.
+    ///
+    /// # Errors
+    ///
+    /// [`Error::NoMemory`].
+    pub fn writer(&self) -> Result<Writer<'_>, Error> {
+        Writer::open(self)
     }
 
     /// A user's last like.
+    ///
+    /// # Errors
+    ///
+    /// [`Error::UnknownUser`] and [`Error::HoldsSeat`].
     pub fn last(&self, user: u32) -> Result<Last, Error> {
-        self.shared.desk_of(user).lock().seat.last(user)
+        let mut last = Last::NONE;
+        // SAFETY: the service is open as long as it is borrowed, and the call writes a last like.
+        check(unsafe { ffi::likes_service_last(self.at, user, &mut last) })?;
+        Ok(last)
     }
 
-    /// Lends a seat to a closure, which may make any call on it: for a batch of requests, [`Lent::run`]. The closure
-    /// waits for nothing, and calls nothing of the service but [`Lent::drive`].
-    pub fn with_seat<R>(&self, number: u32, work: impl FnOnce(&mut Lent) -> R) -> Result<R, Error> {
-        let desk = self.shared.desks.get(number as usize).ok_or(Error::UnknownSeat)?;
-        Ok(desk.with(|place| work(&mut Lent::new(desk, place, &self.shared))))
+    /// The last like of each user. Those of one seat are of one moment.
+    ///
+    /// # Errors
+    ///
+    /// [`Error::HoldsSeat`].
+    pub fn lasts(&self) -> Result<Vec<Last>, Error> {
+        let mut lasts = vec![Last::NONE; self.users];
+        // SAFETY: the service is open as long as it is borrowed, and the slice has the length that is told.
+        check(unsafe { ffi::likes_service_lasts(self.at, lasts.as_mut_ptr(), lasts.len()) })?;
+        Ok(lasts)
+    }
+
+    /// The counts of all pages at one moment, the end of a joined phase. It takes up to two phases.
+    ///
+    /// # Errors
+    ///
+    /// [`Error::HoldsSeat`].
+    pub fn counts(&self) -> Result<Vec<u64>, Error> {
+        let mut counts = vec![0; self.pages];
+        // SAFETY: the service is open as long as it is borrowed, and the slice has the length that is told.
+        let told = unsafe { ffi::likes_service_counts(self.at, counts.as_mut_ptr(), counts.len()) };
+        wanted(told, status::COUNTED)?;
+        Ok(counts)
+    }
+
+    /// The same, and the last likes of all users at that moment. All seats stand still meanwhile.
+    ///
+    /// # Errors
+    ///
+    /// [`Error::HoldsSeat`], and [`Error::NoMoment`] where another thread has held its seat for a tenth of a second
+    /// without a call.
+    pub fn snapshot(&self) -> Result<Moment, Error> {
+        let mut moment = Moment { counts: vec![0; self.pages], lasts: vec![Last::NONE; self.users] };
+        let (counts, lasts) = (&mut moment.counts, &mut moment.lasts);
+        // SAFETY: the service is open as long as it is borrowed, and each slice has the length that is told.
+        let told = unsafe {
+            let (to, last) = (counts.as_mut_ptr(), lasts.as_mut_ptr());
+            ffi::likes_service_snapshot(self.at, to, counts.len(), last, lasts.len())
+        };
+        wanted(told, status::COUNTED)?;
+        Ok(moment)
+    }
+
+    /// What the service has done so far.
+    #[must_use]
+    pub fn statistics(&self) -> Statistics {
+        let mut told = ffi::RawStatistics::default();
+        // SAFETY: the service is open as long as it is borrowed, and the call writes the statistics.
+        unsafe { ffi::likes_service_statistics(self.at, &mut told) };
+        Statistics::from(told)
+    }
+
+    /// The phase that was last released.
+    #[must_use]
+    pub fn phase(&self) -> u64 {
+        // SAFETY: the service is open as long as it is borrowed.
+        unsafe { ffi::likes_service_phase(self.at) }
+    }
+
+    /// How many seats there are.
+    #[must_use]
+    pub const fn seats(&self) -> u32 {
+        self.seats
     }
 
     /// The seat of a user.
-    pub fn seat_of(&self, user: u32) -> u32 {
-        user % self.shared.desks.len() as u32
+    #[must_use]
+    pub const fn seat_of(&self, user: u32) -> u32 {
+        user % self.seats
     }
 
     /// Proposes pages to be split, as [`Driver::propose`](crate::Driver::propose) does.
-    pub fn propose(&self, pages: &[u32]) {
-        let mut pace = lock(&self.shared.pace);
-        pace.driver.propose(pages);
-        if !pace.is_split() {
-            pace.hurry();
-        }
+    ///
+    /// # Errors
+    ///
+    /// [`Error::HoldsSeat`].
+    pub fn propose(&self, pages: &[u32]) -> Result<(), Error> {
+        // SAFETY: the service is open as long as it is borrowed, and the slice has the length that is told.
+        check(unsafe { ffi::likes_service_propose(self.at, pages.as_ptr(), pages.len()) })
     }
 
-    /// The pages that are split in the present split phase, or were in the last one.
+    /// The pages that are split in the present split phase, or were in the last one. None for a thread that holds a
+    /// seat.
+    #[must_use]
     pub fn split_pages(&self) -> Vec<u32> {
-        lock(&self.shared.pace).driver.split_pages(&mut [0; MAX_SPLIT]).to_vec()
+        let mut pages = vec![0; MAX_SPLIT];
+        // SAFETY: the service is open as long as it is borrowed, and the slice has the length that is told.
+        let told = unsafe { ffi::likes_service_split_pages(self.at, pages.as_mut_ptr(), pages.len()) };
+        pages.truncate(told);
+        pages
     }
 
-    /// The phase that the driver has last released.
-    pub fn phase(&self) -> u64 {
-        lock(&self.shared.phase).now()
+    /// Lends a seat to a closure, for rows of requests. Nobody else does the seat's phase work meanwhile, so the closure
+    /// makes calls of the seat, and waits for nothing.
+    ///
+    /// # Errors
+    ///
+    /// [`Error::UnknownSeat`], and [`Error::HoldsSeat`] where the thread holds a seat already.
+    pub fn with_seat<R>(&self, number: u32, work: impl FnOnce(&mut Held) -> R) -> Result<R, Error> {
+        Ok(work(&mut Held::lock(self, number)?))
     }
 
-    /// The counts of all pages at one moment, the end of a joined phase. It takes up to two phases. The calling thread
-    /// holds no seat.
-    pub fn counts(&self) -> Vec<u64> {
-        let mut counts = vec![0; self.shared.pages];
-        let mut pace = lock(&self.shared.pace);
-        let mut is_ending = false;
-        while pace.driver.snapshot(0, &mut counts) == Ok(Snapshot::NoMoment) {
-            // Where a joined phase is ending, a turn could release the next one unseen.
-            if !is_ending {
-                let turn = pace.driver.turn(End::Yes);
-                is_ending = matches!(turn, Turn::Announced | Turn::NotAllIn) && !pace.is_split();
-            }
-            self.shared.seat_turns();
-            thread::yield_now();
-        }
-        pace.hurry();
-        counts
+    /// Does what is due for the phases. A busy thread may call it once in some 256 requests: then no phase waits until
+    /// the service's thread gets a processor.
+    pub fn tick(&self) {
+        // SAFETY: the service is open as long as it is borrowed.
+        unsafe { ffi::likes_service_tick(self.at) }
     }
 
-    /// The last like of each user. Those of one seat are of one moment. The calling thread holds no seat.
-    pub fn lasts(&self) -> Vec<Last> {
-        let seats = self.shared.desks.len();
-        let mut lasts = vec![Last::NONE; self.shared.users as usize];
-        for (number, desk) in self.shared.desks.iter().enumerate() {
-            let mut row = vec![Last::NONE; lasts.iter().skip(number).step_by(seats).len()];
-            let told = desk.lock().seat.lasts(0, &mut row);
-            assert_eq!(told, Ok(()));
-            for (last, own) in lasts.iter_mut().skip(number).step_by(seats).zip(row) {
-                *last = own;
-            }
-        }
-        lasts
+    /// Has a seat leave, in a few phases. Then likes and looks of its users are [`Error::Gone`].
+    ///
+    /// # Errors
+    ///
+    /// [`Error::UnknownSeat`] and [`Error::HoldsSeat`].
+    pub fn retire_seat(&self, number: u32) -> Result<(), Error> {
+        // SAFETY: the service is open as long as it is borrowed.
+        check(unsafe { ffi::likes_service_retire_seat(self.at, number) })
     }
 
-    /// Ends the service, and gives the final counts and last likes. Found looks that weren't taken are lost.
-    pub fn stop(mut self) -> Final {
-        self.retire();
-        let mut counts = vec![0; self.shared.pages];
-        let told = lock(&self.shared.pace).driver.last_counts(0, &mut counts);
-        assert_eq!(told, Ok(LastCounts::Counted));
-        Final { counts, lasts: self.lasts() }
+    /// Brings a seat back that has left.
+    ///
+    /// # Errors
+    ///
+    /// [`Error::UnknownSeat`] and [`Error::HoldsSeat`].
+    pub fn bring_back_seat(&self, number: u32) -> Result<(), Error> {
+        // SAFETY: the service is open as long as it is borrowed.
+        check(unsafe { ffi::likes_service_bring_back_seat(self.at, number) })
     }
 
-    /// Ends the thread, has all seats retire, and makes the driver's turns until all is ended.
-    fn retire(&mut self) {
-        let Some(thread) = self.thread.take() else { return };
-        self.shared.is_stopping.store(true, Ordering::SeqCst);
-        // The thread has nothing to tell.
-        let _ = thread.join();
-        loop {
-            for desk in &self.shared.desks {
-                desk.lock().seat.retire();
-            }
-            if lock(&self.shared.pace).driver.turn(End::IfItServes) == Turn::Ended {
-                return;
-            }
-        }
+    /// Ends the service, and gives its last moment. Found looks that weren't taken are lost.
+    ///
+    /// # Errors
+    ///
+    /// [`Error::OpenWriter`], where a writer was leaked, as by [`mem::forget`](std::mem::forget). The service is leaked
+    /// then, too.
+    pub fn stop(self) -> Result<Moment, Error> {
+        // SAFETY: the service is this thread's own.
+        check(unsafe { ffi::likes_service_retire(self.at) })?;
+        let (lasts, mut counts) = (self.lasts()?, vec![0; self.pages]);
+        // SAFETY: the service is this thread's own, and the slice has the length that is told.
+        check(unsafe { ffi::likes_service_stop(self.at, counts.as_mut_ptr(), counts.len()) })?;
+        Ok(Moment { counts, lasts })
+    }
+
+    /// Why a seat can't be held.
+    fn seat_fault(&self, number: u32) -> Error {
+        // SAFETY: the service is open as long as it is borrowed.
+        error(unsafe { ffi::likes_service_seat_fault(self.at, number) })
     }
 }
 
 impl Drop for Service {
     fn drop(&mut self) {
-        self.retire();
+        // SAFETY: nobody else has the service. Where a writer was leaked, nothing is done.
+        unsafe { ffi::likes_service_close(self.at) };
     }
 }

@@ -57,5 +57,11 @@ statuses! {
     WRONG_LASTS = 117;
     NO_THREAD = 1000;
     WRONG_PERIOD = 1001;
+    NOT_STARTED = 1002;
     UNKNOWN_SEAT = 1003;
+    LATE = 1004;
+    HOLDS_SEAT = 1005;
+    NOT_LOCKED = 1006;
+    OPEN_WRITER = 1007;
+    WRONG_TAG = 1008;
 }

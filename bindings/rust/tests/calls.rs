@@ -3,20 +3,25 @@
 use std::iter;
 use std::thread;
 
-use likes::{Answer, Driver, End, Error, Glance, Last, LastCounts, Like, Look, Options, Outcome, Request, Seat};
+use likes::{Answer, Driver, End, Error, Glance, Hot, Last, LastCounts, Like, Look, Options, Outcome, Request, Seat};
 use likes::{Seen, Snapshot, State, Turn, MAX_SPLIT};
+
+/// Options of a service in which no page gets hot.
+fn seats_and_users(seats: u32, users: u32) -> Options<'static> {
+    Options { seats: Some(seats), hot: Hot::Never, ..Options::new(users) }
+}
 
 /// A service with all its seats.
 fn open(options: &Options, counts: &[u64]) -> (Driver, Vec<Seat>) {
     let mut driver = Driver::open(options, counts).unwrap();
     let seats: Vec<_> = iter::from_fn(|| driver.take_seat()).collect();
-    assert_eq!(seats.len(), options.seats as usize);
+    assert_eq!(seats.len(), options.seats.unwrap() as usize);
     (driver, seats)
 }
 
 /// Two seats, page 0 marked and page 1 not.
 fn open_two() -> (Driver, Vec<Seat>) {
-    open(&Options { room: 2, marks: &[0], ..Options::new(2, 4) }, &[10, 0])
+    open(&Options { room: Some(2), marks: &[0], ..seats_and_users(2, 4) }, &[10, 0])
 }
 
 fn change_phase(driver: &mut Driver, seats: &mut [Seat]) {
@@ -75,20 +80,21 @@ fn wrong_numbers_are_errors() {
 
 #[test]
 fn wrong_openings_are_errors() {
-    let right = Options::new(2, 4);
+    let right = seats_and_users(2, 4);
     let none = Last::NONE;
     let wrong = [
         (right, &[][..], Error::WrongPages),
         (Options { marks: &[2], ..right }, &[0, 0], Error::WrongMarks),
         (Options { marks: &[1, 1], ..right }, &[0, 0], Error::WrongMarks),
         (right, &[likes::MAX_COUNT + 1], Error::WrongCount),
-        (Options { seats: 65, ..right }, &[0], Error::WrongSeats),
+        (Options { seats: Some(65), ..right }, &[0], Error::WrongSeats),
         (Options { users: 0, ..right }, &[0], Error::WrongUsers),
         (Options { lasts: &[none; 3], ..right }, &[0], Error::WrongLasts),
         (Options { lasts: &[none, Last::of(1), none, none], ..right }, &[0], Error::WrongLasts),
-        (Options { seats: 0, ..right }, &[0], Error::WrongSeats),
-        (Options { room: 0, ..right }, &[0], Error::WrongRoom),
-        (Options { hot: likes::MAX_HOT + 1, ..right }, &[0], Error::WrongHot),
+        (Options { seats: Some(0), ..right }, &[0], Error::WrongSeats),
+        (Options { room: Some(0), ..right }, &[0], Error::WrongRoom),
+        (Options { hot: Hot::From(likes::MAX_HOT + 1), ..right }, &[0], Error::WrongHot),
+        (Options { hot: Hot::From(u32::MAX), ..right }, &[0], Error::WrongHot),
     ];
     for (options, counts, error) in wrong {
         assert_eq!(Driver::open(&options, counts).err(), Some(error), "{options:?}");
@@ -135,7 +141,7 @@ fn a_snapshot_is_of_one_moment() {
 
 #[test]
 fn proposed_pages_are_split() {
-    let (mut driver, mut seats) = open(&Options::new(1, 1), &[0; 9]);
+    let (mut driver, mut seats) = open(&seats_and_users(1, 1), &[0; 9]);
     assert_eq!(driver.turn(End::IfItServes), Turn::GoesOn);
     driver.propose(&[7, 7, 9, u32::MAX]);
     change_phase(&mut driver, &mut seats);
@@ -155,7 +161,7 @@ fn the_phase_is_handed_out_once() {
 
 #[test]
 fn a_service_goes_on_from_another() {
-    let (mut driver, mut seats) = open(&Options::new(2, 3), &[5, 7]);
+    let (mut driver, mut seats) = open(&seats_and_users(2, 3), &[5, 7]);
     assert_eq!(seats[0].like(2, 1), Ok(Like::Liked));
     let mut counts = [0; 2];
     assert_eq!(driver.last_counts(0, &mut counts), Ok(LastCounts::NotEnded));
@@ -167,13 +173,13 @@ fn a_service_goes_on_from_another() {
     end(&mut driver);
     assert_eq!(driver.last_counts(0, &mut counts), Ok(LastCounts::Counted));
     let lasts = [Last::NONE, Last::NONE, seats[0].last(2).unwrap()];
-    let (_driver, mut seats) = open(&Options { lasts: &lasts, ..Options::new(2, 3) }, &counts);
+    let (_driver, mut seats) = open(&Options { lasts: &lasts, ..seats_and_users(2, 3) }, &counts);
     assert_eq!(seats[0].look(2, 1, 0), Ok(Look::Seen(seen(Some(1), 8))));
 }
 
 #[test]
 fn a_seat_comes_back() {
-    let (mut driver, mut seats) = open(&Options::new(2, 3), &[5, 7]);
+    let (mut driver, mut seats) = open(&seats_and_users(2, 3), &[5, 7]);
     assert_eq!(seats[0].come_back(), State::Runs);
     assert_eq!(seats[0].like(2, 1), Ok(Like::Liked));
     assert_eq!(seats[0].retire(), State::Gone);
@@ -247,7 +253,7 @@ fn a_seat_is_dropped_between_phases() {
 #[test]
 fn seats_are_dropped_while_phases_change() {
     for _ in 0..20 {
-        let (mut driver, seats) = open(&Options { marks: &[0], ..Options::new(4, 4) }, &[0, 0]);
+        let (mut driver, seats) = open(&Options { marks: &[0], ..seats_and_users(4, 4) }, &[0, 0]);
         thread::scope(|scope| {
             for (user, mut seat) in (0..4).zip(seats) {
                 scope.spawn(move || {

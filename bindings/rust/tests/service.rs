@@ -1,32 +1,49 @@
 //! A service under threads.
 
 use std::panic::{catch_unwind, AssertUnwindSafe};
-use std::sync::mpsc;
+use std::sync::Arc;
 use std::thread;
 use std::time::Duration;
 
-use likes::{Answer, Error, Last, Look, Options, Outcome, Request, Seen, Service};
+use likes::{Answer, Error, Hot, Last, Moment, Options, Outcome, Request, Seen, Service, Writer};
 
 const PERIOD: Duration = Duration::from_micros(200);
 const THREADS: u32 = 4;
 const EACH: u32 = 20_000;
 
+fn options(seats: u32, users: u32, room: u32) -> Options<'static> {
+    let period = Some(PERIOD);
+    Options { seats: Some(seats), room: Some(room), hot: Hot::Never, period, ..Options::new(users) }
+}
+
 /// A service whose phases change, since page 0 is marked.
-fn start(seats: u32, users: u32, room: u32) -> Service {
-    let options = Options { room, marks: &[0], ..Options::new(seats, users) };
-    Service::start(&options, &[10, 0, 0], PERIOD).unwrap()
+fn open(seats: u32, users: u32, room: u32) -> Service {
+    Service::open(&Options { marks: &[0], ..options(seats, users, room) }, &[10, 0, 0]).unwrap()
 }
 
 /// Likes one by one as the thread's own users, and looks at what they liked last.
 fn call_singly(service: &Service, number: u32) {
     for i in 0..EACH {
         let (user, page) = (number + THREADS * (i % 100), i % 3);
-        assert_eq!(service.like(user, page), Ok(()));
+        service.like(user, page).unwrap();
         if i % 50 == 0 {
             assert_eq!(service.look(user, 0).unwrap().last, Last::of(page));
             assert_eq!(service.glance(user, 1).unwrap().last, Last::of(page));
         }
     }
+}
+
+/// Makes the same likes by a writer.
+fn call_by_writer(service: &Service, number: u32) {
+    let mut writer = service.writer().unwrap();
+    for i in 0..EACH {
+        let (user, page) = (number + THREADS * (i % 100), i % 3);
+        writer.like(user, page).unwrap();
+        if i % 50 == 0 {
+            assert_eq!(writer.look(user, 0).unwrap().last, Last::of(page));
+        }
+    }
+    assert_eq!(writer.flush(), Ok(()));
 }
 
 /// Makes the same likes in rows, each with a look that has to be found once.
@@ -41,7 +58,6 @@ fn call_in_rows(service: &Service, number: u32) {
             let mut done = seat.run(&row, &mut answers);
             while done < row.len() {
                 seat.drive();
-                seat.turn();
                 tags.extend(std::iter::from_fn(|| seat.take_found()).map(|found| found.tag));
                 done += seat.run(&row[done..], &mut answers[done..]);
             }
@@ -62,27 +78,56 @@ fn call_in_rows(service: &Service, number: u32) {
 
 #[test]
 fn no_like_and_no_look_is_lost() {
-    let service = start(THREADS, 400, 16);
+    let service = open(THREADS, 400, 16);
     thread::scope(|scope| {
-        for number in 0..THREADS {
-            let call = if number % 2 == 0 { call_singly } else { call_in_rows };
+        for (number, call) in (0..).zip([call_singly, call_in_rows, call_by_writer, call_by_writer]) {
             let service = &service;
             scope.spawn(move || call(service, number));
         }
     });
     let each = u64::from(EACH / 3 * THREADS);
     let likes = [each + 10 + 4, each + 4, each];
-    assert_eq!(service.counts(), likes);
+    assert_eq!(service.counts().unwrap(), likes);
     assert!(service.phase() > 2);
-    let ended = service.stop();
+    let statistics = service.statistics();
+    assert_eq!((statistics.likes, statistics.late), (u64::from(EACH * THREADS), 0));
+    assert!(statistics.phases > 2 && statistics.waits > 0 && statistics.wait_time >= statistics.longest_wait);
+    let ended = service.stop().unwrap();
     assert_eq!(ended.counts, likes);
     let last = |user: u32| (0..EACH).rev().find(|i| i % 100 == user / THREADS).map(|i| i % 3);
     assert!((0..400).map(last).eq(ended.lasts.iter().map(|last| last.page())));
 }
 
+/// Each user likes page 1 and then page 2. So in one moment, page 1 has as many more likes than page 2 as there are
+/// users who liked it last: counts and last likes that were asked one after the other would differ.
+#[test]
+fn a_snapshot_is_of_one_moment() {
+    let service = open(2, 8, 16);
+    let is_one = |moment: &Moment| {
+        let ahead = moment.lasts.iter().filter(|last| **last == Last::of(1)).count() as u64;
+        moment.counts[1] == moment.counts[2] + ahead
+    };
+    thread::scope(|scope| {
+        for number in 0..4 {
+            let service = &service;
+            scope.spawn(move || {
+                for i in 0..EACH {
+                    service.like(number * 2 + i / 2 % 2, 1 + i % 2).unwrap();
+                }
+            });
+        }
+        for _ in 0..200 {
+            assert!(is_one(&service.snapshot().unwrap()));
+        }
+    });
+    let moment = service.snapshot().unwrap();
+    assert!(is_one(&moment));
+    assert_eq!(service.stop(), Ok(moment));
+}
+
 #[test]
 fn many_looks_wait_at_a_seat_with_little_room() {
-    let service = start(1, 8, 2);
+    let service = open(1, 8, 2);
     thread::scope(|scope| {
         for user in 0..8 {
             let service = &service;
@@ -97,76 +142,158 @@ fn many_looks_wait_at_a_seat_with_little_room() {
 }
 
 #[test]
-fn looks_of_closures_and_of_calls_dont_mix() {
-    let service = start(1, 2, 64);
-    let (tell, told) = mpsc::channel();
-    thread::scope(|scope| {
-        scope.spawn(|| {
-            for _ in 0..500 {
-                service.look(1, 0).unwrap();
-            }
-        });
-        scope.spawn(|| {
-            for tag in 0..500 {
-                while service.with_seat(0, |seat| seat.look(0, 0, tag)).unwrap() != Ok(Look::Waits) {
-                    thread::yield_now();
-                }
-                loop {
-                    if let Some(found) = service.with_seat(0, |seat| seat.take_found()).unwrap() {
-                        tell.send((tag, found.tag)).unwrap();
-                        break;
-                    }
-                    thread::yield_now();
-                }
-            }
-        });
+fn a_look_has_a_deadline() {
+    let period = Some(Duration::from_secs(100));
+    let service = Service::open(&Options { marks: &[0], period, ..options(1, 2, 64) }, &[0, 0]).unwrap();
+    while service.phase() % 2 == 0 {
+        service.like(0, 1).unwrap();
+    }
+    assert_eq!(service.look_within(0, 0, Duration::from_millis(1)), Ok(None));
+    assert!(service.look_within(0, 1, Duration::ZERO).unwrap().is_some());
+    assert_eq!(service.look_within(2, 0, Duration::MAX), Err(Error::UnknownUser));
+    assert_eq!(service.statistics().late, 1);
+}
+
+#[test]
+fn a_thread_that_holds_a_seat_never_waits_for_itself() {
+    let service = open(2, 4, 4);
+    let held = service.with_seat(0, |_| {
+        for user in 0..2 {
+            assert_eq!(service.like(user, 0), Err(Error::HoldsSeat));
+            assert_eq!(service.look(user, 0), Err(Error::HoldsSeat));
+            assert_eq!(service.glance(user, 0), Err(Error::HoldsSeat));
+            assert_eq!(service.last(user), Err(Error::HoldsSeat));
+        }
+        assert_eq!(service.counts(), Err(Error::HoldsSeat));
+        assert_eq!(service.snapshot(), Err(Error::HoldsSeat));
+        assert_eq!(service.propose(&[1]), Err(Error::HoldsSeat));
+        assert_eq!(service.retire_seat(1), Err(Error::HoldsSeat));
+        service.with_seat(1, |_| ())
     });
-    drop(tell);
-    assert!(told.iter().eq((0..500).map(|tag| (tag, tag))));
+    assert_eq!(held, Ok(Err(Error::HoldsSeat)));
+    let mut answers = [Answer::NONE];
+    let done = service.with_seat(0, |seat| seat.run(&[Request::look(0, 0, 1 << 63)], &mut answers));
+    assert_eq!((done, answers[0].outcome()), (Ok(1), Err(Error::WrongTag)));
+}
+
+#[test]
+fn a_writer_keeps_likes_of_a_seat_that_has_left() {
+    let service = open(2, 4, 4);
+    let mut writer = service.writer().unwrap();
+    service.retire_seat(1).unwrap();
+    assert_eq!(service.like(1, 0), Err(Error::Gone));
+    writer.like(1, 0).unwrap();
+    writer.like(2, 0).unwrap();
+    assert_eq!(writer.flush(), Err(Error::Gone));
+    let (mut writer, error) = writer.close().unwrap_err();
+    assert_eq!((error, service.counts().unwrap()[0]), (Error::Gone, 11));
+    service.bring_back_seat(1).unwrap();
+    writer.flush().unwrap();
+    assert_eq!(service.counts().unwrap()[0], 12);
+    writer.like(3, 1).unwrap();
+    assert_eq!(writer.forget_likes(), 1);
+    assert_eq!((writer.like(4, 0), writer.like(0, 3)), (Err(Error::UnknownUser), Err(Error::UnknownPage)));
+    drop(writer);
+    assert_eq!(service.stop().unwrap().counts, [12, 0, 0]);
+}
+
+/// A writer goes to another thread, and is flushed where it is dropped.
+#[test]
+fn a_writer_is_send() {
+    fn goes<T: Send>() {}
+    fn is_shared<T: Send + Sync>() {}
+    goes::<Writer>();
+    is_shared::<Service>();
+    let service = open(2, 4, 4);
+    let mut writer = service.writer().unwrap();
+    thread::scope(|scope| {
+        scope.spawn(move || writer.like(3, 2).unwrap());
+    });
+    assert_eq!(service.look(3, 2), Ok(Seen { last: Last::of(2), count: 1 }));
+}
+
+#[test]
+fn a_leaked_writer_harms_nobody() {
+    let service = open(2, 4, 4);
+    std::mem::forget(service.writer().unwrap());
+    assert_eq!(service.stop(), Err(Error::OpenWriter));
+}
+
+#[test]
+fn threads_of_their_own_share_a_service() {
+    let service = Arc::new(open(2, 4, 4));
+    let threads = (0..4).map(|user| {
+        let service = Arc::clone(&service);
+        thread::spawn(move || service.writer()?.like(user, 1))
+    });
+    for thread in threads.collect::<Vec<_>>() {
+        assert_eq!(thread.join().unwrap(), Ok(()));
+    }
+    assert_eq!(Arc::into_inner(service).unwrap().stop().unwrap().counts, [10, 4, 0]);
 }
 
 #[test]
 fn a_service_goes_on_from_another() {
-    let service = start(2, 3, 4);
+    let service = open(2, 3, 4);
     service.like(2, 1).unwrap();
     assert_eq!((service.last(2), service.last(0)), (Ok(Last::of(1)), Ok(Last::NONE)));
-    let ended = service.stop();
+    assert_eq!(service.lasts().unwrap()[2], Last::of(1));
+    let ended = service.stop().unwrap();
     assert_eq!((&ended.counts[..], &ended.lasts[..]), (&[10, 1, 0][..], &[Last::NONE, Last::NONE, Last::of(1)][..]));
-    let options = Options { lasts: &ended.lasts, ..Options::new(2, 3) };
-    let service = Service::start(&options, &ended.counts, PERIOD).unwrap();
+    let options = Options { lasts: &ended.lasts, ..options(2, 3, 4) };
+    let service = Service::open(&options, &ended.counts).unwrap();
     assert_eq!(service.look(2, 1), Ok(Seen { last: Last::of(1), count: 1 }));
 }
 
 #[test]
 fn proposed_pages_are_split() {
-    let service = Service::start(&Options::new(2, 2), &[0; 4], PERIOD).unwrap();
+    let service = Service::open(&options(2, 2, 4), &[0; 4]).unwrap();
     assert_eq!(service.split_pages(), []);
     for page in [3, 1] {
-        service.propose(&[page]);
+        service.propose(&[page]).unwrap();
         while service.split_pages() != [page] {
+            service.like(0, 0).unwrap();
             thread::sleep(PERIOD);
+        }
+    }
+}
+
+/// What isn't given has the library's defaults: a page that many like is found, and split.
+#[test]
+fn a_popular_page_gets_hot_by_default() {
+    let service = Service::open(&Options::new(100), &[0; 100]).unwrap();
+    assert!(service.seats() >= 16 && service.seat_of(65) < service.seats());
+    while service.split_pages() != [7] {
+        for user in 0..100 {
+            service.like(user, 7).unwrap();
         }
     }
 }
 
 #[test]
 fn wrong_numbers_are_errors() {
-    assert_eq!(Service::start(&Options::new(2, 2), &[0], Duration::ZERO).err(), Some(Error::WrongPeriod));
-    assert_eq!(Service::start(&Options::new(0, 2), &[0], PERIOD).err(), Some(Error::WrongSeats));
-    let service = start(2, 3, 4);
+    let refused = |options: Options| Service::open(&options, &[0]).err();
+    let right = options(2, 2, 4);
+    assert_eq!(refused(Options { period: Some(Duration::ZERO), ..right }), Some(Error::WrongPeriod));
+    assert_eq!(refused(Options { period: Some(Duration::from_secs(1001)), ..right }), Some(Error::WrongPeriod));
+    assert_eq!(refused(Options { seats: Some(0), ..right }), Some(Error::WrongSeats));
+    assert_eq!(refused(Options { users: 0, ..right }), Some(Error::WrongUsers));
+    assert_eq!(Service::open(&right, &[]).err(), Some(Error::WrongPages));
+    let service = open(2, 3, 4);
     assert_eq!(service.like(3, 0), Err(Error::UnknownUser));
     assert_eq!(service.look(0, 3), Err(Error::UnknownPage));
     assert_eq!(service.glance(u32::MAX, 0), Err(Error::UnknownUser));
     assert_eq!(service.last(3), Err(Error::UnknownUser));
     assert_eq!(service.with_seat(2, |_| ()), Err(Error::UnknownSeat));
+    assert_eq!(service.bring_back_seat(2), Err(Error::UnknownSeat));
 }
 
 #[test]
 fn a_panic_of_a_closure_harms_nobody() {
-    let service = start(2, 2, 4);
+    let service = open(2, 2, 4);
     let thrown = catch_unwind(AssertUnwindSafe(|| service.with_seat(0, |_| panic!("as it should"))));
     assert!(thrown.is_err());
     service.like(0, 0).unwrap();
     service.look(0, 0).unwrap();
-    assert_eq!(service.stop().counts, [11, 0, 0]);
+    assert_eq!(service.stop().unwrap().counts, [11, 0, 0]);
 }

@@ -5,7 +5,6 @@ import (
 	"fmt"
 	"os"
 	"sync"
-	"time"
 
 	"likes"
 )
@@ -17,16 +16,16 @@ const (
 )
 
 // work likes as a goroutine's own users do, and looks at what they liked last.
-func work(service *likes.Service, number uint32) error {
+func work(pool *likes.Pool, number uint32) error {
 	for i := uint32(0); i < each; i++ {
 		user, page := number+goroutines*(i%(users/goroutines)), i%3
-		if err := service.Like(user, page); err != nil {
+		if err := pool.Like(user, page); err != nil {
 			return err
 		}
 		if i%50 != 0 {
 			continue
 		}
-		if seen, err := service.Look(user, 0); err != nil || seen.Last != page {
+		if seen, err := pool.Look(user, 0); err != nil || seen.Last != page {
 			return fmt.Errorf("user %d has another last like: %v, %v", user, seen, err)
 		}
 	}
@@ -34,7 +33,11 @@ func work(service *likes.Service, number uint32) error {
 }
 
 func run() error {
-	service, err := likes.Open(likes.Options{Seats: 4, Users: users, Room: 64, Hot: 512, Period: time.Millisecond}, make([]uint64, 4))
+	service, err := likes.Open(likes.Options{Users: users}, make([]uint64, 4))
+	if err != nil {
+		return err
+	}
+	writers, err := service.NewPool()
 	if err != nil {
 		return err
 	}
@@ -47,17 +50,24 @@ func run() error {
 		pool.Add(1)
 		go func(number uint32) {
 			defer pool.Done()
-			if err := work(service, number); err != nil {
+			if err := work(writers, number); err != nil {
 				errs <- err
 			}
 		}(number)
 	}
 	pool.Wait()
-	if split := service.SplitPages(); len(split) > 1 {
-		return fmt.Errorf("other pages than 0 are split: %v", split)
+	if split, err := service.SplitPages(); err != nil || len(split) > 1 {
+		return fmt.Errorf("other pages than 0 are split: %v, %v", split, err)
 	}
-	fmt.Println("a like of page 4:", service.Like(0, 4))
-	fmt.Println("totals:", service.Close())
+	fmt.Println("a like of page 4:", writers.Like(0, 4))
+	if err := writers.Close(); err != nil {
+		return err
+	}
+	end, err := service.Stop()
+	if err != nil {
+		return err
+	}
+	fmt.Println("totals:", end.Counts)
 	close(errs)
 	return <-errs
 }

@@ -17,6 +17,7 @@ var errEnded = errors.New("the server stops")
 // and a new name gets the next number. Any goroutine may call it.
 type counter struct {
 	service *likes.Service
+	writers *likes.Pool
 	names   *names.Table
 	users   uint32
 	most    int
@@ -25,8 +26,7 @@ type counter struct {
 	isEnded bool
 	// What a moment is written to, under moments.
 	moments sync.Mutex
-	counts  []uint64
-	lasts   []uint32
+	now     likes.Moment
 }
 
 // call does something with the service while that goes on.
@@ -39,21 +39,21 @@ func (c *counter) call(do func() error) error {
 	return do()
 }
 
-// like adds a like. A name that is new is that of a new page.
+// like keeps a like, which is counted within some milliseconds. A name that is new is that of a new page.
 func (c *counter) like(user uint32, name string) error {
 	return c.call(func() error {
 		page, err := c.names.Take(name)
 		if err != nil {
 			return err
 		}
-		return c.service.Like(user, page)
+		return c.writers.Like(user, page)
 	})
 }
 
-// look gives a page's exact count, and the name of the user's last like, if there is one.
+// look gives a page's exact count, with all likes of the user, and the name of the user's last like, if there is one.
 func (c *counter) look(user, page uint32) (count uint64, last string, err error) {
 	err = c.call(func() error {
-		seen, err := c.service.Look(user, page)
+		seen, err := c.writers.Look(user, page)
 		if err != nil {
 			return err
 		}
@@ -66,11 +66,15 @@ func (c *counter) look(user, page uint32) (count uint64, last string, err error)
 	return count, last, err
 }
 
-// total gives the names so far, and the counts of all pages at one moment.
+// total gives the names so far, and the counts of all pages at one moment, with all likes that were answered before.
 func (c *counter) total() (all []string, counts []uint64, err error) {
 	err = c.call(func() error {
-		all, counts = c.names.All(), c.service.Counts()
-		return nil
+		all = c.names.All()
+		if err := c.writers.Flush(); err != nil {
+			return err
+		}
+		counts, err = c.service.Counts()
+		return err
 	})
 	return all, counts, err
 }
@@ -80,26 +84,37 @@ func (c *counter) moment(use func(*saved.Moment) error) error {
 	c.moments.Lock()
 	defer c.moments.Unlock()
 	began := time.Now()
-	err := c.call(func() error { return c.service.Snapshot(c.counts, c.lasts) })
+	err := c.call(func() error {
+		if err := c.writers.Flush(); err != nil {
+			return err
+		}
+		return c.service.ReadSnapshot(&c.now)
+	})
 	if err != nil {
 		return err
 	}
-	return use(c.named(began, c.counts, c.lasts))
+	return use(c.named(began, &c.now))
 }
 
 // named is a moment with its names. They are taken last, so each page that was liked has its name. One that came later
 // has a count of 0.
-func (c *counter) named(began time.Time, counts []uint64, lasts []uint32) *saved.Moment {
+func (c *counter) named(began time.Time, now *likes.Moment) *saved.Moment {
 	all := c.names.All()
-	return &saved.Moment{Began: began, Names: all, Counts: counts[:len(all)], Lasts: lasts}
+	return &saved.Moment{Began: began, Names: all, Counts: now.Counts[:len(all)], Lasts: now.Lasts}
 }
 
 // end ends the service, and gives its last moment. Calls that come later do nothing.
-func (c *counter) end() *saved.Moment {
+func (c *counter) end() (*saved.Moment, error) {
 	c.open.Lock()
 	defer c.open.Unlock()
 	c.isEnded = true
 	began := time.Now()
-	counts, lasts := c.service.CloseWithLasts()
-	return c.named(began, counts, lasts)
+	if err := c.writers.Close(); err != nil {
+		return nil, err
+	}
+	now, err := c.service.Stop()
+	if err != nil {
+		return nil, err
+	}
+	return c.named(began, now), nil
 }

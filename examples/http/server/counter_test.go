@@ -78,7 +78,10 @@ func TestMoments(t *testing.T) {
 			t.Error(err)
 		}
 	}
-	last := c.end()
+	last, err := c.end()
+	if err != nil {
+		t.Fatal(err)
+	}
 	all.Wait()
 	check(last)
 	var sum uint64
@@ -103,7 +106,10 @@ func TestGoingOn(t *testing.T) {
 			t.Error(err)
 		}
 	}
-	last := first.end()
+	last, err := first.end()
+	if err != nil {
+		t.Fatal(err)
+	}
 	if !reflect.DeepEqual(last.Names, []string{"news", "sport", "new"}) {
 		t.Errorf("%q", last.Names)
 	}
@@ -153,8 +159,8 @@ func TestPagesFile(t *testing.T) {
 	if err != nil {
 		t.Fatal(err)
 	}
-	if all := c.end().Names; !reflect.DeepEqual(all, []string{"sport", "news", `a, "b"`}) {
-		t.Errorf("%q", all)
+	if last, err := c.end(); err != nil || !reflect.DeepEqual(last.Names, []string{"sport", "news", `a, "b"`}) {
+		t.Errorf("%q, %v", last, err)
 	}
 	os.WriteFile(name, []byte("news\n\nsport\n"), 0o600)
 	_, err = start(&saved.Moment{}, &options{mostPages: 9, users: 2, seats: 1, pagesFile: name})

@@ -89,7 +89,10 @@ func shut(web *http.Server, most time.Duration) {
 
 // finish ends the counter and saves what it has.
 func finish(keeper *saver, c *counter) error {
-	last := c.end()
+	last, err := c.end()
+	if err != nil {
+		return err
+	}
 	if err := keeper.save(last); err != nil {
 		return err
 	}

@@ -63,8 +63,9 @@ func (s *server) tellMetrics(w http.ResponseWriter, r *http.Request) {
 		out.one("likes_pages_limit", "gauge", "Pages that there can be.", float64(c.most))
 		c.call(func() error {
 			out.one("likes_phases_total", "counter", "Phases that have begun.", float64(c.service.Phase()))
-			out.one("likes_split_pages", "gauge", "Pages that were split last.", float64(len(c.service.SplitPages())))
-			return nil
+			split, err := c.service.SplitPages()
+			out.one("likes_split_pages", "gauge", "Pages that were split last.", float64(len(split)))
+			return err
 		})
 	}
 	out.Flush()

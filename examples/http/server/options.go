@@ -30,7 +30,7 @@ func optionsOf(words []string) (*options, error) {
 	flags.StringVar(&o.pagesFile, "pages-file", "", "a `file` with more of them, one in each line")
 	flags.IntVar(&o.mostPages, "most-pages", 1000000, "how many pages there can be; a name that is new gets one")
 	flags.UintVar(&users, "users", 100000, "how many users there are")
-	flags.UintVar(&seats, "seats", 4, "how many seats the live core has")
+	flags.UintVar(&seats, "seats", 0, "how many `seats` the live core has; 0: 16 for each processor, and at most 64")
 	flags.StringVar(&o.file, "file", "", "the `file` to which counts, names and last likes are saved, and from which "+
 		"they are taken at the start; without it, they are in memory alone")
 	flags.DurationVar(&o.every, "every", 10*time.Second, "how often they are saved")
@@ -51,8 +51,8 @@ func optionsOf(words []string) (*options, error) {
 		return nil, errors.New("-most-pages is 1 to 16777216")
 	case users < 1 || users > 1<<32-1:
 		return nil, errors.New("-users is 1 to 4294967295")
-	case seats < 1 || seats > 64:
-		return nil, errors.New("-seats is 1 to 64")
+	case seats > 64:
+		return nil, errors.New("-seats is 1 to 64, or 0")
 	case o.every <= 0:
 		return nil, errors.New("-every is more than 0")
 	}

@@ -224,7 +224,7 @@ func TestMetrics(t *testing.T) {
 func TestOptions(t *testing.T) {
 	for words, isRight := range map[string]bool{
 		"": true, "-users 4294967295 -seats 64 -most-pages 16777216 -every 1ms -in-flight 1": true, "-drain 0s": true,
-		"-users 0": false, "-users 4294967296": false, "-seats 0": false, "-seats 65": false, "-most-pages 0": false,
+		"-users 0": false, "-users 4294967296": false, "-seats 0": true, "-seats 65": false, "-most-pages 0": false,
 		"-most-pages 16777217": false, "-every 0s": false, "-in-flight 0": false, "-body-timeout 0s": false,
 		"-drain -1s": false, "more": false, "-more": false, "-users x": false,
 	} {

@@ -5,16 +5,14 @@ import (
 	"fmt"
 	"os"
 	"strings"
-	"time"
 
 	"likes"
 	"likeserver/names"
 	"likeserver/saved"
 )
 
-// room is how many looks a seat keeps, hot about how many likes between two choices make a page hot, and period how
-// often phases end.
-const room, hot, period = 1024, 512, time.Millisecond
+// room is how many looks a seat keeps.
+const room = 1024
 
 // start starts a counter where a moment was, with the pages of the options beside those that it has.
 func start(from *saved.Moment, o *options) (*counter, error) {
@@ -32,13 +30,16 @@ func start(from *saved.Moment, o *options) (*counter, error) {
 		}
 	}
 	c := &counter{names: table, users: o.users, most: o.mostPages}
-	c.counts, c.lasts = make([]uint64, o.mostPages), make([]uint32, o.users)
-	copy(c.counts, from.Counts)
-	if err := putLasts(c.lasts, from.Lasts); err != nil {
+	c.now = likes.Moment{Counts: make([]uint64, o.mostPages), Lasts: make([]uint32, o.users)}
+	copy(c.now.Counts, from.Counts)
+	if err := putLasts(c.now.Lasts, from.Lasts); err != nil {
 		return nil, err
 	}
-	asked := likes.Options{Seats: o.seats, Users: o.users, Room: room, Hot: hot, Lasts: c.lasts, Period: period}
-	c.service, err = likes.Open(asked, c.counts)
+	asked := likes.Options{Seats: o.seats, Users: o.users, Room: room, Lasts: c.now.Lasts}
+	if c.service, err = likes.Open(asked, c.now.Counts); err != nil {
+		return nil, err
+	}
+	c.writers, err = c.service.NewPool()
 	return c, err
 }
 

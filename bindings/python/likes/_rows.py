@@ -4,8 +4,8 @@ import struct
 from ctypes import byref
 from typing import Any, List, NamedTuple, Optional, Sequence, Tuple, Union
 
-from .library import Answer, Request, last_of, whole
-from .statuses import STATUSES, Status
+from ._library import Answer, Request, last_of, whole
+from ._statuses import STATUSES, Status
 
 # A Request from a tag, a user, a page and an op; a count, a last like and a status from an Answer.
 REQUEST, ANSWER = struct.Struct("=QIII4x"), struct.Struct("=QII")

@@ -3,12 +3,14 @@
 from enum import IntEnum
 
 NO_PAGE = 2**32 - 1
+NO_HOT = 2**32 - 1  # in place of hot: no page gets hot by itself
 MAX_SPLIT = 64
+MAX_PERIOD_US = 1000000000
 FIRST_ERROR = 100
 
 
 class Status(IntEnum):
-    """What calls answer: outcomes, and from 100 on errors."""
+    """What calls answer: outcomes, from 100 on errors, and from 1,000 on errors of services."""
 
     OK = 0
     LIKED = 1
@@ -46,11 +48,20 @@ class Status(IntEnum):
     WRONG_ROOM = 115
     WRONG_HOT = 116
     WRONG_LASTS = 117
+    NO_THREAD = 1000
+    WRONG_PERIOD = 1001
+    NOT_STARTED = 1002
+    UNKNOWN_SEAT = 1003
+    LATE = 1004
+    HOLDS_SEAT = 1005
+    NOT_LOCKED = 1006
+    OPEN_WRITER = 1007
+    WRONG_TAG = 1008
 
     @property
     def text(self) -> str:
         """The text, for messages."""
-        from .library import load
+        from ._library import load
 
         return str(load().likes_status_text(self).decode())
 

@@ -7,12 +7,10 @@ import threading
 from ctypes import byref, c_uint32, c_uint64
 from typing import Any, List, NamedTuple, Optional, Sequence
 
-from .errors import Closed, check, outcome
-from .library import MOST, NO_HOT, Answer, DriverHandle, FoundLook, Handle, Options, last_of, load, number_of, row_of, whole
-from .rows import Asked, Row, Seen, Told, seen
-from .statuses import MAX_SPLIT, End, Status
-
-MOST_64 = 2**64 - 1
+from ._errors import Closed, check, outcome
+from ._library import MOST_64, Answer, DriverHandle, FoundLook, Handle, Opening, last_of, load, row_of, whole
+from ._rows import Asked, Row, Seen, Told, seen
+from ._statuses import MAX_SPLIT, End, Status
 
 
 class Found(NamedTuple):
@@ -27,64 +25,64 @@ class Found(NamedTuple):
     last: Optional[int]
 
 
-class Held:
+class _Handled:
     """A handle, for one call at a time."""
 
     def __init__(self, handle: Any = None) -> None:
-        self.library, self._handle, self._lock = load(), handle or Handle(), threading.Lock()
+        self._library, self._handle, self._lock = load(), handle or Handle(), threading.Lock()
         self._at = byref(self._handle)
 
-    def call(self, call: Any, *words: Any) -> Any:
+    def _call(self, call: Any, *words: Any) -> Any:
         """Makes a call of the library on the handle, with its lock held."""
         with self._lock:
             if self._handle.at is None:
                 raise Closed
             return call(self._at, *words)
 
-    def _free(self, free: Any) -> None:
+    def _end(self, free: Any) -> None:
         with self._lock:
             free(self._at)
 
 
-class Seat(Held):
+class Seat(_Handled):
     """A worker. While a phase is ending, each seat that isn't gone is called, by turn if there is nothing else to do: a
     seat that isn't called holds up all others."""
 
     def like(self, user: int, page: int) -> Status:
         """Adds one like: LIKED, BETWEEN, LIKE_LIMIT or GONE."""
         user, page = whole("user", user), whole("page", page)
-        return outcome(self.call(self.library.likes_seat_like, user, page))
+        return outcome(self._call(self._library.likes_seat_like, user, page))
 
     def look(self, user: int, page: int, tag: int = 0) -> Told:
         """What a look shows, or WAITS, BETWEEN, NO_ROOM or GONE."""
         user, page, tag = whole("user", user), whole("page", page), whole("tag", tag, MOST_64)
         answer = Answer()
-        self.call(self.library.likes_seat_look, user, page, tag, byref(answer))
-        return seen_or_outcome(answer)
+        self._call(self._library.likes_seat_look, user, page, tag, byref(answer))
+        return _seen_or_outcome(answer)
 
     def glance(self, user: int, page: int) -> Told:
         """What a look shows at once, or BETWEEN or GONE. It may lack other seats' likes of the present phase."""
         user, page = whole("user", user), whole("page", page)
         answer = Answer()
-        self.call(self.library.likes_seat_glance, user, page, byref(answer))
-        return seen_or_outcome(answer)
+        self._call(self._library.likes_seat_glance, user, page, byref(answer))
+        return _seen_or_outcome(answer)
 
     def run(self, requests: Sequence[Asked]) -> List[Told]:
         """Runs rows of (op, user, page), and gives the answers: of a request that was refused its Status. A tag is a
         request's place in the row. Where it stops before the end, the last answer is BETWEEN or NO_ROOM."""
         row = Row(requests)
-        answers = self.run_on(row)
+        answers = self._run_on(row)
         stopped = row.stopped()
         return answers if stopped is None else [*answers, stopped]
 
-    def run_on(self, row: Row) -> List[Told]:
+    def _run_on(self, row: Row) -> List[Told]:
         """Runs what is left of a row, and gives the answers of what was done."""
-        return row.note(self.call(self.library.likes_seat_run, *row.left()))
+        return row.note(self._call(self._library.likes_seat_run, *row.left()))
 
     def take_found(self) -> Optional[Found]:
         """The next found look, in the order of asking, or None."""
         found = FoundLook()
-        if not self.call(self.library.likes_seat_take_found, byref(found)):
+        if not self._call(self._library.likes_seat_take_found, byref(found)):
             return None
         last = last_of(found.last)
         return Found(found.tag, found.count, found.asked, found.ran, found.user, found.page, last)
@@ -92,76 +90,72 @@ class Seat(Held):
     def last(self, user: int) -> Optional[int]:
         """The page of a user's last like, or None."""
         user, page = whole("user", user), c_uint32()
-        check(self.call(self.library.likes_seat_last, user, byref(page)), Status.OK)
+        check(self._call(self._library.likes_seat_last, user, byref(page)), Status.OK)
         return last_of(page.value)
 
     def lasts(self, start: int, length: int) -> List[Optional[int]]:
         """The last likes of the seat's users number start, start + 1 and so on."""
         start, length = whole("start", start), whole("length", length)
         pages = (c_uint32 * (length + 1))()
-        check(self.call(self.library.likes_seat_lasts, start, pages, length), Status.OK)
+        check(self._call(self._library.likes_seat_lasts, start, pages, length), Status.OK)
         return [last_of(page) for page in pages[:length]]
 
     def turn(self) -> Status:
         """Does what the phase asks of the seat: RUNS, BETWEEN or GONE."""
-        return outcome(self.call(self.library.likes_seat_turn))
+        return outcome(self._call(self._library.likes_seat_turn))
 
     def retire(self) -> Status:
         """Leaves, where the seat runs a joined phase: GONE. Else it is turn."""
-        return outcome(self.call(self.library.likes_seat_retire))
+        return outcome(self._call(self._library.likes_seat_retire))
 
     def come_back(self) -> Status:
         """Brings a seat back that is gone: RUNS, or BETWEEN where the phase is ending. Of any other seat it is turn."""
-        return outcome(self.call(self.library.likes_seat_come_back))
+        return outcome(self._call(self._library.likes_seat_come_back))
 
     def phase(self) -> int:
         """The phase that the seat runs or has answered last, and 0 once it is gone."""
-        return int(self.call(self.library.likes_seat_phase))
+        return int(self._call(self._library.likes_seat_phase))
 
-    def free(self) -> None:
-        self._free(self.library.likes_seat_free)
+    def _free(self) -> None:
+        self._end(self._library.likes_seat_free)
 
 
-def seen_or_outcome(answer: Any) -> Told:
+def _seen_or_outcome(answer: Any) -> Told:
     status = outcome(answer.status)
     return seen(answer) if status == Status.SEEN else status
 
 
-class Phase(Held):
+class Phase(_Handled):
     """The phase that a driver has last released."""
 
     def now(self) -> int:
-        return int(self.call(self.library.likes_phase_now))
+        """The phase. It may be over by then."""
+        return int(self._call(self._library.likes_phase_now))
 
-    def free(self) -> None:
-        self._free(self.library.likes_phase_free)
+    def _free(self) -> None:
+        self._end(self._library.likes_phase_free)
 
 
-class Driver(Held):
-    """The coordinator of a service, which it opens. marks has the pages that are split in every split phase, and lasts
-    the page of each user's last like, or None; if it is empty, nobody has one."""
+class Driver(_Handled):
+    """The coordinator of a service, which it opens. What isn't given has the default of likes.h; with NO_HOT as hot, no
+    page gets hot by itself. marks has the pages that are split in every split phase, and lasts the page of each user's
+    last like, or None; if it is empty, nobody has one."""
 
     def __init__(
         self,
         counts: Sequence[int],
         users: int,
-        seats: int = 1,
-        room: int = 4096,
-        hot: int = 0,
+        seats: Optional[int] = None,
+        room: Optional[int] = None,
+        hot: Optional[int] = None,
         marks: Sequence[int] = (),
         lasts: Sequence[Optional[int]] = (),
     ) -> None:
         super().__init__(DriverHandle())
-        self.pages = len(counts)
-        self.owned: List[Any] = []
-        # In C, 0 seats or no room would be the default.
-        numbers = {"seats": whole("seats", seats) or MOST, "room": whole("room", room) or MOST}
-        row = (c_uint64 * (self.pages + 1))(*(whole("count", it, MOST_64) for it in counts))
-        marked, last = row_of("mark", marks), row_of("last like", [number_of(it) for it in lasts])
-        arrays = {"counts": row, "marks": marked, "lasts": last}
-        lengths = {"pages": self.pages, "marks_len": len(marks), "lasts_len": len(lasts)}
-        options = Options(**arrays, **lengths, **numbers, users=whole("users", users), hot=whole("hot", hot) or NO_HOT)
-        check(self.library.likes_open(options, self._at), Status.OK)
+        self._pages = len(counts)
+        self._owned: List[Any] = []
+        opening = Opening(counts, users, seats, room, hot, marks, lasts, None)
+        check(self._library.likes_open(opening.options, self._at), Status.OK)
 
     def __enter__(self) -> "Driver":
         return self
@@ -173,59 +167,59 @@ class Driver(Held):
         """The next seat, or None if all are taken. A phase changes only when every seat has answered, so take them
         all."""
         seat = Seat()
-        return seat if self._take(self.library.likes_driver_take_seat, seat) else None
+        return seat if self._take(self._library.likes_driver_take_seat, seat) else None
 
     def take_phase(self) -> Optional[Phase]:
         """The phase, once."""
         phase = Phase()
-        return phase if self._take(self.library.likes_driver_take_phase, phase) else None
+        return phase if self._take(self._library.likes_driver_take_phase, phase) else None
 
-    def _take(self, take: Any, into: Held) -> bool:
-        is_taken = outcome(self.call(take, into._at)) == Status.OK
+    def _take(self, take: Any, into: _Handled) -> bool:
+        is_taken = outcome(self._call(take, into._at)) == Status.OK
         if is_taken:
-            self.owned.append(into)
+            self._owned.append(into)
         return is_taken
 
     def turn(self, end: End = End.NO) -> Status:
         """At most one thing for the phases: GOES_ON, ANNOUNCED, NOT_ALL_IN, RELEASED or ENDED."""
         number = whole("end", end)
-        return outcome(self.call(self.library.likes_driver_turn, number))
+        return outcome(self._call(self._library.likes_driver_turn, number))
 
     def phase(self) -> int:
         """The present phase. Phases with odd numbers are split."""
-        return int(self.call(self.library.likes_driver_phase))
+        return int(self._call(self._library.likes_driver_phase))
 
     def snapshot(self, start: int = 0, length: Optional[int] = None) -> Optional[List[int]]:
         """The counts of the pages from start on, at the end of a joined phase that every seat has answered; or None."""
-        return self._counts(self.library.likes_driver_snapshot, start, length)
+        return self._counts(self._library.likes_driver_snapshot, start, length)
 
     def last_counts(self, start: int = 0, length: Optional[int] = None) -> Optional[List[int]]:
         """The final counts of the pages from start on, where all seats are gone; or None. Then make turns with
         IF_IT_SERVES until ENDED, and try again."""
-        return self._counts(self.library.likes_driver_last_counts, start, length)
+        return self._counts(self._library.likes_driver_last_counts, start, length)
 
     def _counts(self, call: Any, start: int, length: Optional[int]) -> Optional[List[int]]:
         start = whole("start", start)
-        length = max(0, self.pages - start) if length is None else whole("length", length)
+        length = max(0, self._pages - start) if length is None else whole("length", length)
         counts = (c_uint64 * (length + 1))()
-        status = outcome(self.call(call, start, counts, length))
+        status = outcome(self._call(call, start, counts, length))
         return list(counts[:length]) if status == Status.COUNTED else None
 
     def split_pages(self, most: int = MAX_SPLIT) -> List[int]:
         """The pages that are split in the present split phase, or were in the last one."""
         most = whole("most", most)
         pages = (c_uint32 * (most + 1))()
-        told = self.call(self.library.likes_driver_split_pages, pages, most)
+        told = self._call(self._library.likes_driver_split_pages, pages, most)
         return list(pages[:told])
 
     def propose(self, pages: Sequence[int]) -> None:
         """Proposes pages to be split, the first 64, in place of those that the library finds by itself. If there are
         none, it finds them again."""
         row = row_of("page", pages)
-        check(self.call(self.library.likes_driver_propose, row, len(pages)), Status.OK)
+        check(self._call(self._library.likes_driver_propose, row, len(pages)), Status.OK)
 
     def close(self) -> None:
         """Frees the seats, the phase and the driver."""
-        for owned in self.owned:
-            owned.free()
-        self._free(self.library.likes_driver_free)
+        for owned in self._owned:
+            owned._free()
+        self._end(self._library.likes_driver_free)

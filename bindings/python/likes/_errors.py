@@ -1,6 +1,6 @@
 """What is raised."""
 
-from .statuses import FIRST_ERROR, STATUSES, Status
+from ._statuses import FIRST_ERROR, STATUSES, Status
 
 
 class Refused(Exception):
@@ -12,10 +12,10 @@ class Refused(Exception):
 
 
 class Closed(Exception):
-    """A call of a service that is closed."""
+    """A call of something that is closed."""
 
     def __init__(self) -> None:
-        super().__init__("the service is closed")
+        super().__init__("closed")
 
 
 def outcome(number: int) -> Status:
@@ -27,5 +27,7 @@ def outcome(number: int) -> Status:
 
 def check(number: int, wanted: Status) -> None:
     """Raises a status that isn't the one that is wanted."""
+    if number == Status.NOT_STARTED:
+        raise Closed
     if number != wanted:
         raise Refused(number)

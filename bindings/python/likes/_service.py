@@ -1,0 +1,318 @@
+"""A service that threads share, and its writers, over likes_service.h.
+
+A call from Python takes about a microsecond by itself. Other threads run meanwhile.
+"""
+
+import threading
+import time
+from ctypes import byref, c_uint32, c_uint64, c_void_p
+from types import TracebackType
+from typing import Any, List, NamedTuple, Optional, Sequence, Type
+
+from ._errors import Closed, Refused, check
+from ._library import MOST, Answer, FoundLook, Opening, last_of, load, microseconds, row_of, whole
+from ._library import Statistics as StatisticsOfC
+from ._rows import Asked, Row, Seen, Told, seen
+from ._statuses import MAX_SPLIT, Status
+
+# How long `run` sleeps between two looks for answers, in seconds.
+PAUSE = 0.0001
+
+
+class Moment(NamedTuple):
+    """The counts of all pages, and the page of each user's last like, or None, at one moment. Another service that is
+    opened with them goes on from there."""
+
+    counts: List[int]
+    lasts: List[Optional[int]]
+
+
+class Statistics(NamedTuple):
+    """What a service has done so far: how many phases have ended, likes were counted, looks were answered, of these had
+    to wait, and looks had no answer in time. How long looks waited in all and one of them at most, in seconds."""
+
+    phases: int
+    likes: int
+    looks: int
+    waits: int
+    late: int
+    wait_time: float
+    longest_wait: float
+
+
+class Calls:
+    """The calls that have begun, so that an end waits for them."""
+
+    def __init__(self) -> None:
+        self._changed, self._running, self._is_shut = threading.Condition(threading.Lock()), 0, False
+
+    def __enter__(self) -> None:
+        with self._changed:
+            if self._is_shut:
+                raise Closed
+            self._running += 1
+
+    def __exit__(self, *_: object) -> None:
+        with self._changed:
+            self._running -= 1
+            if self._is_shut:
+                self._changed.notify_all()
+
+    def shut(self) -> None:
+        """Keeps new calls out, and waits for those that have begun."""
+        with self._changed:
+            self._is_shut = True
+            self._changed.wait_for(lambda: self._running == 0)
+
+    def open(self) -> None:
+        with self._changed:
+            self._is_shut = False
+
+
+class Likes:
+    """A service. Any thread may call it.
+
+    What isn't given has the default of likes.h; with NO_HOT as hot, no page gets hot by itself. marks has the numbers
+    of the pages that are split in every split phase. period is the time from the end of one split phase to that of the
+    next, in seconds. lasts has the page of each user's last like, or None; if it is empty, nobody has one. With the
+    Moment of another service, a service goes on from there.
+    """
+
+    def __init__(
+        self,
+        counts: Sequence[int],
+        users: int,
+        seats: Optional[int] = None,
+        room: Optional[int] = None,
+        hot: Optional[int] = None,
+        marks: Sequence[int] = (),
+        period: Optional[float] = None,
+        lasts: Sequence[Optional[int]] = (),
+    ) -> None:
+        self._library, self._at, self._end = load(), c_void_p(), None  # type: Any, Any, Optional[Moment]
+        self._calls, self._ending = Calls(), threading.Lock()
+        opening = Opening(counts, users, seats, room, hot, marks, lasts, period)
+        check(self._library.likes_service_open(opening.options, byref(self._at)), Status.OK)
+        self._pages, self._users = len(counts), users
+        self._seats = int(self._library.likes_service_seats(self._at))
+        self._rows = [threading.Lock() for _ in range(self._seats)]
+
+    def __enter__(self) -> "Likes":
+        return self
+
+    def __exit__(self, *_: object) -> None:
+        self.close()
+
+    def _call(self, call: Any, *words: Any) -> Any:
+        with self._calls:
+            return call(self._at, *words)
+
+    @property
+    def seats(self) -> int:
+        """How many seats there are. User u belongs to seat u % seats."""
+        return self._seats
+
+    def like(self, user: int, page: int) -> None:
+        """Adds one like."""
+        user, page = whole("user", user), whole("page", page)
+        check(self._call(self._library.likes_service_like, user, page), Status.LIKED)
+
+    def look(self, user: int, page: int) -> Seen:
+        """The page of the user's last like, or None, and the exact count. It may take about a phase."""
+        return self._show(self._library.likes_service_look, user, page)
+
+    def look_within(self, user: int, page: int, seconds: float) -> Optional[Seen]:
+        """The same with a time limit, after which it is None."""
+        answer, limit = Answer(), microseconds("seconds", seconds, MOST)
+        user, page = whole("user", user), whole("page", page)
+        status = self._call(self._library.likes_service_look_within, user, page, limit, byref(answer))
+        if status == Status.LATE:
+            return None
+        check(status, Status.SEEN)
+        return seen(answer)
+
+    def glance(self, user: int, page: int) -> Seen:
+        """The same at once. The count may lack other seats' likes of the present phase."""
+        return self._show(self._library.likes_service_glance, user, page)
+
+    def _show(self, call: Any, user: int, page: int) -> Seen:
+        answer = Answer()
+        user, page = whole("user", user), whole("page", page)
+        check(self._call(call, user, page, byref(answer)), Status.SEEN)
+        return seen(answer)
+
+    def writer(self) -> "Writer":
+        """Opens a writer, for a thread's likes. It is closed before the service."""
+        at = c_void_p()
+        check(self._call(self._library.likes_writer_open, byref(at)), Status.OK)
+        return Writer(at)
+
+    def run(self, number: int, requests: Sequence[Asked]) -> List[Told]:
+        """Runs rows of (op, user, page) at a seat. Gives an answer for each: for a look what it shows, for a like
+        LIKED, and the Status of a request that is refused."""
+        row, told = Row(requests), []  # type: Row, List[Told]
+        with self._calls:
+            number = whole("seat", number, self._seats - 1)
+            with self._rows[number]:
+                while not self._run_on(number, row, told):
+                    self._library.likes_service_drive(self._at)
+                    time.sleep(PAUSE)
+        return told
+
+    def _run_on(self, number: int, row: Row, told: List[Told]) -> bool:
+        """Runs what is left of a row, and takes what was found. Whether all is answered."""
+        library, at, found = self._library, self._at, FoundLook()
+        if not library.likes_service_lock(at, number):
+            raise Refused(library.likes_service_seat_fault(at, number))
+        try:
+            done = library.likes_service_run(at, number, *row.left()[:3])
+            looks = []
+            while library.likes_service_take_found(at, number, byref(found)):
+                looks.append((found.tag, seen(found)))
+        finally:
+            library.likes_service_unlock(at, number)
+        told += row.note(done)
+        for tag, shown in looks:
+            told[tag] = shown
+            row.waits -= 1
+        return row.done == row.length and row.waits == 0
+
+    def last(self, user: int) -> Optional[int]:
+        """The page of the user's last like, or None."""
+        page = c_uint32()
+        check(self._call(self._library.likes_service_last, whole("user", user), byref(page)), Status.OK)
+        return last_of(page.value)
+
+    def lasts(self) -> List[Optional[int]]:
+        """The page of each user's last like, or None. Those of one seat are of one moment."""
+        lasts = (c_uint32 * self._users)()
+        check(self._call(self._library.likes_service_lasts, lasts, self._users), Status.OK)
+        return [last_of(page) for page in lasts]
+
+    def counts(self) -> List[int]:
+        """The counts of all pages at one moment, the end of a joined phase."""
+        counts = (c_uint64 * self._pages)()
+        check(self._call(self._library.likes_service_counts, counts, self._pages), Status.COUNTED)
+        return list(counts)
+
+    def snapshot(self) -> Moment:
+        """The counts of all pages and all last likes at one moment. Likes and looks wait meanwhile."""
+        counts, lasts = (c_uint64 * self._pages)(), (c_uint32 * self._users)()
+        words = (counts, self._pages, lasts, self._users)
+        check(self._call(self._library.likes_service_snapshot, *words), Status.COUNTED)
+        return Moment(list(counts), [last_of(page) for page in lasts])
+
+    def statistics(self) -> Statistics:
+        """What the service has done so far."""
+        told = StatisticsOfC()
+        check(self._call(self._library.likes_service_statistics, byref(told)), Status.OK)
+        numbers = (told.phases, told.likes, told.looks, told.waits, told.late)
+        return Statistics(*numbers, told.wait_time / 1e9, told.longest_wait / 1e9)
+
+    def phase(self) -> int:
+        """The phase that was last released."""
+        return int(self._call(self._library.likes_service_phase))
+
+    def propose(self, pages: Sequence[int]) -> None:
+        """Proposes pages to be split, the first 64, in place of those that the library finds by itself. If there are
+        none, it finds them again."""
+        row = row_of("page", pages)
+        check(self._call(self._library.likes_service_propose, row, len(pages)), Status.OK)
+
+    def split_pages(self) -> List[int]:
+        """The pages that are split in the present split phase, or were in the last one."""
+        pages = (c_uint32 * MAX_SPLIT)()
+        told = self._call(self._library.likes_service_split_pages, pages, MAX_SPLIT)
+        return list(pages[:told])
+
+    def tick(self) -> None:
+        """Does what is due for the phases. A busy thread may call it now and then: then no phase waits until the
+        service's thread gets a processor."""
+        self._call(self._library.likes_service_tick)
+
+    def retire_seat(self, number: int) -> None:
+        """Has a seat leave, in a few phases. Then likes and looks of its users are refused: GONE."""
+        check(self._call(self._library.likes_service_retire_seat, whole("seat", number)), Status.OK)
+
+    def bring_back_seat(self, number: int) -> None:
+        """Brings a seat back that has left."""
+        check(self._call(self._library.likes_service_bring_back_seat, whole("seat", number)), Status.OK)
+
+    def stop(self) -> Moment:
+        """Ends the service, and gives its last moment, each time the same. It waits for calls that have begun, and
+        later ones raise Closed. Where a writer is open it raises Refused, with OPEN_WRITER, and nothing is done."""
+        with self._ending:
+            if self._end is None:
+                self._calls.shut()
+                try:
+                    check(self._library.likes_service_retire(self._at), Status.OK)
+                except Refused:
+                    self._calls.open()
+                    raise
+                self._end = self._last_moment()
+            return self._end
+
+    def _last_moment(self) -> Moment:
+        counts, lasts = (c_uint64 * self._pages)(), (c_uint32 * self._users)()
+        self._library.likes_service_lasts(self._at, lasts, self._users)
+        self._library.likes_service_stop(self._at, counts, self._pages)
+        self._library.likes_service_close(self._at)
+        return Moment(list(counts), [last_of(page) for page in lasts])
+
+    def close(self) -> None:
+        """Ends the service. It may be called again."""
+        self.stop()
+
+
+class Writer:
+    """Likes of a thread, which it keeps in rows and hands over as a whole. Calls by several threads wait for each
+    other.
+
+    Others see a like once its row of 64 is full, at the writer's first call after a period, or by flush, look and
+    close. Without calls there is no bound in time, so a thread flushes before it rests. Likes of a user by one writer are
+    counted in their order.
+    """
+
+    def __init__(self, at: Any) -> None:
+        self._library, self._at, self._lock = load(), at, threading.Lock()
+
+    def __enter__(self) -> "Writer":
+        return self
+
+    def __exit__(
+        self, kind: Optional[Type[BaseException]], error: Optional[BaseException], trace: Optional[TracebackType]
+    ) -> None:
+        self.close()
+
+    def like(self, user: int, page: int) -> None:
+        """Keeps a like, which will be counted. Refused with GONE or LIKE_LIMIT, it isn't kept: 64 likes are, for a seat
+        that doesn't take them."""
+        user, page = whole("user", user), whole("page", page)
+        with self._lock:
+            check(self._library.likes_writer_like(self._at, user, page), Status.OK)
+
+    def look(self, user: int, page: int) -> Seen:
+        """Hands over the likes of the user's seat, and looks. So it shows what this writer was told before."""
+        answer = Answer()
+        user, page = whole("user", user), whole("page", page)
+        with self._lock:
+            check(self._library.likes_writer_look(self._at, user, page, byref(answer)), Status.SEEN)
+        return seen(answer)
+
+    def flush(self) -> None:
+        """Hands over all likes: each is counted. Refused with GONE or LIKE_LIMIT, those of seats that don't take them
+        stay kept."""
+        with self._lock:
+            check(self._library.likes_writer_flush(self._at), Status.OK)
+
+    def drop(self) -> int:
+        """Forgets the likes that are kept, and gives their number. They are not counted."""
+        with self._lock:
+            return int(self._library.likes_writer_drop(self._at))
+
+    def close(self) -> None:
+        """Flushes the writer and ends it. Where likes stay kept it raises what flush does, and stays open. It may be
+        called again."""
+        with self._lock:
+            check(self._library.likes_writer_close(self._at), Status.OK)
+            self._at = None
