@@ -343,7 +343,7 @@ fn comes_back<P: Returns>(board: &Board, coord: &mut CoordSeat, post: &mut P) ->
 }
 
 // Whether a worker that is gone comes back into phase 0, where as many tries fail first.
-fn comes_back_after<P: Returns>(post: P, misses: u32) -> bool
+fn comes_back_after<P: Returns + Drop>(post: P, misses: u32) -> bool
     requires gone { (P.view post).state ≡ Gone }
     requires lets { LetsReturn (P.view post).limits }
 {

@@ -1,8 +1,8 @@
 use Rattle.std.proofs.Common.{Bool, false, ◌<◌, refl, ap, sym, subst, ◌∙◌}
-use Rattle.std.proofs.lemmas.Bool.{not-false, not-true}
+use Rattle.std.proofs.lemmas.Bool.{not-false}
 use Rattle.like_core.specs.declared.limits.Limits.{Limits}
 use Rattle.like_core.specs.declared.opening.Opening.{Opening}
-use Rattle.like_live.specs.Driver.{Decides, ReleasesNext, announces, drives, ended, releases, running, waiting}
+use Rattle.like_live.specs.Driver.{Decides, ReleasesNext, announces, drives, ended, releases, running}
 use Rattle.like_live.proofs.Turning.{due-goes-on, look-keeps, saw_all_in, saw_running, splits-still}
 use Rattle.like_live.proofs.driver.turns.act.Goals as goal
 

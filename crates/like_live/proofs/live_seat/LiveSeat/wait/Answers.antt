@@ -1,4 +1,4 @@
-use Rattle.std.proofs.Common.{◌<◌, ap, sym, subst, ◌∙◌, arith}
+use Rattle.std.proofs.Common.{ap, sym, subst, ◌∙◌, arith}
 use Rattle.like_core.specs.WorkerState.{RunsSplit}
 use Rattle.like_seat.specs.StationView.{phase_at}
 use Rattle.like_live.specs.Calls.{asked_in}
