@@ -257,7 +257,7 @@ uint64_t likes_seat_phase(likes_seat *seat);
 
 /* Whether a turn may end the phase. */
 enum likes_end {
-    LIKES_NO_END = 0,
+    LIKES_NO_END = 0,           /* a joined phase goes on, and a split one unless a seat asks for its end */
     LIKES_END_IF_IT_SERVES = 1, /* a joined phase goes on if no page would be split in the next one */
     LIKES_END = 2               /* in any case, for a snapshot */
 };
@@ -265,7 +265,7 @@ enum likes_end {
 /* Makes a look, and does at most one thing for the phases: LIKES_ANNOUNCED, NOT_ALL_IN, RELEASED, GOES_ON or ENDED; or
  * the first that applies of LIKES_EMPTY and UNKNOWN_END. end is a likes_end.
  *
- * A split phase may end without being asked to: it does where the looks that wait at a seat take half of its room. A
+ * With LIKES_NO_END, a split phase ends if a seat asks for it, once the looks that wait there take half of its room. A
  * joined phase that all seats have left goes on, whatever is asked. An ending phase is released once every seat has
  * answered it or is gone, also where all are gone. So turns with LIKES_END_IF_IT_SERVES or LIKES_END, made when all
  * seats are gone, lead to a joined phase, and there to LIKES_ENDED. */
@@ -284,10 +284,10 @@ size_t likes_driver_split_pages(likes_driver *driver, uint32_t *pages, size_t pa
 
 /* Proposes pages to be split beside the marked ones, the first LIKES_MAX_SPLIT of the array, in place of those that the
  * library finds by itself: LIKES_OK, or LIKES_EMPTY. They hold for all split phases from the next one or the one after
- * it on, until the next call. An array of no entries: the library finds pages by itself again.
+ * it on, until those of a later call do. An array of no entries: the library finds pages by itself again.
  *
- * A turn that ends a split phase takes what is proposed then for the next one. So does a turn that may end a joined
- * phase, as long as no page would be split in the next one. Numbers that are no pages, and doubled and marked ones, do
+ * A turn that ends a split phase takes the pages of the last call for the next one. So does a turn that may end a joined
+ * phase, if no page would be split in the next one. Other turns leave what was taken. Numbers that are no pages, and doubled and marked ones, do
  * nothing. A page is left out if it shares one of the 1,024 buckets of a seat's table with a page that is split, or if
  * LIKES_MAX_SPLIT others are split. */
 uint32_t likes_driver_propose(likes_driver *driver, const uint32_t *pages, size_t pages_len);

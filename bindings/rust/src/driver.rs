@@ -71,7 +71,7 @@ impl Driver {
 
     /// Makes a look, and does at most one thing for the phases. Before it, it has dropped seats retire.
     ///
-    /// A split phase may end without being asked to: it does where the looks that wait at a seat take half of its room.
+    /// With `End::No`, a split phase ends if a seat asks for it, once the looks that wait there take half of its room.
     /// A joined phase that all seats have left goes on, whatever is asked: [`Turn::Ended`].
     pub fn turn(&mut self, end: End) -> Turn {
         self.leaving.retire();

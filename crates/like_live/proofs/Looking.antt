@@ -19,6 +19,7 @@ use Rattle.like_live.specs.declared.asked.Asked.{Asked}
 use Rattle.like_live.specs.declared.asked.Found.{Found}
 use Rattle.like_live.specs.Kept.{AreLiveSeatParts, HasLooked}
 use Rattle.like_live.specs.LiveView.{IsLive, IsOwn, LiveView, RanNext, live_of, room_of, waiting, with_seat}
+use Rattle.like_live.specs.LookRoom.{RoomView}
 use Rattle.like_live.specs.Moves.{FindsAll}
 use Rattle.like_live.proofs.Moving.{Leaves, Leaves-both, Leaves-looked, after-leaves}
 
@@ -43,7 +44,7 @@ pub all-none : {X : Type 0} (P : X → Type 0) (xs : List X) → xs ≡ [] → A
 all-none P xs none = subst (All P) (sym none) (All-nil P)
 
 -- a live seat's parts agree after a look by which it stays in its phase
-pub after-looked : (s u : StationView Asked) (found : Waiting Found) (home : Home) (pages room half : ℕ) (sight : Sight)
+pub after-looked : (s u : StationView Asked) (found : Waiting Found) (home : Home) (pages : ℕ) (room : RoomView) (half : ℕ) (sight : Sight)
     → AreLiveSeatParts s found home pages room half
     → LooksAndEnters s sight u → phase_at u ≡ phase_at s
     → AreLiveSeatParts u found home pages room half
@@ -67,11 +68,12 @@ after-looked s u found home pages room half sight parts looks same =
       home_is = parts.home_is;
       pages_are = parts.pages_are;
       room_is = parts.room_is;
+      early = parts.early;
       half_is = parts.half_is;
     })
 
 -- so they do if it is to wait
-pub after-waits : (s u : StationView Asked) (found : Waiting Found) (home : Home) (pages room half : ℕ) (sight : Sight)
+pub after-waits : (s u : StationView Asked) (found : Waiting Found) (home : Home) (pages : ℕ) (room : RoomView) (half : ℕ) (sight : Sight)
     → AreLiveSeatParts s found home pages room half
     → LooksAndEnters s sight u → sight.waits ≡ true
     → AreLiveSeatParts u found home pages room half
@@ -80,7 +82,7 @@ after-waits s u found home pages room half sight parts looks waits =
     (ap (λ (x : StationView Asked). phase_at x) looks.looks.1 ∙ waits-phase s.post.state sight looks.sight waits)
 
 -- if it is not, it can do its phase work
-pub has-looked : (s u : StationView Asked) (found : Waiting Found) (home : Home) (pages room half : ℕ) (sight : Sight)
+pub has-looked : (s u : StationView Asked) (found : Waiting Found) (home : Home) (pages : ℕ) (room : RoomView) (half : ℕ) (sight : Sight)
     → AreLiveSeatParts s found home pages room half
     → LooksAndEnters s sight u → sight.waits ≡ false
     → HasLooked u found
@@ -201,7 +203,7 @@ stopped-live v post live none same kept =
     }
 
 -- and its parts agree after its phase work
-pub after-works : (s u t : StationView Asked) (found now : Waiting Found) (home : Home) (pages room half : ℕ) (sight : Sight)
+pub after-works : (s u t : StationView Asked) (found now : Waiting Found) (home : Home) (pages : ℕ) (room : RoomView) (half : ℕ) (sight : Sight)
     → AreLiveSeatParts s found home pages room half
     → LooksAndEnters s sight u
     → Leaves (live_of u found) (live_of t now)
@@ -216,7 +218,7 @@ after-works s u t found now home pages room half sight parts looks leaves live c
     live capacity
 
 -- a live seat's parts agree after it came back
-pub after-back : (s u : StationView Asked) (found : Waiting Found) (home : Home) (pages room half : ℕ)
+pub after-back : (s u : StationView Asked) (found : Waiting Found) (home : Home) (pages : ℕ) (room : RoomView) (half : ℕ)
     → AreLiveSeatParts s found home pages room half
     → s.post.state ≡ state.Gone → ComesBack s u → IsStation u
     → AreLiveSeatParts u found home pages room half
@@ -239,5 +241,6 @@ after-back s u found home pages room half parts gone back kept =
       home_is = parts.home_is;
       pages_are = parts.pages_are;
       room_is = parts.room_is;
+      early = parts.early;
       half_is = parts.half_is;
     })

@@ -1,5 +1,5 @@
 -- What phase work leaves as it is.
-use Rattle.std.proofs.Common.{◌≡◌, ℕ, ◌+◌, ◌/◌, Bool, List, length, refl, ap, sym, ◌∙◌, subst, arith, length-append}
+use Rattle.std.proofs.Common.{◌≡◌, ℕ, ◌+◌, ◌/◌, ◌≤◌, Bool, List, length, refl, ap, sym, ◌∙◌, subst, arith, length-append}
 use Rattle.std.proofs.lemmas.List.{length-map, length-replicate}
 use Rattle.like_core.specs.declared.sight.Sight.{Sight}
 use Rattle.like_core.specs.Post.{answered, pages_of}
@@ -11,6 +11,7 @@ use Rattle.like_live.specs.declared.asked.Asked.{Asked}
 use Rattle.like_live.specs.declared.asked.Found.{Found}
 use Rattle.like_live.specs.Kept.{AreLiveSeatParts}
 use Rattle.like_live.specs.LiveView.{IsLive, IsSameSeat, KeepsTallies, LiveView, live_of, room_of, waiting, with_seat}
+use Rattle.like_live.specs.LookRoom.{RoomView}
 use Rattle.like_tables.specs.Home.{Home, IsHomeOf}
 use Rattle.like_tables.specs.Waiting.{Waiting}
 use Rattle.like_seat.specs.Steps.{came_back}
@@ -22,7 +23,7 @@ use Rattle.like_live.specs.Moves.{FindsAll, Moves, MovesBy, Works, is_gone, look
 abbrev pub IsSized : LiveView → Type 0
 IsSized v = length v.seat.slice ≡ pages_of v.seat.post
 
--- it is the same seat, with the same tallies, the same last likes, and as much room for looks
+-- it is the same seat, with the same tallies, the same last likes, and as much room for looks; and no more looks wait
 pub record Leaves (v after : LiveView) : Type 0 where
   pub same : IsSameSeat v after
   pub tallies : KeepsTallies v after
@@ -30,6 +31,7 @@ pub record Leaves (v after : LiveView) : Type 0 where
   pub sized : length after.seat.slice ≡ length v.seat.slice
   pub room : room_of after ≡ room_of v
   pub looks : length (waiting after) + length after.found ≡ length (waiting v) + length v.found
+  pub fewer : length (waiting after) ≤ length (waiting v)
 
 pub same_seat : (v : LiveView) → IsSameSeat v v
 same_seat v = record { board = refl; worker = refl; marks = refl; share = refl }
@@ -50,6 +52,7 @@ Leaves-all v = record {
   sized = refl;
   room = refl;
   looks = refl;
+  fewer = omega arith;
 }
 
 pub Leaves-both : (v now after : LiveView) → Leaves v now → Leaves now after → Leaves v after
@@ -60,6 +63,7 @@ Leaves-both v now after a b = record {
   sized = b.sized ∙ a.sized;
   room = b.room ∙ a.room;
   looks = b.looks ∙ a.looks;
+  fewer = omega (arith, a.fewer, b.fewer);
 }
 
 pub Leaves-looked : (v : LiveView) (sight : Sight) (mask : ℕ) → Leaves v (looked v sight mask)
@@ -70,6 +74,7 @@ Leaves-looked v sight mask = record {
   sized = refl;
   room = refl;
   looks = refl;
+  fewer = omega arith;
 }
 
 Leaves-acknowledged : (v : LiveView) → Leaves v (acknowledged v)
@@ -80,6 +85,7 @@ Leaves-acknowledged v = record {
   sized = refl;
   room = refl;
   looks = refl;
+  fewer = omega arith;
 }
 
 Leaves-found : (v after : LiveView) → FindsAll v after → Leaves v after
@@ -92,6 +98,7 @@ Leaves-found v after f = subst (Leaves v) (sym f.rest) (record {
   looks =
       let asked = ap (λ (xs : List Asked). length xs) f.order in
       omega (arith, asked, length-map f.found (λ (x : Found). x.asked), length-append v.found f.found);
+  fewer = omega arith;
 })
 
 -- to merge a slice and report leaves each page's tally
@@ -107,6 +114,7 @@ Leaves-merged v s sized m =
       sized = length-replicate {A = ℕ} (pages_of v.seat.post) 0 ∙ sym sized;
       room = refl;
       looks = refl;
+      fewer = omega arith;
     })
 
 pub Leaves-works : (v after : LiveView) (ending : Bool) (answer : TurnAnswer)
@@ -149,6 +157,7 @@ Leaves-retired v = record {
   sized = refl;
   room = refl;
   looks = refl;
+  fewer = omega arith;
 }
 
 pub Leaves-retire_works : (v after : LiveView) (ending : Bool) (answer : TurnAnswer)
@@ -170,6 +179,7 @@ Leaves-came_back v phase mask = record {
   sized = refl;
   room = refl;
   looks = refl;
+  fewer = omega arith;
 }
 
 pub Leaves-come_back : (v after : LiveView) (answer : TurnAnswer)
@@ -182,7 +192,7 @@ Leaves-come_back v after answer sized (calls.between gone a is) = subst (Leaves 
 Leaves-come_back v after answer sized (calls.there here m) = Leaves-moves v after answer sized m
 
 -- a live seat's parts agree after what leaves all that, if it is live then
-pub after-leaves : (s t : StationView Asked) (found now : Waiting Found) (home : Home) (pages room half : ℕ)
+pub after-leaves : (s t : StationView Asked) (found now : Waiting Found) (home : Home) (pages : ℕ) (room : RoomView) (half : ℕ)
     → AreLiveSeatParts s found home pages room half
     → Leaves (live_of s found) (live_of t now)
     → IsLive (live_of t now)
@@ -194,5 +204,6 @@ after-leaves s t found now home pages room half parts leaves live capacity = rec
   home_is = subst (IsHomeOf home) (sym leaves.same.share) parts.home_is;
   pages_are = parts.pages_are ∙ sym (ap (λ (xs : List Bool). length xs) leaves.same.marks);
   room_is = omega (arith, parts.room_is, leaves.looks, leaves.room);
+  early = λ some. omega (arith, parts.early some, leaves.fewer, leaves.room);
   half_is = parts.half_is ∙ ap (λ n. n / 2) (sym leaves.room);
 }

@@ -29,6 +29,7 @@ use Rattle.like_live.specs.declared.asked.Found.{Found}
 use Rattle.like_live.specs.Calls.{IsAccepted, PutsBy}
 use Rattle.like_live.specs.Kept.{AreLiveSeatParts}
 use Rattle.like_live.specs.LiveView.{IsOwn, LiveView, RanNext, live_of}
+use Rattle.like_live.specs.LookRoom.{RoomView}
 
 -- the user of a request that is accepted is the seat's
 pub owned_since : (s : Share) (r : Request)
@@ -90,7 +91,7 @@ liked_in s additions did slice likes lasts = record s {
 }
 
 -- a live seat's parts agree as before, where nothing changed but what a like changes and it is a seat still
-after-like : (s : StationView Asked) (found : Waiting Found) (home : Home) (pages room half : ℕ)
+after-like : (s : StationView Asked) (found : Waiting Found) (home : Home) (pages : ℕ) (room : RoomView) (half : ℕ)
     (additions : List Addition) (did : List PageStep) (slice : List ℕ) (likes : List SlicedLike) (lasts : List (Option ℕ))
     → AreLiveSeatParts s found home pages room half
     → IsStation (liked_in s additions did slice likes lasts)
@@ -112,12 +113,13 @@ after-like s found home pages room half additions did slice likes lasts parts ke
       home_is = parts.home_is;
       pages_are = parts.pages_are;
       room_is = parts.room_is;
+      early = parts.early;
       half_is = parts.half_is;
     }
 
 -- so they do after a like that is counted
 pub after-counted : (s t : StationView Asked) (found : Waiting Found) (home : Home)
-    (pages room half user page : ℕ) (old : Option ℕ)
+    (pages : ℕ) (room : RoomView) (half user page : ℕ) (old : Option ℕ)
     → AreLiveSeatParts s found home pages room half
     → CountsLike s user page old t
     → IsStation t
@@ -136,7 +138,7 @@ after-counted s t found home pages room half user page (Some count) parts c kept
     (subst (λ x. IsStation x) c.1 kept))
 
 -- so they do after a seat has some other reads and glances, and has done something else at pages
-after-shown : (s t : StationView Asked) (found : Waiting Found) (home : Home) (pages room half : ℕ)
+after-shown : (s t : StationView Asked) (found : Waiting Found) (home : Home) (pages : ℕ) (room : RoomView) (half : ℕ)
     (reads glances : List PageRead) (did : List PageStep)
     → AreLiveSeatParts s found home pages room half
     → t ≡ record s { post = record s.post { reads = reads; glances = glances; did = did } }
@@ -159,11 +161,12 @@ after-shown s t found home pages room half reads glances did parts is kept =
       home_is = parts.home_is;
       pages_are = parts.pages_are;
       room_is = parts.room_is;
+      early = parts.early;
       half_is = parts.half_is;
     })
 
 -- as after a read
-pub after-read : (s t : StationView Asked) (found : Waiting Found) (home : Home) (pages room half user page : ℕ)
+pub after-read : (s t : StationView Asked) (found : Waiting Found) (home : Home) (pages : ℕ) (room : RoomView) (half user page : ℕ)
     (shown : Seen)
     → AreLiveSeatParts s found home pages room half
     → Reads s user page shown t
@@ -174,7 +177,7 @@ after-read s t found home pages room half user page shown parts r kept =
     (has_read s.post page shown.count).did parts r.read kept
 
 -- and after a glance
-pub after-glanced : (s t : StationView Asked) (found : Waiting Found) (home : Home) (pages room half user page : ℕ)
+pub after-glanced : (s t : StationView Asked) (found : Waiting Found) (home : Home) (pages : ℕ) (room : RoomView) (half user page : ℕ)
     (shown : Seen)
     → AreLiveSeatParts s found home pages room half
     → Glances s user page shown t
@@ -191,12 +194,14 @@ not-joined (state.Answered k) h even = absurd h
 not-joined state.Gone h even = absurd h
 
 -- a live seat's parts agree after one look more was put by, for which there was room
-pub after-held : (s t : StationView Asked) (found : Waiting Found) (home : Home) (pages room left half : ℕ) (a : Asked)
+pub after-held : (s t : StationView Asked) (found : Waiting Found) (home : Home) (pages : ℕ) (room left : RoomView) (half : ℕ) (a : Asked)
     → AreLiveSeatParts s found home pages room half
     → RunsSplit s.post.state → IsOwn s a → a.phase ≡ phase_at s
-    → room ≡ left + 1 → t ≡ holding s a → IsStation t
+    → room.left ≡ left.left + 1
+    → (0 < left.free → left.free + length s.held.held + 1 + half < s.held.capacity)
+    → t ≡ holding s a → IsStation t
     → AreLiveSeatParts t found home pages left half
-after-held s t found home pages room left half a parts split own asked one is kept =
+after-held s t found home pages room left half a parts split own asked one early is kept =
     let live = parts.live in
     let more = length_push s.held.held a in
     subst (λ x. AreLiveSeatParts x found home pages left half) (sym is) (record {
@@ -216,13 +221,14 @@ after-held s t found home pages room left half a parts split own asked one is ke
       home_is = parts.home_is;
       pages_are = parts.pages_are;
       room_is = omega (arith, parts.room_is, more, one);
+      early = λ some. omega (arith, early some, more);
       half_is = parts.half_is;
     })
 
 -- and the look is put by
-pub puts-by : (v : LiveView) (s t : StationView Asked) (found : Waiting Found) (home : Home) (pages room half : ℕ) (a : Asked)
+pub puts-by : (v : LiveView) (s t : StationView Asked) (found : Waiting Found) (home : Home) (pages : ℕ) (room : RoomView) (half : ℕ) (a : Asked)
     → AreLiveSeatParts s found home pages room half
-    → live_of s found ≡ v → 0 < room → t ≡ holding s a
+    → live_of s found ≡ v → 0 < room.left → t ≡ holding s a
     → PutsBy v a (live_of t found)
 puts-by v s t found home pages room half a parts same some is =
     subst (λ (w : LiveView). PutsBy w a (live_of t found)) same (record {
@@ -231,12 +237,12 @@ puts-by v s t found home pages room half a parts same some is =
     })
 
 -- a live seat's parts agree after the first of the found looks was taken, which leaves room for one more if there was one
-pub after-taken : (s : StationView Asked) (found now : Waiting Found) (home : Home) (pages room left half : ℕ)
+pub after-taken : (s : StationView Asked) (found now : Waiting Found) (home : Home) (pages : ℕ) (room left : RoomView) (half : ℕ)
     → AreLiveSeatParts s found home pages room half
     → now ≡ record found { held = drop 1 found.held }
-    → left + length (drop 1 found.held) ≡ room + length found.held
+    → left.left + length (drop 1 found.held) ≡ room.left + length found.held → left.free ≡ room.free
     → AreLiveSeatParts s now home pages left half
-after-taken s found now home pages room left half parts is more =
+after-taken s found now home pages room left half parts is more free =
     let live = parts.live in
     subst (λ x. AreLiveSeatParts s x home pages left half) (sym is) (record {
       live = record {
@@ -253,5 +259,6 @@ after-taken s found now home pages room left half parts is more =
       home_is = parts.home_is;
       pages_are = parts.pages_are;
       room_is = omega (arith, parts.room_is, more);
+      early = λ some. omega (arith, parts.early (subst (λ n. 0 < n) free some), free);
       half_is = parts.half_is;
     })

@@ -1,6 +1,6 @@
 -- What a driver's calls keep.
 use Rattle.std.proofs.Common.{Vec, Global, vec_capacity, ◌≡◌, ◌+◌, ◌-◌, ◌%◌, ◌<◌, ◌≤◌, ◌==◌, cond, length, replicate, ℕ, Bool, true, false, List, ◌∷◌, Option, Some, ap, sym, ◌∙◌, subst, refl, arith}
-use Rattle.std.proofs.lemmas.Bool.{eq-eqb, ne_eqb}
+use Rattle.std.proofs.lemmas.Bool.{eq-eqb, false≢true, ne_eqb}
 use Rattle.std.proofs.lemmas.List.{length-replicate}
 use Rattle.like_limits.specs.Limits.{hot_pages}
 use Rattle.std.specs.Prelude.{IsSome, IsSomeAnd}
@@ -20,8 +20,8 @@ use Rattle.like_seat.proofs.Leading.{counted-is}
 use Rattle.like_choice.specs.Slots.{AreSlots, SlotsView}
 use Rattle.like_live.specs.declared.driver_answer.DriverAnswer.{DriverAnswer}
 use Rattle.like_live.specs.declared.driver_end.End.{End}
-use Rattle.like_live.specs.Splits.{AreSplitsOf, KeepsMarked, SawRunning, SplitsView, last_split, new_splits, slots_mask}
-use Rattle.like_live.specs.Driver.{Acts, AreDriverParts, DriverCase, DriverView, HasRoom, IsSameDriver, IsService, LooksForEnd, PublishesSlots, ReadsBoundary, ReadsLast, ReleasesNext, SnapshotCase, announces, counted, ended, ends, goes_on, is_ending, is_last, not_ended, not_now, releases, releases_joined, releases_split, running, taken, waiting}
+use Rattle.like_live.specs.Splits.{AreSplitsOf, KeepsMarked, MayPropose, SawRunning, SplitsView, last_split, new_splits, slots_mask}
+use Rattle.like_live.specs.Driver.{Acts, AreDriverParts, Decides, DriverCase, DriverView, EndsJoined, EndsSplit, HasRoom, IsSameDriver, IsService, LooksForEnd, PublishesSlots, ReadsBoundary, ReadsLast, ReleasesNext, SnapshotCase, announces, as_proposed, by_host, by_seat, counted, ended, ends, ends_joined, ends_split, goes_on, is_ending, is_last, must_go_on, not_ended, not_now, proposes, releases, releases_joined, releases_split, running, taken, unasked, waiting}
 
 -- the lead after steps that release nothing and put nothing into slots
 pub record IsStill (v w : LeadView) : Type 0 where
@@ -184,9 +184,10 @@ keeps-on u v w a b = record {
   splits = λ kept. b.splits (a.splits kept);
 }
 
--- to propose other pages keeps it
-proposes-keeps : (v : DriverView) (pages : List ℕ) → Keeps v (record v { splits = record v.splits { proposed = pages } })
-proposes-keeps v pages = record {
+-- so is one whose slots are, whatever it has proposed and heard
+proposes-keeps : (v : DriverView) (pages : List ℕ) (hinted : Bool)
+    → Keeps v (record v { splits = record v.splits { proposed = pages }; hinted = hinted })
+proposes-keeps v pages hinted = record {
   same = record { board = refl; opening = refl; marked = keeps-marked v.splits.slots };
   splits = λ kept. record {
     lawful = kept.lawful;
@@ -197,6 +198,39 @@ proposes-keeps v pages = record {
     released = kept.released;
   };
 }
+
+joined-proposes : (s after : SplitsView) (end : End) (is_due : Bool) → EndsJoined s end is_due after → MayPropose s after
+joined-proposes s after end is_due (unasked _ _ is) = subst (MayPropose s) (sym is) refl
+joined-proposes s after end is_due (as_proposed _ _ _ is) = subst (MayPropose s) (sym is) refl
+joined-proposes s after end is_due (proposes _ _ asked _) = asked.rest
+
+split-proposes : (s after : SplitsView) (hinted heard : Bool) (end : End) (is_due : Bool)
+    → EndsSplit s hinted end is_due after heard
+    → MayPropose s after
+split-proposes s after hinted heard end is_due (by_host _ _ _ asked) = asked.rest
+split-proposes s after hinted heard end is_due (by_seat _ _ _ asked) = asked.rest
+split-proposes s after hinted heard end is_due (unasked _ _ _ is) = subst (MayPropose s) (sym is) refl
+
+decides-keeps : (v w : DriverView) (sight : CoordSight) (end : End) (is_due : Bool)
+    → Decides v sight end is_due w
+    → Keeps v w
+decides-keeps v w sight end is_due (must_go_on _ _ is) = subst (Keeps v) (sym is) (still-keeps v v (still v.lead) refl)
+decides-keeps v w sight end is_due (ends_joined _ _ does is) =
+    subst (Keeps v) (sym (is ∙ ap (λ (s : SplitsView). record v { splits = s }) (joined-proposes _ _ _ _ does)))
+    (proposes-keeps v w.splits.proposed v.hinted)
+decides-keeps v w sight end is_due (ends_split _ _ does is) =
+    subst (Keeps v)
+    (sym (is ∙ ap (λ (s : SplitsView). record v { splits = s; hinted = w.hinted }) (split-proposes _ _ _ _ _ _ does)))
+    (proposes-keeps v w.splits.proposed w.hinted)
+
+-- a phase that is due to end is not a service's last
+pub due-goes-on : (v w : DriverView) (sight : CoordSight) (end : End) (is_due : Bool)
+    → is_due ≡ true
+    → Decides v sight end is_due w
+    → v.lead.seat.phase < service_limits.last_phase
+due-goes-on v w sight end is_due due (must_go_on _ undue _) = absurd (false≢true (sym undue ∙ due))
+due-goes-on v w sight end is_due due (ends_joined may _ _ _) = may.goes_on
+due-goes-on v w sight end is_due due (ends_split may _ _ _) = may.goes_on
 
 -- a split phase is its own last one, and that of the joined phase after it
 pub last-split : (phase : ℕ) → IsSplit phase → last_split phase ≡ phase
@@ -321,14 +355,13 @@ case-keeps : (v w : DriverView) (sight : CoordSight) (end : End) (answer : Drive
     → DriverCase v sight end answer w
     → Keeps v w
 case-keeps v w sight end answer (waiting _ _ _ is) = subst (Keeps v) (sym is) (still-keeps v v (still v.lead) refl)
-case-keeps v w sight end answer (releases _ _ _ next) = release-keeps v w next
-case-keeps v w sight end answer (announces now _ _ proposes _ _ _ is) =
-    subst (Keeps v) (sym is)
-    (announces-keeps v now (subst (Keeps v) (sym proposes) (proposes-keeps v now.splits.proposed)))
-case-keeps v w sight end answer (running _ _ proposes _ _) =
-    subst (Keeps v) (sym proposes) (proposes-keeps v w.splits.proposed)
-case-keeps v w sight end answer (ended _ _ proposes _ _) =
-    subst (Keeps v) (sym proposes) (proposes-keeps v w.splits.proposed)
+case-keeps v w sight end answer (releases _ _ _ next) =
+    let unheard : DriverView = record v { hinted = false } in
+    keeps-on v unheard w (still-keeps v unheard (still v.lead) refl) (release-keeps unheard w next)
+case-keeps v w sight end answer (announces now _ decides _ is) =
+    subst (Keeps v) (sym is) (announces-keeps v now (decides-keeps v now sight end true decides))
+case-keeps v w sight end answer (running _ _ decides _) = decides-keeps v w sight end false decides
+case-keeps v w sight end answer (ended _ _ decides _) = decides-keeps v w sight end false decides
 
 pub acts-keeps : (v w : DriverView) (end : End) (answer : DriverAnswer) → Acts v end answer w → Keeps v w
 acts-keeps v w end answer does =

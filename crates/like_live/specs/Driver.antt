@@ -1,5 +1,5 @@
 -- What a driver does in its calls.
-use Rattle.std.specs.Prelude.{◌≡◌, ℕ, ◌+◌, ◌%◌, ◌==◌, ◌||◌, ◌<◌, ◌≤◌, ◌⊎◌, nat_lt, Bool, true, false, List, [], length, replicate, slice_index, Vec, vec_capacity, Option, Some, None}
+use Rattle.std.specs.Prelude.{◌≡◌, ◌≢◌, ℕ, ◌+◌, ◌||◌, ◌<◌, ◌≤◌, nat_lt, Bool, true, false, List, [], length, replicate, slice_index, Vec, vec_capacity, Option, Some, None}
 use Rattle.std.specs.declared.alloc.Global.{Global}
 use Rattle.like_board.specs.Rule.{opened_coord}
 use Rattle.like_board.specs.Seats.{BoardId}
@@ -20,27 +20,21 @@ use Rattle.like_live.specs.declared.driver_answer.DriverAnswer.TheVariants.{Anno
 use Rattle.like_live.specs.declared.driver_end.End.{End}
 use Rattle.like_live.specs.declared.driver_end.End.TheVariants.{No, IfItServes, Always}
 
--- a driver: its lead; which pages are split, and which are proposed; and whether its service is over, since it has written
--- last counts
+-- a driver: its lead; which pages are split, and which are proposed; whether it heard a seat ask for the end of the
+-- phase; and whether its service is over, since it has written last counts
 pub record DriverView : Type 0 where
   pub lead : LeadView
   pub splits : SplitsView
+  pub hinted : Bool
   pub is_over : Bool
 
--- the driver with this lead and these pages, and whether its service is over
-abbrev pub driver_of : LeadView → SplitsView → Bool → DriverView
-driver_of lead splits is_over = record { lead = lead; splits = splits; is_over = is_over }
+-- the driver with this lead and these pages, what it heard, and whether its service is over
+abbrev pub driver_of : LeadView → SplitsView → Bool → Bool → DriverView
+driver_of lead splits hinted is_over = record { lead = lead; splits = splits; hinted = hinted; is_over = is_over }
 
 -- one whose service goes on
-abbrev pub drives : LeadView → SplitsView → DriverView
-drives lead splits = driver_of lead splits false
-
--- whether the host asks for the end of the phase: never; if something is split in it, or would be in the next; or in any
--- case
-abbrev pub asks_end : End → DriverView → Bool
-asks_end No v = false
-asks_end IfItServes v = (v.lead.seat.phase % 2 == 1) || would_split v.splits
-asks_end Always v = true
+abbrev pub drives : LeadView → SplitsView → Bool → DriverView
+drives lead splits hinted = driver_of lead splits hinted false
 
 -- the driver chooses slots for the proposed pages, and publishes them
 pub record PublishesSlots (v after : DriverView) : Type 0 where
@@ -58,42 +52,61 @@ pub data ReleasesNext (v after : DriverView) : Type 0 where
   releases_split : IsJoined v.lead.seat.phase → (chosen : DriverView) → PublishesSlots v chosen
       → after ≡ record chosen { lead = released chosen.lead } → ReleasesNext v after
 
--- the end of its phase may be announced: it is not a service's last phase, and its host asks for its end, or it is split,
--- where a seat can ask for it
-pub record IsDue (v : DriverView) (end : End) : Type 0 where
-  pub goes_on : v.lead.seat.phase < service_limits.last_phase
-  pub asked : (asks_end end v ≡ true) ⊎ IsSplit v.lead.seat.phase
-
--- pages may be proposed anew
-abbrev pub ProposesPages : DriverView → DriverView → Type 0
-ProposesPages v after = after ≡ record v { splits = record v.splits { proposed = after.splits.proposed } }
-
--- the driver asks its choice before it ends a split phase, or a joined one if nothing would be split in the next
-abbrev pub MustPropose : DriverView → Type 0
-MustPropose v = IsSplit v.lead.seat.phase ⊎ (would_split v.splits ≡ false)
-
 -- all seats have left a joined phase
 pub record IsLeft (v : LeadView) (sight : CoordSight) : Type 0 where
   pub joined : IsJoined v.seat.phase
   pub all_gone : sight.all_gone ≡ true
 
+-- the phase may end: it is not a service's last, and no joined one that all seats have left, since nobody would run the
+-- next
+pub record MayEnd (v : LeadView) (sight : CoordSight) : Type 0 where
+  pub goes_on : v.seat.phase < service_limits.last_phase
+  pub left : ¬ IsLeft v sight
+
+-- whether the host asks for the end of a joined phase: never; if something would be split in the next; or in any case
+abbrev pub asks_end : End → SplitsView → Bool
+asks_end No s = false
+asks_end IfItServes s = would_split s
+asks_end Always s = true
+
+-- whether a joined phase is due to end, if it may. Only if its host may want that, and nothing would be split in the
+-- next, the driver first asks its choice. Otherwise the same pages stay proposed
+pub data EndsJoined (s : SplitsView) (end : End) (is_due : Bool) (after : SplitsView) : Type 0 where
+  unasked : end ≡ No → is_due ≡ false → after ≡ s → EndsJoined s end is_due after
+  as_proposed : end ≢ No → would_split s ≡ true → is_due ≡ true → after ≡ s → EndsJoined s end is_due after
+  proposes : end ≢ No → would_split s ≡ false → Proposes s after → is_due ≡ asks_end end after
+      → EndsJoined s end is_due after
+
+-- whether a split phase is due to end, if it may: its host wants that; or it doesn't, and the driver hears that a seat
+-- does. Before it ends, the driver asks its choice. Otherwise the same pages stay proposed
+pub data EndsSplit (s : SplitsView) (hinted : Bool) (end : End) (is_due : Bool) (after : SplitsView) (heard : Bool)
+    : Type 0 where
+  by_host : end ≢ No → heard ≡ hinted → is_due ≡ true → Proposes s after → EndsSplit s hinted end is_due after heard
+  by_seat : end ≡ No → heard ≡ true → is_due ≡ true → Proposes s after → EndsSplit s hinted end is_due after heard
+  unasked : end ≡ No → heard ≡ false → is_due ≡ false → after ≡ s → EndsSplit s hinted end is_due after heard
+
+-- whether the phase that a look showed running is due to end, and what is proposed
+pub data Decides (v : DriverView) (sight : CoordSight) (end : End) (is_due : Bool) (after : DriverView) : Type 0 where
+  must_go_on : ¬ MayEnd v.lead sight → is_due ≡ false → after ≡ v → Decides v sight end is_due after
+  ends_joined : MayEnd v.lead sight → IsJoined v.lead.seat.phase → EndsJoined v.splits end is_due after.splits
+      → after ≡ record v { splits = after.splits } → Decides v sight end is_due after
+  ends_split : MayEnd v.lead sight → IsSplit v.lead.seat.phase
+      → EndsSplit v.splits v.hinted end is_due after.splits after.hinted
+      → after ≡ record v { splits = after.splits; hinted = after.hinted } → Decides v sight end is_due after
+
 -- the cases of a turn whose look showed this: each does at most one thing. A phase that is ending is released once all
--- are in. One that runs is ended if that is asked for, but not a joined phase that all seats have left, since nobody would
--- run the next. Before that, pages may be proposed anew
+-- are in, and what the driver heard counts no more. The end of one that runs is announced if it is due
 pub data DriverCase (v : DriverView) (sight : CoordSight) (end : End)
     (answer : DriverAnswer) (after : DriverView) : Type 0 where
   waiting : sight.ending ≡ true → sight.all_in ≡ false
       → answer ≡ Waiting → after ≡ v → DriverCase v sight end answer after
   releases : sight.ending ≡ true → sight.all_in ≡ true
-      → answer ≡ Released → ReleasesNext v after → DriverCase v sight end answer after
-  announces : (now : DriverView) → sight.ending ≡ false → ¬ IsLeft v.lead sight → ProposesPages v now → IsDue now end
-      → (MustPropose v → Proposes v.splits now.splits)
+      → answer ≡ Released → ReleasesNext (record v { hinted = false }) after → DriverCase v sight end answer after
+  announces : (now : DriverView) → sight.ending ≡ false → Decides v sight end true now
       → answer ≡ Announced → after ≡ record now { lead = announced now.lead } → DriverCase v sight end answer after
-  running : sight.ending ≡ false → sight.all_gone ≡ false → ProposesPages v after
-      → (asks_end end after ≡ true → v.lead.seat.phase ≡ service_limits.last_phase)
+  running : sight.ending ≡ false → sight.all_gone ≡ false → Decides v sight end false after
       → answer ≡ Running → DriverCase v sight end answer after
-  ended : sight.ending ≡ false → sight.all_gone ≡ true → ProposesPages v after
-      → (asks_end end after ≡ true → IsJoined v.lead.seat.phase)
+  ended : sight.ending ≡ false → sight.all_gone ≡ true → Decides v sight end false after
       → answer ≡ Ended → DriverCase v sight end answer after
 
 -- it looks, which is the event of the core, and does what the sight asks for
@@ -216,5 +229,6 @@ abbrev pub new_driver : Opening → ℕ → BoardId → List ℕ → DriverView
 new_driver o factor board told = record {
   lead = new_lead board (opened_coord (board_opening o factor)) None o.counts.items;
   splits = new_splits factor (length o.counts.items) o.marks.items told;
+  hinted = false;
   is_over = false;
 }

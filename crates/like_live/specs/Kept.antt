@@ -1,5 +1,5 @@
 -- How a live seat is kept, between two calls and within one.
-use Rattle.std.specs.Prelude.{◌≡◌, ℕ, ◌+◌, ◌/◌, ◌≤◌, length, All}
+use Rattle.std.specs.Prelude.{◌≡◌, ℕ, ◌+◌, ◌/◌, ◌<◌, ◌≤◌, length, All}
 use Rattle.like_core.specs.OpeningLimits.{service_limits}
 use Rattle.like_core.specs.Phase.{IsJoined, IsSplit}
 use Rattle.like_core.specs.Post.{pages_of}
@@ -10,16 +10,19 @@ use Rattle.like_tables.specs.Waiting.{Waiting}
 use Rattle.like_live.specs.declared.asked.Asked.{Asked}
 use Rattle.like_live.specs.declared.asked.Found.{Found}
 use Rattle.like_live.specs.LiveView.{IsLive, IsOwn, RanNext, live_of}
+use Rattle.like_live.specs.LookRoom.{RoomView}
 
 -- a live seat's parts agree: a worker's seat, a stash of found looks, where its users have their places, the number of
 -- pages, how many more looks may wait, and half of the room
-pub record AreLiveSeatParts (s : StationView Asked) (found : Waiting Found) (home : Home) (pages room half : ℕ)
-    : Type 0 where
+pub record AreLiveSeatParts (s : StationView Asked) (found : Waiting Found) (home : Home) (pages : ℕ) (room : RoomView)
+    (half : ℕ) : Type 0 where
   pub live : IsLive (live_of s found)
   pub capacity : found.capacity ≡ s.held.capacity
   pub home_is : IsHomeOf home s.last.share
   pub pages_are : pages ≡ pages_of s.post
-  pub room_is : room + length s.held.held + length found.held ≡ s.held.capacity
+  pub room_is : room.left + length s.held.held + length found.held ≡ s.held.capacity
+  -- if looks are free to wait, they and those that wait are fewer than the room less its half
+  pub early : 0 < room.free → room.free + length s.held.held + half < s.held.capacity
   pub half_is : half ≡ s.held.capacity / 2
 
 -- a live seat's parts after a look at the phase word that showed a phase that it runs: what waits was asked in that

@@ -6,6 +6,7 @@ pub mod History
 pub mod Kept
 pub mod Lasts
 pub mod LiveView
+pub mod LookRoom
 pub mod Moments
 pub mod Moves
 pub mod Opening

@@ -17,7 +17,7 @@ use self::splits::Splits;
 use self::turns::act;
 use crate::driver_answer::DriverAnswer;
 use crate::driver_end::End;
-use crate::hint::Hint;
+use crate::hint::{HeardHint, Hint};
 use crate::live_seat::LiveSeat;
 use crate::opening::Opening;
 use crate::phase_now::PhaseNow;
@@ -40,7 +40,7 @@ pub struct Driver<C: Choice> {
     splits: Splits<C>,
     /// How many pages there are.
     pages: u32,
-    hint: Hint,
+    hint: HeardHint,
     /// The phase, for other threads.
     phase_now: PhaseNow,
     /// Whether last counts were written.
@@ -56,9 +56,9 @@ impl<C: Choice> Model for Driver<C> {
 
     ghost Value = { DriverView };
 
-    ghost view = { λ d. driver_of d.lead d.splits d.is_over };
+    ghost view = { λ d. driver_of d.lead d.splits d.hint d.is_over };
 
-    ghost invariant = { λ d. let v = driver_of d.lead d.splits d.is_over in
+    ghost invariant = { λ d. let v = driver_of d.lead d.splits d.hint d.is_over in
         AreDriverParts (board_id (arc_value d.board)) d.pages v × HasRoom d.back v };
 }
 
@@ -89,7 +89,7 @@ impl<C: Choice + Drop> Driver<C> {
                 lead,
                 splits: Splits::new(choice, factor, pages, &opening.marks),
                 pages,
-                hint,
+                hint: HeardHint::new(hint),
                 phase_now,
                 is_over: false,
                 back,
@@ -135,7 +135,7 @@ impl<C: Choice> Driver<C> {
             &mut self.lead,
             &mut self.splits,
             &self.board,
-            &self.hint,
+            &mut self.hint,
             end,
         );
         if answer == DriverAnswer::Released {

@@ -1,4 +1,7 @@
+ghost use Rattle.std.specs.Prelude.{◌≡◌, false};
+
 use std::alloc::{AllocError, Global};
+use std::marker::Model;
 use std::sync::Arc;
 use std::sync::atomic::{AtomicU64, Ordering};
 
@@ -39,5 +42,48 @@ impl Hint {
     /// Forgets that someone asked.
     pub fn clear(&self) {
         self.asked.store(0, Ordering::SeqCst);
+    }
+}
+
+/// A hint as a driver hears it: with what it told last, since no clause can say what an atomic holds.
+#[derive(Drop)]
+pub(crate) struct HeardHint {
+    hint: Hint,
+    was_asked: bool,
+}
+
+impl Model for HeardHint {
+    ghost use Rattle.std.specs.Prelude.{Bool};
+
+    ghost Value = { Bool };
+
+    ghost view = { λ h. h.was_asked };
+}
+
+impl HeardHint {
+    /// One that wasn't heard yet.
+    pub fn new(hint: Hint) -> HeardHint
+        ensures { result ≡ false }
+    {
+        HeardHint {
+            hint,
+            was_asked: false,
+        }
+    }
+
+    /// Whether someone asked since it was cleared, by one load.
+    pub fn hear(&mut self) -> bool
+        ensures { result ≡ self.new }
+    {
+        self.was_asked = self.hint.is_asked();
+        self.was_asked
+    }
+
+    /// Forgets that someone asked.
+    pub fn clear(&mut self)
+        ensures { self.new ≡ false }
+    {
+        self.hint.clear();
+        self.was_asked = false;
     }
 }

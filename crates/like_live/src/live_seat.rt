@@ -21,7 +21,7 @@ use crate::signals::Signals;
 use like_core::{Glances, Post, Returns, SlotPost};
 use like_seat::ServiceStation;
 use like_tables::{Home, Stash, Users};
-use moves::{returns, work_or_retire};
+use moves::work_or_retire;
 use std::alloc::{AllocError, Global};
 use std::marker::Model;
 
@@ -257,7 +257,7 @@ impl<P: SlotPost + Returns> LiveSeat<P> {
         if !self.seat.is_gone() {
             return self.turn();
         }
-        if returns(&mut self.seat) {
+        if self.seat.come_back() {
             return TurnAnswer::Runs;
         }
         TurnAnswer::Between

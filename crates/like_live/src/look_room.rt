@@ -1,5 +1,5 @@
 //! How many more looks may wait at a seat.
-ghost use Rattle.std.specs.Prelude.{◌≡◌, ◌+◌, ◌^◌, ◌<◌, false, IsTrue};
+ghost use Rattle.std.specs.Prelude.{◌≡◌, ◌+◌, ◌^◌, ◌<◌, false, min, IsTrue};
 
 use std::marker::Model;
 
@@ -15,11 +15,12 @@ pub(crate) struct LookRoom {
 }
 
 impl Model for LookRoom {
-    ghost use Rattle.std.specs.Prelude.{◌+◌, ◌<◌, ◌^◌, ℕ};
+    ghost use Rattle.std.specs.Prelude.{◌+◌, ◌<◌, ◌^◌};
+    ghost use Rattle.like_live.specs.LookRoom.{RoomView};
 
-    ghost Value = { ℕ };
+    ghost Value = { RoomView };
 
-    ghost view = { λ r. r.free + r.rest };
+    ghost view = { λ r. record { free = r.free; left = r.free + r.rest } };
 
     ghost invariant = { λ r. r.free + r.rest < 2 ^ 31 };
 }
@@ -37,7 +38,7 @@ impl LookRoom {
     /// Room for so many, none of which is free.
     pub fn new(room: u32) -> LookRoom
         requires { room < 2 ^ 31 }
-        ensures { result ≡ room }
+        ensures { result ≡ record { free = 0; left = room } }
     {
         LookRoom {
             free: 0,
@@ -47,7 +48,7 @@ impl LookRoom {
 
     /// For how many.
     pub fn left(&self) -> u32
-        ensures { result ≡ self.now }
+        ensures { result ≡ self.now.left }
     {
         self.free + self.rest
     }
@@ -55,8 +56,9 @@ impl LookRoom {
     /// Takes a free one if there is one, and says whether.
     #[inline(always)]
     pub fn take_free(&mut self) -> bool
-        ensures taken { IsTrue result → self.old ≡ self.new + 1 }
-        ensures none { result ≡ false → self.new ≡ self.old }
+        ensures taken { IsTrue result → (self.old.free ≡ self.new.free + 1)
+            × (self.old.left ≡ self.new.left + 1) }
+        ensures none { result ≡ false → (self.old.free ≡ 0) × (self.new ≡ self.old) }
     {
         self.free = self.free.wrapping_sub(1);
         if self.free < BELOW_ZERO {
@@ -68,8 +70,9 @@ impl LookRoom {
 
     /// Takes one. None is free then.
     pub fn take(&mut self)
-        requires { 0 < self.old }
-        ensures { self.old ≡ self.new + 1 }
+        requires { 0 < self.old.left }
+        ensures none { self.new.free ≡ 0 }
+        ensures left { self.old.left ≡ self.new.left + 1 }
     {
         self.rest = self.left() - 1;
         self.free = 0;
@@ -77,15 +80,16 @@ impl LookRoom {
 
     /// Gives one back, which isn't free.
     pub fn give(&mut self)
-        requires { self.old + 1 < 2 ^ 31 }
-        ensures { self.new ≡ self.old + 1 }
+        requires { self.old.left + 1 < 2 ^ 31 }
+        ensures { self.new ≡ record self.old { left = self.old.left + 1 } }
     {
         self.rest += 1;
     }
 
     /// So many are free then, or as many as there are.
     pub fn set_free(&mut self, most: u32)
-        ensures { self.new ≡ self.old }
+        ensures free { self.new.free ≡ min self.old.left most }
+        ensures left { self.new.left ≡ self.old.left }
     {
         let left = self.left();
         self.free = left.min(most);

@@ -1,3 +1,5 @@
+ghost use Rattle.std.specs.Prelude.{◌≡◌, ◌+◌, min};
+
 use crate::hint::Hint;
 use like_choice::{Kind, Sampler};
 
@@ -44,7 +46,10 @@ impl Signals {
     }
 
     /// Counts the next looks that wait, up to a sample, but no more than so many. Says how many.
-    pub fn count_ahead(&mut self, most: u32) -> u32 {
+    pub fn count_ahead(&mut self, most: u32) -> u32
+        ensures many { result ≡ min self.old.gap most }
+        ensures counted { self.old.gap ≡ self.new.gap + result }
+    {
         let looks = self.gap.min(most);
         self.gap -= looks;
         looks

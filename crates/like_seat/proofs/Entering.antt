@@ -230,7 +230,7 @@ module _ {W C : Type 0} (post looked now : PostView) (t after : Tables W C) (pha
       let same = empty post t after.slice kept idle s.counts in
       let at : PostView = entered post looked phase mask in
       let tables : Tables W C = record t { state = Runs phase; slice = after.slice } in
-      let likes : t.likes ≡ all_added post.additions + sum (by_page after.slice n) =
+      let likes : t.likes.likes ≡ all_added post.additions + sum (by_page after.slice n) =
       kept.likes ∙ ap (λ (xs : List ℕ). all_added post.additions + sum xs) (sym same) in
       let keeps : IsKept at tables = record {
         run = of-run post at t.marks.items t.marks.items refl refl refl refl kept.run;

@@ -163,8 +163,8 @@ pub Kept-written : {W C : Type 0} (post : PostView) (a : List Addition) (r gl : 
     → after.marks.items ≡ t.marks.items → after.state ≡ t.state → after.held ≡ t.held
     → after.slice.splits ≡ t.slice.splits → length after.slice.counts ≡ length t.slice.counts → IsSplitSlice after.slice
     → sum (by_page after.slice (pages_of post)) ≡ sum after.slice.counts
-    → after.likes ≡ likes_of (view_of (record post { additions = a; reads = r; glances = gl; did = d }) after)
-    → after.likes ≤ post.limits.likes
+    → after.likes.likes ≡ likes_of (view_of (record post { additions = a; reads = r; glances = gl; did = d }) after)
+    → after.likes.likes ≤ post.limits.likes
     → IsKept (record post { additions = a; reads = r; glances = gl; did = d }) after
 Kept-written {W} {C} post a r gl d t after k marks state_is held splits long is sums likes few =
     let now : PostView = record post { additions = a; reads = r; glances = gl; did = d } in
@@ -280,7 +280,7 @@ pub Kept-unsplit : {W C : Type 0} (post : PostView) (t : Tables W C) (factor man
     → HasNumbers (no_slice factor many) (pages_of post)
     → (has_slots post.limits ≡ false → IsOfRun post t.marks.items)
     → (has_slots post.limits ≡ true → IsOfService post) → post.state ≡ t.state
-    → t.likes ≡ likes_of (view_of post t) → t.likes ≤ post.limits.likes
+    → t.likes.likes ≡ likes_of (view_of post t) → t.likes.likes ≤ post.limits.likes
     → pages_of post ≤ post.limits.pages → AreLimits post.limits
     → phase_of post.state ≤ post.limits.last_phase → IsWaiting t.held
     → IsKept post t

@@ -24,7 +24,7 @@ IsKept-reported post t phase k none is =
     let m : ℕ = length t.slice.counts in
     let n : ℕ = pages_of post in
     let empty : by_page (no_slice f m) n ≡ by_page t.slice n = by_page-no_slice f m n ∙ sym (by_page-none t.slice n none) in
-    let likes : t.likes ≡ all_added post.additions + sum (by_page (no_slice f m) n) =
+    let likes : t.likes.likes ≡ all_added post.additions + sum (by_page (no_slice f m) n) =
     k.likes ∙ ap (λ (xs : List ℕ). all_added post.additions + sum xs) (sym empty) in
     Kept-unsplit (answered post) (record t { state = Answered phase; slice = no_slice f m }) f m (λ runs. absurd runs) refl
     k.factor k.slice.pages.factor

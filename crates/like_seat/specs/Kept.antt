@@ -54,7 +54,7 @@ pub record IsKept {W C : Type 0} (post : PostView) (t : Tables W C) : Type 0 whe
   pub numbers : HasNumbers t.slice (pages_of post)
   pub splits : SplitsPages post t.slice
   pub sums : sum (by_page t.slice (pages_of post)) ≡ sum t.slice.counts
-  pub likes : t.likes ≡ likes_of (view_of post t)
+  pub likes : t.likes.likes ≡ likes_of (view_of post t)
   pub seat : IsStation (view_of post t)
 
 -- the tables of a seat that has done nothing yet, with this slice, which is empty
@@ -63,7 +63,7 @@ pub record AreNew {W C : Type 0} (empty : SplitSlice) (room : ℕ) (users : User
   pub held : t.held ≡ record { held = []; capacity = room }
   pub slice : t.slice ≡ empty
   pub sliced : t.sliced.likes ≡ []
-  pub likes : t.likes ≡ 0
+  pub likes : t.likes.likes ≡ 0
   pub last : t.last ≡ users
 
 -- a slice that has no split page, and may get some

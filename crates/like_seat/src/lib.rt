@@ -17,4 +17,4 @@ mod tables;
 pub use lead::{Lead, NoLead};
 pub use merged::Merged;
 pub use seen::Seen;
-pub use station::{NoStation, RunStation, ServiceStation, Station};
+pub use station::{NoStation, RunStation, ServiceStation, Station, come_back};

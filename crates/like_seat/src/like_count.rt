@@ -1,5 +1,5 @@
 //! How many likes a seat has counted, and how many it may count before it is asked again.
-ghost use Rattle.std.specs.Prelude.{◌≡◌, ◌+◌, ◌^◌, ◌<◌, false, IsTrue};
+ghost use Rattle.std.specs.Prelude.{◌≡◌, ◌+◌, ◌-◌, ◌^◌, ◌<◌, false, min, IsTrue};
 
 use std::marker::Model;
 
@@ -18,12 +18,12 @@ pub(crate) struct LikeCount {
 }
 
 impl Model for LikeCount {
-    ghost use Rattle.std.specs.Prelude.{◌-◌, ℕ};
-    ghost use Rattle.like_seat.specs.LikeCount.{HasRoom};
+    ghost use Rattle.std.specs.Prelude.{◌-◌};
+    ghost use Rattle.like_seat.specs.LikeCount.{HasRoom, LikeCountView};
 
-    ghost Value = { ℕ };
+    ghost Value = { LikeCountView };
 
-    ghost view = { λ c. c.end - c.left };
+    ghost view = { λ c. record { likes = c.end - c.left; left = c.left } };
 
     ghost invariant = { λ c. HasRoom c.end c.left };
 }
@@ -42,7 +42,7 @@ fn set_to_zero(number: &mut u64)
 fn take_one(number: &mut u64) -> bool
     requires { number.old < 2 ^ 63 }
     ensures taken { IsTrue result → number.old ≡ number.new + 1 }
-    ensures none { result ≡ false → number.new ≡ number.old }
+    ensures none { result ≡ false → (number.old ≡ 0) × (number.new ≡ 0) }
 {
     *number = number.wrapping_sub(1);
     if *number < BELOW_ZERO {
@@ -55,7 +55,7 @@ fn take_one(number: &mut u64) -> bool
 impl LikeCount {
     /// No like, and no room.
     pub fn none() -> LikeCount
-        ensures { result ≡ 0 }
+        ensures { result ≡ record { likes = 0; left = 0 } }
     {
         LikeCount { end: 0, left: 0 }
     }
@@ -63,7 +63,7 @@ impl LikeCount {
     /// How many likes.
     #[inline(always)]
     pub fn likes(&self) -> u64
-        ensures { result ≡ self.now }
+        ensures { result ≡ self.now.likes }
     {
         self.end - self.left
     }
@@ -71,8 +71,9 @@ impl LikeCount {
     /// Counts one, whether there is room or not. No room is left.
     #[inline(always)]
     pub fn count(&mut self)
-        requires { self.old < 2 ^ 63 }
-        ensures { self.new ≡ self.old + 1 }
+        requires { self.old.likes < 2 ^ 63 }
+        ensures likes { self.new.likes ≡ self.old.likes + 1 }
+        ensures left { self.new.left ≡ 0 }
     {
         self.end = self.likes() + 1;
         self.left = 0;
@@ -81,9 +82,10 @@ impl LikeCount {
     /// Counts one if there is room, and says whether.
     #[inline(always)]
     pub fn try_count(&mut self) -> bool
-        ensures added { IsTrue result → self.new ≡ self.old + 1 }
-        ensures room { IsTrue result → self.old < 2 ^ 56 }
-        ensures none { result ≡ false → self.new ≡ self.old }
+        ensures added { IsTrue result → self.new.likes ≡ self.old.likes + 1 }
+        ensures room { IsTrue result → self.old.likes < 2 ^ 56 }
+        ensures left { IsTrue result → self.old.left ≡ self.new.left + 1 }
+        ensures none { result ≡ false → (self.old.left ≡ 0) × (self.new ≡ self.old) }
     {
         take_one(&mut self.left)
     }
@@ -91,7 +93,9 @@ impl LikeCount {
     /// Takes away the room for one, and says whether there was any.
     #[inline(always)]
     pub fn spend(&mut self) -> bool
-        ensures { self.new ≡ self.old }
+        ensures likes { self.new.likes ≡ self.old.likes }
+        ensures left { IsTrue result → self.old.left ≡ self.new.left + 1 }
+        ensures none { result ≡ false → (self.old.left ≡ 0) × (self.new.left ≡ 0) }
     {
         if take_one(&mut self.left) {
             self.end -= 1;
@@ -102,7 +106,8 @@ impl LikeCount {
 
     /// Has room for so many more, as far as there are no more than 2^56 likes then.
     pub fn give(&mut self, room: u64)
-        ensures { self.new ≡ self.old }
+        ensures likes { self.new.likes ≡ self.old.likes }
+        ensures left { self.new.left ≡ min (2 ^ 56 - self.old.likes) room }
     {
         let likes = self.likes();
         let room = MOST.saturating_sub(likes).min(room);

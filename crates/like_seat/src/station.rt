@@ -13,6 +13,7 @@ mod merges;
 mod service;
 mod waits;
 
+pub use self::service::come_back;
 use crate::tables::Tables;
 use like_core::{Post, WorkerState};
 use like_tables::{BucketCounts, Counts, Slice, Users};

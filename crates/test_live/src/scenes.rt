@@ -215,6 +215,9 @@ const CHANGE: &[Step] = &[
     drive!(IfItServes, Released),
 ];
 
+// Turns that may not end the phase.
+const GOES_ON_TWICE: &[Step] = &[drive!(No, Running), drive!(No, Running)];
+
 // The same where seat 0 is gone.
 const CHANGE_BY_SEAT_1: &[Step] = &[
     drive!(IfItServes, Announced),
@@ -545,6 +548,27 @@ static LIVE_MOVES: Calls = Calls {
     ],
 };
 
+// Turns that may not end the phase, in each of the first phases: the choice is asked once in phase 0, where nothing would
+// be split, once at the end of phase 1, and not in phase 2.
+static ASKS_WHEN_DUE: Calls = Calls {
+    name: "asks_its_choice_when_due",
+    parts: &[
+        GOES_ON_TWICE,
+        CHANGE,
+        &[splits!(7)],
+        GOES_ON_TWICE,
+        CHANGE,
+        GOES_ON_TWICE,
+        CHANGE,
+        &[splits!(8)],
+    ],
+};
+
+static CHANGES: Calls = Calls {
+    name: "a change of phases, after turns that may not end one",
+    parts: &[GOES_ON_TWICE, CHANGE],
+};
+
 static RUNS: Calls = Calls {
     name: "a phase that goes on",
     parts: &[&[drive!(IfItServes, Running)]],
@@ -627,6 +651,16 @@ pub fn live_slots_calls() -> &'static Calls {
 /// Phases 0 to 3. All seats retire then.
 pub fn live_moves_calls() -> &'static Calls {
     &LIVE_MOVES
+}
+
+/// Page 7 is split in phase 1, and page 8 in phase 3.
+pub fn asks_when_due() -> &'static Calls {
+    &ASKS_WHEN_DUE
+}
+
+/// A phase ends, and the next is released.
+pub fn changes() -> &'static Calls {
+    &CHANGES
 }
 
 /// A phase goes on.

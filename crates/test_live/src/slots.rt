@@ -1,8 +1,11 @@
-//! Which pages are split: a marked one among a million, two that a choice moves through a slot, and one that gets hot by
-//! itself.
+//! Which pages are split: a marked one among a million, two that a choice moves through a slot, those that a host
+//! proposes beside a marked one, and one that gets hot by itself.
 use crate::asserts::assert_named;
 use crate::play::{is_answer_of, plays};
-use crate::scenes::{OnSeat, live_moves_calls, live_slots_calls, runs, splits_500, splits_999};
+use crate::scenes::{
+    OnSeat, asks_when_due, changes, live_moves_calls, live_slots_calls, runs, splits_500,
+    splits_999,
+};
 use like_board::SharedPost;
 use like_choice::{Choice, Guided, NoProposal, Proposal, Slots};
 use like_live::{Driver, LikeAnswer, LiveSeat, Opening, Service};
@@ -73,10 +76,10 @@ fn live_slots(rt: HostRuntime) -> Result<(), Fail> {
     Ok(())
 }
 
-// Proposes page 7 the first time, and page 8 from then on.
+// Proposes one page, and the next time the one after it.
 #[derive(Drop)]
 struct Moving {
-    is_asked: bool,
+    next: u32,
 }
 
 impl Choice for Moving {
@@ -86,19 +89,64 @@ impl Choice for Moving {
 
     fn propose(&mut self, _slots: &Slots, proposed: &mut Proposal) {
         proposed.clear();
-        proposed.push(if self.is_asked { 8 } else { 7 });
-        self.is_asked = true;
+        proposed.push(self.next);
+        self.next = self.next.wrapping_add(1);
     }
 }
 
 #[test]
 fn live_moves(rt: HostRuntime) -> Result<(), Fail> {
-    let mut service = opened(rt.alloc(), 10, &[], Moving { is_asked: false })?;
+    let mut service = opened(rt.alloc(), 10, &[], Moving { next: 7 })?;
     plays(&rt, &mut service, live_moves_calls());
     let mut counts = [0; 10];
     write_last(&rt, &mut service.driver, &mut counts);
     drop(service);
     assert_named(&rt, counts == [0, 0, 0, 0, 0, 0, 0, 4, 3, 0], "live_moves");
+    Ok(())
+}
+
+#[test]
+fn asks_its_choice_when_due(rt: HostRuntime) -> Result<(), Fail> {
+    let mut service = opened(rt.alloc(), 10, &[], Moving { next: 7 })?;
+    plays(&rt, &mut service, asks_when_due());
+    drop(service);
+    Ok(())
+}
+
+// Whether exactly these pages are split, or were in the last split phase.
+fn are_split<C: Choice>(driver: &Driver<C>, wanted: &[u32]) -> bool {
+    let mut pages = [0; 64];
+    let many = driver.split_pages(&mut pages);
+    many <= pages.len() && pages[..many] == wanted[..]
+}
+
+// A change to a joined phase and one to a split phase. Exactly these pages are split in that.
+fn changes_to(rt: &impl Abort, service: &mut Service<Guided>, wanted: &[u32]) {
+    plays(rt, service, changes());
+    plays(rt, service, changes());
+    assert_named(rt, are_split(&service.driver, wanted), "the split pages");
+}
+
+// Pages 3 and 4 are proposed, and then none.
+fn proposes_beside_a_mark(rt: &impl Abort, service: &mut Service<Guided>) {
+    service.driver.propose(&[3, 4]);
+    plays(rt, service, changes());
+    assert_named(rt, are_split(&service.driver, &[5]), "the marked page");
+    changes_to(rt, service, &[5, 3, 4]);
+    changes_to(rt, service, &[5, 3, 4]);
+    service.driver.propose(&[]);
+    changes_to(rt, service, &[5]);
+}
+
+// What is proposed is split beside what is marked, from the end of a split phase on, until the host proposes nothing.
+#[test]
+fn marks_beside_proposals(rt: HostRuntime) -> Result<(), Fail> {
+    let opening = opening_of(rt.alloc(), 10, &[5])?;
+    let Ok(mut service) = Service::open(rt.alloc(), &opening) else {
+        return Err(Fail::new("no service"));
+    };
+    proposes_beside_a_mark(&rt, &mut service);
+    drop(service);
     Ok(())
 }
 

@@ -9,6 +9,7 @@ ghost use Rattle.test_parts.specs.Walk.{AreOpened, IsCoordOf, IsWorkerAt, KeepsS
 
 mod calls;
 mod leader;
+mod missing;
 mod party;
 mod scripts;
 mod walker;
@@ -19,6 +20,8 @@ use calls::{OnPost, Step};
 use leader::Leader;
 use like_board::{Board, BoardPost, CoordSeat, WorkerSeat};
 use like_core::{Glances, Limits, Post, Returns, WorkerState};
+use like_seat::come_back;
+use missing::Missing;
 use party::Party;
 use scripts::{each_call, five_phases, hot_phase, likes, three_phases};
 use std::alloc::{AllocError, Global};
@@ -337,6 +340,48 @@ fn comes_back<P: Returns>(board: &Board, coord: &mut CoordSeat, post: &mut P) ->
         && comes_and_goes(post)
         && announces(coord, board)
         && post.come_back().is_none()
+}
+
+// Whether a worker that is gone comes back into phase 0, where as many tries fail first.
+fn comes_back_after<P: Returns + Drop>(post: P, misses: u32) -> bool
+    requires gone { (P.view post).state ≡ Gone }
+    requires lets { LetsReturn (P.view post).limits }
+{
+    come_back(&mut Missing { post, misses }) == Some(0)
+}
+
+// The last worker of a board retires, and tries to come back.
+fn last_tries(
+    rt: &impl Abort,
+    board: &Board,
+    coord: &CoordSeat,
+    seats: &mut Vec<WorkerSeat>,
+    limits: Limits,
+    misses: u32,
+) -> bool
+    requires opened { AreOpened (board_id board.now) 1 false limits coord.now seats.old.items }
+    requires lets { LetsReturn limits }
+{
+    let mut post = last_post(rt, seats, board, coord, limits);
+    post.retire();
+    comes_back_after(post, misses)
+}
+
+// Whether the only worker of a new service comes back, where as many tries fail first.
+fn returns_after(rt: &impl Abort, alloc: Global, misses: u32) -> Result<bool, Fail> {
+    let limits = small_limits();
+    let (board, coord, mut seats) = opened(alloc, 1, 1, 10, false, limits)?;
+    Ok(last_tries(rt, &board, &coord, &mut seats, limits, misses))
+}
+
+// A seat comes back by one of 64 tries, or not.
+#[test]
+fn tries_64_times(rt: HostRuntime) -> Result<(), Fail> {
+    let last = returns_after(&rt, rt.alloc(), 63)?;
+    assert_named(&rt, last, "the last try");
+    let none = returns_after(&rt, rt.alloc(), 64)?;
+    assert_named(&rt, !none, "no try is left");
+    Ok(())
 }
 
 // The last worker of a board retires and comes back.

@@ -1,9 +1,6 @@
-ghost use Rattle.std.specs.Prelude.{◌≡◌, All, IsTrue, false, true};
-ghost use Rattle.like_core.specs.declared.worker_state.WorkerState.TheVariants.{Gone};
-ghost use Rattle.like_core.specs.OpeningLimits.{service_limits};
+ghost use Rattle.std.specs.Prelude.{◌≡◌, All, true};
 ghost use Rattle.like_core.specs.WorkerState.{IsRunning, RunsJoined, SawEnding};
 ghost use Rattle.like_seat.specs.StationView.{IsStation, phase_at};
-ghost use Rattle.like_seat.specs.Steps.{ComesBack};
 ghost use Rattle.like_live.specs.LiveView.{IsLive, RanNext, live_of};
 ghost use Rattle.like_live.specs.Kept.{HasLooked};
 ghost use Rattle.like_live.specs.Moves.{FindsAll, Moves, Works};
@@ -12,7 +9,7 @@ ghost use Rattle.like_live.specs.Calls.{RetireWorks};
 use crate::answer::TurnAnswer;
 use crate::asked::{Asked, Found};
 use crate::live_seat::LiveSeat;
-use like_core::{Post, Returns, SlotPost};
+use like_core::{Post, SlotPost};
 use like_seat::ServiceStation;
 use like_tables::Stash;
 
@@ -148,23 +145,4 @@ fn find_all<P: Post>(seat: &mut ServiceStation<P, Asked>, found: &mut Stash<Foun
             phase,
         });
     }
-}
-
-// How often a seat tries to come back, where others change the phase word meanwhile.
-const TRIES: u32 = 64;
-
-// Tries to bring back a seat that is gone, and says whether it did.
-pub(crate) fn returns<P: SlotPost + Returns>(seat: &mut ServiceStation<P, Asked>) -> bool
-    requires gone { seat.old.post.state ≡ Gone }
-    requires limits { seat.old.post.limits ≡ service_limits }
-    ensures back { IsTrue result → ComesBack seat.old seat.new }
-    ensures none { result ≡ false → seat.new ≡ seat.old }
-    ensures seat { IsStation seat.new }
-{
-    for _ in 1..TRIES {
-        if seat.come_back() {
-            return true;
-        }
-    }
-    seat.come_back()
 }

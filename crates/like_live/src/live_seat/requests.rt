@@ -49,8 +49,11 @@ fn store<P: Post>(seat: &mut ServiceStation<P, Asked>, signals: &mut Signals, pa
 // Asks for the end of the phase once half of the room is taken. Up to there, and up to the next sample, looks are free
 // to wait.
 fn plan_ahead(room: &mut LookRoom, signals: &mut Signals, found: u32, half: u32)
-    requires { room.old + found < 2 ^ 32 }
-    ensures { room.new ≡ room.old }
+    requires fits { room.old.left + found < 2 ^ 32 }
+    requires none { room.old.free ≡ 0 }
+    ensures left { room.new.left ≡ room.old.left }
+    ensures early { 0 < room.new.free → room.new.free + half < room.old.left + found }
+    ensures counted { signals.old.gap ≡ signals.new.gap + room.new.free }
 {
     let clear = room.left() + found;
     if clear <= half {

@@ -1,9 +1,9 @@
 //! What a seat of a service has in place of one of a run.
-ghost use Rattle.std.specs.Prelude.{◌≡◌, ◌≢◌, ◌^◌, ◌≤◌, false, true, IfErr, IfOk, IsTrue};
+ghost use Rattle.std.specs.Prelude.{◌≡◌, ◌≢◌, ◌^◌, ◌≤◌, false, true, IfErr, IfNone, IfOk, IfSome, IsTrue};
 ghost use Rattle.like_core.specs.declared.worker_state.WorkerState.TheVariants.{Gone};
 ghost use Rattle.like_core.specs.OpeningLimits.{AreLimits, has_slots};
 ghost use Rattle.like_core.specs.core.Moves.{LetsReturn};
-ghost use Rattle.like_core.specs.Post.{IsFresh, pages_of};
+ghost use Rattle.like_core.specs.Post.{IsFresh, pages_of, returned};
 ghost use Rattle.like_limits.specs.Limits.{max_stash};
 ghost use Rattle.like_seat.specs.Kept.{IsOfService};
 ghost use Rattle.like_seat.specs.StationView.{IsStation};
@@ -61,9 +61,28 @@ impl<P: SlotPost, W: Copy, C: Counts> Station<P, W, C> {
     }
 }
 
+/// How often a seat tries to come back, where others change the phase word meanwhile.
+const TRIES: u32 = 64;
+
+/// Brings a worker back, and tells the phase that it then runs. `None`, with nothing done, if none of 64 tries did.
+pub fn come_back<P: Returns>(post: &mut P) -> Option<u64>
+    requires gone { (P.view post.old).state ≡ Gone }
+    requires lets { LetsReturn (P.view post.old).limits }
+    ensures back { IfSome result (λ phase. P.view post.new ≡ returned (P.view post.old) phase) }
+    ensures within { IfSome result (λ phase. phase ≤ (P.view post.old).limits.last_phase) }
+    ensures none { IfNone result (P.view post.new ≡ P.view post.old) }
+{
+    for _ in 0..TRIES {
+        if let Some(phase) = post.come_back() {
+            return Some(phase);
+        }
+    }
+    None
+}
+
 impl<P: SlotPost + Returns, W: Copy, C: Counts> Station<P, W, C> {
     /// Brings a seat that is gone back into the present phase, which it then runs, a split one with its slots read.
-    /// `false`, with nothing done, if that phase is ending or another step changed the phase word meanwhile.
+    /// `false`, with nothing done, if that phase is ending or others changed the phase word at each of 64 tries.
     pub fn come_back(&mut self) -> bool
         requires gone { self.old.post.state ≡ Gone }
         requires slotted { has_slots self.old.post.limits ≡ true }
@@ -72,7 +91,7 @@ impl<P: SlotPost + Returns, W: Copy, C: Counts> Station<P, W, C> {
         ensures none { result ≡ false → self.new ≡ self.old }
         ensures seat { IsStation self.new }
     {
-        let Some(phase) = self.post.come_back() else {
+        let Some(phase) = come_back(&mut self.post) else {
             return false;
         };
         self.tables.enter_slots(&mut self.post, phase);

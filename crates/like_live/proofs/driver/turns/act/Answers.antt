@@ -1,10 +1,9 @@
-use Rattle.std.proofs.Common.{◌%◌, ◌<◌, ◌≤◌, inl, inr, refl, ap, sym, subst, ◌∙◌, arith}
-use Rattle.std.proofs.lemmas.Bool.{cases_eq, false≢true, not-false, not-true}
-use Rattle.like_core.specs.OpeningLimits.{service_limits}
+use Rattle.std.proofs.Common.{Bool, false, ◌<◌, refl, ap, sym, subst, ◌∙◌}
+use Rattle.std.proofs.lemmas.Bool.{not-false}
 use Rattle.like_core.specs.declared.limits.Limits.{Limits}
 use Rattle.like_core.specs.declared.opening.Opening.{Opening}
-use Rattle.like_live.specs.Driver.{IsLeft, announces, drives, ended, releases, running, waiting}
-use Rattle.like_live.proofs.Turning.{look-keeps, saw_all_in, saw_running, splits-still}
+use Rattle.like_live.specs.Driver.{Decides, ReleasesNext, announces, drives, ended, releases, running}
+use Rattle.like_live.proofs.Turning.{due-goes-on, look-keeps, saw_all_in, saw_running, splits-still}
 use Rattle.like_live.proofs.driver.turns.act.Goals as goal
 
 pub release-requires-clause-limits : goal.release-requires-clause-limits
@@ -15,60 +14,8 @@ pub release-requires-clause-splits : goal.release-requires-clause-splits
 release-requires-clause-splits g c =
     splits-still _ _ _ (look-keeps _ _ _ c.look-sight.ensures).same c.requires.splits
 
-pub returns-then-sight : goal.returns-then-sight
-returns-then-sight g c = record {
-  sight = c.look-sight.result;
-  seen = c.look-sight.new.self;
-  sees = c.look-sight.ensures;
-  case = releases c.if-sight.true (not-false _ c.if-not-sight.false) refl c.release.ensures;
-}
-
-pub returns-then-is_due : goal.returns-then-is_due
-returns-then-is_due g c =
-    let seen = c.look-sight.new.self in
-    let due = c.is_due.ensures in
-    let now = drives seen c.is_due.new.splits in
-    record {
-      sight = c.look-sight.result;
-      seen = seen;
-      sees = c.look-sight.ensures;
-      case = announces now c.if-sight.false (due.left c.if-is_due.true) (λ m. drives seen (due.proposes m))
-          (record { goes_on = due.goes_on c.if-is_due.true; asked = due.by c.if-is_due.true }) (due.asks c.if-is_due.true) refl
-          (λ m. drives (c.announce.ensures m) c.is_due.new.splits);
-    }
-
-pub returns : goal.returns
-returns g c =
-    let seen = c.look-sight.new.self in
-    let due = c.is_due.ensures in
-    let looked = look-keeps _ _ _ c.look-sight.ensures in
-    let within : seen.seat.phase ≤ service_limits.last_phase =
-    omega (arith, looked.phase, c.look-sight.ensures.shows.within, ap (λ (l : Limits). l.last_phase) c.requires.limits) in
-    record {
-      sight = c.look-sight.result;
-      seen = seen;
-      sees = c.look-sight.ensures;
-      case = running c.if-sight.false c.if-sight-2.false (λ m. drives seen (due.proposes m))
-          (λ asks. elim (cases_eq seen.seat.phase service_limits.last_phase) [
-            | inl is ↦ is
-            | inr other ↦
-                let before : seen.seat.phase < service_limits.last_phase = omega arith in
-                let here : ¬ IsLeft seen c.look-sight.result =
-                λ left. false≢true (sym c.if-sight-2.false ∙ left.all_gone) in
-                absurd (false≢true (sym c.if-is_due.false ∙ due.told asks before here))
-          ]) refl;
-    }
-
 pub look-sight-requires : goal.look-sight-requires
 look-sight-requires g c = c.requires.here
-
-pub returns-then-not-sight : goal.returns-then-not-sight
-returns-then-not-sight g c = record {
-  sight = c.look-sight.result;
-  seen = c.look-sight.new.self;
-  sees = c.look-sight.ensures;
-  case = waiting c.if-sight.true (not-true _ c.if-not-sight.true) refl refl;
-}
 
 pub release-requires-clause-here : goal.release-requires-clause-here
 release-requires-clause-here g c = (look-keeps _ _ _ c.look-sight.ensures).same.board ∙ c.requires.here
@@ -87,26 +34,53 @@ pub announce-requires-clause-running : goal.announce-requires-clause-running
 announce-requires-clause-running g c =
     let limits = ap (λ (z : Opening). z.limits) (look-keeps _ _ _ c.look-sight.ensures).same.opening ∙ c.requires.limits in (
       saw_running _ _ _ c.look-sight.ensures c.if-sight.false,
-      subst (λ (l : Limits). c.look-sight.new.self.seat.phase < l.last_phase) (sym limits) (c.is_due.ensures.goes_on c.if-is_due.true),
+      subst (λ (l : Limits). c.look-sight.new.self.seat.phase < l.last_phase) (sym limits)
+          (due-goes-on _ _ _ _ _ c.if-is_due.true c.is_due.ensures),
     )
+
+pub returns-then-sight : goal.returns-then-sight
+returns-then-sight g c = record {
+  sight = c.look-sight.result;
+  seen = c.look-sight.new.self;
+  sees = c.look-sight.ensures;
+  case = releases c.if-sight.true (not-false _ c.if-not-sight.false) refl
+      (subst (λ (b : Bool). ReleasesNext (drives c.look-sight.new.self c.args.splits.now false)
+      (drives c.release.new.lead c.release.new.splits b)) (sym c.clear.ensures) c.release.ensures);
+}
+
+pub returns-then-is_due : goal.returns-then-is_due
+returns-then-is_due g c =
+    let before = drives c.look-sight.new.self c.args.splits.now c.args.hint.now in
+    let now = drives c.look-sight.new.self c.is_due.new.splits c.is_due.new.hint in
+    record {
+      sight = c.look-sight.result;
+      seen = c.look-sight.new.self;
+      sees = c.look-sight.ensures;
+      case = announces now c.if-sight.false
+          (subst (λ (b : Bool). Decides before c.look-sight.result c.args.end b now) c.if-is_due.true c.is_due.ensures) refl
+          (λ m. drives (c.announce.ensures m) c.is_due.new.splits c.is_due.new.hint);
+    }
+
+pub returns : goal.returns
+returns g c =
+    let before = drives c.look-sight.new.self c.args.splits.now c.args.hint.now in
+    let now = drives c.look-sight.new.self c.is_due.new.splits c.is_due.new.hint in
+    record {
+      sight = c.look-sight.result;
+      seen = c.look-sight.new.self;
+      sees = c.look-sight.ensures;
+      case = running c.if-sight.false c.if-sight-2.false
+          (subst (λ (b : Bool). Decides before c.look-sight.result c.args.end b now) c.if-is_due.false c.is_due.ensures) refl;
+    }
 
 pub returns-then-sight-2 : goal.returns-then-sight-2
 returns-then-sight-2 g c =
-    let seen = c.look-sight.new.self in
-    let due = c.is_due.ensures in
-    let looked = look-keeps _ _ _ c.look-sight.ensures in
-    let within : seen.seat.phase ≤ service_limits.last_phase =
-    omega (arith, looked.phase, c.look-sight.ensures.shows.within, ap (λ (l : Limits). l.last_phase) c.requires.limits) in
+    let before = drives c.look-sight.new.self c.args.splits.now c.args.hint.now in
+    let now = drives c.look-sight.new.self c.is_due.new.splits c.is_due.new.hint in
     record {
       sight = c.look-sight.result;
-      seen = seen;
+      seen = c.look-sight.new.self;
       sees = c.look-sight.ensures;
-      case = ended c.if-sight.false c.if-sight-2.true (λ m. drives seen (due.proposes m))
-          (λ asks. elim (cases_eq (seen.seat.phase % 2) 0) [
-            | inl joined ↦ joined
-            | inr split ↦
-                let before : seen.seat.phase < service_limits.last_phase = omega arith in
-                let here : ¬ IsLeft seen c.look-sight.result = λ left. split left.joined in
-                absurd (false≢true (sym c.if-is_due.false ∙ due.told asks before here))
-          ]) refl;
+      case = ended c.if-sight.false c.if-sight-2.true
+          (subst (λ (b : Bool). Decides before c.look-sight.result c.args.end b now) c.if-is_due.false c.is_due.ensures) refl;
     }

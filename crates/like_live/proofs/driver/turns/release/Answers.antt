@@ -39,7 +39,7 @@ returns g c =
       | then-is_joined w ↦
           releases_split
           (eqb-true (phase % 2) 0 (sym c.is_joined.ensures ∙ w.if-is_joined.true))
-          (drives w.publish.new.lead w.publish.new.self)
+          (drives w.publish.new.lead w.publish.new.self false)
           (record {
             chooses = w.publish.ensures.chooses;
             lawful = w.publish.ensures.lawful;
@@ -49,10 +49,10 @@ returns g c =
               told = w.publish.ensures.told m;
               proposed = w.publish.ensures.proposed m;
               held = w.publish.ensures.held m;
-            });
+            }) false;
           })
-          (λ m. drives ((c.release.ensures ∙ ap released w.lead-is) m) (w.splits-is m))
+          (λ m. drives ((c.release.ensures ∙ ap released w.lead-is) m) (w.splits-is m) false)
       | else-is_joined w ↦
           releases_joined (split phase (sym c.is_joined.ensures ∙ w.if-is_joined.false))
-          (λ m. drives ((c.release.ensures ∙ ap released w.lead-is) m) (w.splits-is m))
+          (λ m. drives ((c.release.ensures ∙ ap released w.lead-is) m) (w.splits-is m) false)
     ]

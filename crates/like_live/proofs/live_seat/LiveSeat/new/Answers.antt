@@ -12,16 +12,17 @@ use Rattle.like_live.specs.declared.asked.Asked.{Asked}
 use Rattle.like_live.specs.declared.asked.Found.{Found}
 use Rattle.like_live.specs.Kept.{AreLiveSeatParts}
 use Rattle.like_live.specs.LiveView.{IsOwn, RanNext}
+use Rattle.like_live.specs.LookRoom.{RoomView}
 use Rattle.like_live.proofs.Looking.{all-none}
 use Rattle.like_live.proofs.live_seat.LiveSeat.new.Goals as goal
 
 -- the parts of a new live seat agree
 new-parts : (post : PostView) (s : StationView Asked) (found : Waiting Found) (home : Home) (users : UserTable)
-    (pages room left : ℕ)
+    (pages room : ℕ) (left : RoomView)
     → IsNewStation post room users s
     → found ≡ record { held = []; capacity = room }
     → IsHomeOf home users.share
-    → left ≡ room
+    → left ≡ record { free = 0; left = room }
     → post.limits ≡ service_limits
     → post.marks ≡ replicate pages false
     → users.share.submitters ≡ users.share.workers
@@ -48,7 +49,8 @@ new-parts post s found home users pages room left new is home_is all limits mark
       pages_are =
           sym (ap (λ (p : PostView). length p.marks) new.at_post ∙ ap (λ (xs : List Bool). length xs) marks
           ∙ length-replicate {A = Bool} pages false);
-      room_is = omega (arith, no_more, no_found, capacity, all);
+      room_is = omega (arith, no_more, no_found, capacity, ap (λ (r : RoomView). r.left) all);
+      early = λ some. absurd (omega (arith, some, ap (λ (r : RoomView). r.free) all));
       half_is = ap (λ n. n / 2) (sym capacity);
     }
 

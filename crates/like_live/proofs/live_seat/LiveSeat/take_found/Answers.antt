@@ -1,9 +1,10 @@
-use Rattle.std.proofs.Common.{◌+◌, List, Some, drop, length, ap, sym, subst, ◌∙◌, arith}
+use Rattle.std.proofs.Common.{◌+◌, List, Some, drop, length, ap, refl, sym, subst, ◌∙◌, arith}
 use Rattle.std.specs.List.{All}
 use Rattle.std.proofs.lemmas.List.Elements.{All-head}
 use Rattle.like_live.specs.declared.asked.Found.{Found}
 use Rattle.like_live.specs.Calls.{TakesFound}
 use Rattle.like_live.specs.LiveView.{LiveView, RanNext, live_of}
+use Rattle.like_live.specs.LookRoom.{RoomView}
 use Rattle.like_live.proofs.Finding.{first_of, none_first}
 use Rattle.like_live.proofs.Requests.{after-taken}
 use Rattle.like_live.proofs.live_seat.LiveSeat.take_found.Goals as goal
@@ -14,8 +15,8 @@ invariant_of-self g c =
     let none = none_first i.found.held (sym c.pop_front.ensures.first ∙ c.in_err-found.was) in
     after-taken i.seat i.found c.pop_front.new.self i.home i.pages i.room i.room i.half c.self.invariant
     c.pop_front.ensures.rest
-    (ap (λ (xs : List Found). i.room + length (drop 1 xs)) none
-    ∙ sym (ap (λ (xs : List Found). i.room + length xs) none))
+    (ap (λ (xs : List Found). i.room.left + length (drop 1 xs)) none
+    ∙ sym (ap (λ (xs : List Found). i.room.left + length xs) none)) refl
 
 pub returns-in_err-found-clause-keeps : goal.returns-in_err-found-clause-keeps
 returns-in_err-found-clause-keeps g c = (invariant_of-self g c).live
@@ -36,7 +37,9 @@ invariant_of-self-2 g c =
     let i = c.self.inside in
     let first = first_of i.found.held c.in_ok-found.found (sym c.pop_front.ensures.first ∙ c.in_ok-found.was) in
     after-taken i.seat i.found c.pop_front.new.self i.home i.pages i.room c.give.new.self i.half c.self.invariant
-    c.pop_front.ensures.rest (omega (arith, ap (λ (xs : List Found). length xs) first, c.give.ensures))
+    c.pop_front.ensures.rest
+    (omega (arith, ap (λ (xs : List Found). length xs) first, ap (λ (r : RoomView). r.left) c.give.ensures))
+    (ap (λ (r : RoomView). r.free) c.give.ensures)
 
 pub returns-clause-keeps : goal.returns-clause-keeps
 returns-clause-keeps g c = (invariant_of-self-2 g c).live

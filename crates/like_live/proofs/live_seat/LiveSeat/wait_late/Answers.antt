@@ -13,7 +13,7 @@ returns-then-left-eq0-clause-full g c = λ _.
     (omega (arith, c.self.invariant.room_is, c.left.ensures, c.if-left-eq0.true))
 
 pub put_by-requires : goal.put_by-requires
-put_by-requires g c = omega (arith, c.self.invariant.room_is, c.take.ensures)
+put_by-requires g c = omega (arith, c.self.invariant.room_is, c.take.ensures.left)
 
 pub invariant_of-self : goal.invariant_of-self
 invariant_of-self g c =
@@ -23,14 +23,23 @@ invariant_of-self g c =
     (subst (λ (w : LiveView). RunsSplit w.seat.post.state) (sym c.self.view_is) c.requires.split)
     (subst (λ (w : LiveView). IsOwn w.seat a) (sym c.self.view_is) c.requires.own)
     (c.requires.phase ∙ ap (λ (w : LiveView). phase_at w.seat) (sym c.self.view_is))
-    (c.take.ensures ∙ ap (λ n. n + 1) (sym c.plan_ahead.ensures)) c.put_by.ensures.holds c.put_by.ensures.seat
+    (c.take.ensures.left ∙ ap (λ n. n + 1) (sym c.plan_ahead.ensures.left))
+    (λ some. omega (
+      arith,
+      c.plan_ahead.ensures.early some,
+      c.len.ensures,
+      c.self.invariant.room_is,
+      c.self.invariant.half_is,
+      c.take.ensures.left,
+    ))
+    c.put_by.ensures.holds c.put_by.ensures.seat
 
 pub returns-clause-waits : goal.returns-clause-waits
 returns-clause-waits g c = λ _.
     let i = c.self.inside in
     puts-by c.args.self.now i.seat c.put_by.new.self i.found i.home i.pages i.room i.half
     (asked_in c.args.phase c.args.user c.args.page c.args.tag) c.self.invariant c.self.view_is
-    (omega (arith, c.take.ensures)) c.put_by.ensures.holds
+    (omega (arith, c.take.ensures.left)) c.put_by.ensures.holds
 
 pub returns-clause-keeps : goal.returns-clause-keeps
 returns-clause-keeps g c = (invariant_of-self g c).live

@@ -12,7 +12,7 @@ use Rattle.like_seat.proofs.station.Station.come_back.Goals as goal
 pub invariant_of-self-2 : goal.invariant_of-self-2
 invariant_of-self-2 g c =
     let p = g.P.Post.view c.self.inside.post in
-    let back = g.P.Post.view c.come_back.new.self in
+    let back = g.P.Post.view c.come_back.new.post in
     let gone : p.state ≡ Gone =
     subst (λ (v : StationView g.row.W.Denot). v.post.state ≡ Gone) (sym c.self.view_is) c.requires.gone in
     IsKept-entered p back (g.P.Post.view c.enter_slots.new.post) c.self.inside.tables c.enter_slots.new.self
@@ -23,7 +23,7 @@ pub returns-clause-back : goal.returns-clause-back
 returns-clause-back g c = λ _.
     let p = g.P.Post.view c.self.inside.post in
     let t = c.self.inside.tables in
-    let back = g.P.Post.view c.come_back.new.self in
+    let back = g.P.Post.view c.come_back.new.post in
     let gone : p.state ≡ Gone =
     subst (λ (v : StationView g.row.W.Denot). v.post.state ≡ Gone) (sym c.self.view_is) c.requires.gone in
     let phase = c.in-Some.phase in
@@ -75,7 +75,7 @@ returns-in_default-clause-seat g c = (invariant_of-self g c).seat
 pub enter_slots-requires-clause-may : goal.enter_slots-requires-clause-may
 enter_slots-requires-clause-may g c =
     let p = g.P.Post.view c.self.inside.post in
-    let back = g.P.Post.view c.come_back.new.self in
+    let back = g.P.Post.view c.come_back.new.post in
     let gone : p.state ≡ Gone =
     subst (λ (v : StationView g.row.W.Denot). v.post.state ≡ Gone) (sym c.self.view_is) c.requires.gone in
     MayEnter-kept p back c.self.inside.tables c.in-Some.phase c.self.invariant (idle-gone p.state gone)
@@ -84,7 +84,7 @@ enter_slots-requires-clause-may g c =
 pub enter_slots-requires-clause-service : goal.enter_slots-requires-clause-service
 enter_slots-requires-clause-service g c =
     let p = g.P.Post.view c.self.inside.post in
-    let back = g.P.Post.view c.come_back.new.self in
+    let back = g.P.Post.view c.come_back.new.post in
     let slotted = subst (λ (v : StationView g.row.W.Denot). has_slots v.post.limits ≡ true) (sym c.self.view_is)
     c.requires.slotted in
     IsOfService-ran p back c.self.inside.tables c.in-Some.phase c.self.invariant

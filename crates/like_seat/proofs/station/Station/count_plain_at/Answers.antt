@@ -22,7 +22,8 @@ invariant_of-self g c =
     subst (λ (q : PostView). IsKept q (record t { likes = c.count.new.self; last = c.set_at.new.self }))
     (sym c.add.ensures.view)
     (Kept-written p (p.additions ++ one ∷ []) p.reads p.glances (added p page c.add.result 1).did t
-    (record t { likes = c.count.new.self; last = c.set_at.new.self }) k refl refl refl refl refl k.slice k.sums (omega (arith, k.likes, more, c.count.ensures)) (omega (arith, k.likes, room, c.count.ensures)))
+    (record t { likes = c.count.new.self; last = c.set_at.new.self }) k refl refl refl refl refl k.slice k.sums
+    (omega (arith, k.likes, more, c.count.ensures.likes)) (omega (arith, k.likes, room, c.count.ensures.likes)))
 
 pub returns-clause-seat : goal.returns-clause-seat
 returns-clause-seat g c = (invariant_of-self g c).seat

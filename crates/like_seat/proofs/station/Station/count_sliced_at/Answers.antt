@@ -33,7 +33,7 @@ invariant_of-self g c =
     (ap (λ (s : SplitSlice). s.splits) c.add.ensures.counted)
     (ap (λ (s : SplitSlice). length s.counts) c.add.ensures.counted
     ∙ length-set t.slice.counts (bucket_in t.slice page) (likes_in t.slice page + 1)) c.add.ensures.slice sums
-    (omega (arith, k.likes, k.sums, sums, c.add.ensures.total, c.count.ensures)) (omega (arith, k.likes, room, c.count.ensures))
+    (omega (arith, k.likes, k.sums, sums, c.add.ensures.total, c.count.ensures.likes)) (omega (arith, k.likes, room, c.count.ensures.likes))
 
 pub returns-clause-counts : goal.returns-clause-counts
 returns-clause-counts g c =

@@ -2,6 +2,7 @@ use Rattle.std.proofs.Common.{◌≡◌, false, ℕ, ◌+◌, ◌^◌, ◌<◌, 
 use Rattle.like_core.specs.Additions.{addition}
 use Rattle.like_core.specs.Post.{PostView, added, pages_of, slices}
 use Rattle.like_core.specs.WorkerState.{IsRunning, phase_of}
+use Rattle.like_seat.specs.LikeCount.{LikeCountView}
 use Rattle.like_seat.specs.Kept.{IsKept, view_of}
 use Rattle.like_seat.specs.StationView.{StationView, likes_of}
 use Rattle.like_tables.specs.Placed.{IsPlaced}
@@ -18,8 +19,8 @@ invariant_of-self-2 g c =
     let page : ℕ = c.args.page in
     let most : 2 ^ 56 ≤ p.limits.likes =
     subst (λ (v : StationView g.row.W.Denot). 2 ^ 56 ≤ v.post.limits.likes) (sym c.self.view_is) c.requires.most in
-    let few : t.likes < 2 ^ 56 = c.try_count.ensures.room c.if-not-try_count.false in
-    let one_more : c.try_count.new.self ≡ t.likes + 1 = c.try_count.ensures.added c.if-not-try_count.false in
+    let few : t.likes.likes < 2 ^ 56 = c.try_count.ensures.room c.if-not-try_count.false in
+    let one_more : c.try_count.new.self.likes ≡ t.likes.likes + 1 = c.try_count.ensures.added c.if-not-try_count.false in
     let one = addition (phase_of p.state) page c.add.result 1 in
     let more = all_added-push p.additions one in
     subst (λ (q : PostView). IsKept q (record t { likes = c.try_count.new.self; last = c.set_at.new.self }))
@@ -30,8 +31,8 @@ invariant_of-self-2 g c =
 pub invariant_of-self : goal.invariant_of-self
 invariant_of-self g c =
     let t = c.self.inside.tables in
-    subst (λ (n : ℕ). IsKept (g.P.Post.view c.self.inside.post) (record t { likes = n }))
-    (sym (c.try_count.ensures.none c.if-not-try_count.true)) c.self.invariant
+    subst (λ (n : LikeCountView). IsKept (g.P.Post.view c.self.inside.post) (record t { likes = n }))
+    (sym (c.try_count.ensures.none c.if-not-try_count.true).1) c.self.invariant
 
 pub returns-clause-seat : goal.returns-clause-seat
 returns-clause-seat g c = (invariant_of-self-2 g c).seat
@@ -79,7 +80,7 @@ add-requires g c =
     subst (λ (v : StationView g.row.W.Denot). slices v.post page ≡ false) (sym c.self.view_is) c.requires.plain in
     let most : 2 ^ 56 ≤ p.limits.likes =
     subst (λ (v : StationView g.row.W.Denot). 2 ^ 56 ≤ v.post.limits.likes) (sym c.self.view_is) c.requires.most in
-    let few : t.likes < 2 ^ 56 = c.try_count.ensures.room c.if-not-try_count.false in
+    let few : t.likes.likes < 2 ^ 56 = c.try_count.ensures.room c.if-not-try_count.false in
     record {
       runs = runs;
       there = subst (λ (v : StationView g.row.W.Denot). page < pages_of v.post) (sym c.self.view_is) c.requires.there;

@@ -3,6 +3,7 @@ use Rattle.like_core.specs.Post.{pages_of, slices}
 use Rattle.like_core.specs.WorkerState.{IsRunning}
 use Rattle.like_tables.specs.SplitSlice.{SplitSlice, bucket_in, by_page, has_split, likes_in}
 use Rattle.like_tables.proofs.ByPage.{by_page-with_likes, get_or-by_page}
+use Rattle.like_seat.specs.LikeCount.{LikeCountView}
 use Rattle.like_seat.specs.Kept.{IsKept, view_of}
 use Rattle.like_seat.specs.StationView.{StationView, likes_of}
 use Rattle.like_tables.specs.Placed.{IsPlaced}
@@ -21,8 +22,8 @@ invariant_of-self-2 g c =
     subst (λ (v : StationView g.row.W.Denot). page < pages_of v.post) (sym c.self.view_is) c.requires.there in
     let most : 2 ^ 56 ≤ p.limits.likes =
     subst (λ (v : StationView g.row.W.Denot). 2 ^ 56 ≤ v.post.limits.likes) (sym c.self.view_is) c.requires.most in
-    let few : t.likes < 2 ^ 56 = c.try_count.ensures.room c.if-not-try_count.false in
-    let one_more : c.try_count.new.self ≡ t.likes + 1 = c.try_count.ensures.added c.if-not-try_count.false in
+    let few : t.likes.likes < 2 ^ 56 = c.try_count.ensures.room c.if-not-try_count.false in
+    let one_more : c.try_count.new.self.likes ≡ t.likes.likes + 1 = c.try_count.ensures.added c.if-not-try_count.false in
     let runs : IsRunning p.state =
     subst (λ (v : StationView g.row.W.Denot). IsRunning v.post.state) (sym c.self.view_is) c.requires.running in
     let split : has_split t.slice page ≡ true =
@@ -71,8 +72,8 @@ returns-clause-counts g c =
 pub invariant_of-self : goal.invariant_of-self
 invariant_of-self g c =
     let t = c.self.inside.tables in
-    subst (λ (n : ℕ). IsKept (g.P.Post.view c.self.inside.post) (record t { likes = n }))
-    (sym (c.try_count.ensures.none c.if-not-try_count.true)) c.self.invariant
+    subst (λ (n : LikeCountView). IsKept (g.P.Post.view c.self.inside.post) (record t { likes = n }))
+    (sym (c.try_count.ensures.none c.if-not-try_count.true).1) c.self.invariant
 
 pub returns-clause-seat : goal.returns-clause-seat
 returns-clause-seat g c = (invariant_of-self-2 g c).seat
