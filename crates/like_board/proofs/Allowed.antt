@@ -10,6 +10,8 @@ use Rattle.atomic_table.proofs.Lists.{set_again}
 use Rattle.like_core.specs.declared.worker_state.WorkerState.TheVariants.{Gone}
 use Rattle.like_core.specs.declared.event.Event.TheVariants.{Acknowledge, Report, Retire, Read, Hot, CoordRead, Announce, Release}
 use Rattle.like_core.specs.declared.shown.Shown.TheVariants.{Seen, Done, Old, Count, Hot as HotShown}
+use Rattle.like_core.specs.declared.page_step.PageCall.{PageCall}
+use Rattle.like_core.specs.declared.page_step.PageCall.TheVariants.{Add, Read as ReadCall, Glance as GlanceCall}
 use Rattle.like_core.specs.declared.form.Form.{Form}
 use Rattle.like_core.specs.declared.opening.Opening.{Opening}
 use Rattle.like_core.specs.declared.view.WorkerSeatView.{WorkerSeatView}
@@ -21,11 +23,13 @@ use Rattle.like_core.specs.core.Moves.{LetsReturn, Move, comes_back, glances as 
 use Rattle.like_core.specs.Slots.{IsChoice}
 use Rattle.like_core.specs.word.Forms.{WordForm, form_of}
 use Rattle.like_core.specs.Post.{IsFresh, MayAdd, MayRead, MayGlance}
-use Rattle.like_core.specs.WorkerState.{RunsJoined, RunsSplit, SawEnding, running_sight}
+use Rattle.like_core.specs.PageSteps.{page_step}
+use Rattle.like_core.specs.WorkerState.{RunsJoined, RunsSplit, SawEnding, phase_of, running_sight}
 use Rattle.like_core.specs.views.Views.{MayAnnounce, MayCount, MayPublish, MayPut, MayPublishSlots, MayReadSlot, MayReadSlots, MayRelease, fresh, looked_view, answered_view, retired_view, returned_view, added_view, read_view, glanced_view, masked_view, slotted_view, slots_read, post_of, likes_merged, adding, looked_coord, announced_coord, counted_coord, published_coord, slotted_coord, slots_put, mask_released, released_coord, made_coord, gathered_coord}
 use Rattle.like_core.specs.views.Actions.{Acknowledges, Reports, Retires, Reads, Glances, Announces, Releases}
 use Rattle.like_core.specs.views.Layout.{mask_place, slot_place, word_of}
-use Rattle.like_core.specs.views.Shows.{ShowsSome, FitsWorker, FitsCoord, IsKnown, IsMove, IsStep, IsSteps}
+use Rattle.like_core.specs.views.Shows.{ShowsSome, FitsWorker, FitsCoord, IsKnown, IsMove, IsPageStep, IsStep}
+use Rattle.like_core.proofs.views.KeptOrder.{new_seat_keeps_order}
 use Rattle.like_core.proofs.views.Apart.{word_of-injective}
 use Rattle.like_core.proofs.views.Posts.{post_fresh}
 use Rattle.like_board.specs.declared.key.Key.{Key}
@@ -34,7 +38,7 @@ use Rattle.like_board.specs.Rule.{opening_of, IsShowing}
 use Rattle.like_board.specs.Plays.{CameBack, Looked, Surveyed, phase_at, sight_at, coord_sight_at, TellsLook, TellsSurvey, TellsWorker, TellsReturn, TellsCoord, PageAct, TellsAdd, TellsRead, TellsAddAt, TellsReadAt, TellsMask, TellsSlot, TellsSlotAt, TellsSlots, TellsPutAt, TellsCount, TellsCountAt}
 use Rattle.like_board.specs.Closed.{TellsLast}
 use Rattle.like_board.proofs.coordinator.Leads.{splits}
-use Rattle.like_board.proofs.worker.Moves.{known_of}
+use Rattle.like_board.proofs.worker.Moves.{known_of, no_seat}
 use Rattle.like_board.proofs.worker.WorkerSteps.{looks, acknowledges, reports, retires, returns}
 use Rattle.like_board.proofs.coordinator.CoordSteps.{surveys, announces, releases}
 use Rattle.like_board.proofs.coordinator.Choosing.{counts, publishes, puts, publishes_slots}
@@ -466,6 +470,9 @@ making {S} key id v is room = λ st shows at.
       shows = splits z shows.state st.words st.views id c shows.shows here below;
       tallied = tallied_made z shows.state st.views id c here (omega arith) shows.tallied;
       places = places_made z st.views id c here shows.places;
+      steps = shows.steps;
+      order = new_seat_keeps_order z shows.state st.views shows.steps id c here
+          (no_seat z shows.state st.words st.views id c shows.shows here) shows.order;
     })
 
 adding_page : {S : Type 0} (key : Key) (slots id : ℕ) (me : Me S View) (page n : ℕ)
@@ -485,8 +492,8 @@ adding_page {S} key slots id me page n is may = λ st shows _ at _.
     record {
       view = refl;
       own = r.2;
-      step = subst (λ (y : Opening). IsSteps y (likes_merged v page n) (makes (adding v page)) (Old found) (Worker v)
-          (Worker w)) (sym same) r.0;
+      step = subst (λ (y : Opening). IsPageStep y (likes_merged v page n) (makes (adding v page)) (Old found)
+          (page_step v.worker (phase_of v.state) page found (Add n)) (Worker v) (Worker w)) (sym same) r.0;
     }
     in (
       Worker w,
@@ -512,19 +519,21 @@ adding_to {S} key slots id me page word n word_is is may =
 
 -- a step that finds a page's count and is this move
 finding_page : {S : Type 0} (key : Key) (slots id : ℕ) (me : Me S View) (page : ℕ) (move : Move)
-    (next : WorkerSeatView → ℕ → ℕ → WorkerSeatView)
+    (call : PageCall) (next : WorkerSeatView → ℕ → ℕ → WorkerSeatView)
     → me ≡ (Worker (worker_view_of me.0), [])
     → ((z : Opening) (words : List ℕ) (views : List View) → ShowsSome z words views
     → get_elem? views id ≡ some (Worker (worker_view_of me.0))
-    → IsRead z words views id (worker_view_of me.0) page move
+    → IsRead z words views id (worker_view_of me.0) page move call
     (next (worker_view_of me.0) page (get_or words (word_of page) 0)))
     → (does : PageAct)
     → ((count : ℕ) (w : WorkerSeatView)
-    → IsMove (worker_view_of me.0).opening move (Count count) (Worker (worker_view_of me.0)) (Worker w)
+    → IsPageStep (worker_view_of me.0).opening [] move (Count count)
+    (page_step (worker_view_of me.0).worker (phase_of (worker_view_of me.0).state) page count call)
+    (Worker (worker_view_of me.0)) (Worker w)
     → does (worker_view_of me.0) page count w)
     → Allows (IsShowing key) slots id me (word_of page) (λ k. k)
     (λ found after. TellsReadAt does next (word_of page) me.0 found after.0 × (after.1 ≡ []))
-finding_page {S} key slots id me page move next is reads does act = λ st shows _ at _.
+finding_page {S} key slots id me page move call next is reads does act = λ st shows _ at _.
     let z = opening_of key in
     let v : WorkerSeatView = worker_view_of me.0 in
     let found : ℕ = get_or st.words (word_of page) 0 in
@@ -537,7 +546,8 @@ finding_page {S} key slots id me page move next is reads does act = λ st shows 
       view = refl;
       own = r.2;
       bounded = r.3;
-      step = act found w (subst (λ (y : Opening). IsMove y move (Count found) (Worker v) (Worker w)) (sym same) r.0);
+      step = act found w (subst (λ (y : Opening). IsPageStep y [] move (Count found)
+          (page_step v.worker (phase_of v.state) page found call) (Worker v) (Worker w)) (sym same) r.0);
     }
     in (
       Worker w,
@@ -559,7 +569,7 @@ pub reading : {S : Type 0} (key : Key) (slots id : ℕ) (me : Me S View) (page w
 reading {S} key slots id me page word word_is is may =
     subst (λ (i : ℕ). Allows (IsShowing key) slots id me i (λ k. k)
     (λ found after. TellsReadAt Reads read_view i me.0 found after.0 × (after.1 ≡ []))) (sym word_is)
-    (finding_page key slots id me page (makes (Read (worker_view_of me.0).worker page)) read_view is
+    (finding_page key slots id me page (makes (Read (worker_view_of me.0).worker page)) ReadCall read_view is
     (λ z words views. reads z words views id (worker_view_of me.0) page may) Reads (λ count w step. step))
 
 pub glancing : {S : Type 0} (key : Key) (slots id : ℕ) (me : Me S View) (page word : ℕ)
@@ -571,7 +581,7 @@ pub glancing : {S : Type 0} (key : Key) (slots id : ℕ) (me : Me S View) (page 
 glancing {S} key slots id me page word word_is is may =
     subst (λ (i : ℕ). Allows (IsShowing key) slots id me i (λ k. k)
     (λ found after. TellsReadAt Glances glanced_view i me.0 found after.0 × (after.1 ≡ []))) (sym word_is)
-    (finding_page key slots id me page (glances_at (worker_view_of me.0).worker page) glanced_view is
+    (finding_page key slots id me page (glances_at (worker_view_of me.0).worker page) GlanceCall glanced_view is
     (λ z words views. glances z words views id (worker_view_of me.0) page may) Glances (λ count w step. step))
 
 pub reading_mask : {S : Type 0} (key : Key) (slots id : ℕ) (me : Me S View)

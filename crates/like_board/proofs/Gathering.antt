@@ -1,5 +1,5 @@
 -- A worker's seat is given back to the coordinator, and what the words show where all were.
-use Rattle.std.proofs.Common.{◌≡◌, ◌≢◌, ℕ, zero, suc, ◌+◌, ◌<◌, ◌==◌, nat_lt, cond, inl, inr, List, ◌∷◌, All, length, get_or, slice_index, set, Bool, subst, ap, sym, ◌∙◌, refl, eq-eqb, arith}
+use Rattle.std.proofs.Common.{◌≡◌, ◌≢◌, ℕ, zero, suc, ◌+◌, ◌<◌, ◌==◌, nat_lt, cond, inl, inr, List, [], ◌∷◌, All, length, get_or, slice_index, set, Bool, subst, ap, sym, ◌∙◌, refl, eq-eqb, arith}
 use Rattle.std.specs.List.{sum_by}
 use Rattle.std.proofs.lemmas.List.Sums.{sum_by-cons}
 use Rattle.std.proofs.lemmas.Bool.{cond-true}
@@ -14,6 +14,7 @@ use Rattle.like_core.specs.declared.view.View.{View}
 use Rattle.like_core.specs.declared.view.View.TheVariants.{Coord, Worker, Spent}
 use Rattle.like_core.specs.core.State.{CoreState}
 use Rattle.like_core.specs.Additions.{added_to, added_before}
+use Rattle.like_core.specs.PageSteps.{steps_by}
 use Rattle.like_core.specs.views.Views.{gathered_coord, seats_of}
 use Rattle.like_core.specs.views.Reads.{before_in, all_before, HaveBetween, IsCounted}
 use Rattle.like_core.specs.views.Places.{Counting, AreTiles, HavePlaced, passing, all_passing, count_after}
@@ -21,6 +22,7 @@ use Rattle.like_core.specs.views.Tallies.{paged, left_to, room}
 use Rattle.like_core.specs.views.Layout.{word_of}
 use Rattle.like_core.specs.views.Shows.{Shows, ShowsSome, Fits, FitsWorker, FitsCoord}
 use Rattle.like_core.proofs.views.ViewLists.{within, sum_two, sum_lone, sum_gathered}
+use Rattle.like_core.proofs.views.KeptOrder.{join_keeps_order}
 use Rattle.like_core.proofs.views.KeptPlaces.{join_keeps_places, both_placed_on, tiles_on}
 use Rattle.like_core.proofs.views.KeptReads.{both_between_on, counted_on, join_keeps_reads}
 use Rattle.like_board.proofs.worker.Moves.{same_coord, has_seat, once_at_most}
@@ -147,6 +149,8 @@ gathers z words views place other c v some_state at apart mine =
             (sum_by-cons (λ (w : WorkerSeatView). added_to page w.additions) v c.joined)));
       };
       places = join_keeps_places z.counts views place other c v at there some_state.places;
+      steps = some_state.steps;
+      order = join_keeps_order z s views some_state.steps place other c v at there some_state.order;
     }
 
 -- beside a coordinator that has all workers' seats back, no view knows anything
@@ -183,7 +187,19 @@ sum_coord f z s words views place c none sh at all =
     sum_lone f views place (Coord c) at
     (λ j u other found. ap f (others_spent z s words views place c sh at all j u other found) ∙ none)
 
--- where all workers' seats were given back, each page's word is its count at the start and all their additions
+-- where all workers' seats were given back, no other worker did anything at a page
+pub last_others : (z : Opening) (words : List ℕ) (views : List View) (place : ℕ) (c : CoordSeatView)
+    → (shows : ShowsSome z words views)
+    → get_elem? views place ≡ some (Coord c)
+    → ((i : ℕ) → i < c.made → seats_of i (Coord c) ≡ 1)
+    → (i : ℕ)
+    → seats_of i (Coord c) ≡ 0
+    → steps_by i shows.steps ≡ []
+last_others z words views place c some_state at all i none =
+    some_state.order.others i
+    (sum_coord (seats_of i) z some_state.state words views place c refl some_state.shows at all ∙ none)
+
+-- and each page's word is its count at the start and all their additions
 pub last_word : (z : Opening) (words : List ℕ) (views : List View) (place : ℕ) (c : CoordSeatView)
     → ShowsSome z words views
     → get_elem? views place ≡ some (Coord c)

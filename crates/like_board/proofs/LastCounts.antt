@@ -15,6 +15,7 @@ use Rattle.like_core.specs.declared.view.View.{View}
 use Rattle.like_core.specs.declared.view.View.TheVariants.{Coord}
 use Rattle.like_core.specs.Post.{additions_of}
 use Rattle.like_core.specs.Additions.{added_to, added_before}
+use Rattle.like_core.specs.PageSteps.{AreInTurn}
 use Rattle.like_core.specs.views.Views.{post_of, seats_of}
 use Rattle.like_core.specs.views.Reads.{before_in, HaveBetween, IsCounted}
 use Rattle.like_core.specs.PhaseMasks.{mask_of, AreMasksOf}
@@ -28,7 +29,7 @@ use Rattle.like_board.specs.Known.{coord_view_of}
 use Rattle.like_board.specs.Seats.{seat_view, seat_meaning, last_count, seats_before, seats_passing}
 use Rattle.like_board.specs.Closed.{HasAllBack, IsClosed}
 use Rattle.like_board.proofs.worker.Moves.{if_some}
-use Rattle.like_board.proofs.Gathering.{last_word, last_reads, last_counted, last_places, last_past}
+use Rattle.like_board.proofs.Gathering.{last_word, last_others, last_reads, last_counted, last_places, last_past}
 
 module _ {A : Type 0} (f g : A → ℕ) (less : (x : A) → f x ≤ g x) where
   -- sums of parts of which none is greater
@@ -295,6 +296,20 @@ closes z words views place v c seats shows at_view back =
               below. (placed.1 k (seat_view (get_or seats k seat)) (at_mapped seat_view seats k seat below)).0;
           glanced = λ k seat
               below. (placed.1 k (seat_view (get_or seats k seat)) (at_mapped seat_view seats k seat below)).1;
+        };
+        steps = shows.steps;
+        order = record {
+          in_turn = subst (λ (y : Opening). AreInTurn (slice_index y.counts) c.phase shows.steps)
+              (sym old.seats.opening) (subst (λ (k : ℕ). AreInTurn (slice_index z.counts) k shows.steps)
+              (sym old.phase.present) shows.order.in_turn);
+          each = λ k seat below.
+              let own = shows.order.each place (Coord d) at k (seat_view (get_or seats k seat))
+              (at_mapped seat_view seats k seat below) in
+              record { did = own.did; additions = own.additions };
+          others = λ i none.
+              let made = back.made in
+              last_others z words views place d shows at (λ j below. each j (omega arith)) i
+              (sum_by-map seat_view (λ (w : WorkerSeatView). cond (w.worker == i) 1 0) seats ∙ none);
         };
       },
       λ page on.

@@ -20,6 +20,7 @@ use Rattle.like_core.specs.views.Reads.{all_before, IsCounted, HasReads, ReadsFi
 use Rattle.like_core.specs.views.Layout.{mask_place, slot_in, word_of}
 use Rattle.like_core.specs.views.Shows.{IsOpening, ShowsSome, Fits, FitsCoord}
 use Rattle.like_core.proofs.views.Chosen.{mask_in-none, chosen-none}
+use Rattle.like_core.specs.views.Order.{HasOrder}
 use Rattle.like_core.proofs.views.KeptPlaces.{places_open}
 use Rattle.like_core.proofs.core.Moved.{moves_begin}
 use Rattle.like_board.specs.declared.key.Key.{Key}
@@ -103,6 +104,13 @@ opens z words opening width word pages mask_word slots =
         past = λ phase page later. refl;
       };
       places = places_open z.counts c refl;
+      steps = [];
+      order = record {
+        in_turn = tt;
+        applied = λ page. refl;
+        each = none_done c refl;
+        others = λ i none. refl;
+      };
     }
   where
     no_worker : (c : CoordSeatView) (place : ℕ) (v : WorkerSeatView) → get_elem? (Coord c ∷ []) place ≡ some (Worker v)
@@ -119,6 +127,16 @@ opens z words opening width word pages mask_word slots =
         → get_elem? (Coord c ∷ []) place ≡ some v → Fits z (start z) v
     each_first z c fits zero v at = subst (Fits z (start z)) (some-injective (Coord c) v at) fits
     each_first z c fits (suc place) v at = absurd (some-ne-none v (sym at))
+
+    none_done : (c : CoordSeatView) → c.joined ≡ [] → (place : ℕ) (v : View) → get_elem? (Coord c ∷ []) place ≡ some v
+        → HasOrder [] v
+    none_done c none zero v at =
+        let has : HasOrder [] (Coord c) =
+        λ place w found. absurd (some-ne-none w
+        (sym (sym (ap (λ (l : List WorkerSeatView). get_elem? l place) none) ∙ found)))
+        in
+        subst (HasOrder []) (some-injective (Coord c) v at) has
+    none_done c none (suc place) v at = absurd (some-ne-none v (sym at))
 
     no_reads : (z : Opening) (c : CoordSeatView) → c.joined ≡ [] → ReadsFit z.counts 0 (Coord c ∷ [])
     no_reads z c none zero v at =

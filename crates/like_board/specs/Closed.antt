@@ -1,5 +1,6 @@
 -- What is known of a board where all workers' seats were given back.
 use Rattle.std.specs.Prelude.{◌≡◌, ℕ, ◌^◌, ◌<◌, All, List, [], length, map, slice_index}
+use Rattle.like_core.specs.declared.page_step.PageStep.{PageStep}
 use Rattle.like_core.specs.declared.view.CoordSeatView.{CoordSeatView}
 use Rattle.like_core.specs.declared.view.View.{View}
 use Rattle.like_core.specs.declared.view.View.TheVariants.{Coord}
@@ -7,7 +8,7 @@ use Rattle.like_core.specs.WorkerState.{SawNoLater}
 use Rattle.like_core.specs.views.Views.{gathered_all}
 use Rattle.like_core.specs.views.Layout.{word_of}
 use Rattle.like_board.specs.declared.worker_seat.WorkerSeat.{WorkerSeat}
-use Rattle.like_board.specs.Seats.{seat_view, seat_meaning, AreAll, last_count, HaveAddedBetween, HaveAddedWithin, HaveReadBetween, HaveGlancedBetween, AreCounted, HaveReadMasks, HavePlaces}
+use Rattle.like_board.specs.Seats.{seat_view, seat_meaning, AreAll, last_count, HaveAddedBetween, HaveAddedWithin, HaveReadBetween, HaveGlancedBetween, AreCounted, HaveReadMasks, HavePlaces, AreOrdered}
 
 -- the coordinator's view, after each worker's seat was given back to it
 pub record HasAllBack (v : View) (c : CoordSeatView) (seats : List WorkerSeat) : Type 0 where
@@ -35,6 +36,9 @@ pub record IsClosed (c : CoordSeatView) (seats : List WorkerSeat) : Type 0 where
   pub masks : HaveReadMasks c.masks seats
   -- the stretches of all additions tile each page's counts, and each count that a worker read has its place there
   pub places : HavePlaces c.opening seats
+  -- all that the workers did at pages has one order
+  pub steps : List PageStep
+  pub order : AreOrdered c.opening c.phase seats steps
 
 -- a board was closed with these seats: its last counts, and what is known of the seats' steps
 pub record IsClosedBoard (c : CoordSeatView) (seats : List WorkerSeat) (counts : List ℕ) : Type 0 where

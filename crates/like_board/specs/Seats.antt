@@ -1,7 +1,8 @@
-use Rattle.std.specs.Prelude.{◌≡◌, ℕ, ◌+◌, ◌<◌, ◌≤◌, ◌==◌, All, List, ◌∷◌, Some, slice_get, slice_index, count_by}
+use Rattle.std.specs.Prelude.{◌≡◌, ℕ, ◌+◌, ◌<◌, ◌≤◌, ◌==◌, All, List, [], ◌∷◌, Some, slice_get, slice_index, count_by}
 use Rattle.std.specs.List.{sum_by}
 use Rattle.atomic_table.specs.Seated.{TableId}
 use Rattle.like_core.specs.declared.opening.Opening.{Opening}
+use Rattle.like_core.specs.declared.page_step.PageStep.{PageStep}
 use Rattle.like_core.specs.declared.view.WorkerSeatView.{WorkerSeatView}
 use Rattle.like_core.specs.declared.view.CoordSeatView.{CoordSeatView}
 use Rattle.like_core.specs.declared.view.PhaseMask.{PhaseMask}
@@ -10,9 +11,11 @@ use Rattle.like_board.specs.declared.coord_seat.CoordSeat.{CoordSeat}
 use Rattle.like_board.specs.declared.worker_seat.WorkerSeat.{WorkerSeat}
 use Rattle.like_board.specs.declared.post.PostAt.{PostAt}
 use Rattle.like_core.specs.Additions.{added_before}
+use Rattle.like_core.specs.PageSteps.{AreInTurn, steps_by}
 use Rattle.like_core.specs.Post.{PostView, IsFresh, additions_of}
 use Rattle.like_core.specs.views.Views.{fresh, post_of}
 use Rattle.like_core.specs.views.Reads.{AreBetween, IsCounted, StandBetween}
+use Rattle.like_core.specs.views.Order.{HasDone}
 use Rattle.like_core.specs.views.Places.{Counting, AreTiles, ArePlaced}
 use Rattle.like_core.specs.PhaseMasks.{mask_of, AreMasksOf}
 use Rattle.like_board.specs.Known.{worker_view_of, coord_view_of}
@@ -119,6 +122,14 @@ HaveReadMasks released seats =
 -- how many additions of the workers of these seats pass a test
 abbrev pub seats_passing : List WorkerSeat → Counting
 seats_passing seats test = sum_by (λ seat. count_by test (seat_meaning seat).additions) seats
+
+-- one order of all that these seats' workers did at pages, the latest step first: each step found what those before it
+-- left, phases never fall, and none is later than this; all that each seat did are its worker's steps, in their order;
+-- and no other worker has a step
+pub record AreOrdered (z : Opening) (phase : ℕ) (seats : List WorkerSeat) (steps : List PageStep) : Type 0 where
+  pub in_turn : AreInTurn (slice_index z.counts) phase steps
+  pub each : All (λ seat. HasDone steps (seat_meaning seat)) seats
+  pub others : (i : ℕ) → count_by (λ seat. (seat_meaning seat).worker == i) seats ≡ 0 → steps_by i steps ≡ []
 
 -- the stretches of these seats' additions tile each page's counts, from the one at the start to the last; each count
 -- that their workers read or glanced at is the one at the start or the end of a stretch; and each worker's additions

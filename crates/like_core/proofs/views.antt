@@ -3,6 +3,7 @@ pub mod Posts
 pub mod ViewLists
 pub mod KeptReads
 pub mod KeptPlaces
+pub mod KeptOrder
 pub mod Apart
 pub mod Chosen
 pub mod SplitPages

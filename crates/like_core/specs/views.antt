@@ -4,6 +4,7 @@ pub mod Views
 pub mod Reads
 pub mod Tallies
 pub mod Places
+pub mod Order
 pub mod Layout
 pub mod Shows
 pub mod SplitPages

@@ -10,6 +10,7 @@ ghost use Rattle.like_core.specs.views.Shows.{CountsAreOfOneMoment, MomentsAreRe
 ghost use Rattle.like_core.specs.views.SplitPages.{SlicesAreSplit, SlotsAreExact};
 ghost use Rattle.like_core.specs.views.Serves.{AllGoneCounts, AllInCounts, AnswersOne, FormServes, RetiresOne, ReturnsOne, WordTellsPhase};
 ghost use Rattle.like_core.specs.word.KindTells.{KindTellsPhase};
+ghost use Rattle.like_core.specs.views.Order.{AdditionKeepsOrder, GlanceKeepsOrder, JoinKeepsOrder, NewSeatKeepsOrder, OtherStepKeepsOrder, ReadKeepsOrder};
 ghost use Rattle.like_core.specs.views.Places.{AdditionKeepsPlaces, ReadKeepsPlaces, GlanceKeepsPlaces, JoinKeepsPlaces};
 ghost use Rattle.like_core.specs.views.Reads.{AdditionKeepsReads, ReadKeepsReads, GlanceKeepsReads, JoinKeepsReads};
 
@@ -108,6 +109,37 @@ pub fn glance_keeps_places()
 /// So does a worker's seat that is given back: the coordinator's view then has its stretches and reads.
 pub fn join_keeps_places()
     ensures { JoinKeepsPlaces }
+{}
+
+/// An addition of some likes by a worker with one seat keeps the order of all that was done at pages: its step comes
+/// last, since it finds the page's count, and no step is of a later phase.
+pub fn addition_keeps_order()
+    ensures { AdditionKeepsOrder }
+{}
+
+/// So does a read, since it finds the page's count.
+pub fn read_keeps_order()
+    ensures { ReadKeepsOrder }
+{}
+
+/// So does a glance.
+pub fn glance_keeps_order()
+    ensures { GlanceKeepsOrder }
+{}
+
+/// Each other step of a seat leaves the order as it is. A release raises the phase, and no step is of a later one then.
+pub fn other_step_keeps_order()
+    ensures { OtherStepKeepsOrder }
+{}
+
+/// So does a worker's seat that is given back: the coordinator's view then has what it did.
+pub fn join_keeps_order()
+    ensures { JoinKeepsOrder }
+{}
+
+/// So does a new seat: its worker had none, so the order has no step of it.
+pub fn new_seat_keeps_order()
+    ensures { NewSeatKeepsOrder }
 {}
 
 /// The counts that the coordinator read at the end of a phase are of one moment: each has all that was added by then.

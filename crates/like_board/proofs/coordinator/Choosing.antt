@@ -30,6 +30,7 @@ use Rattle.like_core.specs.views.Layout.{mask_place, slot_in, slot_place, word_o
 use Rattle.like_core.specs.views.Shows.{Shows, ShowsSome, FitsWorker, FitsCoord, FixesMask, IsStep}
 use Rattle.like_core.proofs.Slots.{choice-same, mask-below, mask_by-plain, mask_by-slots, mask_of_slots-same}
 use Rattle.like_core.proofs.views.Apart.{word_of-past}
+use Rattle.like_core.proofs.views.KeptOrder.{other_step_keeps_order, same_coord}
 use Rattle.like_core.proofs.views.KeptPlaces.{places_same}
 use Rattle.like_board.proofs.worker.Moves.{moment_of}
 use Rattle.like_board.proofs.worker.WorkerSteps.{running_is}
@@ -108,6 +109,9 @@ counts z words views place c page some_state at may =
             (λ _. refl) (λ _ _. refl) some_state.tallied;
         places = places_same z.counts views place (Coord c) (Coord d) at (λ _. refl) (λ _. refl)
             (λ _ _ has. has) some_state.places;
+        steps = some_state.steps;
+        order = other_step_keeps_order z s s views some_state.steps place (Coord c) (Coord d) at
+            (same_coord c d refl) (omega arith) (λ _. refl) some_state.order;
       },
     )
 
@@ -178,6 +182,9 @@ chooses z words views place c d changed word some_state at all_in joined rest la
           subst (λ (e : CoordSeatView). PlacesTile z.counts (set views place (Coord e))) (sym rest)
           (places_same z.counts views place (Coord c) (Coord (record c { published = d.published; slots = d.slots })) at
           (λ _. refl) (λ _. refl) (λ _ _ has. has) some_state.places);
+      steps = some_state.steps;
+      order = other_step_keeps_order z s s views some_state.steps place (Coord c) (Coord d) at
+          (same_coord c d (ap (λ (e : CoordSeatView). e.joined) rest)) (omega arith) (λ _. refl) some_state.order;
     }
 
 -- a mask is published on a board without slots

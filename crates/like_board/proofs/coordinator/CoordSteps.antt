@@ -28,6 +28,7 @@ use Rattle.like_core.specs.views.Shows.{Shows, ShowsSome, FitsWorker, FitsCoord,
 use Rattle.like_core.proofs.Updates.{update-same, update-other}
 use Rattle.like_core.proofs.core.Moved.{moved_in_phase, moves_by}
 use Rattle.like_core.proofs.word.Serving.{coord_sees, serves}
+use Rattle.like_core.proofs.views.KeptOrder.{other_step_keeps_order, same_coord}
 use Rattle.like_core.proofs.views.KeptPlaces.{places_same}
 use Rattle.like_board.specs.Plays.{Surveyed, coord_sight_at}
 use Rattle.like_board.proofs.worker.Moves.{moment_of, if_some}
@@ -117,6 +118,9 @@ surveys z words views place c some_state at =
             (λ _. refl) (λ _ _. refl) some_state.tallied;
         places = places_same z.counts views place (Coord c) (Coord d) at (λ _. refl) (λ _. refl)
             (λ _ _ has. has) some_state.places;
+        steps = some_state.steps;
+        order = other_step_keeps_order z s s views some_state.steps place (Coord c) (Coord d) at
+            (same_coord c d refl) (omega arith) (λ _. refl) some_state.order;
       },
     )
 
@@ -229,6 +233,9 @@ announces z words views place c some_state at may =
             (λ _. refl) (λ _ _. refl) some_state.tallied;
         places = places_same z.counts views place (Coord c) (Coord d) at (λ _. refl) (λ _. refl)
             (λ _ _ has. has) some_state.places;
+        steps = some_state.steps;
+        order = other_step_keeps_order z s t views some_state.steps place (Coord c) (Coord d) at
+            (same_coord c d refl) (omega arith) (λ _. refl) some_state.order;
       },
     )
 
@@ -412,5 +419,8 @@ releases z words views place c seen some_state at may seen_is =
             (λ _. refl) (λ _ _. refl) some_state.tallied;
         places = places_same z.counts views place (Coord c) (Coord d) at (λ _. refl) (λ _. refl)
             (λ _ _ has. has) some_state.places;
+        steps = some_state.steps;
+        order = other_step_keeps_order z s t views some_state.steps place (Coord c) (Coord d) at
+            (same_coord c d refl) (omega arith) (λ _. refl) some_state.order;
       },
     )

@@ -1,7 +1,7 @@
 -- An addition to a page's word is its events, and keeps what the board shows.
-use Rattle.std.proofs.Common.{◌≡◌, ◌≢◌, ℕ, ◌+◌, ◌*◌, ◌-◌, ◌%◌, ◌^◌, ◌<◌, ◌≤◌, ◌==◌, ◌&&◌, nat_lt, Bool, true, false, cond, inl, inr, List, ◌++◌, All, length, get_or, set, replicate, subst, ap, sym, ◌∙◌, refl, arith}
+use Rattle.std.proofs.Common.{◌≡◌, ◌≢◌, ℕ, ◌+◌, ◌*◌, ◌-◌, ◌%◌, ◌^◌, ◌<◌, ◌≤◌, ◌==◌, ◌&&◌, nat_lt, Bool, true, false, cond, inl, inr, List, ◌∷◌, ◌++◌, All, length, get_or, set, replicate, subst, ap, sym, ◌∙◌, refl, eq-eqb, arith}
 use Rattle.std.specs.List.{sum_by}
-use Rattle.std.proofs.lemmas.Bool.{cases_eq, cases_lt, lt-ltb}
+use Rattle.std.proofs.lemmas.Bool.{cases_eq, cases_lt, lt-ltb, ne_eqb}
 use Rattle.std.proofs.lemmas.List.{length-append, length-replicate}
 use Rattle.std.proofs.lemmas.List.Elements.{All-get_or}
 use mathlib.Core.Option.{some}
@@ -10,6 +10,8 @@ use Rattle.like_core.specs.declared.worker_state.WorkerState.TheVariants.{Runs}
 use Rattle.like_core.specs.declared.shown.Shown.TheVariants.{Old}
 use Rattle.like_core.specs.declared.limits.Limits.{Limits}
 use Rattle.like_core.specs.declared.opening.Opening.{Opening}
+use Rattle.like_core.specs.declared.page_step.PageCall.TheVariants.{Add}
+use Rattle.like_core.specs.declared.page_step.PageStep.{PageStep}
 use Rattle.like_core.specs.declared.view.PageCount.{PageCount}
 use Rattle.like_core.specs.declared.view.WorkerSeatView.{WorkerSeatView}
 use Rattle.like_core.specs.declared.view.View.{View}
@@ -23,20 +25,23 @@ use Rattle.like_core.specs.core.Moves.{Reached, makes}
 use Rattle.like_core.specs.WorkerState.{IsIn, phase_of}
 use Rattle.like_core.specs.Post.{PostView, MayAdd, slices}
 use Rattle.like_core.specs.Additions.{added_to, added_in}
+use Rattle.like_core.specs.PageSteps.{page_step}
 use Rattle.like_core.specs.views.Views.{added_view, post_of, likes_merged, adding}
 use Rattle.like_core.specs.views.Reads.{before_in, all_before, IsCounted, ReadsFit}
+use Rattle.like_core.specs.views.Order.{AppliesTo, IsOrder}
 use Rattle.like_core.specs.views.Tallies.{Tallied, paged, room}
 use Rattle.like_core.specs.views.Layout.{word_of}
-use Rattle.like_core.specs.views.Shows.{Shows, ShowsSome, FitsWorker, FitsCoord, IsSteps}
+use Rattle.like_core.specs.views.Shows.{Shows, ShowsSome, FitsWorker, FitsCoord, IsPageStep}
 use Rattle.like_core.proofs.Updates.{update-same, update-other, update_cases}
 use Rattle.like_core.proofs.core.Moved.{moved_in_phase, moves_by, moves_by_all}
 use Rattle.like_core.proofs.core.Labels.{label, labelled-append, labels_else, labels_here, added_in-push, added_before-push, added_to-push, added_in_else, added_to_here, added_to_else}
 use Rattle.like_core.proofs.core.Adding.{Adding, with_applied, adds_either}
+use Rattle.like_core.proofs.views.KeptOrder.{addition_keeps_order}
 use Rattle.like_core.proofs.views.KeptPlaces.{addition_keeps_places}
 use Rattle.like_core.proofs.views.KeptReads.{addition_before, counted_on, addition_keeps_reads}
 use Rattle.like_core.proofs.views.Posts.{added_to-le}
 use Rattle.like_core.proofs.views.ViewLists.{sum_part, sum_set, sum_swap}
-use Rattle.like_board.proofs.worker.Moves.{moment_of}
+use Rattle.like_board.proofs.worker.Moves.{moment_of, one_seat}
 use Rattle.like_board.proofs.worker.WorkerSteps.{running_is}
 use Rattle.like_board.proofs.worker.Pages.{KeepsOthers, slices_are, page_steps}
 
@@ -100,6 +105,23 @@ applied_else : (s : CoreState) (i page n q : ℕ) → q ≢ page → length (app
 applied_else s i page n q other =
     ap (λ (ls : List Label). length ls)
     (update-other s.applied page (s.applied page ++ replicate n (label i s.phase)) q other)
+
+-- so the likes are applied to the page
+applies_to : (s : CoreState) (i page n : ℕ) (rest : ℕ → List ℕ)
+    → AppliesTo page n s (with_applied s rest page (replicate n (label i s.phase)))
+applies_to s i page n rest = record {
+  phase = refl;
+  likes = λ other. elim (cases_eq page other) [
+    | inl here ↦
+        let long = applied_here s i page n in
+        subst (λ q. length (applied_by s i page n q) ≡ length (s.applied q) + cond (page == q) n 0) here
+        (long ∙ ap (λ (b : Bool). length (s.applied page) + cond b n 0) (sym (eq-eqb page page refl)))
+    | inr apart ↦
+        let same = applied_else s i page n other (λ is. apart (sym is)) in
+        let none = ap (λ (b : Bool). cond {A = ℕ} b n 0) (ne_eqb page other apart) in
+        omega arith
+  ];
+}
 
 -- what the views have added and may still add, after an addition
 tallied_added : (l : Limits) (s : CoreState) (views : List View) (place : ℕ) (v : WorkerSeatView) (page count n : ℕ)
@@ -210,7 +232,8 @@ pub adds : (z : Opening) (words : List ℕ) (views : List View) (place : ℕ) (v
     → ShowsSome z words views
     → get_elem? views place ≡ some (Worker v)
     → MayAdd (post_of v) page n
-    → IsSteps z (likes_merged v page n) (makes (adding v page)) (Old (get_or words (word_of page) 0)) (Worker v)
+    → IsPageStep z (likes_merged v page n) (makes (adding v page)) (Old (get_or words (word_of page) 0))
+    (page_step v.worker (phase_of v.state) page (get_or words (word_of page) 0) (Add n)) (Worker v)
     (Worker (added_view v page (get_or words (word_of page) 0) n))
     × ShowsSome z (set words (word_of page) ((get_or words (word_of page) 0 + n) % 2 ^ 64))
     (set views place (Worker (added_view v page (get_or words (word_of page) 0) n)))
@@ -276,21 +299,32 @@ adds z words views place v page n some_state at may =
     moves_by z (after_all z s (likes_merged v page n)) (adding v page)
     (moves_by_all z s (likes_merged v page n) some_state.reachable a.before)
     a.permits
+    in
+    let some_are : 1 ≤ n = some_likes (post_of v) page n may in
+    let step : PageStep = page_step v.worker (phase_of v.state) page count (Add n) in
+    let order : IsOrder z t (set views place (Worker w)) (step ∷ some_state.steps) =
+    addition_keeps_order z s t views some_state.steps place v page count n
+    (record { mine = at; once = one_seat z s words views place v sh at; present = present; finds = found }) some_are
+    (applies_to s i page n a.rest) some_state.order
     in (
       record {
-        moment = moment_of z words views some_state;
-        place = place;
-        mine = at;
-        happen = record {
-          before = a.before;
-          permits = a.permits;
-          tells = subst (λ (k : ℕ). IsShown (numbers z (after_all z s (likes_merged v page n))) (adding v page) (Old k))
-              (sym found) a.tells;
+        is_step = record {
+          moment = moment_of z words views some_state;
+          place = place;
+          mine = at;
+          happen = record {
+            before = a.before;
+            permits = a.permits;
+            tells = subst (λ (k : ℕ). IsShown (numbers z (after_all z s (likes_merged v page n))) (adding v page)
+                (Old k)) (sym found) a.tells;
+          };
+          changed = word_of page;
+          word = word;
+          shows_after = subst (λ (u : CoreState). Shows z u (set words (word_of page) word)
+              (set views place (Worker w))) {x = t} {y = last} (sym {a = last} {b = t} a.leads) shows;
         };
-        changed = word_of page;
-        word = word;
-        shows_after = subst (λ (u : CoreState). Shows z u (set words (word_of page) word) (set views place (Worker w)))
-            {x = t} {y = last} (sym {a = last} {b = t} a.leads) shows;
+        last = subst (λ (u : CoreState). IsOrder z u (set views place (Worker w)) (step ∷ some_state.steps)) {x = t}
+            {y = last} (sym {a = last} {b = t} a.leads) order;
       },
       record {
         state = t;
@@ -298,7 +332,9 @@ adds z words views place v page n some_state at may =
         shows = shows;
         tallied = tallied_added z.limits s views place v page count n a.rest at present few some_state.tallied;
         places = addition_keeps_places z.counts views place v page count n at (omega arith)
-            (some_likes (post_of v) page n may) some_state.places;
+            some_are some_state.places;
+        steps = step ∷ some_state.steps;
+        order = order;
       },
       omega arith,
     )

@@ -1,8 +1,9 @@
 -- A step of one worker keeps what the board shows.
 use Rattle.std.proofs.Common.{◌≡◌, ◌≢◌, ℕ, ◌+◌, ◌<◌, ◌≤◌, ◌==◌, nat_lt, Bool, true, false, cond, inl, inr, List, [], All, length, take, get_or, set, Option, Some, None, IfSome, subst, ap, sym, ◌∙◌, refl, eq-eqb, arith}
+use Rattle.std.specs.List.{sum_by}
 use Rattle.std.proofs.Math.ListN.{length-set}
 use Rattle.std.proofs.lemmas.List.{get_or-set_same, get_or-set_other}
-use Rattle.std.proofs.lemmas.Bool.{cases_eq, cases_lt, le-ltb, cond-true, cond-false}
+use Rattle.std.proofs.lemmas.Bool.{cases_eq, cases_lt, le-ltb, lt-ltb, cond-true, cond-false}
 use mathlib.Core.Option.{some, some-injective}
 use lib.ListN.{get_elem?}
 use Rattle.atomic_table.proofs.Lists.{at_set, set_else, set_here}
@@ -32,7 +33,7 @@ use Rattle.like_core.proofs.core.Staying.{moved_same}
 use Rattle.like_core.proofs.views.KeptReads.{reads_same, counted_same}
 use Rattle.like_core.proofs.views.Apart.{word_of-past}
 use Rattle.like_core.proofs.views.Chosen.{KeepsChoice, mask_in-kept, chosen-kept}
-use Rattle.like_core.proofs.views.ViewLists.{within, sum_part, sum_two, sum_set}
+use Rattle.like_core.proofs.views.ViewLists.{joined_other, within, sum_part, sum_two, sum_set, worker_other}
 
 -- a word that is no slot's and not the mask's leaves the choice
 pub keeps_elsewhere : (words : List ℕ) (place word : ℕ)
@@ -54,6 +55,8 @@ moment_of z words views some_state = record {
   shows = some_state.shows;
   tallied = some_state.tallied;
   places = some_state.places;
+  steps = some_state.steps;
+  order = some_state.order;
 }
 
 -- after a step of a seat at its place, its new view is known
@@ -87,17 +90,6 @@ fits_worker_moved z s i state v other f = record {
   masks = f.masks;
   slots = f.slots;
 }
-
--- a worker of which no seat was given back is none of those whose seats were
-pub joined_other : (c : CoordSeatView) (i place : ℕ) (v : WorkerSeatView)
-    → seats_of i (Coord c) ≡ 0
-    → get_elem? c.joined place ≡ some v
-    → v.worker ≢ i
-joined_other c i place v none at =
-    λ same.
-    let part = sum_part (λ (w : WorkerSeatView). cond (w.worker == i) 1 0) c.joined place v at in
-    let one : cond {A = ℕ} (v.worker == i) 1 0 ≡ 1 = cond-true (v.worker == i) 1 0 (eq-eqb v.worker i same) in
-    absurd (omega arith)
 
 -- the coordinator's view keeps fitting while a worker moves
 fits_coord_moved : (z : Opening) (s : CoreState) (c : CoordSeatView) (i : ℕ) (state : WorkerState)
@@ -159,13 +151,6 @@ fits_coord_moved z s c i state there has_seat none stays gone f =
       };
     }
 
--- a view that is no seat of a worker's is of another
-pub worker_other : (i : ℕ) (v : WorkerSeatView) → seats_of i (Worker v) ≡ 0 → v.worker ≢ i
-worker_other i v none =
-    λ same.
-    let one : seats_of i (Worker v) ≡ 1 = cond-true (v.worker == i) 1 0 (eq-eqb v.worker i same) in
-    absurd (omega arith)
-
 -- another seat's view keeps fitting while a worker moves
 fits_other : (z : Opening) (s : CoreState) (i : ℕ) (state : WorkerState)
     → i < z.workers
@@ -206,6 +191,16 @@ has_seat z s words views place v sh at =
           absurd (omega arith)
     ]
 
+-- and has no other
+pub one_seat : (z : Opening) (s : CoreState) (words : List ℕ) (views : List View) (place : ℕ) (v : WorkerSeatView)
+    → (sh : Shows z s words views)
+    → get_elem? views place ≡ some (Worker v)
+    → sum_by (seats_of v.worker) views ≡ 1
+one_seat z s words views place v sh at =
+    let seated = has_seat z s words views place v sh at in
+    sh.seats.once v.worker
+    ∙ counts_one (nat_lt v.worker sh.coord.made) (lt-ltb v.worker sh.coord.made seated)
+
 -- no more than one seat has a worker's number
 pub once_at_most : (b : Bool) → cond b 1 0 ≤ 1
 once_at_most true = omega arith
@@ -222,6 +217,15 @@ same_coord z s words views place c sh at =
     let same : some (Coord sh.coord) ≡ some (Coord c) = sym sh.seats.first ∙ here in
     let inner : Coord sh.coord ≡ Coord c = some-injective (Coord sh.coord) (Coord c) same in
     (zeroth, cc)
+
+-- the worker whose seat is made next has none
+pub no_seat : (z : Opening) (s : CoreState) (words : List ℕ) (views : List View) (place : ℕ) (c : CoordSeatView)
+    → (sh : Shows z s words views)
+    → get_elem? views place ≡ some (Coord c)
+    → sum_by (seats_of c.made) views ≡ 0
+no_seat z s words views place c sh at =
+    let made = ap (λ (d : CoordSeatView). d.made) (same_coord z s words views place c sh at).1 in
+    sh.seats.once c.made ∙ counts_none (nat_lt c.made sh.coord.made) (le-ltb c.made sh.coord.made (omega arith))
 
 -- equal views are views of one worker
 pub worker-injective : (v w : WorkerSeatView) → Worker v ≡ Worker w → v ≡ w

@@ -23,7 +23,8 @@ use Rattle.like_core.specs.views.Layout.{word_of}
 use Rattle.like_core.specs.views.Shows.{Shows, Fits, FitsWorker}
 use Rattle.like_core.proofs.PhaseMasks.{split-known}
 use Rattle.like_core.proofs.views.Apart.{word_of-past, word_of-order, word_of-injective}
-use Rattle.like_board.proofs.worker.Moves.{if_some, keeps_elsewhere, joined_other, worker_other, worker_steps}
+use Rattle.like_core.proofs.views.ViewLists.{joined_other, worker_other}
+use Rattle.like_board.proofs.worker.Moves.{if_some, keeps_elsewhere, worker_steps}
 
 -- what the post knows of slices is what is split in the state
 pub slices_are : (z : Opening) (s : CoreState) (v : WorkerSeatView) (page : ℕ)

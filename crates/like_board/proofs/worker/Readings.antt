@@ -11,6 +11,8 @@ use Rattle.like_core.specs.declared.event.Event.TheVariants.{Read, Hot}
 use Rattle.like_core.specs.declared.shown.Shown.TheVariants.{Count, Hot as HotShown}
 use Rattle.like_core.specs.declared.opening.Opening.{Opening}
 use Rattle.like_core.specs.declared.view.PhaseMask.{PhaseMask}
+use Rattle.like_core.specs.declared.page_step.PageCall.{PageCall}
+use Rattle.like_core.specs.declared.page_step.PageCall.TheVariants.{Read as ReadCall, Glance as GlanceCall}
 use Rattle.like_core.specs.declared.page_step.PageStep.{PageStep}
 use Rattle.like_core.specs.declared.view.PageRead.{PageRead}
 use Rattle.like_core.specs.declared.view.WorkerSeatView.{WorkerSeatView}
@@ -26,19 +28,22 @@ use Rattle.like_core.specs.Post.{MayRead, MayGlance, KnowsSlices, slices}
 use Rattle.like_core.specs.OpeningLimits.{has_slots}
 use Rattle.like_core.specs.Slots.{IsChoice}
 use Rattle.like_core.specs.Additions.{added_before, added_to}
+use Rattle.like_core.specs.PageSteps.{page_step}
 use Rattle.like_core.specs.views.Views.{read_view, glanced_view, masked_view, slotted_view, slots_read, MayReadSlot, post_of}
 use Rattle.like_core.specs.views.Reads.{all_before, HaveBetween, ReadsFit}
 use Rattle.like_core.specs.views.Places.{count_after, PlacesTile}
+use Rattle.like_core.specs.views.Order.{ComesNext, IsOrder}
 use Rattle.like_core.specs.views.Tallies.{paged}
 use Rattle.like_core.specs.views.Layout.{mask_place, slot_in, slot_place, word_of}
-use Rattle.like_core.specs.views.Shows.{Shows, ShowsSome, FitsWorker, IsMove, IsStep, mask_in}
+use Rattle.like_core.specs.views.Shows.{Shows, ShowsSome, FitsWorker, IsPageStep, IsStep, mask_in}
 use Rattle.like_core.proofs.core.Moved.{moved_in_phase}
 use Rattle.like_core.proofs.Slots.{choice-same, mask_by-plain, mask_by-slots, mask_of_slots-same}
+use Rattle.like_core.proofs.views.KeptOrder.{glance_keeps_order, other_step_keeps_order, read_keeps_order, same_worker}
 use Rattle.like_core.proofs.views.KeptPlaces.{read_keeps_places, glance_keeps_places, places_same}
 use Rattle.like_core.proofs.views.KeptReads.{read_keeps_reads, glance_keeps_reads, reads_same, counted_same}
 use Rattle.like_core.proofs.views.ViewLists.{sum_part}
 use Rattle.like_board.proofs.worker.Additions.{count_low}
-use Rattle.like_board.proofs.worker.Moves.{moment_of, worker_steps}
+use Rattle.like_board.proofs.worker.Moves.{moment_of, one_seat, worker_steps}
 use Rattle.like_board.proofs.worker.WorkerSteps.{running_is}
 use Rattle.like_board.proofs.worker.Pages.{slices_are, page_steps}
 use Rattle.like_board.proofs.Tallying.{tallied_on}
@@ -51,11 +56,12 @@ taken_before : (front whole : List ℕ) (n : ℕ)
 taken_before front whole n within same =
     ap (take n) same ∙ take-take n (length front) whole within
 
--- a step of a worker that finds a page's count, after which its view is w, is the move and keeps what is shown; and
--- the count has the worker's own additions and is below the bound of all counts
-abbrev pub IsRead : Opening → List ℕ → List View → ℕ → WorkerSeatView → ℕ → Move → WorkerSeatView → Type 0
-IsRead z words views place v page move w =
-    IsMove z move (Count (get_or words (word_of page) 0)) (Worker v) (Worker w)
+-- a step of a worker that finds a page's count, after which its view is w, is the move, comes last in the order and
+-- keeps what is shown; and the count has the worker's own additions and is below the bound of all counts
+abbrev pub IsRead : Opening → List ℕ → List View → ℕ → WorkerSeatView → ℕ → Move → PageCall → WorkerSeatView → Type 0
+IsRead z words views place v page move call w =
+    IsPageStep z [] move (Count (get_or words (word_of page) 0))
+    (page_step v.worker (phase_of v.state) page (get_or words (word_of page) 0) call) (Worker v) (Worker w)
     × ShowsSome z (set words (word_of page) (get_or words (word_of page) 0)) (set views place (Worker w))
     × (added_to page v.additions ≤ get_or words (word_of page) 0)
     × (get_or words (word_of page) 0 < total_bound)
@@ -63,7 +69,7 @@ IsRead z words views place v page move w =
 -- a read or a glance, after which the view has these reads, glances and steps, is the move, if that changes nothing, shows
 -- the count and is permitted, and if the reads and glances stay between what was added and in their places
 reads_word : (z : Opening) (words : List ℕ) (views : List View) (place : ℕ) (v : WorkerSeatView) (page : ℕ)
-    (move : Move) (rs gs : List PageRead) (ds : List PageStep)
+    (move : Move) (call : PageCall) (rs gs : List PageRead) (ds : List PageStep)
     → (some_state : ShowsSome z words views)
     → get_elem? views place ≡ some (Worker v)
     → IsRunning v.state
@@ -80,9 +86,13 @@ reads_word : (z : Opening) (words : List ℕ) (views : List View) (place : ℕ) 
     → ReadsFit z.counts (phase_of v.state) (set views place (Worker (record v { reads = rs; glances = gs; did = ds }))))
     → (get_or words (word_of page) 0 ≡ count_after z.counts views page → PlacesTile z.counts views
     → PlacesTile z.counts (set views place (Worker (record v { reads = rs; glances = gs; did = ds }))))
-    → IsRead z words views place v page move (record v { reads = rs; glances = gs; did = ds })
-reads_word z words views place v page move rs gs ds some_state at running may_there knows stays shown permitted keep_reads
-    keep_places =
+    → ((steps : List PageStep) → ComesNext z some_state.state views place v page (get_or words (word_of page) 0)
+    → IsOrder z some_state.state views steps
+    → IsOrder z some_state.state (set views place (Worker (record v { reads = rs; glances = gs; did = ds })))
+    (page_step v.worker (phase_of v.state) page (get_or words (word_of page) 0) call ∷ steps))
+    → IsRead z words views place v page move call (record v { reads = rs; glances = gs; did = ds })
+reads_word z words views place v page move call rs gs ds some_state at running may_there knows stays shown permitted
+    keep_reads keep_places keep_order =
     let s = some_state.state in
     let sh = some_state.shows in
     let i = v.worker in
@@ -129,20 +139,30 @@ reads_word z words views place v page move rs gs ds some_state at running may_th
     fits
     (subst (λ (now : ℕ). Q now (set views place (Worker w))) present kept)
     (counted_same z.counts views place (Worker v) (Worker w) sh.coord.counted at (λ k p. refl) sh.reads.coordinator)
+    in
+    let step : PageStep = page_step v.worker (phase_of v.state) page count call in
+    let order : IsOrder z s (set views place (Worker w)) (step ∷ some_state.steps) =
+    keep_order some_state.steps
+    (record { mine = at; once = one_seat z s words views place v sh at; present = present; finds = found })
+    some_state.order
     in (
       record {
-        moment = moment_of z words views some_state;
-        place = place;
-        mine = at;
-        happen = record {
-          before = tt;
-          permits = permitted (here ∙ ap Runs now) old.there on same;
-          tells = subst (λ (n : ℕ). IsShownBy z s move (Count n)) (sym found) shown;
+        is_step = record {
+          moment = moment_of z words views some_state;
+          place = place;
+          mine = at;
+          happen = record {
+            before = tt;
+            permits = permitted (here ∙ ap Runs now) old.there on same;
+            tells = subst (λ (n : ℕ). IsShownBy z s move (Count n)) (sym found) shown;
+          };
+          changed = word_of page;
+          word = count;
+          shows_after = subst (λ (t : CoreState). Shows z t (set words (word_of page) count)
+              (set views place (Worker w))) (sym stays) shows;
         };
-        changed = word_of page;
-        word = count;
-        shows_after = subst (λ (t : CoreState). Shows z t (set words (word_of page) count) (set views place (Worker w)))
-            (sym stays) shows;
+        last = subst (λ (t : CoreState). IsOrder z t (set views place (Worker w)) (step ∷ some_state.steps)) (sym stays)
+            order;
       },
       record {
         state = s;
@@ -151,6 +171,8 @@ reads_word z words views place v page move rs gs ds some_state at running may_th
         tallied = tallied_on z.limits s s views place (Worker v) (Worker w) (omega arith) (λ _. refl) at
             (λ _. refl) (λ _. refl) (λ _ _. refl) some_state.tallied;
         places = keep_places (omega arith) some_state.places;
+        steps = step ∷ some_state.steps;
+        order = order;
       },
       omega arith,
       omega (
@@ -167,32 +189,36 @@ pub reads : (z : Opening) (words : List ℕ) (views : List View) (place : ℕ) (
     → MayRead (post_of v) page
     → ShowsSome z words views
     → get_elem? views place ≡ some (Worker v)
-    → IsRead z words views place v page (makes (Read v.worker page)) (read_view v page (get_or words (word_of page) 0))
+    → IsRead z words views place v page (makes (Read v.worker page)) ReadCall
+    (read_view v page (get_or words (word_of page) 0))
 reads z words views place v page may some_state at =
     let count : ℕ = get_or words (word_of page) 0 in
     let w : WorkerSeatView = read_view v page count in
     reads_word z words views place v page
-    (makes (Read v.worker page)) w.reads v.glances w.did some_state at may.runs may.there may.known refl refl
+    (makes (Read v.worker page)) ReadCall w.reads v.glances w.did some_state at may.runs may.there may.known refl refl
     (λ runs there on
     same. record { there = (there, on); suits = (runs, same ∙ may.plain); leaves_last = tt; room = tt })
     (λ is. read_keeps_reads z.counts views place v page count at is)
     (λ is. read_keeps_places z.counts views place v page count at is)
+    (λ steps. read_keeps_order z some_state.state views steps place v page count)
 
 -- a glance is the move
 pub glances : (z : Opening) (words : List ℕ) (views : List View) (place : ℕ) (v : WorkerSeatView) (page : ℕ)
     → MayGlance (post_of v) page
     → ShowsSome z words views
     → get_elem? views place ≡ some (Worker v)
-    → IsRead z words views place v page (glances_at v.worker page) (glanced_view v page (get_or words (word_of page) 0))
+    → IsRead z words views place v page (glances_at v.worker page) GlanceCall
+    (glanced_view v page (get_or words (word_of page) 0))
 glances z words views place v page may some_state at =
     let count : ℕ = get_or words (word_of page) 0 in
     let w : WorkerSeatView = glanced_view v page count in
     reads_word z words views place v page
-    (glances_at v.worker page) v.reads w.glances w.did some_state at may.runs may.there may.known refl refl
+    (glances_at v.worker page) GlanceCall v.reads w.glances w.did some_state at may.runs may.there may.known refl refl
     (λ runs there on
     same. record { there = there; known = on; runs = runs; sliced = same ∙ may.sliced })
     (λ is. glance_keeps_reads z.counts views place v page count at is)
     (λ is. glance_keeps_places z.counts views place v page count at is)
+    (λ steps. glance_keeps_order z some_state.state views steps place v page count)
 
 -- a read of a word after which the view w has the additions and reads that it had keeps what the board shows
 word_reads : (z : Opening) (words : List ℕ) (views : List View) (place : ℕ) (v w : WorkerSeatView) (word : ℕ)
@@ -244,6 +270,9 @@ word_read z words views place v masks slots word some_state at shows =
           (λ _. refl) (λ _. refl) (λ _ _. refl) some_state.tallied;
       places = places_same z.counts views place (Worker v) (Worker w) at (λ _. refl) (λ _. refl)
           (λ _ _ has. has) some_state.places;
+      steps = some_state.steps;
+      order = other_step_keeps_order z s s views some_state.steps place (Worker v) (Worker w) at
+          (same_worker v w refl refl refl) (omega arith) (λ _. refl) some_state.order;
     }
 
 -- a read of the mask word that tells the phase's mask is the event

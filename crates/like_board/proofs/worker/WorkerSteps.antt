@@ -28,6 +28,7 @@ use Rattle.like_core.proofs.Updates.{update-same}
 use Rattle.like_core.proofs.core.Moved.{moved_in_phase, moves_back, moves_by}
 use Rattle.like_core.proofs.core.Staying.{looked_in}
 use Rattle.like_core.proofs.word.Serving.{even_runs, serves, worker_sees}
+use Rattle.like_core.proofs.views.KeptOrder.{other_step_keeps_order, same_worker}
 use Rattle.like_core.proofs.views.KeptPlaces.{places_same}
 use Rattle.like_board.specs.Plays.{Looked, phase_at, sight_at}
 use Rattle.like_board.proofs.worker.Moves.{moment_of, worker_moves}
@@ -187,6 +188,9 @@ looks z words views place v some_state at there =
             (λ _. refl) (λ _. refl) (λ _ _. refl) some_state.tallied;
         places = places_same z.counts views place (Worker v) (Worker w) at (λ _. refl) (λ _. refl)
             (λ _ _ has. has) some_state.places;
+        steps = some_state.steps;
+        order = other_step_keeps_order z s t views some_state.steps place (Worker v) (Worker w) at
+            (same_worker v w refl refl refl) (omega arith) (λ _. refl) some_state.order;
       },
     )
 
@@ -279,6 +283,10 @@ acknowledges z words views place v some_state at joined saw =
             (omega arith) (λ _. refl) at (λ _. refl) (λ _. refl) (λ _ _. refl) some_state.tallied;
         places = places_same z.counts views place (Worker v) (Worker (answered_view v)) at (λ _. refl) (λ _. refl)
             (λ _ _ has. has) some_state.places;
+        steps = some_state.steps;
+        order = other_step_keeps_order z s (moved s v.worker (Answered s.phase)) views some_state.steps place
+            (Worker v) (Worker (answered_view v)) at
+            (same_worker v (answered_view v) refl refl refl) (omega arith) (λ _. refl) some_state.order;
       },
     )
 
@@ -333,6 +341,10 @@ reports z words views place v some_state at split saw =
             (omega arith) (λ _. refl) at (λ _. refl) (λ _. refl) (λ _ _. refl) some_state.tallied;
         places = places_same z.counts views place (Worker v) (Worker (answered_view v)) at (λ _. refl) (λ _. refl)
             (λ _ _ has. has) some_state.places;
+        steps = some_state.steps;
+        order = other_step_keeps_order z s (moved s v.worker (Answered s.phase)) views some_state.steps place
+            (Worker v) (Worker (answered_view v)) at
+            (same_worker v (answered_view v) refl refl refl) (omega arith) (λ _. refl) some_state.order;
       },
     )
 
@@ -400,6 +412,10 @@ retires z words views place v some_state at joined =
             (λ _. refl) (λ _ _. refl) some_state.tallied;
         places = places_same z.counts views place (Worker v) (Worker (retired_view v)) at (λ _. refl) (λ _. refl)
             (λ _ _ has. has) some_state.places;
+        steps = some_state.steps;
+        order = other_step_keeps_order z s (moved s i Gone) views some_state.steps place (Worker v)
+            (Worker (retired_view v)) at
+            (same_worker v (retired_view v) refl refl refl) (omega arith) (λ _. refl) some_state.order;
       },
     )
 
@@ -482,5 +498,8 @@ returns z words views place v new some_state at gone lets even new_is =
             (λ _. refl) (λ _. refl) (λ _ _. refl) some_state.tallied;
         places = places_same z.counts views place (Worker v) (Worker w) at (λ _. refl) (λ _. refl)
             (λ _ _ has. has) some_state.places;
+        steps = some_state.steps;
+        order = other_step_keeps_order z s t views some_state.steps place (Worker v) (Worker w) at
+            (same_worker v w refl refl refl) (omega arith) (λ _. refl) some_state.order;
       };
     }

@@ -1,6 +1,7 @@
 -- The views of all seats as a list: one view changes, and how many seats a worker has stays.
-use Rattle.std.proofs.Common.{◌≡◌, ◌≢◌, ℕ, zero, suc, ◌+◌, ◌<◌, ◌≤◌, ◌⊎◌, inl, inr, List, [], ◌∷◌, length, set, ap, sym, refl, arith}
+use Rattle.std.proofs.Common.{◌≡◌, ◌≢◌, ℕ, zero, suc, ◌+◌, ◌<◌, ◌≤◌, ◌==◌, ◌⊎◌, inl, inr, cond, List, [], ◌∷◌, length, set, ap, sym, refl, eq-eqb, arith}
 use Rattle.std.specs.List.{sum_by}
+use Rattle.std.proofs.lemmas.Bool.{cond-true}
 use Rattle.std.proofs.lemmas.List.Sums.{sum_by-cons}
 use mathlib.Core.Option.{some, some-injective, some-ne-none}
 use lib.ListN.{get_elem?}
@@ -8,7 +9,7 @@ use Rattle.like_core.specs.declared.view.WorkerSeatView.{WorkerSeatView}
 use Rattle.like_core.specs.declared.view.CoordSeatView.{CoordSeatView}
 use Rattle.like_core.specs.declared.view.View.{View}
 use Rattle.like_core.specs.declared.view.View.TheVariants.{Coord, Worker, Spent}
-use Rattle.like_core.specs.views.Views.{gathered_coord}
+use Rattle.like_core.specs.views.Views.{gathered_coord, seats_of}
 
 module _ {A : Type 0} where
   -- what stands in a list stands within it
@@ -137,3 +138,21 @@ sum_gathered f views place other c v at mine spent more =
     let first = sum_swap f views place (Coord c) (Coord (gathered_coord c v)) at in
     let second = sum_swap f (set views place (Coord (gathered_coord c v))) other (Worker v) Spent mine in
     omega arith
+
+-- a worker of which no seat was given back is none of those whose seats were
+pub joined_other : (c : CoordSeatView) (i place : ℕ) (v : WorkerSeatView)
+    → seats_of i (Coord c) ≡ 0
+    → get_elem? c.joined place ≡ some v
+    → v.worker ≢ i
+joined_other c i place v none at =
+    λ same.
+    let part = sum_part (λ (w : WorkerSeatView). cond (w.worker == i) 1 0) c.joined place v at in
+    let one : cond {A = ℕ} (v.worker == i) 1 0 ≡ 1 = cond-true (v.worker == i) 1 0 (eq-eqb v.worker i same) in
+    absurd (omega arith)
+
+-- a view that is no seat of a worker's is of another
+pub worker_other : (i : ℕ) (v : WorkerSeatView) → seats_of i (Worker v) ≡ 0 → v.worker ≢ i
+worker_other i v none =
+    λ same.
+    let one : seats_of i (Worker v) ≡ 1 = cond-true (v.worker == i) 1 0 (eq-eqb v.worker i same) in
+    absurd (omega arith)

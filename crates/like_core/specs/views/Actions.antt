@@ -1,16 +1,18 @@
 -- What each call at a board does: it takes a seat's view to the next, and is one move, or some likes and their merge.
-use Rattle.std.specs.Prelude.{ℕ}
+use Rattle.std.specs.Prelude.{ℕ, []}
 use Rattle.like_core.specs.declared.sight.Sight.{Sight}
 use Rattle.like_core.specs.declared.sight.CoordSight.{CoordSight}
+use Rattle.like_core.specs.declared.page_step.PageCall.TheVariants.{Add, Read as ReadCall, Glance as GlanceCall}
 use Rattle.like_core.specs.declared.event.Event.TheVariants.{Look, Acknowledge, Report, Retire, Read, Hot, CoordLook, CoordRead, Announce, Release}
 use Rattle.like_core.specs.declared.shown.Shown.TheVariants.{Seen, Done, Old, Count, Hot as HotShown, Coord as CoordShown}
 use Rattle.like_core.specs.declared.view.WorkerSeatView.{WorkerSeatView}
 use Rattle.like_core.specs.declared.view.CoordSeatView.{CoordSeatView}
 use Rattle.like_core.specs.declared.view.View.TheVariants.{Coord, Worker}
 use Rattle.like_core.specs.core.Moves.{comes_back, glances, makes}
+use Rattle.like_core.specs.PageSteps.{page_step}
 use Rattle.like_core.specs.WorkerState.{phase_of, running_sight}
 use Rattle.like_core.specs.views.Views.{likes_merged, adding, mask_released}
-use Rattle.like_core.specs.views.Shows.{IsMove, IsStep, IsSteps}
+use Rattle.like_core.specs.views.Shows.{IsMove, IsPageStep, IsStep}
 
 -- the worker looks at the phase word, and sees this
 abbrev pub Looks : WorkerSeatView → Sight → WorkerSeatView → Type 0
@@ -34,18 +36,23 @@ ComesBack v w =
     IsMove v.opening (comes_back v.worker) (Seen (running_sight (phase_of w.state)))
     (Worker v) (Worker w)
 
--- the worker adds n to a page's count, which was this before
+-- the worker adds n to a page's count, which was this before. Like a read and a glance, that comes last in the order
 abbrev pub Adds : WorkerSeatView → ℕ → ℕ → ℕ → WorkerSeatView → Type 0
 Adds v page n count w =
-    IsSteps v.opening (likes_merged v page n) (makes (adding v page)) (Old count) (Worker v) (Worker w)
+    IsPageStep v.opening (likes_merged v page n) (makes (adding v page)) (Old count)
+    (page_step v.worker (phase_of v.state) page count (Add n)) (Worker v) (Worker w)
 
 -- the worker reads a page's count, which is this
 abbrev pub Reads : WorkerSeatView → ℕ → ℕ → WorkerSeatView → Type 0
-Reads v page count w = IsStep v.opening (Read v.worker page) (Count count) (Worker v) (Worker w)
+Reads v page count w =
+    IsPageStep v.opening [] (makes (Read v.worker page)) (Count count)
+    (page_step v.worker (phase_of v.state) page count ReadCall) (Worker v) (Worker w)
 
 -- the worker glances at the count of a page that is sliced, which is this
 abbrev pub Glances : WorkerSeatView → ℕ → ℕ → WorkerSeatView → Type 0
-Glances v page count w = IsMove v.opening (glances v.worker page) (Count count) (Worker v) (Worker w)
+Glances v page count w =
+    IsPageStep v.opening [] (glances v.worker page) (Count count)
+    (page_step v.worker (phase_of v.state) page count GlanceCall) (Worker v) (Worker w)
 
 -- the worker reads the mask of its phase's hot pages, which is this
 abbrev pub ReadsMask : WorkerSeatView → ℕ → WorkerSeatView → Type 0

@@ -1,4 +1,4 @@
-use Rattle.std.specs.Prelude.{◌≡◌, ◌⊎◌, ℕ, Bool, false, ◌+◌, ◌^◌, ◌<◌, ◌≤◌, All, nat_lt, true, if◌then◌else◌, List, [], length, take, slice_index, slice_set, IfSome, IsSome}
+use Rattle.std.specs.Prelude.{◌≡◌, ◌⊎◌, ℕ, Bool, false, ◌+◌, ◌^◌, ◌<◌, ◌≤◌, All, nat_lt, true, if◌then◌else◌, List, [], ◌∷◌, length, take, slice_index, slice_set, IfSome, IsSome}
 use Rattle.std.specs.List.{sum_by}
 use mathlib.Core.Option.{some}
 use lib.ListN.{get_elem?}
@@ -6,6 +6,7 @@ use Rattle.like_core.specs.declared.worker_state.WorkerState.TheVariants.{Runs}
 use Rattle.like_core.specs.declared.event.Event.{Event}
 use Rattle.like_core.specs.declared.shown.Shown.{Shown}
 use Rattle.like_core.specs.declared.opening.Opening.{Opening}
+use Rattle.like_core.specs.declared.page_step.PageStep.{PageStep}
 use Rattle.like_core.specs.declared.view.WorkerSeatView.{WorkerSeatView}
 use Rattle.like_core.specs.declared.view.CoordSeatView.{CoordSeatView}
 use Rattle.like_core.specs.declared.view.View.{View}
@@ -27,6 +28,7 @@ use Rattle.like_core.specs.views.Views.{seats_of}
 use Rattle.like_core.specs.views.Reads.{all_before, IsCounted, ReadsFit}
 use Rattle.like_core.specs.views.Tallies.{Tallied}
 use Rattle.like_core.specs.views.Places.{PlacesTile, count_after}
+use Rattle.like_core.specs.views.Order.{IsOrder}
 use Rattle.like_core.specs.views.Layout.{phase_place, mask_place, slot_in, word_of}
 
 -- an opening that a board may have
@@ -180,9 +182,13 @@ pub record ShowsSome (z : Opening) (words : List ℕ) (views : List View) : Type
   pub tallied : Tallied z.limits state views
   -- the stretches of the views' additions tile each page's counts
   pub places : PlacesTile z.counts views
+  -- all that the views did at pages has one order
+  pub steps : List PageStep
+  pub order : IsOrder z state views steps
 
 -- a moment of a board, between two steps: its words, the views of all its seats, and the state that they show, which
--- moves reach. The views' additions are the likes applied in it, and their stretches tile each page's counts
+-- moves reach. The views' additions are the likes applied in it, and their stretches tile each page's counts. All that
+-- the views did at pages has one order
 pub record Moment (z : Opening) : Type 0 where
   pub words : List ℕ
   pub views : List View
@@ -191,6 +197,8 @@ pub record Moment (z : Opening) : Type 0 where
   pub shows : Shows z state words views
   pub tallied : Tallied z.limits state views
   pub places : PlacesTile z.counts views
+  pub steps : List PageStep
+  pub order : IsOrder z state views steps
 
 -- a moment at which this is what some seat knows
 pub record IsKnown (z : Opening) (v : View) : Type 0 where
@@ -237,6 +245,13 @@ pub record IsSteps (z : Opening) (events : List Event) (move : Move) (shown : Sh
   pub shows_after :
       Shows z (after_move z (after_all z moment.state events) move)
       (slice_set moment.words changed word) (slice_set moment.views place w)
+
+-- one step of a seat that does this at a page: the order of the moment goes on, and this comes last in it
+pub record IsPageStep (z : Opening) (events : List Event) (move : Move) (shown : Shown) (step : PageStep) (v w : View)
+    : Type 0 where
+  pub is_step : IsSteps z events move shown v w
+  pub last : IsOrder z (after_move z (after_all z is_step.moment.state events) move)
+      (slice_set is_step.moment.views is_step.place w) (step ∷ is_step.moment.steps)
 
 -- one step of a seat is this move
 abbrev pub IsMove : Opening → Move → Shown → View → View → Type 0

@@ -1,6 +1,9 @@
-use Rattle.std.proofs.Common.{ap, arith}
+use Rattle.std.proofs.Common.{ap, subst, sym, arith}
 use Rattle.atomic_table.specs.Seated.{TableId}
 use Rattle.like_core.proofs.views.Apart.{word_of-order}
+use Rattle.like_core.specs.views.Actions.{Adds}
+use Rattle.like_board.specs.Known.{worker_view_of}
+use Rattle.like_board.specs.Seats.{seat_view}
 use Rattle.like_board.proofs.Allowed.{adding_to}
 use Rattle.like_board.proofs.Meanings.{may_add}
 use Rattle.like_board.proofs.worker_seat.WorkerSeat.add.Goals as goal
@@ -18,3 +21,9 @@ fetch_add-requires c =
       adding_to board.table.shared.key _ _ _ c.args.page _ c.args.n word seat.is_worker
           (may_add _ _ c.args.page c.args.n c.requires.may),
     )
+
+pub returns-clause-event : goal.returns-clause-event
+returns-clause-event c =
+    let told = c.fetch_add.ensures.2.0 c.args.page c.word_of-word.ensures in
+    subst (Adds (seat_view c.args.self.now) c.args.page c.args.n c.fetch_add.result)
+    (sym (ap worker_view_of told.view)) told.step
