@@ -204,7 +204,7 @@ record AreTold (v after : LiveView) (told : List Told) : Type 0 where
   last : (user : ℕ) → last_of after.seat.last user ≡ last_or (last_of v.seat.last user) (pages_liked user told)
   asks : asks_taken told ++ asks_left after ≡ asks_left v ++ asks_told told
 
-last_or-append : (o : Option ℕ) (xs ys : List ℕ) → last_or o (xs ++ ys) ≡ last_or (last_or o xs) ys
+pub last_or-append : (o : Option ℕ) (xs ys : List ℕ) → last_or o (xs ++ ys) ≡ last_or (last_or o xs) ys
 last_or-append o [] ys = refl
 last_or-append o (x ∷ xs) ys = last_or-append (Some x) xs ys
 

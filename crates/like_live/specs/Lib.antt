@@ -1,6 +1,7 @@
 pub mod Answers
 pub mod Batch
 pub mod Calls
+pub mod Deeds
 pub mod Driver
 pub mod History
 pub mod Kept
@@ -10,5 +11,6 @@ pub mod LookRoom
 pub mod Moments
 pub mod Moves
 pub mod Opening
+pub mod SerialService
 pub mod Service
 pub mod Splits

@@ -1,8 +1,10 @@
 //! The laws of a live seat's histories and answers, and of a service's seats at a moment of their board. Each is the
 //! contract of a function that does nothing.
 ghost use Rattle.like_live.specs.Answers.{AnswersAreBounded, AnswersAreReads};
+ghost use Rattle.like_live.specs.Deeds.{DeedsShowLasts};
 ghost use Rattle.like_live.specs.Driver.{LastCountsStay};
 ghost use Rattle.like_live.specs.History.{HistoriesAreCounted, NoneWaitsOnceGone};
+ghost use Rattle.like_live.specs.SerialService.{ServicesAreSerial};
 ghost use Rattle.like_live.specs.Moments.{LastCountsAreTallies, MarkedKeepSlots, SeatsAreExclusive, SlicesAreSlots};
 
 /// Whatever calls a fresh seat is asked: a page's tally is the number of its likes that were told `Liked`. A user's
@@ -59,4 +61,18 @@ pub fn answers_are_bounded()
 /// time.
 pub fn last_counts_stay()
     ensures { LastCountsStay }
+{}
+
+/// Whatever calls a fresh seat is asked: each look and each glance shows the page of its user's last like before it, or
+/// that with which the seat was opened. A look that waited shows it as it is where it ran.
+pub fn deeds_show_lasts()
+    ensures { DeedsShowLasts }
+{}
+
+/// There is one list of all deeds of the seats of a closed service that one thread could have done, one after the other:
+/// each seat's deeds stand in it in their order, phases never fall along it, and each look shows its user's last like
+/// and its page's count as the deeds before it left them. Only a glance at a page that is split may lack likes that other
+/// seats have in their slices then.
+pub fn services_are_serial()
+    ensures { ServicesAreSerial }
 {}

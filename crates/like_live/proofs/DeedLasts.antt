@@ -1,0 +1,130 @@
+-- Each deed shows its user's last like among the deeds before it.
+use Rattle.std.proofs.Common.{◌≡◌, ℕ, zero, suc, ◌<◌, Bool, true, false, cond, eqb, List, [], ◌∷◌, ◌++◌, length, map, take, drop, slice_get, Option, Some, None, refl, ap, sym, ◌∙◌, subst, arith, append-nil, append_assoc}
+use Rattle.std.specs.List.{All, cons_option, filter_map, last_or}
+use Rattle.std.proofs.lemmas.List.Elements.{All-tail, filter_map-append}
+use Rattle.like_serial.proofs.Seen.{not_some, some_is}
+use Rattle.like_tables.specs.UserTable.{last_of}
+use Rattle.like_live.specs.declared.asked.Found.{Found}
+use Rattle.like_live.specs.LiveView.{LiveView}
+use Rattle.like_live.specs.Moves.{IsFoundAt}
+use Rattle.like_live.specs.Deeds.{Act, Deed, DeedsShowLasts, ShowsLast, counted, deed, deed_found, glimpsed, page_counted, pages_counted, showed}
+use Rattle.like_live.proofs.Histories.{last_or-append}
+use Rattle.like_live.proofs.Standing.{IsKept, Stands, kept_by_calls}
+use Rattle.like_live.proofs.Stepping.{IsRequest, Step, acknowledges, adds_like, done_by, finds, glances, holds, looks, next, reads, reports, retires, returns, slices_like, takes}
+use Rattle.like_live.proofs.Telling.{last-more, user_there}
+
+-- P is true of each element and of those before it
+abbrev pub AllAfter : {X : Type 0} → (List X → X → Type 0) → List X → List X → Type 0
+AllAfter P before [] = Unit {0}
+AllAfter P before (x ∷ xs) = P before x × AllAfter P (before ++ x ∷ []) xs
+
+pub all_after-append : {X : Type 0} (P : List X → X → Type 0) (before xs ys : List X) → AllAfter P before xs
+    → AllAfter P (before ++ xs) ys → AllAfter P before (xs ++ ys)
+all_after-append P before [] ys first rest = subst (λ zs. AllAfter P zs ys) (append-nil before) rest
+all_after-append P before (x ∷ xs) ys first rest = (
+  first.0,
+  all_after-append P (before ++ x ∷ []) xs ys first.1
+      (subst (λ zs. AllAfter P zs ys) (sym (append_assoc before (x ∷ []) xs)) rest),
+)
+
+pub all_after-at : {X : Type 0} (P : List X → X → Type 0) (before xs : List X) (i : ℕ) (x : X) → AllAfter P before xs
+    → slice_get xs i ≡ Some x → P (before ++ take i xs) x
+all_after-at P before [] i x all at = absurd (not_some x at)
+all_after-at P before (y ∷ xs) zero x all at =
+    subst (λ zs. P zs x) (sym (append-nil before)) (subst (P before) (some_is y x at) all.0)
+all_after-at P before (y ∷ xs) (suc i) x all at =
+    subst (λ zs. P zs x) (append_assoc before (y ∷ []) (take i xs))
+    (all_after-at P (before ++ y ∷ []) xs i x all.1 at)
+
+-- found looks count no like
+pub pages_found : (user : ℕ) (found : List Found) → pages_counted user (map deed_found found) ≡ []
+pages_found user [] = refl
+pages_found user (f ∷ found) = pages_found user found
+
+module _ (first : LiveView) where
+  -- a deed shows the last like of its user after those before it
+  abbrev Shows : List Deed → Deed → Type 0
+  Shows before d = ShowsLast (last_or (last_of first.seat.last d.user) (pages_counted d.user before)) d.act
+
+  -- the seat's users have the last likes that its deeds say, and each deed shows them
+  record HasLasts (v : LiveView) (ds : List Deed) : Type 0 where
+    table : (user : ℕ) → last_of v.seat.last user ≡ last_or (last_of first.seat.last user) (pages_counted user ds)
+    shows : AllAfter Shows [] ds
+
+  -- a step that is no deed leaves them
+  no_deed : (v w : LiveView) (ds : List Deed) → w.seat.last ≡ v.seat.last → HasLasts v ds → HasLasts w (ds ++ [])
+  no_deed v w ds same k = subst (HasLasts w) (sym (append-nil ds)) (record {
+    table = λ user. ap (λ t. last_of t user) same ∙ k.table user;
+    shows = k.shows;
+  })
+
+  -- a deed that counts no like leaves them, and shows its user's
+  look_deed : (v w : LiveView) (ds : List Deed) (d : Deed) → w.seat.last ≡ v.seat.last
+      → ((user : ℕ) → pages_counted user (d ∷ []) ≡ []) → (ShowsLast (last_of v.seat.last d.user) d.act)
+      → HasLasts v ds → HasLasts w (ds ++ d ∷ [])
+  look_deed v w ds d same none shows k = record {
+    table = λ user.
+        ap (λ t. last_of t user) same ∙ k.table user
+        ∙ ap (last_or (last_of first.seat.last user))
+        (sym (filter_map-append (λ (e : Deed). page_counted user e.user e.page e.act) ds (d ∷ [])
+        ∙ ap (λ zs. pages_counted user ds ++ zs) (none user) ∙ append-nil (pages_counted user ds)));
+    shows = all_after-append Shows [] ds (d ∷ []) k.shows
+        (subst (λ o. ShowsLast o d.act) (k.table d.user) shows, tt);
+  }
+
+  -- found looks show those of their users, one after the other
+  found_deeds : (v : LiveView) (found : List Found) → All (IsFoundAt v.seat) found → (ds : List Deed) → HasLasts v ds
+      → HasLasts v (ds ++ map deed_found found)
+  found_deeds v [] shown ds k = no_deed v v ds refl k
+  found_deeds v (f ∷ found) shown ds k =
+      subst (HasLasts v) (append_assoc ds (deed_found f ∷ []) (map deed_found found))
+      (found_deeds v found (All-tail (IsFoundAt v.seat) f found shown) (ds ++ deed_found f ∷ [])
+      (look_deed v v ds (deed_found f) refl (λ user. refl) (shown 0 f (omega arith)).last k))
+
+  -- a like is its user's last
+  like_deed : (v w : LiveView) (ds : List Deed) (phase user page : ℕ) → user < length v.seat.last.last
+      → ((other : ℕ) → last_of w.seat.last other ≡ last_or (last_of v.seat.last other) (cond (eqb user other) (page ∷ []) []))
+      → HasLasts v ds → HasLasts w (ds ++ deed phase user page counted ∷ [])
+  like_deed v w ds phase user page there more k = record {
+    table = λ other.
+        more other ∙ ap (λ o. last_or o (cond (eqb user other) (page ∷ []) [])) (k.table other)
+        ∙ sym (last_or-append (last_of first.seat.last other) (pages_counted other ds) (cond (eqb user other) (page ∷ []) []))
+        ∙ ap (last_or (last_of first.seat.last other))
+        (ap (λ zs. pages_counted other ds ++ zs) (one (eqb user other))
+        ∙ sym (filter_map-append (λ (e : Deed). page_counted other e.user e.page e.act) ds (deed phase user page counted ∷ [])));
+    shows = all_after-append Shows [] ds (deed phase user page counted ∷ []) k.shows (tt, tt);
+  }
+    where
+      one : (b : Bool) → cond b (page ∷ []) [] ≡ cons_option (cond b (Some page) None) []
+      one true = refl
+      one false = refl
+
+  lasts_next : (v : LiveView) (s : Step v) (ds : List Deed) → Stands first v → HasLasts v ds
+      → HasLasts (next v s) (ds ++ done_by v s)
+  lasts_next v (looks sight mask can) ds is k = no_deed v _ ds refl k
+  lasts_next v (finds found joined order shown) ds is k =
+      let all = found_deeds v found shown ds k in record { table = all.table; shows = all.shows }
+  lasts_next v (acknowledges joined) ds is k = no_deed v _ ds refl k
+  lasts_next v (reports adds split merges) ds is k = no_deed v _ ds refl k
+  lasts_next v (retires joined) ds is k = no_deed v _ ds refl k
+  lasts_next v (returns phase mask gone) ds is k = no_deed v _ ds refl k
+  lasts_next v takes ds is k = no_deed v _ ds refl k
+  lasts_next v (slices_like user page req) ds is k =
+      let there = subst (λ n. user < n) (sym is.table) (user_there v.seat user page req.accepted) in
+      like_deed v _ ds _ user page there (λ other. last-more v.seat.last user page other there) k
+  lasts_next v (adds_like user page old req) ds is k =
+      let there = subst (λ n. user < n) (sym is.table) (user_there v.seat user page req.accepted) in
+      like_deed v _ ds _ user page there (λ other. last-more v.seat.last user page other there) k
+  lasts_next v (reads user page shown req last) ds is k =
+      look_deed v _ ds _ refl (λ other. refl) last k
+  lasts_next v (glances user page count shown req last) ds is k =
+      look_deed v _ ds _ refl (λ other. refl) last k
+  lasts_next v (holds user page tag req) ds is k = no_deed v _ ds refl k
+
+pub deeds_show_lasts : DeedsShowLasts
+deeds_show_lasts v after told done unused i d at =
+    let kept : IsKept v (λ w. Unit {0}) (HasLasts v) =
+    record { back = λ w s stands sound. tt; kept = λ w s ds stands sound k. lasts_next v w s ds stands k } in
+    let k = kept_by_calls v (λ w. Unit {0}) (HasLasts v) kept told after done unused tt
+    (record { table = λ user. refl; shows = tt }) in
+    all_after-at (Shows v) [] _ i d k.shows at

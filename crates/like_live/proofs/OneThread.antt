@@ -1,0 +1,446 @@
+-- The calls of all seats of a service are those of one thread.
+use Rattle.std.proofs.Common.{◌≡◌, ◌≢◌, ℕ, zero, suc, ◌+◌, ◌%◌, ◌≤◌, ◌<◌, ◌⊎◌, ◌&&◌, inl, inr, Bool, true, false, not, cond, eqb, nat_lt, ◌==◌, List, [], ◌∷◌, ◌++◌, filter, filter_map, map, take, drop, reverse, length, get_or, slice_get, Option, Some, None, true≢false, refl, ap, ap₂, sym, ◌∙◌, subst, arith, eq-eqb, eqb-true, ne_eqb}
+use Rattle.std.specs.List.{All, AllByRecursion, cons_option, count_by, last_or, sum_by}
+use Rattle.std.specs.Option.{option_map_or}
+use Rattle.std.proofs.Math.Nat.{mod-eq_of_lt}
+use mathlib.Core.List.{reverse-cons}
+use Rattle.std.proofs.lemmas.Bool.{lt-ltb}
+use Rattle.std.proofs.lemmas.List.{length-map}
+use Rattle.std.proofs.lemmas.List.Elements.{All-head, All-tail, filter-append, filter_map-append}
+use Rattle.std.proofs.lemmas.List.FromFn.{get_or-map-range_with_len}
+use Rattle.std.proofs.lemmas.List.Sums.{sum_by-cons}
+use Rattle.like_board.specs.declared.worker_seat.WorkerSeat.{WorkerSeat}
+use Rattle.like_board.specs.Seats.{BoardId, seat_meaning}
+use Rattle.like_core.specs.declared.page_step.PageCall.TheVariants.{Add, Read, Glance}
+use Rattle.like_core.specs.declared.page_step.PageStep.{PageStep}
+use Rattle.like_core.specs.declared.worker_state.WorkerState.TheVariants.{Gone}
+use Rattle.like_core.specs.OpeningLimits.{service_limits}
+use Rattle.like_core.specs.PageSteps.{AddsSome, AreInTurn, adds_to, steps_by}
+use Rattle.like_core.specs.Phase.{is_marked, split_by}
+use Rattle.like_core.specs.PhaseMasks.{AreMasksOf, mask_of}
+use Rattle.like_core.specs.Post.{PostView}
+use Rattle.like_core.specs.WorkerState.{RunsSplit}
+use Rattle.like_requests.specs.Verdict.{home}
+use Rattle.like_seat.specs.declared.seen.Seen.{Seen}
+use Rattle.like_seat.specs.StationView.{phase_at}
+use Rattle.like_seat.proofs.MergedLikes.{same_everywhere}
+use Rattle.like_serial.specs.StepsTold.{step_told}
+use Rattle.like_serial.proofs.Counts.{counts_there, told_adds}
+use Rattle.like_serial.proofs.InTurn.{turn_below}
+use Rattle.like_serial.proofs.Interleaved.{with_key}
+use Rattle.like_serial.proofs.Parts.{at_place, place_of_part, take_part}
+use Rattle.like_serial.proofs.Phases.{Rises, all_append, all_then, pairs_of, rec_all, rises-append}
+use Rattle.like_serial.proofs.Seen.{not_some, some_is}
+use Rattle.like_serial.proofs.Totals.{only-none, weigh-reverse}
+use Rattle.like_serial.proofs.Weigh.{only, sum-weigh, weigh}
+use Rattle.like_tables.specs.Share.{Share, owns, share_of}
+use Rattle.like_tables.specs.UserTable.{UserTable, last_in, last_of, table_with_lasts}
+use Rattle.like_live.specs.declared.opening.Opening.{Opening}
+use Rattle.like_live.specs.LiveView.{LiveView}
+use Rattle.like_live.specs.History.{IsUnused}
+use Rattle.like_live.specs.Opening.{board_opening}
+use Rattle.like_live.specs.Service.{AreOpenedSeats, IsOpenedSeat}
+use Rattle.like_live.specs.Deeds.{Act, Deed, ShowsCount, ShowsLast, counted, glimpsed, likes_counted, page_counted, pages_counted, showed}
+use Rattle.like_live.specs.SerialService.{AreOrdered, IsSerialService, SeatHistory, ServicesAreSerial, count_after, deeds_at, deeds_by, deeds_in, last_after}
+use Rattle.like_live.proofs.Closing.{all-alike}
+use Rattle.like_live.proofs.DeedLasts.{deeds_show_lasts}
+use Rattle.like_live.proofs.DeedOwners.{AreHis, his_kept}
+use Rattle.like_live.proofs.DeedPhases.{HasRisen, phase_of_deed, risen_kept}
+use Rattle.like_live.proofs.DeedSteps.{HasSteps, is_plain, step_by, step_of, steps_kept}
+use Rattle.like_live.proofs.DeedTotals.{HasTotals, deed_in, is_none, likes_of_deed, step_in, totals_kept}
+use Rattle.like_live.proofs.Merging.{FitsAll, IsMerged, merged_serial}
+use Rattle.like_live.proofs.Ordered.{IsOrdered, split_in}
+use Rattle.like_live.proofs.Standing.{IsHis, Stands, kept_by_calls, stands_by_calls}
+
+-- what is true of all that a list stands for is true of what its element at a place does
+at_all : {A B : Type 0} (P : B → Type 0) (f : A → B) (xs : List A) (i : ℕ) (x : A) → All P (map f xs)
+    → slice_get xs i ≡ Some x → P (f x)
+at_all P f [] i x all at = absurd (not_some x at)
+at_all P f (y ∷ xs) zero x all at = subst (λ z. P (f z)) (some_is y x at) (All-head P (f y) (map f xs) all)
+at_all P f (y ∷ xs) (suc i) x all at = at_all P f xs i x (All-tail P (f y) (map f xs) all) at
+
+at_map : {A B : Type 0} (f : A → B) (xs : List A) (i : ℕ) (x : A) → slice_get xs i ≡ Some x
+    → slice_get (map f xs) i ≡ Some (f x)
+at_map f [] i x at = absurd (not_some x at)
+at_map f (y ∷ xs) zero x at = ap (λ z. Some (f z)) (some_is y x at)
+at_map f (y ∷ xs) (suc i) x at = at_map f xs i x at
+
+-- a list's element at a place, if it has one
+place : {A : Type 0} (xs : List A) (i : ℕ) → ((x : A) × (slice_get xs i ≡ Some x)) ⊎ (length xs ≤ i)
+place [] i = inr (omega arith)
+place (x ∷ xs) zero = inl (x, refl)
+place (x ∷ xs) (suc i) = elim (place xs i) [ inl there ↦ inl there | inr past ↦ inr (omega (arith, past)) ]
+
+-- the deeds at a place
+deeds_there : (hs : List SeatHistory) (i : ℕ) (h : SeatHistory) → slice_get hs i ≡ Some h → deeds_at hs i ≡ deeds_in h
+deeds_there [] i h at = absurd (not_some h at)
+deeds_there (g ∷ hs) zero h at = ap deeds_in (some_is g h at)
+deeds_there (g ∷ hs) (suc i) h at = deeds_there hs i h at
+
+deeds_past : (hs : List SeatHistory) (i : ℕ) → length hs ≤ i → deeds_at hs i ≡ []
+deeds_past [] i past = refl
+deeds_past (g ∷ hs) zero past = absurd (omega (arith, past))
+deeds_past (g ∷ hs) (suc i) past = deeds_past hs i (omega (arith, past))
+
+-- none of the seats has a number past them all
+none_past : (hs : List SeatHistory) (from i : ℕ)
+    → ((k : ℕ) (h : SeatHistory) → slice_get hs k ≡ Some h → h.last.seat.post.worker ≡ from + k)
+    → from + length hs ≤ i
+    → count_by (λ (s : LiveView). s.seat.post.worker == i) (map (λ (h : SeatHistory). h.last) hs) ≡ 0
+none_past [] from i each past = refl
+none_past (h ∷ hs) from i each past =
+    let here = each 0 h refl in
+    let rest = none_past hs (suc from) i
+    (λ k g at. let e = each (suc k) g at in omega (arith, e)) (omega (arith, past)) in
+    let first : cond {A = ℕ} (h.last.seat.post.worker == i) 1 0 ≡ 0 =
+    ap (λ b. cond b 1 0) (ne_eqb h.last.seat.post.worker i (λ e. absurd (omega (arith, e, here, past)))) in
+    sum_by-cons (λ (s : LiveView). cond (s.seat.post.worker == i) 1 0) h.last (map (λ (g : SeatHistory). g.last) hs)
+    ∙ omega (arith, first, rest)
+
+-- what is true of all steps in turn, and of a worker's
+turn_some : (first : ℕ → ℕ) (last : ℕ) (steps : List PageStep) → AreInTurn first last steps
+    → AllByRecursion (λ s. AddsSome s.call) steps
+turn_some first last [] turn = tt
+turn_some first last (s ∷ steps) turn = (turn.2, turn_some first s.phase steps turn.3)
+
+abbrev phase_of_step : PageStep → ℕ
+phase_of_step s = s.phase
+
+-- a filter keeps what is true of all, and that phases never fall
+filter_all : {X : Type 0} (P : X → Type 0) (t : X → Bool) (xs : List X) → AllByRecursion P xs
+    → AllByRecursion P (filter t xs)
+filter_all P t [] all = tt
+filter_all {X} P t (x ∷ xs) all = by (t x) (filter_all P t xs all.1) where
+  by : (b : Bool) → AllByRecursion P (filter t xs) → AllByRecursion P (cond b (x ∷ filter t xs) (filter t xs))
+  by true rest = (all.0, rest)
+  by false rest = rest
+
+filter_rises : {X : Type 0} (phase : X → ℕ) (t : X → Bool) (xs : List X) → Rises phase xs → Rises phase (filter t xs)
+filter_rises phase t [] r = tt
+filter_rises {X} phase t (x ∷ xs) r = by (t x) (filter_rises phase t xs r.1) where
+  by : (b : Bool) → Rises phase (filter t xs) → Rises phase (cond b (x ∷ filter t xs) (filter t xs))
+  by true rest = (filter_all (λ y. phase x ≤ phase y) t xs r.0, rest)
+  by false rest = rest
+
+-- and so does a list turned round
+reverse_all : {X : Type 0} (P : X → Type 0) (xs : List X) → AllByRecursion P xs → AllByRecursion P (reverse xs)
+reverse_all P [] all = tt
+reverse_all P (x ∷ xs) all =
+    subst (AllByRecursion P) (sym (reverse-cons x xs))
+    (all_append P (reverse xs) (x ∷ []) (reverse_all P xs all.1) (all.0, tt))
+
+-- phases never fall along steps in turn, from the first to the last
+turn_rises : (first : ℕ → ℕ) (last : ℕ) (steps : List PageStep) → AreInTurn first last steps
+    → Rises phase_of_step (reverse steps)
+turn_rises first last [] turn = tt
+turn_rises first last (s ∷ steps) turn =
+    subst (Rises phase_of_step) (sym (reverse-cons s steps))
+    (rises-append phase_of_step s.phase (reverse steps) (s ∷ []) (turn_rises first s.phase steps turn.3) (tt, tt)
+    (reverse_all (λ t. phase_of_step t ≤ s.phase) steps
+    (all_then (λ (t : PageStep). t.phase < suc s.phase) (λ t. phase_of_step t ≤ s.phase) steps
+    (λ t less. omega (arith, less)) (turn_below first s.phase steps turn.3)))
+    (omega arith, tt))
+
+module _ (o : Opening) (factor : ℕ) (board : BoardId) (hs : List SeatHistory) (masks : ℕ → ℕ) (last : ℕ)
+    (steps : List PageStep)
+    (opened : AreOpenedSeats o factor board (map (λ (h : SeatHistory). h.first) hs))
+    (gone : All (λ (s : LiveView). s.seat.post.state ≡ Gone) (map (λ (h : SeatHistory). h.last) hs))
+    (right : All (λ (s : LiveView). AreMasksOf masks s.seat.post.masks) (map (λ (h : SeatHistory). h.last) hs))
+    (order : AreOrdered (λ page. get_or o.counts.items page 0) last (map (λ (h : SeatHistory). h.last) hs) steps) where
+  -- whether a page is split in a phase
+  abbrev split : ℕ → ℕ → Bool
+  split = split_by service_limits.hot (is_marked (board_opening o factor).marks) masks
+
+  many : length hs ≡ o.seats
+  many = sym (length-map hs (λ (h : SeatHistory). h.first)) ∙ opened.len
+
+  -- the seat at a place
+  module _ (i : ℕ) (h : SeatHistory) (at : slice_get hs i ≡ Some h) where
+    seat : IsOpenedSeat o factor board i h.first
+    seat = opened.each i h.first (at_map (λ (g : SeatHistory). g.first) hs i h at)
+
+    below : i < o.seats
+    below = by (place hs i) where
+      by : (((x : SeatHistory) × (slice_get hs i ≡ Some x)) ⊎ (length hs ≤ i)) → i < o.seats
+      by (inr past) = absurd (not_some h (sym (none_at hs i past) ∙ at)) where
+        none_at : (xs : List SeatHistory) (k : ℕ) → length xs ≤ k → slice_get xs k ≡ None
+        none_at [] k past = refl
+        none_at (x ∷ xs) zero past = absurd (omega (arith, past))
+        none_at (x ∷ xs) (suc k) past = none_at xs k (omega (arith, past))
+      by (inl there) = subst (λ n. i < n) many (within hs i there.0 there.1) where
+        within : (xs : List SeatHistory) (k : ℕ) (x : SeatHistory) → slice_get xs k ≡ Some x → k < length xs
+        within [] k x at = absurd (not_some x at)
+        within (y ∷ xs) zero x at = omega arith
+        within (y ∷ xs) (suc k) x at = let more = within xs k x at in omega arith
+
+    unused : IsUnused h.first
+    unused = record {
+      post = h.first.seat.post;
+      share = share_of o.users o.seats o.seats i;
+      lasts = o.lasts.items;
+      room = o.room;
+      fresh = seat.fresh;
+      new = seat.new;
+    }
+
+    stands : Stands h.first h.last
+    stands =
+        stands_by_calls h.first (λ w. Unit {0}) (AreHis h.first) (his_kept h.first) h.told h.last h.done unused
+
+    worker_is : h.last.seat.post.worker ≡ i
+    worker_is = stands.worker ∙ seat.worker
+
+    is_gone : h.last.seat.post.state ≡ Gone
+    is_gone = at_all (λ (s : LiveView). s.seat.post.state ≡ Gone) (λ (g : SeatHistory). g.last) hs i h gone at
+
+    empty : (page : ℕ) → get_or h.last.seat.slice page 0 ≢ 0 → ⊥
+    empty page has = subst RunsSplit is_gone (stands.split page has).0
+
+    did : steps_by i steps ≡ h.last.seat.post.did
+    did =
+        ap (λ n. steps_by n steps) (sym worker_is)
+        ∙ at_all (λ (s : LiveView). steps_by s.seat.post.worker steps ≡ s.seat.post.did) (λ (g : SeatHistory). g.last) hs i
+        h order.each at
+
+    ordered : IsOrdered masks h.last
+    ordered = record {
+      some = subst (AllByRecursion (λ (s : PageStep). AddsSome s.call)) did
+          (filter_all (λ (s : PageStep). AddsSome s.call) (λ s. s.worker == i) (reverse steps)
+          (reverse_all (λ (s : PageStep). AddsSome s.call) steps (turn_some _ last steps order.in_turn)));
+      right = at_all (λ (s : LiveView). AreMasksOf masks s.seat.post.masks) (λ (g : SeatHistory). g.last) hs i h right at;
+      rises = subst (Rises phase_of_step) did
+          (filter_rises phase_of_step (λ s. s.worker == i) (reverse steps) (turn_rises _ last steps order.in_turn));
+      none_later = λ page has. absurd (empty page has);
+    }
+
+    -- its masks, marks and limits are those of all
+    split_is : split_in h.first masks ≡ split
+    split_is = λ m phase page. split_by (seat.limits m).hot (is_marked (seat.marks m)) masks phase page
+
+    nothing_done : h.first.seat.post.did ≡ []
+    nothing_done = seat.fresh.did_nothing
+
+    has_steps : filter_map (step_of split) (deeds_in h) ≡ map step_told (filter (is_plain split) (steps_by i steps))
+    has_steps =
+        let k = kept_by_calls h.first (IsOrdered masks) (HasSteps h.first masks) (steps_kept h.first masks) h.told h.last
+        h.done unused ordered
+        (record {
+          steps = sym (ap (λ xs. map step_told (filter (is_plain (split_in h.first masks)) xs)) nothing_done);
+        }) in
+        subst
+        (λ (f : ℕ → ℕ → Bool). filter_map (step_of f) (deeds_in h) ≡ map step_told (filter (is_plain f) (steps_by i steps)))
+        split_is
+        (k.steps ∙ ap (λ xs. map step_told (filter (is_plain (split_in h.first masks)) xs)) (sym did))
+
+    has_totals : (phase page : ℕ) → weigh (deed_in phase page) (deeds_in h) ≡ weigh (step_in phase page) (steps_by i steps)
+    has_totals phase page =
+        let k = kept_by_calls h.first (λ w. Unit {0}) HasTotals (totals_kept h.first) h.told h.last h.done unused tt
+        (record {
+          total = λ k p.
+              sym (ap (λ xs. weigh (step_in k p) xs + only (0 == k) 0) nothing_done ∙ ap (λ n. 0 + n) (only-none (0 == k)))
+              ∙ sym (at_first k p);
+        }) in
+        k.total phase page ∙ omega (arith, only-empty, ap (weigh (step_in phase page)) did) where
+          only-empty : only (phase_at h.last.seat == phase) (get_or h.last.seat.slice page 0) ≡ 0
+          only-empty = ap (only (phase_at h.last.seat == phase)) (is_none _ (empty page)) ∙ only-none _
+
+          at_first : (k p : ℕ)
+              → weigh (step_in k p) h.first.seat.post.did + only (phase_at h.first.seat == k) (get_or h.first.seat.slice p 0)
+              ≡ weigh (step_in k p) h.first.seat.post.did + only (0 == k) 0
+          at_first k p =
+              ap (λ n. weigh (step_in k p) h.first.seat.post.did + n)
+              (ap (only (phase_at h.first.seat == k))
+              (ap (λ (xs : List ℕ). get_or xs p 0) seat.new.slice ∙ same_everywhere _ p 0)
+              ∙ only-none (phase_at h.first.seat == k) ∙ sym (only-none (0 == k)))
+
+    has_risen : Rises phase_of_deed (deeds_in h)
+    has_risen =
+        (kept_by_calls h.first (IsOrdered masks) HasRisen (risen_kept h.first masks) h.told h.last h.done unused ordered
+        (record { rises = tt; within = λ k past. tt })).rises
+
+    share_is : h.first.seat.last.share ≡ share_of o.users o.seats o.seats i
+    share_is = ap (λ (t : UserTable). t.share) seat.new.last
+
+    has_owners : AllByRecursion (λ d. (d.user < o.users) × (home o.seats d.user ≡ i)) (deeds_in h)
+    has_owners =
+        subst
+        (λ (s : Share). AllByRecursion (λ (d : Deed). (d.user < s.users) × (home s.submitters d.user ≡ s.worker)) (deeds_in h))
+        share_is
+        (kept_by_calls h.first (λ w. Unit {0}) (AreHis h.first) (his_kept h.first) h.told h.last h.done unused tt tt)
+
+    -- a user's last like at the opening
+    opened_last : (user : ℕ) → user < o.users → home o.seats user ≡ i → last_of h.first.seat.last user ≡ last_in o.lasts.items user
+    opened_last user there mine =
+        let s = share_of o.users o.seats o.seats i in
+        ap (λ (t : UserTable). last_of t user) seat.new.last
+        ∙ get_or-map-range_with_len (λ u. cond (owns s u) (last_in o.lasts.items u) None) 0 o.users user user None there
+        (omega arith)
+        ∙ ap (λ b. cond b (last_in o.lasts.items user) None) owned where
+          owned : owns (share_of o.users o.seats o.seats i) user ≡ true
+          owned =
+              ap (λ b. b && (eqb (home o.seats user % o.seats) i)) (lt-ltb user o.users there)
+              ∙ eq-eqb (home o.seats user % o.seats) i
+              (ap (λ n. n % o.seats) mine ∙ mod-eq_of_lt below)
+
+    has_lasts : (j : ℕ) (d : Deed) → slice_get (deeds_in h) j ≡ Some d
+        → ShowsLast (last_after o d.user (take j (deeds_in h))) d.act
+    has_lasts j d there =
+        let mine = rec_all (λ (e : Deed). (e.user < o.users) × (home o.seats e.user ≡ i)) (deeds_in h) has_owners in
+        let his = at_list (deeds_in h) j d mine there in
+        subst (λ x. ShowsLast (last_or x (pages_counted d.user (take j (deeds_in h)))) d.act)
+        (opened_last d.user his.0 his.1)
+        (deeds_show_lasts h.first h.last h.told h.done unused j d there) where
+          at_list : (xs : List Deed) (j : ℕ) (d : Deed)
+              → All (λ e. (e.user < o.users) × (home o.seats e.user ≡ i)) xs → slice_get xs j ≡ Some d
+              → (d.user < o.users) × (home o.seats d.user ≡ i)
+          at_list [] j d all at = absurd (not_some d at)
+          at_list (e ∷ xs) zero d all at =
+              subst (λ (z : Deed). (z.user < o.users) × (home o.seats z.user ≡ i)) (some_is e d at)
+              (All-head (λ (z : Deed). (z.user < o.users) × (home o.seats z.user ≡ i)) e xs all)
+          at_list (e ∷ xs) (suc j) d all at =
+              at_list xs j d (All-tail (λ (z : Deed). (z.user < o.users) × (home o.seats z.user ≡ i)) e xs all) at
+
+  -- what is true of no deeds past all seats, and of each seat's
+  each_run : (P : ℕ → List Deed → Type 0) → ((i : ℕ) → length hs ≤ i → P i [])
+      → ((i : ℕ) (h : SeatHistory) → slice_get hs i ≡ Some h → P i (deeds_in h))
+      → (i : ℕ) → P i (deeds_at hs i)
+  each_run P past there i = elim (place hs i) [
+    | inl h ↦ subst (P i) (sym (deeds_there hs i h.0 h.1)) (there i h.0 h.1)
+    | inr none ↦ subst (P i) (sym (deeds_past hs i none)) (past i none)
+  ]
+
+  no_steps : (i : ℕ) → length hs ≤ i → steps_by i steps ≡ []
+  no_steps i past = order.others i (none_past hs 0 i (λ k h at. let e = worker_is k h at in omega (arith, e)) (omega (arith, past)))
+
+  -- a deed's step is what it likes, where its page isn't split
+  deed_marks : (k page : ℕ) → split k page ≡ false → (d : Deed)
+      → option_map_or (told_adds k page) (step_of split d) 0 ≡ deed_in k page d
+  deed_marks k page plain d = by_act d.act where
+    like_adds : (b : Bool) → split d.phase d.page ≡ b
+        → option_map_or (told_adds k page)
+        (cond b None (Some (record { phase = d.phase; page = d.page; call = Add 1; count = 0 }))) 0
+        ≡ only (d.phase == k) (cond (d.page == page) 1 0)
+    like_adds false is = refl
+    like_adds true is =
+        sym
+        (counts_there (eqb d.phase k) (eqb d.page page) false 1
+        (λ here there. absurd
+        (true≢false (sym is ∙ ap₂ split (eqb-true d.phase k here) (eqb-true d.page page there) ∙ plain))))
+
+    by_act : (a : Act) → option_map_or (told_adds k page) (step_by (split d.phase d.page) d.phase d.page a) 0
+        ≡ only (d.phase == k) (likes_counted page d.page a)
+    by_act counted = like_adds (split d.phase d.page) refl
+    by_act (showed s) = ap (only (d.phase == k)) (only-none (d.page == page))
+    by_act (glimpsed s) = sym (only-none (d.phase == k))
+
+  abbrev user_home : Deed → ℕ
+  user_home d = home o.seats d.user
+
+  abbrev first_count : ℕ → ℕ
+  first_count page = get_or o.counts.items page 0
+
+  abbrev Fits : Type 0
+  Fits = FitsAll user_home phase_of_deed (step_of split) likes_of_deed split first_count last steps (length hs) (deeds_at hs)
+
+  fits : Fits
+  fits = record {
+    turn = order.in_turn;
+    marks = deed_marks;
+    own = each_run (λ i ds. AllByRecursion (λ d. user_home d ≡ i) ds) (λ i past. tt)
+        (λ i h at. all_then (λ (d : Deed). (d.user < o.users) × (home o.seats d.user ≡ i)) (λ d. user_home d ≡ i) (deeds_in h)
+        (λ d both. both.1) (has_owners i h at));
+    past = λ i none. deeds_past hs i none;
+    rising = each_run (λ i ds. Rises phase_of_deed ds) (λ i past. tt) has_risen;
+    plain = each_run (λ i ds. filter_map (step_of split) ds ≡ map step_told (filter (is_plain split) (steps_by i steps)))
+        (λ i past. sym (ap (λ xs. map step_told (filter (is_plain split) xs)) (no_steps i past))) has_steps;
+    totals = λ i k page.
+        each_run (λ i ds. weigh (deed_in k page) ds ≡ weigh (step_in k page) (steps_by i steps))
+        (λ i past. sym (ap (weigh (step_in k page)) (no_steps i past))) (λ i h at. has_totals i h at k page) i;
+  }
+
+  -- a user's likes are all of one seat
+  module _ (user : ℕ) where
+    user_by : (d : Deed) (a : Act) (xs : List Deed) (b : Bool) → eqb (home o.seats d.user) (home o.seats user) ≡ b
+        → pages_counted user xs ≡ pages_counted user (with_key user_home (home o.seats user) xs)
+        → cons_option (page_counted user d.user d.page a) (pages_counted user xs)
+        ≡ cond b (cons_option (page_counted user d.user d.page a) (pages_counted user (with_key user_home (home o.seats user) xs)))
+        (pages_counted user (with_key user_home (home o.seats user) xs))
+    user_by d a xs true is same = ap (cons_option (page_counted user d.user d.page a)) same
+    user_by d (showed s) xs false is same = same
+    user_by d (glimpsed s) xs false is same = same
+    user_by d counted xs false is same = by_user (eqb d.user user) refl where
+      by_user : (c : Bool) → eqb d.user user ≡ c
+          → cons_option (cond c (Some d.page) None) (pages_counted user xs)
+          ≡ pages_counted user (with_key user_home (home o.seats user) xs)
+      by_user false his = same
+      by_user true his =
+          absurd (true≢false (sym (eq-eqb (home o.seats d.user) (home o.seats user)
+          (ap (home o.seats) (eqb-true d.user user his))) ∙ is))
+
+    inside : (d : Deed) (xs : List Deed) (b : Bool)
+        → cond b (cons_option (page_counted user d.user d.page d.act) (pages_counted user xs)) (pages_counted user xs)
+        ≡ pages_counted user (cond b (d ∷ xs) xs)
+    inside d xs true = refl
+    inside d xs false = refl
+
+    user_likes : (xs : List Deed) → pages_counted user xs ≡ pages_counted user (with_key user_home (home o.seats user) xs)
+    user_likes [] = refl
+    user_likes (d ∷ xs) =
+        user_by d d.act xs (eqb (home o.seats d.user) (home o.seats user)) refl (user_likes xs)
+        ∙ inside d (with_key user_home (home o.seats user) xs) (eqb (home o.seats d.user) (home o.seats user))
+
+  module _ (serial : List Deed)
+      (m : IsMerged user_home phase_of_deed (step_of split) likes_of_deed split first_count last steps (length hs)
+      (deeds_at hs) serial) where
+    lasts : (j : ℕ) (d : Deed) → slice_get serial j ≡ Some d → ShowsLast (last_after o d.user (take j serial)) d.act
+    lasts j d at =
+        let w = user_home d in
+        let before = take j serial in
+        let after = drop (suc j) serial in
+        let part : with_key user_home w (before ++ d ∷ after) ≡ with_key user_home w before ++ d ∷ with_key user_home w after =
+        filter-append (λ (e : Deed). user_home e == w) before (d ∷ after)
+        ∙ ap (λ b. with_key user_home w before ++ cond b (d ∷ with_key user_home w after) (with_key user_home w after))
+        (eq-eqb w w refl) in
+        let mine : with_key user_home w before ++ d ∷ with_key user_home w after ≡ deeds_at hs w =
+        sym part ∙ ap (with_key user_home w) (sym (at_place serial j d at)) ∙ m.own w in
+        let n = length (with_key user_home w before) in
+        let here : slice_get (deeds_at hs w) n ≡ Some d =
+        subst (λ xs. slice_get xs n ≡ Some d) mine
+        (place_of_part (with_key user_home w before) d (with_key user_home w after)) in
+        let front : take n (deeds_at hs w) ≡ with_key user_home w before =
+        subst (λ xs. take n xs ≡ with_key user_home w before) mine
+        (take_part (with_key user_home w before) d (with_key user_home w after)) in
+        subst (λ (ps : List ℕ). ShowsLast (last_or (last_in o.lasts.items d.user) ps) d.act)
+        (ap (pages_counted d.user) front ∙ sym (user_likes d.user before))
+        (each_run
+        (λ i ds. (k : ℕ) (e : Deed) → slice_get ds k ≡ Some e → ShowsLast (last_after o e.user (take k ds)) e.act)
+        (λ i past k e none. absurd (not_some e none)) has_lasts w n d here)
+
+    counts_by : (j : ℕ) (d : Deed) (a : Act) → slice_get serial j ≡ Some (record d { act = a })
+        → ShowsCount (count_after o d.page (take j serial)) a
+    counts_by j d counted at = tt
+    counts_by j d (glimpsed s) at = tt
+    counts_by j d (showed s) at =
+        m.counts j (record d { act = showed s }) d.page s.count at refl
+        ∙ ap (λ n. first_count d.page + n) (sym (sum-weigh (likes_of_deed d.page) (take j serial)))
+
+    is_serial : IsSerialService o hs serial
+    is_serial = record {
+      own = m.own;
+      rising = pairs_of phase_of_deed serial m.rising;
+      lasts = lasts;
+      counts = λ j d at. counts_by j d d.act at;
+    }
+
+  pub one_thread : (serial : List Deed) × IsSerialService o hs serial
+  one_thread =
+      let m = merged_serial user_home phase_of_deed (step_of split) likes_of_deed split first_count last steps (length hs)
+      (deeds_at hs) fits in
+      (m.0, is_serial m.0 m.1)
+
+pub services_are_serial : ServicesAreSerial
+services_are_serial o driver now hs counts steps opened same closed gone order =
+    one_thread o opened.factor driver.lead.board hs (mask_of now.lead.seat.masks) now.lead.seat.phase steps opened.fresh gone
+    (all-alike (λ (p : PostView). AreMasksOf (mask_of now.lead.seat.masks) p.masks) (λ (s : LiveView). s.seat.post)
+    seat_meaning (map (λ (h : SeatHistory). h.last) hs) closed.back (sym closed.posts) closed.masks)
+    order

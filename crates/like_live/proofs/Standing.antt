@@ -1,0 +1,314 @@
+-- What the steps of a seat keep.
+use Rattle.std.proofs.Common.{◌≡◌, ◌≢◌, ℕ, ◌+◌, ◌%◌, ◌<◌, ◌==◌, ◌&&◌, ◌||◌, Bool, true, false, not, cond, nat_lt, List, [], ◌∷◌, ◌++◌, drop, length, map, replicate, get_or, set, Some, None, refl, ap, sym, ◌∙◌, subst, arith, append-nil, append_assoc, eq-eqb, eqb-true, inl, inr}
+use Rattle.std.specs.List.{AllByRecursion, list_any}
+use Rattle.std.proofs.lemmas.Bool.{cases_eq, cond-true}
+use Rattle.std.proofs.lemmas.List.{get_or-set_other, length-replicate, length-set}
+use Rattle.std.proofs.lemmas.List.FromFn.{length-map-range_with_len}
+use Rattle.like_core.specs.declared.limits.Limits.{Limits}
+use Rattle.like_core.specs.declared.view.PhaseMask.{PhaseMask}
+use Rattle.like_core.specs.declared.worker_state.WorkerState.{WorkerState}
+use Rattle.like_core.specs.declared.worker_state.WorkerState.TheVariants.{Runs, Answered, Gone}
+use Rattle.like_core.specs.Phase.{IsSplit, is_hot_by, is_marked}
+use Rattle.like_core.specs.PhaseMasks.{HasMask, mask_of}
+use Rattle.like_core.specs.Post.{PostView, pages_of, slices}
+use Rattle.like_core.specs.WorkerState.{IsRunning, RunsJoined, RunsSplit, phase_of}
+use Rattle.like_requests.specs.declared.verdict.Verdict.{Verdict}
+use Rattle.like_requests.specs.declared.verdict.Verdict.TheVariants.{Accepted, UnknownUser, OtherHome, UnknownPage}
+use Rattle.like_requests.specs.Verdict.{home}
+use Rattle.like_seat.specs.StationView.{HasPhaseMask, IsSliceInSplit, StationView}
+use Rattle.like_seat.specs.Steps.{masks_entered}
+use Rattle.like_seat.proofs.Looking.{has-after, splits-after}
+use Rattle.like_seat.proofs.MergedLikes.{same_everywhere}
+use Rattle.like_serial.proofs.Phases.{all_append}
+use Rattle.like_tables.specs.Share.{Share, owns}
+use Rattle.like_tables.specs.UserTable.{UserTable, last_in}
+use Rattle.like_tables.specs.Waiting.{Waiting}
+use Rattle.like_live.specs.declared.asked.Asked.{Asked}
+use Rattle.like_live.specs.declared.asked.Found.{Found}
+use Rattle.like_live.specs.LiveView.{LiveView, waiting}
+use Rattle.like_live.specs.Calls.{verdict_at}
+use Rattle.like_live.specs.Deeds.{Deed, deed_found, deeds_of}
+use Rattle.like_live.specs.History.{HasDone, IsUnused, Told}
+use Rattle.like_live.proofs.Stepping.{FollowsSteps, IsRequest, Step, acknowledges, adds_like, by_calls, done_by, finds, glances, holds, looks, next, reads, reports, retires, returns, slices_like, takes}
+use Rattle.like_live.proofs.Telling.{user_there}
+
+-- the user is one of the seat's
+abbrev pub IsHis : LiveView → ℕ → Type 0
+IsHis v user =
+    (user < v.seat.last.share.users) × (home v.seat.last.share.submitters user ≡ v.seat.last.share.worker)
+
+-- what is true of a seat between any two steps: whose it is; that it has a number for each page and an entry for each
+-- user; that it has read the mask of a split phase that it runs; that its slice has likes of pages alone that are split
+-- then; and that the looks that wait are of its users
+pub record Stands (first v : LiveView) : Type 0 where
+  pub worker : v.seat.post.worker ≡ first.seat.post.worker
+  pub marks : v.seat.post.marks ≡ first.seat.post.marks
+  pub limits : v.seat.post.limits ≡ first.seat.post.limits
+  pub share : v.seat.last.share ≡ first.seat.last.share
+  pub sized : length v.seat.slice ≡ pages_of v.seat.post
+  pub table : length v.seat.last.last ≡ v.seat.last.share.users
+  pub masked : HasPhaseMask v.seat.post
+  pub split : IsSliceInSplit v.seat.post v.seat.slice
+  pub own : AllByRecursion (λ a. IsHis v a.user) (waiting v)
+
+-- an accepted request is of one of the seat's users
+home_test : (a b k : Bool)
+    → cond (not a) UnknownUser (cond (not b) OtherHome (cond (not k) UnknownPage Accepted)) ≡ Accepted
+    → b ≡ true
+home_test false b k e = cc
+home_test true false k e = cc
+home_test true true k e = refl
+
+pub is_his : (v : LiveView) (user page : ℕ) → verdict_at v.seat user page ≡ Accepted → IsHis v user
+is_his v user page is = (
+  user_there v.seat user page is,
+  eqb-true (home v.seat.last.share.submitters user) v.seat.last.share.worker (home_test _ _ _ is),
+)
+
+-- who runs a joined phase runs no split one
+pub unsplit : (s : WorkerState) → RunsJoined s → RunsSplit s → ⊥
+unsplit (Runs k) joined split = omega (arith, joined, split)
+unsplit (Answered k) joined split = split
+unsplit Gone joined split = split
+
+-- who runs a phase in which a page is split runs a split one
+split_odd : (a b : Bool) → (a && b) ≡ true → a ≡ true
+split_odd true b e = refl
+split_odd false b e = cc
+
+pub runs_split : (post : PostView) (page : ℕ) → IsRunning post.state → slices post page ≡ true → RunsSplit post.state
+runs_split post page runs is =
+    by_state post.state runs
+    (eqb-true (phase_of post.state % 2) 1
+    (split_odd (phase_of post.state % 2 == 1)
+    (is_marked post.marks page || is_hot_by post.limits.hot (mask_of post.masks (phase_of post.state)) page) is))
+  where
+    by_state : (s : WorkerState) → IsRunning s → IsSplit (phase_of s) → RunsSplit s
+    by_state (Runs k) runs odd = odd
+    by_state (Answered k) runs odd = absurd runs
+    by_state Gone runs odd = absurd runs
+
+-- who enters a split phase has read its mask
+entered_mask : (masks : List PhaseMask) (phase mask : ℕ) → IsSplit phase → HasMask phase (masks_entered masks phase mask)
+entered_mask masks phase mask odd =
+    subst (HasMask phase)
+    (sym (cond-true (phase % 2 == 1) (record { phase = phase; mask = mask } ∷ masks) masks (eq-eqb (phase % 2) 1 odd)))
+    (ap (λ (b : Bool). b || list_any (λ (m : PhaseMask). m.phase == phase) masks) (eq-eqb phase phase refl))
+
+-- one like more of a page that is split
+one_more : (post : PostView) (slice : List ℕ) (page n : ℕ) → IsSliceInSplit post slice → RunsSplit post.state
+    → slices post page ≡ true → IsSliceInSplit post (set slice page n)
+one_more post slice page n kept runs split other some = elim (cases_eq page other) [
+  | inl same ↦ (runs, ap (slices post) (sym same) ∙ split)
+  | inr apart ↦ kept other (λ none. some (get_or-set_other slice page other n 0 (λ e. apart (sym e)) ∙ none))
+]
+
+pub stands_next : (first v : LiveView) (s : Step v) → Stands first v → Stands first (next v s)
+stands_next first v (looks sight mask can) k = record {
+  worker = k.worker;
+  marks = k.marks;
+  limits = k.limits;
+  share = k.share;
+  sized = k.sized;
+  table = k.table;
+  masked = has-after v.seat.post sight mask k.masked;
+  split = splits-after v.seat.post v.seat.slice sight mask k.split;
+  own = k.own;
+}
+stands_next first v (finds found joined order shown) k = record {
+  worker = k.worker;
+  marks = k.marks;
+  limits = k.limits;
+  share = k.share;
+  sized = k.sized;
+  table = k.table;
+  masked = k.masked;
+  split = k.split;
+  own = tt;
+}
+stands_next first v (acknowledges joined) k = record {
+  worker = k.worker;
+  marks = k.marks;
+  limits = k.limits;
+  share = k.share;
+  sized = k.sized;
+  table = k.table;
+  masked = λ split. absurd split;
+  split = λ page some. absurd (unsplit v.seat.post.state joined (k.split page some).0);
+  own = k.own;
+}
+stands_next first v (reports adds split merges) k = record {
+  worker = k.worker;
+  marks = k.marks;
+  limits = k.limits;
+  share = k.share;
+  sized = length-replicate {A = ℕ} (pages_of v.seat.post) 0;
+  table = k.table;
+  masked = λ split. absurd split;
+  split = λ page some. absurd (some (same_everywhere (pages_of v.seat.post) page 0));
+  own = k.own;
+}
+stands_next first v (retires joined) k = record {
+  worker = k.worker;
+  marks = k.marks;
+  limits = k.limits;
+  share = k.share;
+  sized = k.sized;
+  table = k.table;
+  masked = λ split. absurd split;
+  split = λ page some. absurd (unsplit v.seat.post.state joined (k.split page some).0);
+  own = k.own;
+}
+stands_next first v (returns phase mask gone) k = record {
+  worker = k.worker;
+  marks = k.marks;
+  limits = k.limits;
+  share = k.share;
+  sized = k.sized;
+  table = k.table;
+  masked = λ odd. entered_mask v.seat.post.masks phase mask odd;
+  split = λ page some. absurd (subst RunsSplit gone (k.split page some).0);
+  own = k.own;
+}
+stands_next first v takes k = record {
+  worker = k.worker;
+  marks = k.marks;
+  limits = k.limits;
+  share = k.share;
+  sized = k.sized;
+  table = k.table;
+  masked = k.masked;
+  split = k.split;
+  own = k.own;
+}
+stands_next first v (slices_like user page is) k = record {
+  worker = k.worker;
+  marks = k.marks;
+  limits = k.limits;
+  share = k.share;
+  sized = length-set v.seat.slice page _ ∙ k.sized;
+  table = length-set v.seat.last.last user (Some page) ∙ k.table;
+  masked = k.masked;
+  split = one_more v.seat.post v.seat.slice page _ k.split (runs_split v.seat.post page is.runs is.at) is.at;
+  own = k.own;
+}
+stands_next first v (adds_like user page old is) k = record {
+  worker = k.worker;
+  marks = k.marks;
+  limits = k.limits;
+  share = k.share;
+  sized = k.sized;
+  table = length-set v.seat.last.last user (Some page) ∙ k.table;
+  masked = k.masked;
+  split = k.split;
+  own = k.own;
+}
+stands_next first v (reads user page shown is last) k = record {
+  worker = k.worker;
+  marks = k.marks;
+  limits = k.limits;
+  share = k.share;
+  sized = k.sized;
+  table = k.table;
+  masked = k.masked;
+  split = k.split;
+  own = k.own;
+}
+stands_next first v (glances user page count shown is last) k = record {
+  worker = k.worker;
+  marks = k.marks;
+  limits = k.limits;
+  share = k.share;
+  sized = k.sized;
+  table = k.table;
+  masked = k.masked;
+  split = k.split;
+  own = k.own;
+}
+stands_next first v (holds user page tag is) k = record {
+  worker = k.worker;
+  marks = k.marks;
+  limits = k.limits;
+  share = k.share;
+  sized = k.sized;
+  table = k.table;
+  masked = k.masked;
+  split = k.split;
+  own = all_append (λ a. IsHis v a.user) (waiting v) _ k.own (is_his v user page is.accepted, tt);
+}
+
+-- a fresh seat stands so
+pub stands_at_first : (v : LiveView) → IsUnused v → Stands v v
+stands_at_first v unused =
+    let new = unused.new in
+    record {
+      worker = refl;
+      marks = refl;
+      limits = refl;
+      share = refl;
+      sized = ap length new.slice ∙ length-replicate {A = ℕ} _ 0
+          ∙ ap (λ (p : PostView). length p.marks) (sym new.at_post);
+      table = ap (λ (t : UserTable). length t.last) new.last
+          ∙ length-map-range_with_len (λ user. cond (owns unused.share user) (last_in unused.lasts user) None) 0 unused.share.users
+          ∙ ap (λ (t : UserTable). t.share.users) (sym new.last);
+      masked = λ split. absurd (joined_first v.seat.post.state
+          (ap (λ (p : PostView). p.state) new.at_post ∙ unused.fresh.runs) split);
+      split = λ page some. absurd (some (ap (λ (xs : List ℕ). get_or xs page 0) new.slice ∙ same_everywhere _ page 0));
+      own = subst (AllByRecursion (λ a. IsHis v a.user))
+          (sym (ap (λ (w : Waiting Asked). w.held) new.held)) tt;
+    }
+  where
+    joined_first : (s : WorkerState) → s ≡ Runs 0 → RunsSplit s → ⊥
+    joined_first s is split = absurd (odd (subst RunsSplit is split)) where
+      odd : (0 % 2) ≡ 1 → ⊥
+      odd e = absurd (cc e)
+
+-- what each step of a seat that stands so keeps of the seat and its deeds so far, if something is true of the seat after
+-- the step, which was true before it then
+pub record IsKept (first : LiveView) (Sound : LiveView → Type 0) (Kept : LiveView → List Deed → Type 0) : Type 0 where
+  pub back : (v : LiveView) (s : Step v) → Stands first v → Sound (next v s) → Sound v
+  pub kept : (v : LiveView) (s : Step v) (before : List Deed) → Stands first v → Sound (next v s) → Kept v before
+      → Kept (next v s) (before ++ done_by v s)
+
+-- calls keep it then, from a fresh seat on
+module _ (first : LiveView) (Sound : LiveView → Type 0) (Kept : LiveView → List Deed → Type 0)
+    (k : IsKept first Sound Kept) where
+  abbrev Keeps : LiveView → List Deed → LiveView → Type 0
+  Keeps v ds after =
+      Stands first v
+      → Stands first after
+      × (Sound after → Sound v × ((before : List Deed) → Kept v before → Kept after (before ++ ds)))
+
+  steps_keep : FollowsSteps Keeps
+  steps_keep = record {
+    none = λ v stands. (
+      stands,
+      λ sound. (sound, λ before kept. subst (Kept v) (sym (append-nil before)) kept),
+    );
+    both = λ v now after ds rest r s stands.
+        let earlier = r stands in
+        let later = s earlier.0 in (
+          later.0,
+          λ sound.
+              let there = later.1 sound in
+              let here = earlier.1 there.0 in (
+                here.0,
+                λ before kept. subst (Kept after) (append_assoc before ds rest)
+                    (there.1 (before ++ ds) (here.1 before kept)),
+              ),
+        );
+    one = λ v s stands. (
+      stands_next first v s stands,
+      λ sound. (k.back v s stands sound, λ before kept. k.kept v s before stands sound kept),
+    );
+  }
+
+  pub stands_by_calls : (told : List Told) (after : LiveView) → HasDone first told after → IsUnused first
+      → Stands first after
+  stands_by_calls told after done unused =
+      (by_calls Keeps steps_keep told first after done (stands_at_first first unused)).0
+
+  pub kept_by_calls : (told : List Told) (after : LiveView) (done : HasDone first told after)
+      → IsUnused first → Sound after → Kept first [] → Kept after (deeds_of told first after done)
+  kept_by_calls told after done unused sound at_first =
+      ((by_calls Keeps steps_keep told first after done (stands_at_first first unused)).1 sound).1 [] at_first

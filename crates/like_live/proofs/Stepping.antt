@@ -1,0 +1,345 @@
+-- A call as steps, each of which does one thing to a seat.
+use Rattle.std.proofs.Common.{◌≡◌, ◌≢◌, ℕ, Bool, true, false, cond, List, [], ◌∷◌, ◌++◌, drop, length, map, Option, Some, None, refl, ap, sym, ◌∙◌, subst, arith, append-nil, append_assoc}
+use Rattle.std.specs.List.{All}
+use Rattle.std.proofs.Math.Seq.{drop-append_seam, drop-length}
+use Rattle.std.proofs.lemmas.List.{drop_all, length-drop}
+use Rattle.like_core.specs.declared.sight.Sight.{Sight}
+use Rattle.like_core.specs.declared.view.Addition.{Addition}
+use Rattle.like_core.specs.declared.worker_state.WorkerState.TheVariants.{Runs, Answered, Gone}
+use Rattle.like_core.specs.Post.{answered, has_glanced, has_read, slices}
+use Rattle.like_core.specs.declared.worker_state.WorkerState.{WorkerState}
+use Rattle.like_core.specs.WorkerState.{IsRunning, RunsJoined, RunsSplit}
+use Rattle.like_requests.specs.declared.verdict.Verdict.TheVariants.{Accepted}
+use Rattle.like_seat.specs.declared.seen.Seen.{Seen}
+use Rattle.like_seat.specs.Merge.{MergesAll, MergesAndReports, merged}
+use Rattle.like_seat.specs.StationView.{StationView, phase_at}
+use Rattle.like_seat.specs.Steps.{came_back, holding, liked_last, sliced, with_addition}
+use Rattle.like_tables.specs.UserTable.{last_of}
+use Rattle.like_live.specs.declared.answer.GlanceAnswer.{GlanceAnswer}
+use Rattle.like_live.specs.declared.answer.GlanceAnswer.TheVariants as glanced
+use Rattle.like_live.specs.declared.answer.LikeAnswer.{LikeAnswer}
+use Rattle.like_live.specs.declared.answer.LookAnswer.{LookAnswer}
+use Rattle.like_live.specs.declared.answer.TurnAnswer.{TurnAnswer}
+use Rattle.like_live.specs.declared.answer.TurnAnswer.TheVariants as answer
+use Rattle.like_live.specs.declared.asked.Asked.{Asked}
+use Rattle.like_live.specs.declared.asked.Found.{Found}
+use Rattle.like_live.specs.LiveView.{LiveView, waiting, with_seat}
+use Rattle.like_live.specs.Moves as moves
+use Rattle.like_live.specs.Moves.{CanSee, FindsAll, IsFoundAt, Moves, MovesBy, Works, acknowledged, looked, with_found}
+use Rattle.like_live.specs.Calls as calls
+use Rattle.like_live.specs.Calls.{ComeBackCase, GlanceCase, GlancesNow, LikeCase, LikesNow, LookCase, LooksNow, RetireCase, RetireWorks, TakesFound, asked_now, retired_seat, verdict_at}
+use Rattle.like_live.specs.History.{Does, HasDone, Told, come_back, glance, like, look, retire, take_found, turn}
+use Rattle.like_live.specs.Deeds.{Act, Deed, counted, deed, deed_found, deeds_of, deeds_of_call, found_by, glimpsed, own_deed, showed}
+use Rattle.like_live.proofs.Finding.{running}
+
+-- who runs a split phase runs a phase
+pub split_runs : (s : WorkerState) → RunsSplit s → IsRunning s
+split_runs (Runs k) h = tt
+split_runs (Answered k) h = absurd h
+split_runs Gone h = absurd h
+
+-- a seat whose turn says that it runs a phase does so
+moves_run : (v after : LiveView) → Moves v answer.Runs after → IsRunning after.seat.post.state
+moves_run v after (moves.is_gone gone a is) = absurd (cc a)
+moves_run v after (moves.waits sight mask can w a is) = absurd (cc a)
+moves_run v after (moves.works sight mask can w does) = by_works does where
+  by_works : Works (looked v sight mask) sight.ending answer.Runs after → IsRunning after.seat.post.state
+  by_works (moves.runs_joined joined e a found) =
+      subst (λ (w : LiveView). IsRunning w.seat.post.state) (sym found.rest)
+      (running (looked v sight mask).seat.post.state joined)
+  by_works (moves.acknowledges now joined e a found is) = absurd (cc a)
+  by_works (moves.runs_split split e a is) =
+      subst (λ (w : LiveView). IsRunning w.seat.post.state) (sym is)
+      (split_runs (looked v sight mask).seat.post.state split)
+  by_works (moves.reports s split e a merges is) = absurd (cc a)
+
+-- the seat after a merge and its report
+abbrev pub reported : LiveView → List Addition → LiveView
+reported v adds =
+    let m = merged v.seat adds in
+    with_seat v (record m { post = answered m.post })
+
+-- a request is accepted at a seat that runs a phase, for a page that is split there or not
+pub record IsRequest (v : LiveView) (user page : ℕ) (split : Bool) : Type 0 where
+  pub runs : IsRunning v.seat.post.state
+  pub accepted : verdict_at v.seat user page ≡ Accepted
+  pub at : slices v.seat.post page ≡ split
+
+-- a step of a seat: what it does, and what is known then
+pub data Step (v : LiveView) : Type 0 where
+  looks : (sight : Sight) (mask : ℕ) → CanSee v sight → Step v
+  finds : (found : List Found) → RunsJoined v.seat.post.state → map (λ f. f.asked) found ≡ waiting v
+      → All (IsFoundAt v.seat) found → Step v
+  acknowledges : RunsJoined v.seat.post.state → Step v
+  reports : (adds : List Addition) → RunsSplit v.seat.post.state
+      → MergesAll v.seat.post.factor (phase_at v.seat) v.seat.slice adds → Step v
+  retires : RunsJoined v.seat.post.state → Step v
+  returns : (phase mask : ℕ) → v.seat.post.state ≡ Gone → Step v
+  takes : Step v
+  slices_like : (user page : ℕ) → IsRequest v user page true → Step v
+  adds_like : (user page old : ℕ) → IsRequest v user page false → Step v
+  reads : (user page : ℕ) (shown : Seen) → IsRequest v user page false → shown.last ≡ last_of v.seat.last user → Step v
+  glances : (user page count : ℕ) (shown : Seen) → IsRequest v user page true → shown.last ≡ last_of v.seat.last user
+      → Step v
+  holds : (user page tag : ℕ) → IsRequest v user page true → Step v
+
+-- the seat after it
+abbrev pub next : (v : LiveView) → Step v → LiveView
+next v (looks sight mask can) = looked v sight mask
+next v (finds found joined order shown) = with_found v found
+next v (acknowledges joined) = acknowledged v
+next v (reports adds split merges) = reported v adds
+next v (retires joined) = retired_seat v
+next v (returns phase mask gone) = with_seat v (came_back v.seat phase mask)
+next v takes = record v { found = drop 1 v.found }
+next v (slices_like user page is) = with_seat v (liked_last (sliced v.seat page) user page)
+next v (adds_like user page old is) =
+    with_seat v (liked_last (with_addition v.seat page old 1) user page)
+next v (reads user page shown is last) =
+    with_seat v (record v.seat { post = has_read v.seat.post page shown.count })
+next v (glances user page count shown is last) =
+    with_seat v (record v.seat { post = has_glanced v.seat.post page count })
+next v (holds user page tag is) = with_seat v (holding v.seat (asked_now v user page tag))
+
+-- the deeds that it is
+abbrev pub done_by : (v : LiveView) → Step v → List Deed
+done_by v (finds found joined order shown) = map deed_found found
+done_by v (slices_like user page is) = deed (phase_at v.seat) user page counted ∷ []
+done_by v (adds_like user page old is) = deed (phase_at v.seat) user page counted ∷ []
+done_by v (reads user page shown is last) = deed (phase_at v.seat) user page (showed shown) ∷ []
+done_by v (glances user page count shown is last) =
+    deed (phase_at v.seat) user page (glimpsed shown) ∷ []
+done_by v other = []
+
+-- a relation of a seat, deeds and the seat after them, which holds of each step and of steps one after the other
+pub record FollowsSteps (R : LiveView → List Deed → LiveView → Type 0) : Type 0 where
+  pub none : (v : LiveView) → R v [] v
+  pub both : (v now after : LiveView) (first rest : List Deed) → R v first now → R now rest after
+      → R v (first ++ rest) after
+  pub one : (v : LiveView) (s : Step v) → R v (done_by v s) (next v s)
+
+module _ (R : LiveView → List Deed → LiveView → Type 0) (f : FollowsSteps R) where
+  -- what finds nothing
+  still : (v now : LiveView) → now.found ≡ v.found → R v [] now → R v (map deed_found (found_by v now)) now
+  still v now same r =
+      subst (λ fs. R v (map deed_found fs) now) (sym (ap (drop (length v.found)) same ∙ drop-length v.found)) r
+
+  all_found : (v after : LiveView) → RunsJoined v.seat.post.state → FindsAll v after
+      → R v (map deed_found (found_by v after)) after
+  all_found v after joined all =
+      subst (λ w. R v (map deed_found (found_by v w)) w) (sym all.rest)
+      (subst (λ fs. R v (map deed_found fs) (with_found v all.found)) (sym (drop-append_seam v.found all.found))
+      (f.one v (finds all.found joined all.order all.shown)))
+
+  -- one step more, which is no deed and finds nothing
+  more : (v now after : LiveView) → after.found ≡ now.found → R v (map deed_found (found_by v now)) now
+      → R now [] after → R v (map deed_found (found_by v after)) after
+  more v now after same r s =
+      subst (λ fs. R v (map deed_found (drop (length v.found) fs)) after) (sym same)
+      (subst (λ ds. R v ds after) (append-nil (map deed_found (found_by v now)))
+      (f.both v now after (map deed_found (found_by v now)) [] r s))
+
+  joined_still : (v now : LiveView) → FindsAll v now → RunsJoined v.seat.post.state → RunsJoined now.seat.post.state
+  joined_still v now all joined = subst (λ (w : LiveView). RunsJoined w.seat.post.state) (sym all.rest) joined
+
+  by_works : (v after : LiveView) (ending : Bool) (answer : TurnAnswer) → Works v ending answer after
+      → R v (map deed_found (found_by v after)) after
+  by_works v after ending answer (moves.runs_joined joined e a found) = all_found v after joined found
+  by_works v after ending answer (moves.acknowledges now joined e a found is) =
+      more v now after (ap (λ (w : LiveView). w.found) is) (all_found v now joined found)
+      (subst (R now []) (sym is) (f.one now (acknowledges (joined_still v now found joined))))
+  by_works v after ending answer (moves.runs_split split e a is) =
+      still v after (ap (λ (w : LiveView). w.found) is) (subst (R v []) (sym is) (f.none v))
+  by_works v after ending answer (moves.reports s split e a merges is) =
+      let adds = merges.1.0.0 in
+      let same : s ≡ record (merged v.seat adds) { post = answered (merged v.seat adds).post } =
+      merges.1.1 ∙ ap (λ (t : StationView Asked). record t { post = answered t.post }) merges.1.0.1.1 in
+      still v after (ap (λ (w : LiveView). w.found) is)
+      (subst (R v []) (sym (is ∙ ap (with_seat v) same)) (f.one v (reports adds split merges.1.0.1.0)))
+
+  by_retire_works : (v after : LiveView) (ending : Bool) (answer : TurnAnswer) → RetireWorks v ending answer after
+      → R v (map deed_found (found_by v after)) after
+  by_retire_works v after ending answer (calls.retires now joined a found is) =
+      more v now after (ap (λ (w : LiveView). w.found) is) (all_found v now joined found)
+      (subst (R now []) (sym is) (f.one now (retires (joined_still v now found joined))))
+  by_retire_works v after ending answer (calls.stays split works) = by_works v after ending answer works
+
+  by_moves : (Acts : LiveView → Bool → TurnAnswer → LiveView → Type 0)
+      → ((v after : LiveView) (ending : Bool) (answer : TurnAnswer) → Acts v ending answer after
+      → R v (map deed_found (found_by v after)) after)
+      → (v after : LiveView) (answer : TurnAnswer) → MovesBy Acts v answer after
+      → R v (map deed_found (found_by v after)) after
+  by_moves Acts run v after answer (moves.is_gone gone a is) =
+      still v after (ap (λ (w : LiveView). w.found) is) (subst (R v []) (sym is) (f.none v))
+  by_moves Acts run v after answer (moves.waits sight mask can w a is) =
+      still v after (ap (λ (w : LiveView). w.found) is) (subst (R v []) (sym is) (f.one v (looks sight mask can)))
+  by_moves Acts run v after answer (moves.works sight mask can w does) =
+      f.both v (looked v sight mask) after [] (map deed_found (found_by v after)) (f.one v (looks sight mask can))
+      (run (looked v sight mask) after sight.ending answer does)
+
+  -- a call that is no deed itself
+  plain_call : (v after : LiveView) (t : Told) → own_deed after t ≡ [] → R v (map deed_found (found_by v after)) after
+      → R v (deeds_of_call v t after) after
+  plain_call v after t none r =
+      subst (λ ds. R v ds after)
+      (sym (ap (λ ds. map deed_found (found_by v after) ++ ds) none ∙ append-nil (map deed_found (found_by v after)))) r
+
+  -- a request at a seat that runs a phase: its own deed, and it finds nothing
+  record Own (now after : LiveView) (t : Told) : Type 0 where
+    same : after.found ≡ now.found
+    own : R now (own_deed after t) after
+
+  after_moves : (v now after : LiveView) (t : Told) (answer : TurnAnswer) → Moves v answer now → Own now after t
+      → R v (deeds_of_call v t after) after
+  after_moves v now after t answer m o =
+      subst (λ fs. R v (map deed_found (drop (length v.found) fs) ++ own_deed after t) after) (sym o.same)
+      (f.both v now after (map deed_found (found_by v now)) (own_deed after t)
+      (by_moves Works by_works v now answer m) o.own)
+
+  nothing : (v after : LiveView) (t : Told) → after ≡ v → own_deed after t ≡ [] → Own v after t
+  nothing v after t is none = record {
+    same = ap (λ (w : LiveView). w.found) is;
+    own = subst (λ ds. R v ds after) (sym none) (subst (R v []) (sym is) (f.none v));
+  }
+
+  by_likes : (v after : LiveView) (user page : ℕ) (answer : LikeAnswer) → IsRunning v.seat.post.state
+      → LikesNow v user page answer after → Own v after (like user page answer)
+  by_likes v after user page answer runs (calls.refused fails a is) =
+      nothing v after (like user page answer) is (ap (λ x. own_deed after (like user page x)) a)
+  by_likes v after user page answer runs (calls.full accepted most a is) =
+      nothing v after (like user page answer) is (ap (λ x. own_deed after (like user page x)) a)
+  by_likes v after user page answer runs (calls.liked None s accepted few a c is) =
+      let e = is ∙ ap (with_seat v) c.1 in
+      record {
+        same = ap (λ (w : LiveView). w.found) is;
+        own = subst (λ x. R v (own_deed after (like user page x)) after) (sym a)
+            (subst (λ w. R v (deed (phase_at w.seat) user page counted ∷ []) w) (sym e)
+            (f.one v (slices_like user page (record { runs = runs; accepted = accepted; at = c.0 }))));
+      }
+  by_likes v after user page answer runs (calls.liked (Some old) s accepted few a c is) =
+      let e = is ∙ ap (with_seat v) c.1 in
+      record {
+        same = ap (λ (w : LiveView). w.found) is;
+        own = subst (λ x. R v (own_deed after (like user page x)) after) (sym a)
+            (subst (λ w. R v (deed (phase_at w.seat) user page counted ∷ []) w) (sym e)
+            (f.one v (adds_like user page old (record { runs = runs; accepted = accepted; at = c.0 }))));
+      }
+
+  by_looks : (v after : LiveView) (user page tag : ℕ) (answer : LookAnswer) → IsRunning v.seat.post.state
+      → LooksNow v user page tag answer after → Own v after (look user page tag answer)
+  by_looks v after user page tag answer runs (calls.refused fails a is) =
+      nothing v after (look user page tag answer) is (ap (λ x. own_deed after (look user page tag x)) a)
+  by_looks v after user page tag answer runs (calls.no_room accepted split most a is) =
+      nothing v after (look user page tag answer) is (ap (λ x. own_deed after (look user page tag x)) a)
+  by_looks v after user page tag answer runs (calls.seen shown s accepted plain a read is) =
+      let e = is ∙ ap (with_seat v) read.read in
+      record {
+        same = ap (λ (w : LiveView). w.found) is;
+        own = subst (λ x. R v (own_deed after (look user page tag x)) after) (sym a)
+            (subst (λ w. R v (deed (phase_at w.seat) user page (showed shown) ∷ []) w) (sym e)
+            (f.one v (reads user page shown (record { runs = runs; accepted = accepted; at = plain }) read.last)));
+      }
+  by_looks v after user page tag answer runs (calls.waits accepted split room a is) =
+      record {
+        same = ap (λ (w : LiveView). w.found) is;
+        own = subst (λ x. R v (own_deed after (look user page tag x)) after) (sym a)
+            (subst (R v []) (sym is) (f.one v (holds user page tag (record { runs = runs; accepted = accepted; at = split }))));
+      }
+
+  by_glances : (v after : LiveView) (user page : ℕ) (answer : GlanceAnswer) → IsRunning v.seat.post.state
+      → GlancesNow v user page answer after → Own v after (glance user page answer)
+  by_glances v after user page answer runs (calls.refused fails a is) =
+      nothing v after (glance user page answer) is (ap (λ x. own_deed after (glance user page x)) a)
+  by_glances v after user page answer runs (calls.plain shown s accepted plain a read is) =
+      let e = is ∙ ap (with_seat v) read.read in
+      record {
+        same = ap (λ (w : LiveView). w.found) is;
+        own = subst (λ x. R v (own_deed after (glance user page x)) after) (sym a)
+            (subst (λ w. R v (own_deed w (glance user page (glanced.Seen shown))) w) (sym e)
+            (subst (λ b. R v (deed (phase_at v.seat) user page (cond b (glimpsed shown) (showed shown)) ∷ [])
+            (with_seat v (record v.seat { post = has_read v.seat.post page shown.count }))) (sym plain)
+            (f.one v (reads user page shown (record { runs = runs; accepted = accepted; at = plain }) read.last))));
+      }
+  by_glances v after user page answer runs (calls.split shown s accepted split a g is) =
+      let e = is ∙ ap (with_seat v) g.glanced in
+      record {
+        same = ap (λ (w : LiveView). w.found) is;
+        own = subst (λ x. R v (own_deed after (glance user page x)) after) (sym a)
+            (subst (λ w. R v (own_deed w (glance user page (glanced.Seen shown))) w) (sym e)
+            (subst (λ b. R v (deed (phase_at v.seat) user page (cond b (glimpsed shown) (showed shown)) ∷ [])
+            (with_seat v (record v.seat { post = has_glanced v.seat.post page g.count }))) (sym split)
+            (f.one v (glances user page g.count shown (record { runs = runs; accepted = accepted; at = split }) g.last))));
+      }
+
+  by_turn : (v after : LiveView) (answer : TurnAnswer) → Moves v answer after
+      → R v (map deed_found (found_by v after)) after
+  by_turn = by_moves Works by_works
+
+  by_return : (v after : LiveView) (answer : TurnAnswer) → ComeBackCase v answer after
+      → R v (map deed_found (found_by v after)) after
+  by_return v after answer (calls.runs s gone a back is) =
+      let e = is ∙ ap (with_seat v) back.1.1 in
+      still v after (ap (λ (w : LiveView). w.found) is)
+      (subst (R v []) (sym e) (f.one v (returns back.0 back.1.0 gone)))
+  by_return v after answer (calls.between gone a is) =
+      still v after (ap (λ (w : LiveView). w.found) is) (subst (R v []) (sym is) (f.none v))
+  by_return v after answer (calls.there here m) = by_turn v after answer m
+
+  -- none is found where one is taken
+  drop_more : (fs : List Found) → drop (length fs) (drop 1 fs) ≡ []
+  drop_more [] = refl
+  drop_more (x ∷ fs) = drop_all (length (x ∷ fs)) fs (omega arith)
+
+  by_take : (v after : LiveView) (taken : Option Found) → TakesFound v taken after
+      → R v (map deed_found (found_by v after)) after
+  by_take v after taken does =
+      subst (λ w. R v (map deed_found (found_by v w)) w) (sym does.1)
+      (subst (λ fs. R v (map deed_found fs) (record v { found = drop 1 v.found })) (sym (drop_more v.found))
+      (f.one v takes))
+
+  pub by_call : (t : Told) (v after : LiveView) → Does v t after → R v (deeds_of_call v t after) after
+  by_call (turn answer) v after d = plain_call v after (turn answer) refl (by_turn v after answer d)
+  by_call (like user page answer) v after d = by_case d
+    where
+      by_case : LikeCase v user page answer after → R v (deeds_of_call v (like user page answer) after) after
+      by_case (calls.gone m a) =
+          plain_call v after (like user page answer) (ap (λ x. own_deed after (like user page x)) a)
+          (by_turn v after _ m)
+      by_case (calls.between m a) =
+          plain_call v after (like user page answer) (ap (λ x. own_deed after (like user page x)) a)
+          (by_turn v after _ m)
+      by_case (calls.runs now m l) =
+          after_moves v now after (like user page answer) _ m (by_likes now after user page answer (moves_run v now m) l)
+  by_call (look user page tag answer) v after d = by_case d
+    where
+      by_case : LookCase v user page tag answer after → R v (deeds_of_call v (look user page tag answer) after) after
+      by_case (calls.gone m a) =
+          plain_call v after (look user page tag answer) (ap (λ x. own_deed after (look user page tag x)) a)
+          (by_turn v after _ m)
+      by_case (calls.between m a) =
+          plain_call v after (look user page tag answer) (ap (λ x. own_deed after (look user page tag x)) a)
+          (by_turn v after _ m)
+      by_case (calls.runs now m l) =
+          after_moves v now after (look user page tag answer) _ m (by_looks now after user page tag answer (moves_run v now m) l)
+  by_call (glance user page answer) v after d = by_case d
+    where
+      by_case : GlanceCase v user page answer after → R v (deeds_of_call v (glance user page answer) after) after
+      by_case (calls.gone m a) =
+          plain_call v after (glance user page answer) (ap (λ x. own_deed after (glance user page x)) a)
+          (by_turn v after _ m)
+      by_case (calls.between m a) =
+          plain_call v after (glance user page answer) (ap (λ x. own_deed after (glance user page x)) a)
+          (by_turn v after _ m)
+      by_case (calls.runs now m l) =
+          after_moves v now after (glance user page answer) _ m (by_glances now after user page answer (moves_run v now m) l)
+  by_call (take_found taken) v after d = plain_call v after (take_found taken) refl (by_take v after taken d)
+  by_call (retire answer) v after d =
+      plain_call v after (retire answer) refl (by_moves RetireWorks by_retire_works v after answer d)
+  by_call (come_back answer) v after d = plain_call v after (come_back answer) refl (by_return v after answer d)
+
+  pub by_calls : (told : List Told) (v after : LiveView) (done : HasDone v told after)
+      → R v (deeds_of told v after done) after
+  by_calls [] v after done = subst (R v []) (sym done) (f.none v)
+  by_calls (t ∷ told) v after done =
+      f.both v done.0 after (deeds_of_call v t done.0) (deeds_of told done.0 after done.1.1)
+      (by_call t v done.0 done.1.0) (by_calls told done.0 after done.1.1)

@@ -1,0 +1,5 @@
+use Rattle.like_live.proofs.OneThread.{services_are_serial}
+use Rattle.like_live.proofs.laws.services_are_serial.Goals as goal
+
+pub returns : goal.returns
+returns c = services_are_serial
