@@ -82,14 +82,18 @@ pub unopened-requests : {R : Type 0} (old mid new : Option (List (Try R))) (opti
 unopened-requests {R = Reader} old mid new options pages (driver.Requests submitter why) first unopened =
     let at = unopened.2 in (
       pages,
-      (unopened.0, unopened.1, record {
-        readers = at.readers;
-        last = at.last;
-        opened = at.opened;
-        reason = at.reason;
-        tries = both (slice_get options.requests.items unopened.0) (λ name.
-            opened_as (take unopened.0 options.requests.items) at.readers ++ tried name at.last ∷ []) at.tries;
-      }),
+      (
+        unopened.0,
+        unopened.1,
+        record {
+          readers = at.readers;
+          last = at.last;
+          opened = at.opened;
+          reason = at.reason;
+          tries = both (slice_get options.requests.items unopened.0) (λ name.
+              opened_as (take unopened.0 options.requests.items) at.readers ++ tried name at.last ∷ []) at.tries;
+        },
+      ),
     )
   where
     both : (name : Option (String Global)) (more : String Global → List (Try Reader))

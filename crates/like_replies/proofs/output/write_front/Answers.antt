@@ -23,18 +23,18 @@ returns g c = begun-first _ _ c.loop-write.done c.args.text.now c.loop-write.inv
 pub loop-write-preserved : goal.loop-write-preserved
 loop-write-preserved g c =
     elim c.match-write.branch [
-      in-Ok w ↦
-        let done = c.loop-write.done in
-        let text = c.args.text.now in
-        let fits = rw (take_rest text done, length-drop done text) at w.in-Ok.ensures.bound in
-        rw w.done-is (
-          omega (arith, fits, c.loop-write.invariant.0),
-          first-more _ _ _ done w.in-Ok.count text c.loop-write.invariant.1
-              (rw (take_rest text done) at w.in-Ok.ensures.bytes),
-        )
-    | in-Err+else-ne w ↦
-        rw w.done-is (
-          c.loop-write.invariant.0,
-          Appends-kept _ _ _ (take c.loop-write.done c.args.text.now) c.loop-write.invariant.1 w.in-Err.ensures.bytes,
-        )
+      | in-Ok w ↦
+          let done = c.loop-write.done in
+          let text = c.args.text.now in
+          let fits = rw (take_rest text done, length-drop done text) at w.in-Ok.ensures.bound in
+          rw w.done-is (
+            omega (arith, fits, c.loop-write.invariant.0),
+            first-more _ _ _ done w.in-Ok.count text c.loop-write.invariant.1
+                (rw (take_rest text done) at w.in-Ok.ensures.bytes),
+          )
+      | in-Err+else-ne w ↦
+          rw w.done-is (
+            c.loop-write.invariant.0,
+            Appends-kept _ _ _ (take c.loop-write.done c.args.text.now) c.loop-write.invariant.1 w.in-Err.ensures.bytes,
+          )
     ]
