@@ -13,6 +13,7 @@ use Rattle.like_requests.specs.declared.request.Request.{Request}
 use Rattle.like_requests.specs.declared.requests_file.RequestsFault.{RequestsFault}
 use Rattle.like_requests.specs.declared.setup.Setup.{Setup}
 use Rattle.like_promises.specs.declared.report.Report.{Report}
+use Rattle.like_replies.specs.Output.{HasBegun}
 use Rattle.like_replies.specs.PlaceRows.{text_of}
 use Rattle.like_replies.specs.declared.extent.Extent.{Extent}
 use Rattle.like_replies.specs.Notices.{notice_of}
@@ -139,3 +140,17 @@ pub record WritesReport (options : Options) (setup : Setup) (plans : List (List 
   pub right : IsReportOf setup plans options.places report
   pub written : Appends old new (text_of (extent_of options) setup.pages report)
   pub noticed : notice ≡ notice_of options.summary report
+
+-- a front of the text of a right report was written
+pub record BeginsReport (options : Options) (setup : Setup) (plans : List (List Request))
+    (old new : Option (List ℕ)) : Type 0 where
+  pub report : Report
+  pub right : IsReportOf setup plans options.places report
+  pub begun : HasBegun old new (text_of (extent_of options) setup.pages report)
+
+-- a front of a report of these files was written
+pub record BeginsReportOf (options : Options) (inputs : Inputs) (old new : Option (List ℕ)) : Type 0 where
+  pub pages : List Page
+  pub plans : List (List Request)
+  pub given : GivesLists inputs.pages inputs.requests pages plans
+  pub begun : BeginsReport options (setup_of options pages) plans old new

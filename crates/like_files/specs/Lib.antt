@@ -8,3 +8,4 @@ pub mod Plans
 pub mod Replay
 pub mod Run
 pub mod StandardInput
+pub mod Tries

@@ -1,5 +1,6 @@
-ghost use Rattle.std.specs.Prelude.{MatchResult, string_bytes};
-ghost use Rattle.like_files.specs.Opened.{AreNamed, AreOpened, IsUnopened, IsUnopenedRequest};
+ghost use Rattle.std.specs.Prelude.{◌≡◌, [], MatchResult, length};
+ghost use Rattle.like_files.specs.Opened.{AreNamed, IsUnopened, IsUnopenedRequest, opened_as};
+ghost use Rattle.like_files.specs.Tries.{Tries};
 
 use crate::fault::DriverFault;
 use crate::opener::Opener;
@@ -17,14 +18,14 @@ pub struct Opened<R> {
 }
 
 /// Opens the pages file, the request files in their order and the script file. It stops at the first that can't be
-/// opened, with the `Read` fault of that file.
+/// opened, with the `Read` fault of that file, and tries none after it.
 pub fn open_files<O: Opener>(
-    opener: &O,
+    opener: &mut O,
     alloc: Global,
     options: &Options,
 ) -> Result<Opened<O::Reader>, DriverFault>
-    ensures { MatchResult result (AreNamed (O.opens opener.now) options.now)
-        (IsUnopened (O.opens opener.now) (O.refuses opener.now) options.now) }
+    ensures { MatchResult result (AreNamed (O.tries opener.old) (O.tries opener.new) options.now)
+        (IsUnopened (O.tries opener.old) (O.tries opener.new) options.now) }
 {
     let Some(pages) = opener.open(options.pages.as_str()) else {
         return Err(DriverFault::Pages(PagesFault::Read));
@@ -46,12 +47,14 @@ pub fn open_files<O: Opener>(
 
 // Opens the request files in their order. If there is no memory for one more, the fault is its `Memory`.
 fn open_requests<O: Opener>(
-    opener: &O,
+    opener: &mut O,
     alloc: Global,
     names: &[String],
 ) -> Result<Vec<O::Reader>, DriverFault>
-    ensures { MatchResult result (λ readers. AreOpened (O.opens opener.now) names.now readers.items)
-        (IsUnopenedRequest (O.opens opener.now) (O.refuses opener.now) names.now) }
+    ensures { MatchResult result
+        (λ readers. (length readers.items ≡ length names.now)
+        × Tries (O.tries opener.old) (O.tries opener.new) (opened_as names.now readers.items))
+        (IsUnopenedRequest (O.tries opener.old) (O.tries opener.new) [] names.now) }
 {
     let mut opened = Vec::new(alloc);
     for (place, name) in names.iter().enumerate() {

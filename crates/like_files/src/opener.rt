@@ -1,4 +1,5 @@
-ghost use Rattle.std.specs.Prelude.{ℕ, List, MatchOption};
+ghost use Rattle.std.specs.Prelude.{◌∷◌, [], List, None, Option};
+ghost use Rattle.like_files.specs.Tries.{Tries, Try};
 
 use crate::source::Source;
 use crate::standard_input::is_input;
@@ -11,34 +12,26 @@ pub trait Opener {
     /// Reads an open file.
     type Reader: Read + Drop;
 
-    // The file of this name was opened, and this reads it.
-    ghost opens: { Self → List ℕ → Self.Reader → Type 0 };
-
-    // The file of this name can't be opened.
-    ghost refuses: { Self → List ℕ → Type 0 };
+    // What it was asked to open so far, in order, where that is known.
+    ghost tries: { Self → Option (List (Try Self.Reader)) } = { λ _. None };
 
     /// Opens the file of this name to read it, if it can be opened.
-    fn open(&self, name: &str) -> Option<Self::Reader>
-        ensures { MatchOption result (refuses self.now name.now) (opens self.now name.now) };
+    fn open(&mut self, name: &str) -> Option<Self::Reader>
+        ensures { Tries (tries self.old) (tries self.new)
+            (record { name = name.now; opened = result } ∷ []) };
 }
 
-/// Opens the files of the system, and standard input under the name `-`. The kit says nothing about an opened file's
-/// bytes, so this opener states no facts.
+/// Opens the files of the system, and standard input under the name `-`. It doesn't tell what it was asked to open,
+/// since the kit says nothing about an opened file.
 #[derive(Drop)]
 pub struct Disk<'a, F: Files + Input> {
     pub files: &'a F,
 }
 
 impl<F: Files + Input> Opener for Disk<'_, F> {
-    ghost use Rattle.std.specs.Prelude.{⊤};
-
     type Reader = Source<F::File, F::Reader>;
 
-    ghost opens = { λ _ _ _. ⊤ };
-
-    ghost refuses = { λ _ _. ⊤ };
-
-    fn open(&self, name: &str) -> Option<Source<F::File, F::Reader>> {
+    fn open(&mut self, name: &str) -> Option<Source<F::File, F::Reader>> {
         if is_input(name) {
             return Some(Source::Input(self.files.reader()));
         }

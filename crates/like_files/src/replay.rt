@@ -1,10 +1,10 @@
-ghost use Rattle.std.specs.Prelude.{◌≡◌, ◌≤◌, IfErr, IfOk, IsSomeAnd, List, MatchResult, Option, is_some, length, option_map};
+ghost use Rattle.std.specs.Prelude.{◌≡◌, ◌≤◌, IfErr, IfOk, IsSomeAnd, List, MatchResult, OnErr, Option, is_some, length, option_map};
 ghost use Rattle.like_promises.specs.WorkloadOf.{lists_of};
 ghost use Rattle.like_records.specs.Reading.{ReadFailed};
 ghost use Rattle.like_limits.specs.Limits.{max_entries};
 ghost use Rattle.like_files.specs.FailedReads.{TellsRead};
-ghost use Rattle.like_files.specs.Inputs.{GivesLists, GivesScript, Inputs, RefusesScript, inputs_in, inputs_of};
-ghost use Rattle.like_files.specs.Outcome.{IsOutcome};
+ghost use Rattle.like_files.specs.Inputs.{BeginsReport, BeginsReportOf, GivesLists, GivesScript, Inputs, RefusesScript, inputs_in, inputs_of};
+ghost use Rattle.like_files.specs.Outcome.{IsOutcome, LeavesFront, LeavesOutput};
 ghost use Rattle.like_files.specs.Replay.{HasReplayed, HasReplayedLists, IsReplayFilesFault, IsReplayListsFault};
 ghost use Rattle.like_replies.specs.declared.notice.Notice.{Notice};
 
@@ -14,17 +14,18 @@ use crate::opened::Opened;
 use crate::plans::{read_plans, read_plans_at_once};
 use crate::progress::{NoProgress, Part, Progress};
 use like_command::Options;
-use like_replies::{Notice, Text};
+use like_replies::{Notice, Output, Text};
 use like_requests::{Pages, Request, Setup, read_pages};
 use like_run::{ScriptFault, Turned, read_script, replay_noting};
 use std::alloc::Global;
-use std::io::{Read, Write};
+use std::io::Read;
 use std::thread::Threads;
 
 /// Reads the pages file, the request files in their order and the script file; replays the run that they ask for; and
 /// writes its report. The options say whether that has the totals alone, and whether it has places. Without a script,
-/// no turn comes before the rounds. After `Write` and `Memory` a part of the report may have been written.
-pub fn replay_files<R: Read + Drop, W: Write>(
+/// no turn comes before the rounds. After `Write` and `Memory` the front of the report may have
+/// been written.
+pub fn replay_files<R: Read + Drop, W: Output>(
     alloc: Global,
     options: &Options,
     pages: R,
@@ -36,7 +37,10 @@ pub fn replay_files<R: Read + Drop, W: Write>(
     requires script_name { is_some script ≡ is_some options.now.script }
     ensures replayed { let inputs = inputs_of R.remaining pages requests.items script in
         IsOutcome (λ old new _. (notice : Option Notice) × HasReplayed options.now inputs old new notice)
-        (IsReplayFilesFault options.now inputs) W.contents out.old out.new result }
+        (IsReplayFilesFault options.now inputs) W.held out.old out.new result }
+    ensures begun { let inputs = inputs_of R.remaining pages requests.items script in
+        OnErr result (LeavesFront (BeginsReportOf options.now inputs) W.held out.old out.new) }
+    ensures output { LeavesOutput W.is_flushed W.has_failed out.old out.new result }
     ensures read { IfErr result (TellsRead pages requests.items script) }
 {
     let pages = read_pages(alloc, pages)?;
@@ -47,7 +51,7 @@ pub fn replay_files<R: Read + Drop, W: Write>(
 
 /// The same for files that are open, with the request files read in parallel, and with the notice on the report, while
 /// `progress` hears of each part. The replay itself is the calling thread's work.
-pub fn replay_opened<T: Threads + Sync, R: Read + Drop + Send, W: Write, P: Progress>(
+pub fn replay_opened<T: Threads + Sync, R: Read + Drop + Send, W: Output, P: Progress>(
     rt: &T,
     alloc: Global,
     options: &Options,
@@ -59,7 +63,10 @@ pub fn replay_opened<T: Threads + Sync, R: Read + Drop + Send, W: Write, P: Prog
     requires script_name { is_some files.script ≡ is_some options.now.script }
     ensures replayed { let inputs = inputs_in R.remaining files in
         IsOutcome (HasReplayed options.now inputs) (IsReplayFilesFault options.now inputs)
-        W.contents out.old out.new result }
+        W.held out.old out.new result }
+    ensures begun { let inputs = inputs_in R.remaining files in
+        OnErr result (LeavesFront (BeginsReportOf options.now inputs) W.held out.old out.new) }
+    ensures output { LeavesOutput W.is_flushed W.has_failed out.old out.new result }
     ensures read { IfErr result (TellsRead files.pages files.requests.items files.script) }
 {
     let Opened {
@@ -73,7 +80,7 @@ pub fn replay_opened<T: Threads + Sync, R: Read + Drop + Send, W: Write, P: Prog
 }
 
 // Reads the script, and replays it with what the other files gave.
-fn replay_read<R: Read + Drop, W: Write, P: Progress>(
+fn replay_read<R: Read + Drop, W: Output, P: Progress>(
     alloc: Global,
     options: &Options,
     pages: Pages,
@@ -85,7 +92,10 @@ fn replay_read<R: Read + Drop, W: Write, P: Progress>(
     ensures replayed { (inputs : Inputs) → GivesLists inputs.pages inputs.requests pages (lists_of plans.items)
         → inputs.script ≡ option_map R.remaining script
         → IsOutcome (HasReplayed options.now inputs) (IsReplayFilesFault options.now inputs)
-        W.contents out.old out.new result }
+        W.held out.old out.new result }
+    ensures begun { (inputs : Inputs) → GivesLists inputs.pages inputs.requests pages (lists_of plans.items)
+        → OnErr result (LeavesFront (BeginsReportOf options.now inputs) W.held out.old out.new) }
+    ensures output { LeavesOutput W.is_flushed W.has_failed out.old out.new result }
     ensures read { (file : R) (files : List R) → IfErr result (TellsRead file files script) }
 {
     let script = read_turns(alloc, script)?;
@@ -95,7 +105,7 @@ fn replay_read<R: Read + Drop, W: Write, P: Progress>(
 }
 
 // Replays what the files gave, and writes the report.
-fn replay_lists<W: Write, P: Progress>(
+fn replay_lists<W: Output, P: Progress>(
     alloc: Global,
     options: &Options,
     setup: &Setup,
@@ -105,8 +115,11 @@ fn replay_lists<W: Write, P: Progress>(
     progress: &mut P,
 ) -> Result<Option<Notice>, DriverFault>
     requires { length script.now ≤ max_entries }
-    ensures { IsOutcome (HasReplayedLists options.now setup.now (lists_of plans.items) script.now)
-        (IsReplayListsFault setup.now (lists_of plans.items) script.now) W.contents out.old out.new result }
+    ensures replayed { IsOutcome (HasReplayedLists options.now setup.now (lists_of plans.items) script.now)
+        (IsReplayListsFault setup.now (lists_of plans.items) script.now) W.held out.old out.new result }
+    ensures begun { OnErr result (LeavesFront
+        (BeginsReport options.now setup.now (lists_of plans.items)) W.held out.old out.new) }
+    ensures output { LeavesOutput W.is_flushed W.has_failed out.old out.new result }
 {
     let report = replay_noting(alloc, setup, plans, script, options.places)?;
     progress.done(Part::Running);

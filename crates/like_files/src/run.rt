@@ -1,8 +1,8 @@
-ghost use Rattle.std.specs.Prelude.{◌≡◌, IfErr, None, Option, length};
+ghost use Rattle.std.specs.Prelude.{◌≡◌, IfErr, None, OnErr, Option, length};
 ghost use Rattle.like_promises.specs.WorkloadOf.{lists_of};
 ghost use Rattle.like_files.specs.FailedReads.{TellsRead};
-ghost use Rattle.like_files.specs.Inputs.{inputs_in, inputs_of};
-ghost use Rattle.like_files.specs.Outcome.{IsOutcome};
+ghost use Rattle.like_files.specs.Inputs.{BeginsReport, BeginsReportOf, inputs_in, inputs_of};
+ghost use Rattle.like_files.specs.Outcome.{IsOutcome, LeavesFront, LeavesOutput};
 ghost use Rattle.like_files.specs.Run.{HasRun, HasRunLists, IsRunFilesFault, IsRunListsFault};
 ghost use Rattle.like_replies.specs.declared.notice.Notice.{Notice};
 
@@ -12,20 +12,21 @@ use crate::opened::Opened;
 use crate::plans::read_plans_at_once;
 use crate::progress::{NoProgress, Part, Progress};
 use like_command::Options;
-use like_replies::{Notice, Text};
+use like_replies::{Notice, Output, Text};
 use like_requests::{Request, Setup, read_pages};
 use like_roles::NoGate;
 use like_run::run_noting;
 use std::alloc::Global;
-use std::io::{Read, Write};
+use std::io::Read;
 use std::sync::Wait;
 use std::thread::Threads;
 
 /// Reads the pages file, and the request files in parallel; makes their run on threads; and writes its report. The options
 /// say whether that has the totals alone, and whether it has places. The fault is that of the first file at fault, though
-/// later ones may have been read by then. After `Write` and `Memory` a part of the report may have been written. Threads
+/// later ones may have been read by then. After `Write` and `Memory` the front of the report may have
+/// been written. Threads
 /// take the readers, so they are `Send`.
-pub fn run_files<T: Threads + Wait + Sync, R: Read + Drop + Send, W: Write>(
+pub fn run_files<T: Threads + Wait + Sync, R: Read + Drop + Send, W: Output>(
     rt: &T,
     alloc: Global,
     options: &Options,
@@ -36,7 +37,10 @@ pub fn run_files<T: Threads + Wait + Sync, R: Read + Drop + Send, W: Write>(
     requires { length requests.items ≡ length options.now.requests.items }
     ensures run { let inputs = inputs_of R.remaining pages requests.items None in
         IsOutcome (λ old new _. (notice : Option Notice) × HasRun options.now inputs old new notice)
-        (IsRunFilesFault options.now inputs) W.contents out.old out.new result }
+        (IsRunFilesFault options.now inputs) W.held out.old out.new result }
+    ensures begun { let inputs = inputs_of R.remaining pages requests.items None in
+        OnErr result (LeavesFront (BeginsReportOf options.now inputs) W.held out.old out.new) }
+    ensures output { LeavesOutput W.is_flushed W.has_failed out.old out.new result }
     ensures read { IfErr result (TellsRead pages requests.items None) }
 {
     let files = Opened {
@@ -50,7 +54,7 @@ pub fn run_files<T: Threads + Wait + Sync, R: Read + Drop + Send, W: Write>(
 
 /// The same for files that are open, with the notice on the report, while `progress` hears of each part. A script is
 /// left unread.
-pub fn run_opened<T: Threads + Wait + Sync, R: Read + Drop + Send, W: Write, P: Progress>(
+pub fn run_opened<T: Threads + Wait + Sync, R: Read + Drop + Send, W: Output, P: Progress>(
     rt: &T,
     alloc: Global,
     options: &Options,
@@ -60,7 +64,10 @@ pub fn run_opened<T: Threads + Wait + Sync, R: Read + Drop + Send, W: Write, P: 
 ) -> Result<Option<Notice>, DriverFault>
     requires { length files.requests.items ≡ length options.now.requests.items }
     ensures run { let inputs = inputs_in R.remaining files in
-        IsOutcome (HasRun options.now inputs) (IsRunFilesFault options.now inputs) W.contents out.old out.new result }
+        IsOutcome (HasRun options.now inputs) (IsRunFilesFault options.now inputs) W.held out.old out.new result }
+    ensures begun { let inputs = inputs_in R.remaining files in
+        OnErr result (LeavesFront (BeginsReportOf options.now inputs) W.held out.old out.new) }
+    ensures output { LeavesOutput W.is_flushed W.has_failed out.old out.new result }
     ensures read { IfErr result (TellsRead files.pages files.requests.items None) }
 {
     let pages = read_pages(alloc, files.pages)?;
@@ -71,7 +78,7 @@ pub fn run_opened<T: Threads + Wait + Sync, R: Read + Drop + Send, W: Write, P: 
 }
 
 // Runs what the files gave, and writes the report.
-fn run_lists<T: Threads + Wait + Sync, W: Write, P: Progress>(
+fn run_lists<T: Threads + Wait + Sync, W: Output, P: Progress>(
     rt: &T,
     alloc: Global,
     options: &Options,
@@ -80,8 +87,11 @@ fn run_lists<T: Threads + Wait + Sync, W: Write, P: Progress>(
     out: &mut W,
     progress: &mut P,
 ) -> Result<Option<Notice>, DriverFault>
-    ensures { IsOutcome (HasRunLists options.now setup.now (lists_of plans.items))
-        (IsRunListsFault setup.now (lists_of plans.items)) W.contents out.old out.new result }
+    ensures run { IsOutcome (HasRunLists options.now setup.now (lists_of plans.items))
+        (IsRunListsFault setup.now (lists_of plans.items)) W.held out.old out.new result }
+    ensures begun { OnErr result (LeavesFront
+        (BeginsReport options.now setup.now (lists_of plans.items)) W.held out.old out.new) }
+    ensures output { LeavesOutput W.is_flushed W.has_failed out.old out.new result }
 {
     let report = run_noting(rt, alloc, setup, plans, &NoGate, u32::MAX, options.places)?;
     progress.done(Part::Running);

@@ -3,6 +3,7 @@ use Rattle.std.specs.Prelude.{◌≡◌, ◌⊎◌, ℕ, false, true, List, [], 
 use Rattle.std.specs.Io.KnownBytes.{Appends}
 use Rattle.like_command.specs.Asked.{Asks, AsksForHelp, IsParseFault, Words}
 use Rattle.like_files.specs.Faults.{IsBeforeOutput}
+use Rattle.like_files.specs.Outcome.{TellsWrite}
 use Rattle.like_files.specs.declared.fault.DriverFault.{DriverFault}
 use Rattle.like_program.specs.Fault.{program_status}
 use Rattle.like_files.specs.Replay.{HasReplayed, HasReplayedSome}
@@ -93,3 +94,14 @@ IsServeFault (word ∷ words) old new fault = IsWordsFault (word ∷ words) old 
 abbrev pub Ends : Words → Option (List ℕ) → Option (List ℕ) → ℕ → Type 0
 Ends words old new status = ((status ≡ 0) × (notice : Option Notice) × HasServed words old new notice)
     ⊎ ((fault : ProgramFault) × (status ≡ program_status fault) × IsServeFault words old new fault)
+
+-- the fault tells whether a write or a flush of the output failed
+abbrev pub TellsProgram : {W : Type 0} → (W → Type 0) → W → W → ProgramFault → Type 0
+TellsProgram Failed old new (program.Files options fault) = TellsWrite Failed old new fault
+TellsProgram Failed old new program.Output = Failed new
+TellsProgram Failed old new fault = Failed new → Failed old
+
+-- with status 0 the output is flushed, and no call of it failed; or the status is that of a fault, which tells whether one did
+abbrev pub EndsOutput : {W : Type 0} → (W → Type 0) → (W → Type 0) → W → W → ℕ → Type 0
+EndsOutput Flushed Failed old new status = ((status ≡ 0) × Flushed new × (Failed new → Failed old))
+    ⊎ ((fault : ProgramFault) × (status ≡ program_status fault) × TellsProgram Failed old new fault)

@@ -1,12 +1,11 @@
-ghost use Rattle.std.specs.Prelude.{◌≡◌, ◌∷◌, [], IfErr, IfOk, None, Some, length, map};
-ghost use Rattle.like_program.specs.Program.{HasReplayedExample, IsExample, IsExampleFault, example_requests};
+ghost use Rattle.std.specs.Prelude.{◌≡◌, ◌∷◌, [], IfErr, IfOk, MatchResult, None, OnOk, Some, length, map};
+ghost use Rattle.like_program.specs.Program.{HasReplayedExample, IsExample, IsExampleFault, TellsProgram, example_requests};
 
 use crate::fault::{ProgramFault, with_options};
 use like_command::Options;
 use like_files::{NoProgress, Opened, replay_opened};
-use like_replies::Notice;
+use like_replies::{Notice, Output};
 use std::alloc::{AllocError, Global};
-use std::io::Write;
 use std::thread::Threads;
 
 // The pages file of the example.
@@ -16,13 +15,16 @@ const PAGES: &str = "name,count,split\na,10,no\n";
 const REQUESTS: &str = "op,user,page\nlike,0,a\nlike,1,a\nlike,0,a\n";
 
 /// Replays the built-in example onto `out`.
-pub fn replay_example<T: Threads + Sync, W: Write>(
+pub fn replay_example<T: Threads + Sync, W: Output>(
     rt: &T,
     alloc: Global,
     out: &mut W,
 ) -> Result<Option<Notice>, ProgramFault>
-    ensures replayed { IfOk result (HasReplayedExample (W.contents out.old) (W.contents out.new)) }
-    ensures fault { IfErr result (IsExampleFault (W.contents out.old) (W.contents out.new)) }
+    ensures replayed { IfOk result (HasReplayedExample (W.held out.old) (W.held out.new)) }
+    ensures fault { IfErr result (IsExampleFault (W.held out.old) (W.held out.new)) }
+    ensures flushed { OnOk result (W.is_flushed out.new) }
+    ensures told { MatchResult result (λ _. W.has_failed out.new → W.has_failed out.old)
+        (TellsProgram W.has_failed out.old out.new) }
 {
     let options = example_options(alloc)?;
     let requests = request_files(alloc)?;

@@ -1,8 +1,9 @@
-ghost use Rattle.std.specs.Prelude.{◌≡◌, true, IfErr, IfOk, OnOk, map, string_bytes};
+ghost use Rattle.std.specs.Prelude.{◌≡◌, true, IfErr, IfOk, MatchResult, OnOk, map, string_bytes};
 ghost use Rattle.std.specs.Io.KnownBytes.{Appends};
 ghost use Rattle.like_files.specs.StandardInput.{names_of, names_twice};
+ghost use Rattle.like_replies.specs.Output.{TellsCall};
 ghost use Rattle.like_program.specs.Fault.{program_status};
-ghost use Rattle.like_program.specs.Program.{Ends, HasServed, IsServeFault, NamesInputOnce};
+ghost use Rattle.like_program.specs.Program.{Ends, EndsOutput, HasServed, IsServeFault, NamesInputOnce, TellsProgram};
 ghost use Rattle.like_program.specs.declared.fault.ProgramFault.TheVariants as program;
 
 use crate::example::replay_example;
@@ -11,7 +12,7 @@ use crate::named::{replay_named, run_named};
 use crate::stopwatch::Stopwatch;
 use like_command::{Asked, Options, parse};
 use like_files::{Disk, names_input_twice};
-use like_replies::Notice;
+use like_replies::{Notice, Output};
 use std::alloc::Global;
 use std::fs::Files;
 use std::io;
@@ -23,7 +24,7 @@ use std::thread::Threads;
 /// Does what the words after the program's name ask for: it runs or replays the files that they name, or prints help,
 /// onto `out`. Without words it replays a built-in example. Onto `errors` it writes a fault, the summary or the number
 /// of refused requests, and progress if that is asked for. Answers the exit status.
-pub fn serve_words<R: Files + Input + Threads + Wait + Clock + Sync, W: Write, E: Write>(
+pub fn serve_words<R: Files + Input + Threads + Wait + Clock + Sync, W: Output, E: Write>(
     rt: &R,
     alloc: Global,
     words: &[String],
@@ -33,7 +34,8 @@ pub fn serve_words<R: Files + Input + Threads + Wait + Clock + Sync, W: Write, E
 where
     R::File: Send,
     R::Reader: Send,
-    ensures { Ends (map string_bytes words.now) (W.contents out.old) (W.contents out.new) result }
+    ensures ends { Ends (map string_bytes words.now) (W.held out.old) (W.held out.new) result }
+    ensures output { EndsOutput W.is_flushed W.has_failed out.old out.new result }
 {
     let mut watch = Stopwatch::new(rt, errors);
     match serve(rt, alloc, words, out, &mut watch) {
@@ -69,7 +71,7 @@ pub fn tell<E: Write>(fault: &ProgramFault, errors: &mut E) -> u8
 }
 
 // Does what the words ask for, and gives the notice on the report.
-fn serve<R: Files + Input + Threads + Wait + Clock + Sync, W: Write, E: Write>(
+fn serve<R: Files + Input + Threads + Wait + Clock + Sync, W: Output, E: Write>(
     rt: &R,
     alloc: Global,
     words: &[String],
@@ -80,9 +82,12 @@ where
     R::File: Send,
     R::Reader: Send,
     ensures served { IfOk result
-        (HasServed (map string_bytes words.now) (W.contents out.old) (W.contents out.new)) }
+        (HasServed (map string_bytes words.now) (W.held out.old) (W.held out.new)) }
     ensures fault { IfErr result
-        (IsServeFault (map string_bytes words.now) (W.contents out.old) (W.contents out.new)) }
+        (IsServeFault (map string_bytes words.now) (W.held out.old) (W.held out.new)) }
+    ensures flushed { OnOk result (W.is_flushed out.new) }
+    ensures told { MatchResult result (λ _. W.has_failed out.new → W.has_failed out.old)
+        (TellsProgram W.has_failed out.old out.new) }
 {
     if words.is_empty() {
         return replay_example(rt, alloc, out);
@@ -90,12 +95,12 @@ where
     match parse(alloc, words)? {
         Asked::Run(options) => {
             begin(&options, watch)?;
-            let done = run_named(rt, &Disk { files: rt }, alloc, &options, out, watch);
+            let done = run_named(rt, &mut Disk { files: rt }, alloc, &options, out, watch);
             with_options(done, options)
         }
         Asked::Replay(options) => {
             begin(&options, watch)?;
-            let done = replay_named(rt, &Disk { files: rt }, alloc, &options, out, watch);
+            let done = replay_named(rt, &mut Disk { files: rt }, alloc, &options, out, watch);
             with_options(done, options)
         }
         Asked::Help(text) => {
@@ -122,11 +127,13 @@ fn begin<C: Clock, E: Write>(
 }
 
 // Prints help.
-fn show<W: Write>(text: &str, out: &mut W) -> Result<(), ProgramFault>
-    ensures shown { OnOk result (Appends (W.contents out.old) (W.contents out.new) text.now) }
+fn show<W: Output>(text: &str, out: &mut W) -> Result<(), ProgramFault>
+    ensures shown { OnOk result (Appends (W.held out.old) (W.held out.new) text.now) }
+    ensures flushed { OnOk result (W.is_flushed out.new) }
     ensures fault { IfErr result (λ fault. fault ≡ program.Output) }
+    ensures told { TellsCall W.has_failed out.old out.new result }
 {
-    if out.write_all(text.as_bytes()).is_ok() && out.flush().is_ok() {
+    if out.append(text.as_bytes()).is_ok() && out.flush_all().is_ok() {
         return Ok(());
     }
     Err(ProgramFault::Output)

@@ -1,4 +1,5 @@
 pub mod AtOnce
+pub mod Begun
 pub mod Examples
 pub mod rows
 pub mod Lists

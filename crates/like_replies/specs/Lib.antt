@@ -1,4 +1,5 @@
 pub mod Notices
+pub mod Output
 pub mod PlaceRows
 pub mod Refusals
 pub mod Reported

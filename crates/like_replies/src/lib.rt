@@ -4,6 +4,7 @@
 
 mod extent;
 mod notice;
+mod output;
 mod refusals;
 mod report;
 mod summary;
@@ -13,6 +14,7 @@ pub use extent::Extent;
 pub use like_collection::{CollectFault, collect, collect_at_once, places};
 pub use like_promises::{Answer, Place, Replies, Report};
 pub use notice::Notice;
+pub use output::Output;
 pub use refusals::Refusals;
 pub use report::text::{Text, write_places, write_report};
 pub use summary::Summary;

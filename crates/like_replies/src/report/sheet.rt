@@ -1,11 +1,11 @@
 ghost use Rattle.std.specs.Prelude.{◌≡◌, [], ◌++◌, IfOk, OnOk, decimal};
-ghost use Rattle.std.specs.Io.KnownBytes.{Appends};
 ghost use Rattle.csv.specs.Writing.{default_writer, field_text};
+ghost use Rattle.like_replies.specs.Output.{TellsOutput, Writes};
 
+use crate::output::Output;
 use crate::write_fault::WriteFault;
 use itoa::Buffer;
 use std::alloc::{AllocError, Global};
-use std::io::Write;
 use std::marker::Model;
 
 /// The text of rows on its way to a writer, in room that was taken before.
@@ -63,12 +63,13 @@ impl Sheet {
     }
 
     /// Writes its text.
-    pub fn write<W: Write>(&self, out: &mut W) -> Result<(), WriteFault>
-        ensures { OnOk result (Appends (W.contents out.old) (W.contents out.new) self.now) }
+    pub fn write<W: Output>(&self, out: &mut W) -> Result<(), WriteFault>
+        ensures written { Writes (W.held out.old) (W.held out.new) result self.now }
+        ensures told { TellsOutput W.has_failed out.old out.new result }
     {
-        if out.write_all(&self.text).is_err() {
-            return Err(WriteFault::Write);
+        match out.append(&self.text) {
+            Ok(()) => Ok(()),
+            Err(_) => Err(WriteFault::Write),
         }
-        Ok(())
     }
 }

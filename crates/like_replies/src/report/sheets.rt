@@ -1,16 +1,17 @@
-ghost use Rattle.std.specs.Prelude.{◌≡◌, ◌<◌, ◌≤◌, ℕ, All, IfOk, List, Ok, OnOk, Some, length, map, slice_get};
+ghost use Rattle.std.specs.Prelude.{◌≡◌, ◌<◌, ◌≤◌, ℕ, All, IfOk, List, MatchResult, Ok, OnOk, Some, length, map, slice_get, take};
 ghost use Rattle.std.specs.List.{flat_map};
 ghost use Rattle.std.specs.Io.KnownBytes.{Appends, Keeps};
+ghost use Rattle.like_replies.specs.Output.{HasBegun, TellsOutput, Writes};
 ghost use Rattle.like_replies.specs.Rows.{rows_text};
 ghost use Rattle.like_replies.specs.Sections.{HasRows, rows_in, section_rows};
 ghost use Rattle.like_replies.specs.declared.report.section.Section.{Section};
 
+use crate::output::Output;
 use crate::report::names::Names;
 use crate::report::section::{Section, add_section};
 use crate::report::sheet::Sheet;
 use crate::write_fault::WriteFault;
 use std::alloc::{AllocError, Global};
-use std::io::Write;
 use std::thread;
 use std::thread::Threads;
 
@@ -45,17 +46,17 @@ pub fn sheets_with(
 }
 
 /// Writes the rows of sections by a sheet that has room for each.
-pub fn write_rows<W: Write>(
+pub fn write_rows<W: Output>(
     names: &Names,
     sections: &[Section],
     sheet: &mut Sheet,
     out: &mut W,
 ) -> Result<(), WriteFault>
     requires { All (HasRows names.now) sections.now }
-    ensures { OnOk result (Appends
-        (W.contents out.old)
-        (W.contents out.new)
-        (rows_text (rows_in names.now sections.now))) }
+    ensures written { Writes (W.held out.old) (W.held out.new) result
+        (rows_text (rows_in names.now sections.now)) }
+    ensures flushed { OnOk result (W.is_flushed out.new) }
+    ensures told { TellsOutput W.has_failed out.old out.new result }
 {
     for section in sections {
         sheet.clear();
@@ -66,7 +67,7 @@ pub fn write_rows<W: Write>(
 }
 
 /// The same by these sheets, as many sections in parallel as there are sheets.
-pub fn write_rows_at_once<T: Threads + Sync, W: Write>(
+pub fn write_rows_at_once<T: Threads + Sync, W: Output>(
     rt: &T,
     names: &Names,
     sections: &[Section],
@@ -75,10 +76,10 @@ pub fn write_rows_at_once<T: Threads + Sync, W: Write>(
 ) -> Result<(), WriteFault>
     requires has { All (HasRows names.now) sections.now }
     requires some { 0 < length sheets.old }
-    ensures written { OnOk result (Appends
-        (W.contents out.old)
-        (W.contents out.new)
-        (rows_text (rows_in names.now sections.now))) }
+    ensures written { Writes (W.held out.old) (W.held out.new) result
+        (rows_text (rows_in names.now sections.now)) }
+    ensures flushed { OnOk result (W.is_flushed out.new) }
+    ensures told { TellsOutput W.has_failed out.old out.new result }
     ensures sheets { length sheets.new ≡ length sheets.old }
 {
     for group in sections.chunks(sheets.len()) {
@@ -88,7 +89,7 @@ pub fn write_rows_at_once<T: Threads + Sync, W: Write>(
 }
 
 // Writes the rows of a few sections, which are made in parallel.
-fn write_group<T: Threads + Sync, W: Write>(
+fn write_group<T: Threads + Sync, W: Output>(
     rt: &T,
     names: &Names,
     group: &[Section],
@@ -97,10 +98,9 @@ fn write_group<T: Threads + Sync, W: Write>(
 ) -> Result<(), WriteFault>
     requires has { All (HasRows names.now) group.now }
     requires enough { length group.now ≤ length sheets.old }
-    ensures written { OnOk result (Appends
-        (W.contents out.old)
-        (W.contents out.new)
-        (rows_text (rows_in names.now group.now))) }
+    ensures written { Writes (W.held out.old) (W.held out.new) result
+        (rows_text (rows_in names.now group.now)) }
+    ensures told { TellsOutput W.has_failed out.old out.new result }
     ensures sheets { length sheets.new ≡ length sheets.old }
 {
     let made = |at: usize, sheet: &mut Result<Sheet, AllocError>|
@@ -128,9 +128,13 @@ fn make(sheet: &mut Result<Sheet, AllocError>, names: &Names, section: &Section)
 }
 
 // Writes the text of the sheets, in their order, up to the first that could not be made.
-fn write_all<W: Write>(out: &mut W, sheets: &[Result<Sheet, AllocError>]) -> Result<(), WriteFault>
-    ensures { OnOk result ((texts : List (List ℕ)) × (sheets.now ≡ map Ok texts)
-        × Appends (W.contents out.old) (W.contents out.new) (flat_map (λ text. text) texts)) }
+fn write_all<W: Output>(out: &mut W, sheets: &[Result<Sheet, AllocError>]) -> Result<(), WriteFault>
+    ensures written { MatchResult result
+        (λ _. (texts : List (List ℕ)) × (sheets.now ≡ map Ok texts)
+        × Appends (W.held out.old) (W.held out.new) (flat_map (λ text. text) texts))
+        (λ _. (texts : List (List ℕ)) × (count : ℕ) × (take count sheets.now ≡ map Ok texts)
+        × HasBegun (W.held out.old) (W.held out.new) (flat_map (λ text. text) texts)) }
+    ensures told { TellsOutput W.has_failed out.old out.new result }
 {
     for sheet in sheets {
         match sheet {
@@ -142,11 +146,13 @@ fn write_all<W: Write>(out: &mut W, sheets: &[Result<Sheet, AllocError>]) -> Res
 }
 
 // Flushes the writer.
-fn flush<W: Write>(out: &mut W) -> Result<(), WriteFault>
-    ensures { OnOk result (Keeps (W.contents out.old) (W.contents out.new)) }
+fn flush<W: Output>(out: &mut W) -> Result<(), WriteFault>
+    ensures kept { Keeps (W.held out.old) (W.held out.new) }
+    ensures flushed { OnOk result (W.is_flushed out.new) }
+    ensures told { TellsOutput W.has_failed out.old out.new result }
 {
-    if out.flush().is_err() {
-        return Err(WriteFault::Write);
+    match out.flush_all() {
+        Ok(()) => Ok(()),
+        Err(_) => Err(WriteFault::Write),
     }
-    Ok(())
 }

@@ -1,12 +1,14 @@
-ghost use Rattle.std.specs.Prelude.{◌≡◌, if◌then◌else◌, true, [], IfOk, OnOk, length, map};
+ghost use Rattle.std.specs.Prelude.{◌≡◌, if◌then◌else◌, true, [], IfErr, IfOk, OnOk, length, map};
 ghost use Rattle.like_promises.specs.Collected.{rows_of};
-ghost use Rattle.std.specs.Io.KnownBytes.{Appends};
 ghost use Rattle.like_promises.specs.places.Places.{lists_in};
+ghost use Rattle.like_replies.specs.Output.{TellsOutput, Writes};
 ghost use Rattle.like_replies.specs.PlaceRows.{place_rows, text_of};
 ghost use Rattle.like_replies.specs.Reported.{reported, shown_of};
 ghost use Rattle.like_replies.specs.Rows.{IsWritable, report_text, rows_text};
+ghost use Rattle.like_replies.specs.declared.write_fault.WriteFault.TheVariants.{Memory};
 
 use crate::extent::Extent;
+use crate::output::Output;
 use crate::report::names::Names;
 use crate::report::section::Section;
 use crate::report::sections::{asked_sections, place_sections, report_sections};
@@ -16,7 +18,6 @@ use crate::write_fault::WriteFault;
 use like_promises::{Answer, Report};
 use like_requests::Pages;
 use std::alloc::Global;
-use std::io::Write;
 use std::marker::Model;
 use std::thread::Threads;
 
@@ -51,7 +52,8 @@ impl<'a> Text<'a> {
     ) -> Result<Text<'a>, WriteFault>
         requires writable { IsWritable pages.now (reported report.now) }
         requires placed { extent.places ≡ true → length report.now.places.items ≡ length pages.now }
-        ensures { IfOk result (λ text. text ≡ text_of extent pages.now report.now) }
+        ensures text { IfOk result (λ text. text ≡ text_of extent pages.now report.now) }
+        ensures memory { IfErr result (λ fault. fault ≡ Memory) }
     {
         let names = Names::new(alloc, pages)?;
         let replies = shown_replies(extent.totals, report);
@@ -65,8 +67,10 @@ impl<'a> Text<'a> {
     }
 
     /// Writes it, one section after the other. All memory is taken before the first byte is written.
-    pub fn write<W: Write>(&self, alloc: Global, out: &mut W) -> Result<(), WriteFault>
-        ensures { OnOk result (Appends (W.contents out.old) (W.contents out.new) self.now) }
+    pub fn write<W: Output>(&self, alloc: Global, out: &mut W) -> Result<(), WriteFault>
+        ensures written { Writes (W.held out.old) (W.held out.new) result self.now }
+        ensures flushed { OnOk result (W.is_flushed out.new) }
+        ensures told { TellsOutput W.has_failed out.old out.new result }
     {
         let mut sheet = Sheet::with_room(alloc, self.room())?;
         write_rows(&self.names, &self.report, &mut sheet, out)?;
@@ -75,13 +79,15 @@ impl<'a> Text<'a> {
 
     /// The same, with sections made in parallel. A thread that can't be started is no fault: the caller's own does its
     /// work.
-    pub fn write_at_once<T: Threads + Sync, W: Write>(
+    pub fn write_at_once<T: Threads + Sync, W: Output>(
         &self,
         rt: &T,
         alloc: Global,
         out: &mut W,
     ) -> Result<(), WriteFault>
-        ensures { OnOk result (Appends (W.contents out.old) (W.contents out.new) self.now) }
+        ensures written { Writes (W.held out.old) (W.held out.new) result self.now }
+        ensures flushed { OnOk result (W.is_flushed out.new) }
+        ensures told { TellsOutput W.has_failed out.old out.new result }
     {
         let count = self.report.len().max(self.places.len());
         let mut sheets = sheets_with(alloc, count, self.room())?;
@@ -107,17 +113,17 @@ fn shown_replies(totals: bool, report: &Report) -> &[Vec<Answer>]
 }
 
 /// Writes the text of a report, without places. After a fault a part may have been written.
-pub fn write_report<W: Write>(
+pub fn write_report<W: Output>(
     alloc: Global,
     report: &Report,
     pages: &Pages,
     out: &mut W,
 ) -> Result<(), WriteFault>
     requires { IsWritable pages.now (reported report.now) }
-    ensures { OnOk result (Appends
-        (W.contents out.old)
-        (W.contents out.new)
-        (report_text pages.now (reported report.now))) }
+    ensures written { Writes (W.held out.old) (W.held out.new) result
+        (report_text pages.now (reported report.now)) }
+    ensures flushed { OnOk result (W.is_flushed out.new) }
+    ensures told { TellsOutput W.has_failed out.old out.new result }
 {
     let extent = Extent {
         totals: false,
@@ -127,17 +133,17 @@ pub fn write_report<W: Write>(
 }
 
 /// Writes a row for each place of each page, with no header. After a fault a part may have been written.
-pub fn write_places<W: Write>(
+pub fn write_places<W: Output>(
     alloc: Global,
     report: &Report,
     pages: &Pages,
     out: &mut W,
 ) -> Result<(), WriteFault>
     requires { length report.now.places.items ≡ length pages.now }
-    ensures { OnOk result (Appends
-        (W.contents out.old)
-        (W.contents out.new)
-        (rows_text (place_rows pages.now (lists_in report.now.places.items)))) }
+    ensures written { Writes (W.held out.old) (W.held out.new) result
+        (rows_text (place_rows pages.now (lists_in report.now.places.items))) }
+    ensures flushed { OnOk result (W.is_flushed out.new) }
+    ensures told { TellsOutput W.has_failed out.old out.new result }
 {
     let names = Names::new(alloc, pages)?;
     let sections = place_sections(alloc, names.len(), &report.places)?;

@@ -1,6 +1,5 @@
-use Rattle.std.proofs.Common.{◌≡◌, ◌∙◌, ◌<◌, ap, arith, inl, inr, length, not, refl, true}
+use Rattle.std.proofs.Common.{◌≡◌, ◌∙◌, ◌<◌, Some, None, ap, arith, length, not, true}
 use Rattle.std.specs.Result.{is_ok}
-use Rattle.like_requests.specs.declared.requests_file.RequestsFault.TheVariants.{Read, Memory}
 use Rattle.like_files.proofs.Named.{opened-more, unopened-next}
 use Rattle.like_files.proofs.opened.open_requests.Goals as goal
 
@@ -8,25 +7,23 @@ pub returns-in_default : goal.returns-in_default
 returns-in_default g c =
     let there : c.loop-place.place < length c.args.names.now = omega arith in
     rw c.of_requests.ensures
-    (unopened-next
-    (g.O.Opener.opens c.args.opener.now) c.args.names.now c.loop-place.opened.items c.loop-place.place
-    c.index-names-place.result there c.index-names-place.is c.loop-place.invariant
-    (g.O.Opener.refuses c.args.opener.now) Read (inl (refl, rw c.as_str.ensures.value at c.in_default.ensures)))
+    (unopened-next _ _ _ c.args.names.now c.loop-place.opened.items c.loop-place.place
+    c.index-names-place.result there c.index-names-place.is c.loop-place.invariant.0 c.loop-place.invariant.1
+    None (rw c.as_str.ensures.value at c.in_default.ensures))
 
 pub returns-then-is_err : goal.returns-then-is_err
 returns-then-is_err g c =
     let there : c.loop-place.place < length c.args.names.now = omega arith in
     rw c.of_requests-then-is_err.ensures
-    (unopened-next
-    (g.O.Opener.opens c.args.opener.now) c.args.names.now c.loop-place.opened.items c.loop-place.place
-    c.index-names-place.result there c.index-names-place.is c.loop-place.invariant
-    (g.O.Opener.refuses c.args.opener.now) Memory (inr refl))
+    (unopened-next _ _ _ c.args.names.now c.loop-place.opened.items c.loop-place.place
+    c.index-names-place.result there c.index-names-place.is c.loop-place.invariant.0 c.loop-place.invariant.1
+    (Some c.in-Some.file) (rw c.as_str.ensures.value at c.in-Some.ensures))
 
 pub loop-place-preserved : goal.loop-place-preserved
 loop-place-preserved g c =
     let there : c.loop-place.place < length c.args.names.now = omega arith in
     let pushed : is_ok c.push.result ≡ true = c.is_err.ensures.negation ∙ ap not c.if-is_err.false in
     rw (rw pushed at c.push.ensures.items)
-    (opened-more (g.O.Opener.opens c.args.opener.now) c.args.names.now c.loop-place.opened.items c.loop-place.place
-    c.index-names-place.result there c.index-names-place.is c.loop-place.invariant
+    (opened-more _ _ _ c.args.names.now c.loop-place.opened.items c.loop-place.place
+    c.index-names-place.result there c.index-names-place.is c.loop-place.invariant.0 c.loop-place.invariant.1
     c.in-Some.file (rw c.as_str.ensures.value at c.in-Some.ensures))

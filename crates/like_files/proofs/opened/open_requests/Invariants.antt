@@ -1,6 +1,10 @@
-use Rattle.std.proofs.Common.{take}
-use Rattle.like_files.specs.Opened.{AreOpened}
+use Rattle.std.proofs.Common.{◌≡◌, length, take}
+use Rattle.like_files.specs.Opened.{opened_as}
+use Rattle.like_files.specs.Tries.{Tries}
 use Rattle.like_files.proofs.opened.open_requests.Given as goal
 
 abbrev pub invariant-loop-place : goal.invariant-loop-place
-invariant-loop-place g l = AreOpened (g.O.Opener.opens l.opener) (take l.place l.names) l.opened.items
+invariant-loop-place g l =
+    (length l.opened.items ≡ l.place)
+    × Tries (g.O.Opener.tries l.initial.opener) (g.O.Opener.tries l.opener)
+    (opened_as (take l.place l.names) l.opened.items)

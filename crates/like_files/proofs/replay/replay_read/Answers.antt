@@ -52,7 +52,7 @@ returns-clause-replayed g c inputs lists same =
     let script : List Turned = c.in_ok-script.script.items in
     let given : GivesAll inputs c.args.pages plans script =
     record { lists = lists; script_given = rw same c.in_ok-script.ensures.given } in
-    let made = rw (c.with_pages-setup.ensures, c.deref.ensures.value) at c.replay_lists.ensures in
+    let made = rw (c.with_pages-setup.ensures, c.deref.ensures.value) at c.replay_lists.ensures.replayed in
     record {
       done = replayed c.args.options.now inputs c.args.pages plans script _ _ c.replay_lists.result given made.done;
       fault = refused c.args.options.now inputs c.args.pages plans script c.replay_lists.result given made.fault;
@@ -62,4 +62,4 @@ returns-clause-replayed g c inputs lists same =
 pub returns-clause-read : goal.returns-clause-read
 returns-clause-read g c file files =
     replay-told file files c.args.script c.with_pages-setup.result
-    (lists_of c.args.plans.items) c.deref.result.now c.replay_lists.result c.replay_lists.ensures.fault
+    (lists_of c.args.plans.items) c.deref.result.now c.replay_lists.result c.replay_lists.ensures.replayed.fault

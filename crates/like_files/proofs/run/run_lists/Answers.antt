@@ -1,4 +1,4 @@
-use Rattle.std.proofs.Common.{refl}
+use Rattle.std.proofs.Common.{inr, refl}
 use Rattle.std.proofs.lemmas.Result.{err_from_is_err_and}
 use Rattle.like_requests.proofs.Planned.{fits-run, plans-within}
 use Rattle.like_promises.specs.WorkloadOf.{workload_of_run, lists_of}
@@ -22,8 +22,8 @@ of-requires g c =
     few_requests c.args.setup.now
     (lists_of c.args.plans.items) c.in_ok-report.report c.in_ok-report.ensures.within c.in_ok-report.ensures.report.right
 
-pub returns-in_err-report : goal.returns-in_err-report
-returns-in_err-report g c =
+pub returns-in_err-report-clause-run : goal.returns-in_err-report-clause-run
+returns-in_err-report-clause-run g c =
     let p = err_from_is_err_and c.from_residual.result c.from_residual.ensures.1 in
     rw (p.1, p.2) (record {
       done = tt;
@@ -32,8 +32,8 @@ returns-in_err-report g c =
       untouched = λ before. refl;
     })
 
-pub returns-in_err-text : goal.returns-in_err-text
-returns-in_err-text g c =
+pub returns-in_err-text-clause-run : goal.returns-in_err-text-clause-run
+returns-in_err-text-clause-run g c =
     let p = err_from_is_err_and c.from_residual-in_err-text.result c.from_residual-in_err-text.ensures.1 in
     rw (p.1, p.2) (record {
       done = tt;
@@ -42,8 +42,8 @@ returns-in_err-text g c =
       untouched = λ before. refl;
     })
 
-pub returns-in_err-write_at_once : goal.returns-in_err-write_at_once
-returns-in_err-write_at_once g c =
+pub returns-in_err-write_at_once-clause-run : goal.returns-in_err-write_at_once-clause-run
+returns-in_err-write_at_once-clause-run g c =
     let p = err_from_is_err_and c.from_residual-in_err-write_at_once.result c.from_residual-in_err-write_at_once.ensures.1 in
     rw (p.1, p.2) (record {
       done = tt;
@@ -52,17 +52,27 @@ returns-in_err-write_at_once g c =
       untouched = not-before c.in_err-write_at_once.field-0.0;
     })
 
-pub returns : goal.returns
-returns g c = record {
+pub returns-clause-run : goal.returns-clause-run
+returns-clause-run g c = record {
   done = record {
     within = c.in_ok-report.ensures.within;
     reported = record {
       report = c.in_ok-report.report;
       right = c.in_ok-report.ensures.report;
-      written = rw (c.in_ok-text.ensures, c.extent_of.ensures) at c.in_ok-write_at_once.ensures;
+      written = rw (c.in_ok-text.ensures.text, c.extent_of.ensures) at c.in_ok-write_at_once.ensures.written;
       noticed = c.of.ensures;
     };
   };
   fault = tt;
   untouched = tt;
 }
+
+pub returns-in_err-write_at_once-clause-begun : goal.returns-in_err-write_at_once-clause-begun
+returns-in_err-write_at_once-clause-begun g c =
+    let p = err_from_is_err_and c.from_residual-in_err-write_at_once.result c.from_residual-in_err-write_at_once.ensures.1 in
+    rw p.1
+    (inr (record {
+      report = c.in_ok-report.report;
+      right = c.in_ok-report.ensures.report;
+      begun = rw (c.in_ok-text.ensures.text, c.extent_of.ensures) at c.in_err-write_at_once.ensures.written;
+    }))

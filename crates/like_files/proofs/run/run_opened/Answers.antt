@@ -66,7 +66,7 @@ returns-clause-run g c =
     let plans : List (List Request) = lists_of c.in_ok-plans.plans.items in
     let given : GivesLists inputs.pages inputs.requests c.in_ok-pages.pages plans =
     record { pages_given = c.in_ok-pages.ensures.file; plans_given = c.in_ok-plans.ensures.plans } in
-    let ran = rw c.with_pages-setup.ensures at c.run_lists.ensures in
+    let ran = rw c.with_pages-setup.ensures at c.run_lists.ensures.run in
     record {
       done = was-run c.args.options.now inputs c.in_ok-pages.pages plans _ _ c.run_lists.result given ran.done;
       fault = refused c.args.options.now inputs c.in_ok-pages.pages plans c.run_lists.result given ran.fault;
@@ -76,4 +76,4 @@ returns-clause-run g c =
 pub returns-clause-read : goal.returns-clause-read
 returns-clause-read g c =
     run-told c.args.files.pages c.args.files.requests.items c.with_pages-setup.result
-    (lists_of c.in_ok-plans.plans.items) c.run_lists.result c.run_lists.ensures.fault
+    (lists_of c.in_ok-plans.plans.items) c.run_lists.result c.run_lists.ensures.run.fault

@@ -33,7 +33,7 @@ returns-in_ok-begin-in-Run-clause-served g c =
     (of_files-ok _ c.in-Run.options c.run_named-done.result
     (IfOk-weaker c.run_named-done.result _ _
     (λ notice done. served words _ _ (Run c.in-Run.options) notice some asks
-    (c.in_ok-begin-in-Run.ensures.once, some-run _ _ c.in-Run.options _ _ notice done)) c.run_named-done.ensures.done))
+    (c.in_ok-begin-in-Run.ensures.once, some-run _ _ _ c.in-Run.options _ _ notice done)) c.run_named-done.ensures.run.done))
 
 pub returns-in_ok-begin-in-Run-clause-fault : goal.returns-in_ok-begin-in-Run-clause-fault
 returns-in_ok-begin-in-Run-clause-fault g c =
@@ -42,8 +42,8 @@ returns-in_ok-begin-in-Run-clause-fault g c =
     let asks = rw c.in-Run.is at c.in_ok-options.ensures.asked in
     rw c.with_options.ensures
     (files-not_served words _ _ c.in-Run.options _ some (inl asks)
-    (files-fault g.W.Write.contents c.in-Run.options c.run_named-done.result c.args.out.now c.run_named-done.new.out
-    c.run_named-done.ensures.untouched))
+    (files-fault g.W.Output.held c.in-Run.options c.run_named-done.result c.args.out.now c.run_named-done.new.out
+    c.run_named-done.ensures.run.untouched))
 
 pub returns-in_err-begin-in-Replay-clause-fault : goal.returns-in_err-begin-in-Replay-clause-fault
 returns-in_err-begin-in-Replay-clause-fault g c =
@@ -63,7 +63,7 @@ returns-in_ok-begin-in-Replay-clause-served g c =
     (of_files-ok _ c.in-Replay.options c.replay_named-done.result
     (IfOk-weaker c.replay_named-done.result _ _
     (λ notice done. served words _ _ (Replay c.in-Replay.options) notice some asks
-    (c.in_ok-begin-in-Replay.ensures.once, some-replay _ _ c.in-Replay.options _ _ notice done)) c.replay_named-done.ensures.done))
+    (c.in_ok-begin-in-Replay.ensures.once, some-replay _ _ _ c.in-Replay.options _ _ notice done)) c.replay_named-done.ensures.replayed.done))
 
 pub returns-in_ok-begin-in-Replay-clause-fault : goal.returns-in_ok-begin-in-Replay-clause-fault
 returns-in_ok-begin-in-Replay-clause-fault g c =
@@ -72,8 +72,8 @@ returns-in_ok-begin-in-Replay-clause-fault g c =
     let asks = rw c.in-Replay.is at c.in_ok-options.ensures.asked in
     rw c.with_options-in-Replay.ensures
     (files-not_served words _ _ c.in-Replay.options _ some (inr asks)
-    (files-fault g.W.Write.contents c.in-Replay.options c.replay_named-done.result c.args.out.now c.replay_named-done.new.out
-    c.replay_named-done.ensures.untouched))
+    (files-fault g.W.Output.held c.in-Replay.options c.replay_named-done.result c.args.out.now c.replay_named-done.new.out
+    c.replay_named-done.ensures.replayed.untouched))
 
 pub returns-in_ok-show-in-Help-clause-served : goal.returns-in_ok-show-in-Help-clause-served
 returns-in_ok-show-in-Help-clause-served g c =

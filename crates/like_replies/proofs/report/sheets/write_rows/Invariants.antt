@@ -6,5 +6,6 @@ use Rattle.like_replies.proofs.report.sheets.write_rows.Given as goal
 
 abbrev pub invariant-loop-section : goal.invariant-loop-section
 invariant-loop-section g l =
-    Appends (g.W.Write.contents l.initial.out) (g.W.Write.contents l.out)
+    Appends (g.W.Output.held l.initial.out) (g.W.Output.held l.out)
     (rows_text (rows_in l.names (take l.section-index l.sections)))
+    × (g.W.Output.has_failed l.out → g.W.Output.has_failed l.initial.out)

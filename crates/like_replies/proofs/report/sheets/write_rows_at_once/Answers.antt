@@ -1,8 +1,10 @@
 use Rattle.std.proofs.Common.{◌≡◌, ◌++◌, ◌∙◌, List, sym, ap, append_assoc}
 use Rattle.std.proofs.lemmas.Grind.{flat_map-append}
+use Rattle.std.proofs.lemmas.Result.{err_from_is_err_and}
 use Rattle.std.specs.Slice.Iter.{chunks_rest}
 use Rattle.like_replies.specs.declared.report.section.Section.{Section}
 use Rattle.like_replies.specs.Sections.{HasRows, rows_in, section_rows}
+use Rattle.like_replies.proofs.AtOnce.{begun-sections}
 use Rattle.like_replies.proofs.Sections.{All-part}
 use Rattle.like_replies.proofs.rows.Texts.{Appends-rows}
 use Rattle.like_replies.proofs.report.sheets.write_rows_at_once.Goals as goal
@@ -34,4 +36,17 @@ loop-group-preserved g c =
       whole ∙ sym (append_assoc done group rest),
       rw more (Appends-rows _ _ _ (rows_in pages done)
           (rows_in pages group) c.loop-group.invariant.5 c.in_ok-write_group.ensures.written),
+      λ h. c.loop-group.invariant.6 (c.in_ok-write_group.ensures.told h),
     )
+
+pub returns-in_err-write_group-clause-written : goal.returns-in_err-write_group-clause-written
+returns-in_err-write_group-clause-written g c =
+    let p = err_from_is_err_and c.from_residual.result c.from_residual.ensures.1 in
+    let step = c.in-Some.ensures.steps in
+    let done : List Section = c.loop-group.invariant.3 in
+    let group : List Section = c.in-Some.group.now in
+    let rest : List Section = chunks_rest c.next.new.self in
+    rw p.1
+    (begun-sections c.args.names.now c.args.sections.now done group rest _ _ _
+    (c.loop-group.invariant.4 ∙ ap (λ r. done ++ r) step.1.0) c.loop-group.invariant.5
+    c.in_err-write_group.ensures.written)

@@ -10,4 +10,5 @@ abbrev pub invariant-loop-group : goal.invariant-loop-group
 invariant-loop-group g l =
     (goal.iterator-loop-group g).can_next l.group-iterator × (goal.iterator-loop-group g).is_finite l.group-iterator
     × (length l.sheets ≡ length l.initial.sheets) × (done : List Section) × (l.sections ≡ done ++ chunks_rest l.group-iterator)
-    × Appends (g.W.Write.contents l.initial.out) (g.W.Write.contents l.out) (rows_text (rows_in l.names done))
+    × Appends (g.W.Output.held l.initial.out) (g.W.Output.held l.out) (rows_text (rows_in l.names done))
+    × (g.W.Output.has_failed l.out → g.W.Output.has_failed l.initial.out)

@@ -41,8 +41,8 @@ invariant_of-result c =
       subst (λ (ps : List Page). All (HasRows ps) c.in_ok-places.places.items) (sym c.in_ok-names.ensures) places.each,
     )
 
-pub returns : goal.returns
-returns c =
+pub returns-clause-text : goal.returns-clause-text
+returns-clause-text c =
     let pages = c.args.pages.now in
     let report = c.args.report.now in
     let w = c.requires.writable in
