@@ -3,7 +3,7 @@
 #ifndef LIVE_PEERS_H
 #define LIVE_PEERS_H
 
-#include "../checks/live-time.h"
+#include "../checks/library/harness.h"
 
 #include "live-options.h"
 

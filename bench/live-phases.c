@@ -3,7 +3,7 @@
  *
  * It replaces malloc and its kin to count the memory in use, and calls those of the GNU C library by their other names.
  */
-#include "../checks/live-time.h"
+#include "../checks/library/harness.h"
 
 #include <errno.h>
 #include <malloc.h>

@@ -1,4 +1,5 @@
-//! Growths that are refused, as checks/refusals does it: a lack of memory is told, and the next call is right.
+//! Growths that are refused, as checks/program/memory-and-threads does it: a lack of memory is told, and the next call
+//! is right.
 use super::cases::{Case, good};
 use super::{answer, assert_that};
 use std::alloc::Global;

@@ -1,0 +1,187 @@
+/* The calls of library/core.c, without the library: the proved calls below them are defined here, and see what they are
+ * passed. An array of no entries must come as a pointer that isn't NULL, and everything else as it was.
+ *
+ * If something else is passed, it prints a line and exits with status 1. */
+#include "../../library/core.c"
+
+#include "opening.h"
+
+#include <stdio.h>
+#include <stdlib.h>
+
+/* In place of what depends on the processors. */
+enum { default_seats = 48 };
+
+uint32_t likes_default_seats(void) {
+    return default_seats;
+}
+
+/* What the last call was passed, and how many there were. */
+static struct {
+    const void *first, *second, *third;
+    likes_proved_options options;
+    size_t first_len, second_len, third_len;
+    uint32_t from;
+    int calls;
+} seen;
+
+uint32_t likes_proved_open(const likes_proved_options *options, const uint64_t *counts, size_t pages,
+                           const uint32_t *marks, size_t marks_len, const uint32_t *lasts, size_t lasts_len,
+                           likes_driver *driver) {
+    seen.calls += driver != NULL && options != NULL;
+    seen.first = counts;
+    seen.first_len = pages;
+    seen.second = marks;
+    seen.second_len = marks_len;
+    seen.third = lasts;
+    seen.third_len = lasts_len;
+    seen.options = *options;
+    return 41;
+}
+
+uint32_t likes_proved_seat_lasts(likes_seat *seat, uint32_t from, uint32_t *pages, size_t pages_len) {
+    seen.calls += seat != NULL;
+    seen.from = from;
+    seen.first = pages;
+    seen.first_len = pages_len;
+    return 45;
+}
+
+size_t likes_proved_seat_run(likes_seat *seat, const likes_request *requests, size_t requests_len,
+                              likes_answer *answers, size_t answers_len) {
+    seen.calls += seat != NULL;
+    seen.first = requests;
+    seen.first_len = requests_len;
+    seen.second = answers;
+    seen.second_len = answers_len;
+    return 42;
+}
+
+static uint32_t see_counts(const likes_driver *driver, uint32_t from, const uint64_t *counts, size_t counts_len) {
+    seen.calls += driver != NULL;
+    seen.from = from;
+    seen.first = counts;
+    seen.first_len = counts_len;
+    return 43;
+}
+
+uint32_t likes_proved_driver_snapshot(likes_driver *driver, uint32_t from, uint64_t *counts, size_t counts_len) {
+    return see_counts(driver, from, counts, counts_len);
+}
+
+uint32_t likes_proved_driver_last_counts(likes_driver *driver, uint32_t from, uint64_t *counts, size_t counts_len) {
+    return see_counts(driver, from, counts, counts_len) + 1;
+}
+
+static void see_pages(const likes_driver *driver, const uint32_t *pages, size_t pages_len) {
+    seen.calls += driver != NULL;
+    seen.first = pages;
+    seen.first_len = pages_len;
+}
+
+size_t likes_proved_driver_split_pages(likes_driver *driver, uint32_t *pages, size_t pages_len) {
+    see_pages(driver, pages, pages_len);
+    return 46;
+}
+
+uint32_t likes_proved_driver_propose(likes_driver *driver, const uint32_t *pages, size_t pages_len) {
+    see_pages(driver, pages, pages_len);
+    return 47;
+}
+
+void likes_proved_seat_free(likes_seat *seat) {
+    seen.calls++;
+    seen.first = seat;
+}
+
+void likes_proved_driver_free(likes_driver *driver) {
+    seen.calls++;
+    seen.first = driver;
+}
+
+void likes_proved_phase_free(likes_phase *phase) {
+    seen.calls++;
+    seen.first = phase;
+}
+
+#define HOLD(what)                                           \
+    do {                                                     \
+        if (!(what)) {                                       \
+            printf("line %d: not %s\n", __LINE__, #what);    \
+            exit(1);                                         \
+        }                                                    \
+    } while (0)
+
+/* Whether the arrays have come as they are, and those of no entries as something else than NULL. */
+static bool has_passed(const void *first, size_t first_len, const void *second, size_t second_len) {
+    bool is_first = first_len == 0 ? seen.first != NULL : seen.first == first;
+    bool is_second = second_len == 0 ? seen.second != NULL : seen.second == second;
+    return is_first && is_second && seen.first_len == first_len && seen.second_len == second_len;
+}
+
+static bool has_numbers(uint32_t seats, uint32_t users, uint32_t room, uint32_t hot) {
+    const likes_proved_options *it = &seen.options;
+    return it->seats == seats && it->users == users && it->room == room && it->hot == hot;
+}
+
+/* What is left out of the options has its default, and other numbers come as they are, right or wrong. */
+static void has_defaults(void) {
+    static const uint64_t counts[] = {1};
+    likes_driver driver = {0};
+    likes_options options = {.counts = counts, .pages = 1};
+    HOLD(likes_open(&options, &driver) == 41 && has_numbers(default_seats, 0, 64, 512));
+    options = (likes_options){.users = 3, .seats = 1, .room = 5, .hot = LIKES_NO_HOT, .pages = 9};
+    HOLD(likes_open(&options, &driver) == 41 && has_numbers(1, 3, 5, 0) && seen.first_len == 0);
+    options = (likes_options){.seats = 65, .room = 4097, .hot = LIKES_NO_HOT - 1};
+    HOLD(likes_open(&options, &driver) == 41 && has_numbers(65, 0, 4097, LIKES_NO_HOT - 1));
+    options = (likes_options){.hot = 1, .reserved = 2, .reserved_too = {3, 4, 5, 6, 7}};
+    HOLD(likes_open(&options, &driver) == 41 && has_numbers(default_seats, 0, 64, 1));
+    for (uint64_t i = 0; i < 6; i++)
+        HOLD(seen.options.reserved[i] == i + 2);
+}
+
+int main(void) {
+    likes_options options = {0};
+    likes_driver driver = {0};
+    likes_seat seat = {0};
+    likes_phase phase = {0};
+    likes_request requests[5] = {{0}};
+    likes_answer answers[4];
+    uint64_t counts[3] = {0};
+    uint32_t marks[2] = {0}, lasts[6] = {0};
+    for (size_t n = 0; n < 8; n++) {
+        bool first = n & 1, second = n & 2, third = n & 4;
+        HOLD(open_core(options, first ? counts : NULL, 3 * first, second ? marks : NULL, 2 * second,
+                        third ? lasts : NULL, 6 * third, &driver) == 41);
+        HOLD(has_passed(counts, 3 * first, marks, 2 * second));
+        HOLD((third ? seen.third == lasts : seen.third != NULL) && seen.third_len == (size_t)6 * third);
+        HOLD(likes_seat_run(&seat, first ? requests : NULL, 5 * first, second ? answers : NULL, 4 * second) == 42);
+        HOLD(has_passed(requests, 5 * first, answers, 4 * second));
+        HOLD(likes_driver_snapshot(&driver, 7, first ? counts : NULL, 3 * first) == 43);
+        HOLD(has_passed(counts, 3 * first, answers, 4 * second) && seen.from == 7);
+        HOLD(likes_driver_last_counts(&driver, 8, first ? counts : NULL, 3 * first) == 44);
+        HOLD(has_passed(counts, 3 * first, answers, 4 * second) && seen.from == 8);
+        HOLD(likes_seat_lasts(&seat, 9, first ? lasts : NULL, 6 * first) == 45);
+        HOLD(has_passed(lasts, 6 * first, answers, 4 * second) && seen.from == 9);
+        HOLD(likes_driver_split_pages(&driver, first ? lasts : NULL, 6 * first) == 46);
+        HOLD(has_passed(lasts, 6 * first, answers, 4 * second));
+        HOLD(likes_driver_propose(&driver, first ? marks : NULL, 2 * first) == 47);
+        HOLD(has_passed(marks, 2 * first, answers, 4 * second));
+    }
+    HOLD(seen.calls == 56);
+    HOLD(driver.seats == 0); /* nothing was opened */
+    has_defaults();
+    likes_seat_free(NULL);
+    likes_driver_free(NULL);
+    likes_phase_free(NULL);
+    HOLD(seen.calls == 60);
+    likes_seat_free(&seat);
+    HOLD(seen.first == &seat);
+    likes_driver_free(&driver);
+    HOLD(seen.first == &driver);
+    likes_phase_free(&phase);
+    HOLD(seen.first == &phase && seen.calls == 63);
+    HOLD(likes_seat_of(7, 3) == 1 && likes_seat_of(UINT32_MAX, 16) == 15);
+    puts("all passed on as it should be");
+    return 0;
+}

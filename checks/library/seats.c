@@ -1,0 +1,351 @@
+/* Seats of a service that leave and come back, all of them too, by hand and by its calls, at any period; counts and
+ * snapshots meanwhile; and calls by a thread that holds a seat, each of which must answer that.
+ *
+ * If something is wrong, it prints a line and exits with status 1. After 100 seconds a signal ends it: a call waits for
+ * ever. */
+#include "harness.h"
+
+enum { SEATS = 4, USERS = 8, PAGES = 2, ROUNDS = 20, LEAVERS = 2 };
+
+static likes_service *service;
+static bool is_over;
+
+#define IS(call, expected)                                                                                             \
+    do {                                                                                                               \
+        uint64_t is = (uint64_t)(call), should = (uint64_t)(expected);                                                 \
+        if (is != should) {                                                                                            \
+            printf("line %d: %s is %llu (%s), not %llu\n", __LINE__, #call, (unsigned long long)is,                    \
+                   likes_status_text((uint32_t)is), (unsigned long long)should);                                       \
+            exit(1);                                                                                                   \
+        }                                                                                                              \
+    } while (0)
+
+static bool is_on(void) {
+    return !__atomic_load_n(&is_over, __ATOMIC_SEQ_CST);
+}
+
+/* A service in which page 0 is split in every split phase. */
+static void start(uint32_t period) {
+    static const uint64_t counts[PAGES] = {10, 20};
+    static const uint32_t marks[] = {0};
+    likes_options options = {.seats = SEATS, .users = USERS, .room = 8};
+    IS(open_shared(options, counts, PAGES, marks, 1, NULL, 0, period, &service), LIKES_OK);
+    is_over = false;
+}
+
+static void stop(uint64_t likes) {
+    uint64_t totals[PAGES];
+    IS(likes_service_stop(service, totals, PAGES), LIKES_OK);
+    IS(totals[0] + totals[1], 30 + likes);
+    IS(likes_service_close(service), LIKES_OK);
+    service = NULL;
+}
+
+/* By hand, with the seat locked until it is gone, or back. */
+static void leave(uint32_t number) {
+    likes_seat *seat = likes_service_lock(service, number);
+    while (likes_seat_retire(seat) != LIKES_GONE) {
+        likes_service_drive(service);
+        sched_yield();
+    }
+    likes_service_unlock(service, number);
+}
+
+static void come_back(uint32_t number) {
+    likes_seat *seat = likes_service_lock(service, number);
+    while (likes_seat_come_back(seat) == LIKES_BETWEEN) {
+        likes_service_drive(service);
+        sched_yield();
+    }
+    likes_service_unlock(service, number);
+}
+
+/* Looks until one had to wait for a phase: none waits for ever. */
+static void look_until_split(bool ticks) {
+    likes_statistics before, now;
+    likes_answer answer;
+    IS(likes_service_statistics(service, &before), LIKES_OK);
+    do {
+        if (ticks)
+            likes_service_tick(service);
+        IS(likes_service_look(service, 1, 0, &answer), LIKES_SEEN);
+        IS(likes_service_statistics(service, &now), LIKES_OK);
+    } while (now.waits == before.waits);
+}
+
+/* All seats leave by hand, and come back, while the service rests or not. */
+static void all_by_hand(uint32_t period, bool ticks) {
+    uint64_t likes = 0;
+    start(period);
+    for (int times = 0; times < 3; times++) {
+        for (uint32_t seat = 0; seat < SEATS; seat++)
+            leave(seat);
+        IS(likes_service_like(service, 0, 0), LIKES_GONE);
+        if (times % 2 == 1)
+            sleep_for(5000000);
+        for (uint32_t seat = 0; seat < SEATS; seat++)
+            come_back(seat);
+        likes += likes_service_like(service, 1, 0) == LIKES_LIKED;
+        look_until_split(ticks);
+    }
+    IS(likes, 3);
+    stop(likes);
+}
+
+/* Counts and snapshots where all seats have left end nothing: the seats come back. */
+static void moments_of_none(uint32_t period) {
+    uint64_t counts[PAGES], likes = 0;
+    uint32_t lasts[USERS];
+    start(period);
+    for (int times = 0; times < ROUNDS; times++) {
+        likes += likes_service_like(service, 1, 0) == LIKES_LIKED;
+        for (uint32_t seat = 0; seat < SEATS; seat++)
+            IS(likes_service_retire_seat(service, seat), LIKES_OK);
+        IS(likes_service_counts(service, counts, PAGES), LIKES_COUNTED);
+        IS(counts[0], 10 + likes);
+        IS(likes_service_snapshot(service, counts, PAGES, lasts, USERS), LIKES_COUNTED);
+        IS(counts[0], 10 + likes);
+        IS(lasts[1], 0);
+        IS(likes_service_like(service, 1, 0), LIKES_GONE);
+        for (uint32_t seat = 0; seat < SEATS; seat++)
+            IS(likes_service_bring_back_seat(service, seat), LIKES_OK);
+        look_until_split(false);
+    }
+    IS(likes, ROUNDS);
+    IS(likes_service_retire(service), LIKES_OK);
+    IS(likes_service_bring_back_seat(service, 0), LIKES_GONE);
+    IS(likes_service_retire_seat(service, 0), LIKES_OK);
+    IS(likes_service_counts(service, counts, PAGES), LIKES_COUNTED);
+    IS(counts[0], 10 + likes);
+    stop(likes);
+}
+
+/* The same with the seat unlocked between tries, so that a snapshot can read its last likes. */
+static void leave_by_tries(uint32_t number) {
+    uint32_t status;
+    do {
+        status = likes_seat_retire(likes_service_lock(service, number));
+        likes_service_unlock(service, number);
+        sched_yield();
+    } while (status != LIKES_GONE);
+}
+
+static void come_back_by_tries(uint32_t number) {
+    uint32_t status;
+    do {
+        status = likes_seat_come_back(likes_service_lock(service, number));
+        likes_service_unlock(service, number);
+        sched_yield();
+    } while (status == LIKES_BETWEEN);
+}
+
+/* Seats leave and come back, and like between, by calls or by hand. */
+typedef struct {
+    uint32_t seat;
+    bool by_hand;
+    uint64_t likes;
+    pthread_t thread;
+} leaver;
+
+static void *leave_often(void *at) {
+    leaver *it = (leaver *)at;
+    while (is_on()) {
+        for (uint32_t seat = it->seat; seat < SEATS; seat += LEAVERS) {
+            if (it->by_hand)
+                leave_by_tries(seat);
+            else
+                IS(likes_service_retire_seat(service, seat), LIKES_OK);
+        }
+        IS(likes_service_like(service, it->seat, 0), LIKES_GONE);
+        for (uint32_t seat = it->seat; seat < SEATS; seat += LEAVERS) {
+            if (it->by_hand)
+                come_back_by_tries(seat);
+            else
+                IS(likes_service_bring_back_seat(service, seat), LIKES_OK);
+        }
+        IS(likes_service_like(service, it->seat, 0), LIKES_LIKED);
+        it->likes++;
+    }
+    return NULL;
+}
+
+/* Counts meanwhile have no answer but LIKES_COUNTED, and never fall. */
+static void moments_meanwhile(uint32_t period, int moments) {
+    static leaver leavers[LEAVERS];
+    uint64_t counts[PAGES], earlier = 0, likes = 0;
+    uint32_t lasts[USERS];
+    start(period);
+    for (uint32_t i = 0; i < LEAVERS; i++) {
+        leavers[i].seat = i;
+        leavers[i].by_hand = i == 0 && period == 1000;
+        leavers[i].likes = 0;
+        IS(pthread_create(&leavers[i].thread, NULL, leave_often, &leavers[i]), 0);
+    }
+    for (int times = 0; times < moments; times++) {
+        if (times % 4 == 0)
+            IS(likes_service_snapshot(service, counts, PAGES, lasts, USERS), LIKES_COUNTED);
+        else
+            IS(likes_service_counts(service, counts, PAGES), LIKES_COUNTED);
+        IS(counts[0] >= earlier, true);
+        earlier = counts[0];
+    }
+    __atomic_store_n(&is_over, true, __ATOMIC_SEQ_CST);
+    for (uint32_t i = 0; i < LEAVERS; i++) {
+        pthread_join(leavers[i].thread, NULL);
+        likes += leavers[i].likes;
+    }
+    stop(likes);
+}
+
+/* Likes, so that phases go on. */
+static void *like_on(void *at) {
+    uint64_t *likes = (uint64_t *)at;
+    while (is_on()) {
+        *likes += likes_service_like(service, 3, 0) == LIKES_LIKED;
+        sleep_for(20000);
+    }
+    return NULL;
+}
+
+/* A seat leaves, and comes back, in a few phases. Whether other calls are made or not. */
+static void in_few_phases(uint32_t period, bool is_alone) {
+    pthread_t thread;
+    uint64_t likes = 0;
+    start(period);
+    if (!is_alone)
+        IS(pthread_create(&thread, NULL, like_on, &likes), 0);
+    for (int times = 0; times < ROUNDS; times++) {
+        likes_answer answer;
+        uint64_t began = likes_service_phase(service), time = clock_now();
+        IS(likes_service_retire_seat(service, 1), LIKES_OK);
+        /* It takes three phases at most. At a short period many may pass before this thread gets a processor again. */
+        IS(likes_service_phase(service) - began <= 4 || clock_now() - time < 100000000, true);
+        IS(likes_service_look(service, 1, 0, &answer), LIKES_GONE);
+        IS(likes_service_retire_seat(service, 1), LIKES_OK);
+        began = likes_service_phase(service);
+        time = clock_now();
+        IS(likes_service_bring_back_seat(service, 1), LIKES_OK);
+        IS(likes_service_phase(service) - began <= 4 || clock_now() - time < 100000000, true);
+        IS(likes_service_bring_back_seat(service, 1), LIKES_OK);
+        IS(likes_service_look(service, 1, 0, &answer), LIKES_SEEN);
+    }
+    IS(likes_service_retire_seat(service, SEATS), LIKES_UNKNOWN_SEAT);
+    IS(likes_service_bring_back_seat(service, UINT32_MAX), LIKES_UNKNOWN_SEAT);
+    __atomic_store_n(&is_over, true, __ATOMIC_SEQ_CST);
+    if (!is_alone)
+        pthread_join(thread, NULL);
+    stop(likes);
+}
+
+/* Looks that wait when their seat leaves are answered. */
+static void *look_on(void *at) {
+    uint64_t *looks = (uint64_t *)at;
+    while (is_on()) {
+        likes_answer answer;
+        uint32_t status = likes_service_look(service, 1, 0, &answer);
+        IS(status == LIKES_SEEN || status == LIKES_GONE, true);
+        *looks += status == LIKES_SEEN;
+    }
+    return NULL;
+}
+
+static void looks_meanwhile(uint32_t period) {
+    pthread_t thread;
+    uint64_t looks = 0;
+    start(period);
+    IS(pthread_create(&thread, NULL, look_on, &looks), 0);
+    for (int times = 0; times < 5 * ROUNDS; times++) {
+        IS(likes_service_retire_seat(service, 1), LIKES_OK);
+        IS(likes_service_bring_back_seat(service, 1), LIKES_OK);
+        sleep_for((uint64_t)(times % 4) * 300000);
+    }
+    __atomic_store_n(&is_over, true, __ATOMIC_SEQ_CST);
+    pthread_join(thread, NULL);
+    IS(looks > 0, true);
+    stop(0);
+}
+
+/* Every call that takes locks is refused while the thread holds a seat, whichever seat it needs. */
+static void all_refused(uint32_t user) {
+    likes_answer answer = {.count = 1};
+    uint64_t counts[PAGES] = {5, 6};
+    uint32_t lasts[USERS] = {7};
+    IS(likes_service_like(service, user, 0), LIKES_HOLDS_SEAT);
+    IS(likes_service_look(service, user, 0, &answer), LIKES_HOLDS_SEAT);
+    IS(answer.status, LIKES_HOLDS_SEAT);
+    IS(answer.count, 0);
+    IS(likes_service_look_within(service, user, 0, 1000, &answer), LIKES_HOLDS_SEAT);
+    IS(likes_service_glance(service, user, 0, &answer), LIKES_HOLDS_SEAT);
+    IS(likes_service_last(service, user, lasts), LIKES_HOLDS_SEAT);
+    IS(likes_service_lasts(service, lasts, USERS), LIKES_HOLDS_SEAT);
+    IS(likes_service_counts(service, counts, PAGES), LIKES_HOLDS_SEAT);
+    IS(likes_service_snapshot(service, counts, PAGES, lasts, USERS), LIKES_HOLDS_SEAT);
+    IS(likes_service_propose(service, lasts, 1), LIKES_HOLDS_SEAT);
+    IS(likes_service_split_pages(service, lasts, 1), 0);
+    IS(likes_service_seat_fault(service, user % SEATS), LIKES_HOLDS_SEAT);
+    IS(likes_service_lock(service, user % SEATS) == NULL, true);
+    IS(likes_service_retire_seat(service, user % SEATS), LIKES_HOLDS_SEAT);
+    IS(likes_service_bring_back_seat(service, user % SEATS), LIKES_HOLDS_SEAT);
+    IS(likes_service_retire(service), LIKES_HOLDS_SEAT);
+    IS(likes_service_stop(service, counts, PAGES), LIKES_HOLDS_SEAT);
+    IS(likes_service_close(service), LIKES_HOLDS_SEAT);
+    IS(counts[0], 5);
+    IS(lasts[0], 7);
+}
+
+/* The thread that holds a seat of one service may call another. */
+static void other_service(void) {
+    static const uint64_t counts[1];
+    likes_service *other = NULL;
+    likes_options options = {.seats = 1, .users = 1, .room = 1};
+    IS(open_shared(options, counts, 1, NULL, 0, NULL, 0, 1000, &other), LIKES_OK);
+    IS(likes_service_like(other, 0, 0), LIKES_LIKED);
+    IS(likes_service_lock(other, 0) != NULL, true);
+    IS(likes_service_like(other, 0, 0), LIKES_HOLDS_SEAT);
+    IS(likes_service_seat_fault(service, 0), LIKES_HOLDS_SEAT);
+    likes_service_unlock(other, 0);
+    IS(likes_service_close(other), LIKES_OK);
+}
+
+static void holding(void) {
+    likes_request request = {.user = 2};
+    likes_answer answer;
+    likes_found found;
+    start(100);
+    IS(likes_service_run(service, 2, &request, 1, &answer), 0);
+    IS(answer.status, LIKES_NOT_LOCKED);
+    IS(likes_service_take_found(service, 2, &found), false);
+    likes_service_unlock(service, 2);
+    IS(likes_service_lock(service, 2) != NULL, true);
+    for (uint32_t user = 0; user < USERS; user++)
+        all_refused(user);
+    other_service();
+    IS(likes_service_run(service, 1, &request, 1, &answer), 0);
+    IS(answer.status, LIKES_NOT_LOCKED);
+    likes_service_unlock(service, 1);
+    IS(likes_service_run(service, 2, &request, 1, &answer), 1);
+    IS(answer.status, LIKES_LIKED);
+    likes_service_unlock(service, 2);
+    likes_service_unlock(service, 2);
+    IS(likes_service_like(service, 2, 0), LIKES_LIKED);
+    stop(2);
+}
+
+int main(void) {
+    static const uint32_t periods[] = {1, 1000, 10000};
+    alarm(100);
+    holding();
+    for (int n = 0; n < 3; n++) {
+        all_by_hand(periods[n], false);
+        all_by_hand(periods[n], true);
+        moments_of_none(periods[n]);
+        moments_meanwhile(periods[n], n < 2 ? 500 : 50);
+        looks_meanwhile(periods[n]);
+    }
+    in_few_phases(1, false);
+    in_few_phases(1000, true);
+    in_few_phases(20000, true);
+    in_few_phases(20000, false);
+    puts("seats left and came back, and no call waited for ever");
+    return 0;
+}

@@ -1,0 +1,276 @@
+/* The calls of likes_service.h: snapshots of one moment with last likes, looks with a deadline, statistics, the phase
+ * and split pages.
+ *
+ * If a call is answered otherwise, it prints a line and exits with status 1. After 60 seconds a signal ends it. */
+#include "harness.h"
+
+enum { SEATS = 3, USERS = 6, PAGES = 2 * USERS, SNAPSHOTS = 200, MS = 1000000 };
+
+static likes_service *service;
+static bool is_over, is_held;
+
+#define IS(call, expected)                                                                                      \
+    do {                                                                                                        \
+        uint64_t is = (uint64_t)(call), should = (uint64_t)(expected);                                          \
+        if (is != should) {                                                                                     \
+            printf("line %d: %s is %llu (%s), not %llu\n", __LINE__, #call, (unsigned long long)is,              \
+                   likes_status_text((uint32_t)is), (unsigned long long)should);                                \
+            exit(1);                                                                                            \
+        }                                                                                                       \
+    } while (0)
+
+/* A service in which page 0 is split in every split phase; and others, where hot pages are found. */
+static void start(uint32_t room, uint32_t period, uint32_t hot) {
+    static const uint64_t counts[PAGES];
+    static const uint32_t marks[] = {0};
+    likes_options options = {.seats = SEATS, .users = USERS, .room = room, .hot = hot};
+    IS(open_shared(options, counts, PAGES, marks, 1, NULL, 0, period, &service), LIKES_OK);
+    is_over = false;
+}
+
+static void stop(uint64_t *totals) {
+    IS(likes_service_stop(service, totals, PAGES), LIKES_OK);
+    IS(likes_service_fault(service), LIKES_NOT_STARTED);
+    likes_service_close(service);
+    service = NULL;
+}
+
+static bool is_on(void) {
+    return !__atomic_load_n(&is_over, __ATOMIC_SEQ_CST);
+}
+
+/* A user likes a page, then another, then the first again, and so on: by single calls, or by rows. */
+typedef struct {
+    uint32_t user;
+    uint64_t likes;
+    pthread_t thread;
+} liker;
+
+static void like_row(liker *it) {
+    likes_request row[16];
+    likes_answer answers[16];
+    memset(row, 0, sizeof row);
+    for (uint32_t i = 0; i < 16; i++) {
+        row[i].user = it->user;
+        row[i].page = 2 * it->user + (uint32_t)(it->likes++ % 2);
+    }
+    IS(likes_service_lock(service, it->user % SEATS) != NULL, true);
+    IS(likes_service_run(service, it->user % SEATS, row, 16, answers), 16);
+    likes_service_unlock(service, it->user % SEATS);
+}
+
+static void *like_by_turns(void *at) {
+    liker *it = (liker *)at;
+    while (is_on()) {
+        if (it->user < SEATS)
+            IS(likes_service_like(service, it->user, 2 * it->user + (uint32_t)(it->likes++ % 2)), LIKES_LIKED);
+        else
+            like_row(it);
+        likes_service_tick(service);
+    }
+    return NULL;
+}
+
+/* The last like that goes with the counts of a user's two pages. */
+static uint32_t last_of(uint32_t user, const uint64_t *counts) {
+    uint64_t first = counts[2 * user], second = counts[2 * user + 1];
+    IS(first == second || first == second + 1, true);
+    return first == 0 ? LIKES_NO_PAGE : first == second ? 2 * user + 1 : 2 * user;
+}
+
+/* Counts and last likes are of one moment, while threads go on. The statistics have all likes at the end. */
+static void moments(uint32_t period) {
+    static liker likers[USERS];
+    uint64_t counts[PAGES], likes = 0;
+    uint32_t lasts[USERS], split[LIKES_MAX_SPLIT];
+    likes_statistics told;
+    start(64, period, 512);
+    for (uint32_t i = 0; i < USERS; i++) {
+        likers[i].user = i;
+        likers[i].likes = 0;
+        IS(pthread_create(&likers[i].thread, NULL, like_by_turns, &likers[i]), 0);
+    }
+    for (uint32_t n = 0; n < SNAPSHOTS; n++) {
+        IS(likes_service_snapshot(service, counts, PAGES, lasts, USERS), LIKES_COUNTED);
+        for (uint32_t user = 0; user < USERS; user++)
+            IS(lasts[user], last_of(user, counts));
+        IS(likes_service_split_pages(service, split, LIKES_MAX_SPLIT) >= 1, true);
+        sleep_for(n % 4 * 200000);
+    }
+    __atomic_store_n(&is_over, true, __ATOMIC_SEQ_CST);
+    for (uint32_t i = 0; i < USERS; i++) {
+        pthread_join(likers[i].thread, NULL);
+        likes += likers[i].likes;
+    }
+    IS(likes_service_statistics(service, &told), LIKES_OK);
+    IS(told.likes, likes);
+    IS(told.looks + told.waits + told.late, 0);
+    IS(told.phases >= SNAPSHOTS, true);
+    IS(likes_service_snapshot(service, counts, PAGES, lasts, USERS - 1), LIKES_WRONG_RANGE);
+    IS(likes_service_snapshot(service, counts, PAGES - 1, lasts, USERS), LIKES_WRONG_RANGE);
+    IS(likes_service_retire(service), LIKES_OK);
+    IS(likes_service_snapshot(service, counts, PAGES, lasts, USERS), LIKES_COUNTED);
+    for (uint32_t user = 0; user < USERS; user++)
+        IS(lasts[user], last_of(user, counts));
+    stop(counts);
+    for (uint32_t page = 0; page < PAGES; page++)
+        likes -= counts[page];
+    IS(likes, 0);
+}
+
+/* Goes on to a split phase that has just begun. */
+static uint64_t go_to_split(void) {
+    uint64_t before = likes_service_phase(service), phase;
+    do {
+        likes_service_last(service, 0, (uint32_t[]){0});
+        IS(likes_service_like(service, 0, 2), LIKES_LIKED);
+        sleep_for(50000);
+        phase = likes_service_phase(service);
+    } while (phase <= before || phase % 2 == 0);
+    return phase;
+}
+
+/* A look that is late: it takes its time, and no more than that by far. */
+static void be_late(uint32_t user, uint32_t page) {
+    likes_answer answer = {.count = 7};
+    uint64_t began = clock_now();
+    IS(likes_service_look_within(service, user, page, 2000, &answer), LIKES_LATE);
+    IS(answer.status, LIKES_LATE);
+    IS(answer.count, 0);
+    uint64_t took = clock_now() - began;
+    IS(took >= 2 * MS && took < 400 * MS, true);
+}
+
+/* Looks at a page that is split for long. Three are late; by the fourth, those that wait take half of the room. */
+static void late_looks(void) {
+    likes_answer answer;
+    likes_statistics told;
+    likes_found found;
+    uint64_t totals[PAGES];
+    start(8, 1000000, 0);
+    uint64_t phase = go_to_split();
+    IS(likes_service_look_within(service, 0, 2, 1000000, &answer), LIKES_SEEN);
+    for (int n = 0; n < 3; n++)
+        be_late(0, 0);
+    IS(likes_service_like(service, 0, 0), LIKES_LIKED);
+    IS(likes_service_phase(service), phase);
+    IS(likes_service_look_within(service, 0, 0, 5000000, &answer), LIKES_SEEN);
+    IS(answer.count, 1);
+    IS(answer.last, 0);
+    IS(likes_service_statistics(service, &told), LIKES_OK);
+    IS(told.looks, 2);
+    IS(told.waits, 1);
+    IS(told.late, 3);
+    IS(told.longest_wait, told.wait_time);
+    IS(told.wait_time < 900 * (uint64_t)MS, true);
+    likes_service_lock(service, 0);
+    IS(likes_service_take_found(service, 0, &found), false);
+    likes_service_unlock(service, 0);
+    stop(totals);
+    IS(totals[0], 1);
+}
+
+/* A thread that holds a seat, in no call. */
+static void *hold_seat(void *at) {
+    IS(likes_service_lock(service, *(uint32_t *)at) != NULL, true);
+    __atomic_store_n(&is_held, true, __ATOMIC_SEQ_CST);
+    while (is_on())
+        sleep_for(MS);
+    likes_service_unlock(service, *(uint32_t *)at);
+    return NULL;
+}
+
+/* Looks at a seat that is held are late, and so are others while a phase is ending. A snapshot with last likes has no
+ * moment at once, but counts do once the phase has ended. */
+static void held_seat(void) {
+    pthread_t thread;
+    uint32_t held = 1, lasts[USERS];
+    uint64_t totals[PAGES];
+    likes_answer answer;
+    start(8, 1000, 512);
+    is_held = false;
+    IS(pthread_create(&thread, NULL, hold_seat, &held), 0);
+    while (!__atomic_load_n(&is_held, __ATOMIC_SEQ_CST))
+        sleep_for(MS);
+    sleep_for(50 * MS); /* until a phase is ending, which waits for the seat */
+    be_late(1, 2);
+    be_late(0, 0);
+    be_late(0, 2);
+    __atomic_store_n(&is_over, true, __ATOMIC_SEQ_CST);
+    pthread_join(thread, NULL);
+    IS(likes_service_look_within(service, 0, 0, 5000000, &answer), LIKES_SEEN);
+    IS(likes_service_look_within(service, 1, 2, 5000000, &answer), LIKES_SEEN);
+    IS(likes_service_snapshot(service, totals, PAGES, lasts, USERS), LIKES_COUNTED);
+    for (uint32_t user = 0; user < USERS; user++)
+        IS(lasts[user], LIKES_NO_PAGE);
+    stop(totals);
+}
+
+/* Many threads look with deadlines that many miss: no answer goes astray. */
+static void *look_often(void *at) {
+    liker *it = (liker *)at;
+    for (uint32_t n = 0; n < 2000; n++) {
+        likes_answer answer;
+        IS(likes_service_like(service, it->user, 0), LIKES_LIKED);
+        it->likes++;
+        uint32_t status = likes_service_look_within(service, it->user, 0, n % 7 * 40, &answer);
+        if (status == LIKES_LATE)
+            continue;
+        IS(status, LIKES_SEEN);
+        IS(answer.count >= it->likes, true);
+        IS(answer.last, 0);
+    }
+    return NULL;
+}
+
+static void deadlines(uint32_t room, uint32_t period) {
+    static liker likers[USERS];
+    likes_statistics told;
+    uint64_t totals[PAGES];
+    start(room, period, 512);
+    for (uint32_t i = 0; i < USERS; i++) {
+        likers[i].user = i;
+        likers[i].likes = 0;
+        IS(pthread_create(&likers[i].thread, NULL, look_often, &likers[i]), 0);
+    }
+    for (uint32_t i = 0; i < USERS; i++)
+        pthread_join(likers[i].thread, NULL);
+    IS(likes_service_statistics(service, &told), LIKES_OK);
+    IS(told.likes, USERS * 2000);
+    IS(told.looks + told.late, USERS * 2000);
+    IS(told.waits <= told.looks, true);
+    stop(totals);
+    IS(totals[0], USERS * 2000);
+}
+
+/* Openings that are refused, and services that are closed in any state. */
+static void openings(void) {
+    static const uint64_t counts[] = {5};
+    likes_options options = {.seats = 1, .users = 1, .room = 1};
+    IS(open_shared(options, counts, 1, NULL, 0, NULL, 0, LIKES_MAX_PERIOD_US + 1, &service), LIKES_WRONG_PERIOD);
+    IS(service == NULL, true);
+    IS(open_shared(options, NULL, 0, NULL, 0, NULL, 0, 1000, &service), LIKES_WRONG_PAGES);
+    IS(service == NULL, true);
+    likes_service_close(NULL);
+    IS(open_shared(options, counts, 1, NULL, 0, NULL, 0, 1000, &service), LIKES_OK);
+    likes_service_close(service);
+    service = NULL;
+    IS(open_shared(options, counts, 1, NULL, 0, NULL, 0, 1000, &service), LIKES_OK);
+    IS(likes_service_like(service, 0, 0), LIKES_LIKED);
+    IS(likes_service_retire(service), LIKES_OK);
+    likes_service_close(service);
+    service = NULL;
+}
+
+int main(void) {
+    alarm(60);
+    openings();
+    moments(1);
+    moments(1000);
+    late_looks();
+    held_seat();
+    deadlines(1, 50);
+    deadlines(16, 500);
+    puts("all calls answered right");
+    return 0;
+}

@@ -1,0 +1,64 @@
+"""What pages name: files, sections, and functions, definitions and tests in backquotes."""
+
+import glob
+import os
+import re
+
+import pages
+import runs
+
+# A page's section, as another page names it, and a file of a crate.
+SECTION = re.compile(r"([A-Z]\w*\.md)`?,? \(?\"([^\"]+)\"")
+SOURCE = re.compile(r"(?<![\w./-])((?:specs|src)/[\w./-]+\.(?:antt|rt))")
+
+
+def every_page(*others):
+    """README.md, those of docs/, and the crates' READMEs; and those of other places."""
+    found = []
+    for where in ("docs/*.md", "crates/*/README.md", *others):
+        found += glob.glob(where, root_dir=runs.ROOT, recursive=True)
+    return ["README.md", *sorted(found)]
+
+
+def absent(page):
+    """What a page names that isn't there: files, pages, sections, and functions or definitions in backquotes."""
+    text = pages.text_of(page)
+    for link in re.findall(r"\]\(([^):#]+)\)", text):
+        if not os.path.exists(f"{runs.ROOT}/{os.path.dirname(page)}/{link}"):
+            yield f"{page}: there is no {link}"
+    for name in set(re.findall(rf"(?<![\w./-])((?:{'|'.join(pages.FOLDERS)})/[\w./-]*[\w-])", text)):
+        if not os.path.exists(f"{runs.ROOT}/{name}") and "NAME" not in name and "/out/" not in name:
+            yield f"{page}: there is no {name}"
+    for name in set(re.findall(r"(?<![\w/])[A-Z]+\.md", text)):
+        if not find_page(name):
+            yield f"{page}: there is no {name}"
+    for name, heading in SECTION.findall(text):
+        if find_page(name) and not re.search(rf"^#+ {re.escape(heading)}", pages.text_of(find_page(name)), re.M):
+            yield f"{page}: {name} has no section {heading!r}"
+    for name in set(SOURCE.findall(text)):
+        if not glob.glob(f"crates/*/{name}", root_dir=runs.ROOT):
+            yield f"{page}: no crate has {name}"
+
+
+def find_page(name):
+    """Where the page of this name is, in docs/ or at the top."""
+    return next((path for path in (f"docs/{name}", name) if os.path.exists(f"{runs.ROOT}/{path}")), None)
+
+
+def unknown(named):
+    """The names in backquotes on these pages that no source file has: those with an underline or a capital inside."""
+    known = {"also_shares"}
+    for folder in pages.FOLDERS:
+        for where, folders, names in os.walk(f"{runs.ROOT}/{folder}"):
+            known.update(folders)
+            for name in names:
+                if name.endswith((".antt", ".rt", ".c", ".h", ".edit", ".py", ".sh", ".toml")) or "." not in name:
+                    with open(f"{where}/{name}", encoding="utf-8", errors="replace") as file:
+                        known.update(re.findall(r"\w+", file.read()))
+    for page in named:
+        text = pages.text_of(page)
+        shown = set(re.findall(r"\w+", " ".join(re.findall(r"^```\w*\n.*?^```$", text, re.M | re.S))))
+        for name in sorted(set(re.findall(r"`([A-Za-z_][\w:.]*)`", text))):
+            for part in re.split(r"::|\.", name):
+                if re.search(r"\w_\w|[a-z][A-Z]", part) and part not in known and part not in shown:
+                    yield f"{page}: no source has {name}"
