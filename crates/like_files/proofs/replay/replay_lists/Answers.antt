@@ -62,6 +62,7 @@ returns g c = record {
       written = rw (c.in_ok-text.ensures, c.extent_of.ensures) at c.in_ok-write.ensures;
       noticed = c.of.ensures;
     };
+    ended = c.in_ok-report.ensures.ended;
   };
   fault = tt;
   untouched = tt;
