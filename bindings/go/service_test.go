@@ -429,6 +429,31 @@ func TestManyLooks(t *testing.T) {
 	}
 }
 
+// A look that waits has its time: the end waits for it, and doesn't end its phase.
+func TestClosingUnderLook(t *testing.T) {
+	options := Options{Seats: 1, Users: 2, Room: 64, Hot: NoHot, Marks: []uint32{0}, Period: 100 * time.Second}
+	service := start(t, options, 0, 0)
+	for service.Phase()%2 == 0 {
+		if err := service.Like(0, 1); err != nil {
+			t.Fatal(err)
+		}
+	}
+	looked := make(chan error)
+	go func() {
+		_, err := service.LookWithin(0, 0, 100*time.Millisecond)
+		looked <- err
+	}()
+	time.Sleep(50 * time.Millisecond)
+	stopped := make(chan error)
+	go func() { stopped <- service.Close() }()
+	if err := <-looked; !errors.Is(err, ErrLate) {
+		t.Error(err)
+	}
+	if err := <-stopped; err != nil {
+		t.Error(err)
+	}
+}
+
 // A service is closed under goroutines that call it: each call is done, or is ErrClosed.
 func TestClosing(t *testing.T) {
 	for times := 0; times < 20; times++ {

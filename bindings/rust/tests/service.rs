@@ -1,6 +1,7 @@
 //! A service under threads.
 
 use std::panic::{catch_unwind, AssertUnwindSafe};
+use std::sync::atomic::{AtomicBool, Ordering};
 use std::sync::Arc;
 use std::thread;
 use std::time::Duration;
@@ -107,18 +108,19 @@ fn a_snapshot_is_of_one_moment() {
         let ahead = moment.lasts.iter().filter(|last| **last == Last::of(1)).count() as u64;
         moment.counts[1] == moment.counts[2] + ahead
     };
+    let is_over = AtomicBool::new(false);
     thread::scope(|scope| {
         for number in 0..4 {
-            let service = &service;
+            let (service, is_over) = (&service, &is_over);
             scope.spawn(move || {
-                for i in 0..EACH {
+                for i in (0..4).cycle().take_while(|_| !is_over.load(Ordering::Relaxed)) {
                     service.like(number * 2 + i / 2 % 2, 1 + i % 2).unwrap();
                 }
             });
         }
-        for _ in 0..200 {
-            assert!(is_one(&service.snapshot().unwrap()));
-        }
+        let wrong = (0..200).filter(|_| !is_one(&service.snapshot().unwrap())).count();
+        is_over.store(true, Ordering::Relaxed);
+        assert_eq!(wrong, 0);
     });
     let moment = service.snapshot().unwrap();
     assert!(is_one(&moment));
