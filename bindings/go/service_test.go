@@ -193,7 +193,7 @@ func TestDeadline(t *testing.T) {
 	options := Options{Seats: 1, Users: 2, Room: 64, Hot: NoHot, Marks: []uint32{0}, Period: 100 * time.Second}
 	service := start(t, options, 0, 0)
 	defer service.Close()
-	for service.Phase()%2 == 0 {
+	for isSplit := false; !isSplit; isSplit = service.Phase()%2 == 1 {
 		if err := service.Like(0, 1); err != nil {
 			t.Fatal(err)
 		}

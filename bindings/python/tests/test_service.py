@@ -174,6 +174,7 @@ class Service(unittest.TestCase):
     def test_deadlines(self) -> None:
         # With less room, looks that wait would end the phase early.
         with opened(room=64, marks=[0], period=100) as service:
+            service.like(4, 1)
             while service.phase() % 2 == 0:
                 service.like(4, 1)
             for seconds in (0, 0.001):
