@@ -45,7 +45,7 @@ func visit(service *Service, number, goroutines uint32) error {
 
 func TestGoroutines(t *testing.T) {
 	const goroutines = 8
-	service := start(t, Options{Seats: 2, Users: 80, Room: 4, Marks: []uint32{0}, Period: short}, 0, 0)
+	service := start(t, Options{Seats: 2, Users: 80, Room: 4, Hot: NoHot, Marks: []uint32{0}, Period: short}, 0, 0)
 	var all sync.WaitGroup
 	for number := uint32(0); number < goroutines; number++ {
 		all.Add(1)

@@ -118,7 +118,11 @@ fn a_snapshot_is_of_one_moment() {
                 }
             });
         }
-        let wrong = (0..200).filter(|_| !is_one(&service.snapshot().unwrap())).count();
+        let snapshots = (0..1000).map(|_| {
+            thread::sleep(PERIOD);
+            service.snapshot().unwrap()
+        });
+        let wrong = snapshots.filter(|moment| !is_one(moment)).count();
         is_over.store(true, Ordering::Relaxed);
         assert_eq!(wrong, 0);
     });
