@@ -92,7 +92,7 @@ fn no_like_and_no_look_is_lost() {
     assert!(service.phase() > 2);
     let statistics = service.statistics();
     assert_eq!((statistics.likes, statistics.late), (u64::from(EACH * THREADS), 0));
-    assert!(statistics.phases > 2 && statistics.waits > 0 && statistics.wait_time >= statistics.longest_wait);
+    assert!(statistics.phases > 2 && statistics.wait_time >= statistics.longest_wait);
     let ended = service.stop().unwrap();
     assert_eq!(ended.counts, likes);
     let last = |user: u32| (0..EACH).rev().find(|i| i % 100 == user / THREADS).map(|i| i % 3);
