@@ -45,7 +45,7 @@ func visit(service *Service, number, goroutines uint32) error {
 
 func TestGoroutines(t *testing.T) {
 	const goroutines = 8
-	service := start(t, Options{Seats: 2, Users: 80, Room: 4, Marks: []uint32{0}, Period: short}, 0, 0)
+	service := start(t, Options{Seats: 2, Users: 80, Room: 4, Hot: NoHot, Marks: []uint32{0}, Period: short}, 0, 0)
 	var all sync.WaitGroup
 	for number := uint32(0); number < goroutines; number++ {
 		all.Add(1)
@@ -68,7 +68,7 @@ func TestGoroutines(t *testing.T) {
 		t.Errorf("%v are split: %v", split, err)
 	}
 	told, err := service.Statistics()
-	if err != nil || told.Likes != 4000 || told.Looks != 4000 || told.Waits == 0 || service.Phase() == 0 {
+	if err != nil || told.Likes != 4000 || told.Looks != 4000 || service.Phase() == 0 {
 		t.Errorf("phase %d, %v: %v", service.Phase(), told, err)
 	}
 	if end := stop(t, service); !reflect.DeepEqual(end.Counts, []uint64{2000, 2000}) {
@@ -193,7 +193,7 @@ func TestDeadline(t *testing.T) {
 	options := Options{Seats: 1, Users: 2, Room: 64, Hot: NoHot, Marks: []uint32{0}, Period: 100 * time.Second}
 	service := start(t, options, 0, 0)
 	defer service.Close()
-	for service.Phase()%2 == 0 {
+	for isSplit := false; !isSplit; isSplit = service.Phase()%2 == 1 {
 		if err := service.Like(0, 1); err != nil {
 			t.Fatal(err)
 		}
@@ -425,6 +425,31 @@ func TestManyLooks(t *testing.T) {
 	}
 	all.Wait()
 	if err := service.Close(); err != nil {
+		t.Error(err)
+	}
+}
+
+// A look that waits has its time: the end waits for it, and doesn't end its phase.
+func TestClosingUnderLook(t *testing.T) {
+	options := Options{Seats: 1, Users: 2, Room: 64, Hot: NoHot, Marks: []uint32{0}, Period: 100 * time.Second}
+	service := start(t, options, 0, 0)
+	for service.Phase()%2 == 0 {
+		if err := service.Like(0, 1); err != nil {
+			t.Fatal(err)
+		}
+	}
+	looked := make(chan error)
+	go func() {
+		_, err := service.LookWithin(0, 0, 100*time.Millisecond)
+		looked <- err
+	}()
+	time.Sleep(50 * time.Millisecond)
+	stopped := make(chan error)
+	go func() { stopped <- service.Close() }()
+	if err := <-looked; !errors.Is(err, ErrLate) {
+		t.Error(err)
+	}
+	if err := <-stopped; err != nil {
 		t.Error(err)
 	}
 }

@@ -207,8 +207,10 @@ def of_all(live):
                 of_cpp(live, compiler, build)
             else:
                 print(f"{compiler} has no sanitizer for {build}: skipped")
-    if shutil.which("c++"):
+    if shutil.which("c++") and shutil.which("pkg-config"):
         of_page(live, "cpp", "c++")
+    else:
+        print("c++ or pkg-config is not installed: the page of bindings/cpp is skipped")
     of_python(live)
     for command, check in (("cargo", of_rust), ("go", of_go)):
         if shutil.which(command):

@@ -187,7 +187,8 @@ static void writers() {
     hold(other.drop() == 1 && other.drop() == 0, "a like that is dropped");
     other.close();
     hold(thrown([&] { other.flush(); }) == LIKES_NOT_STARTED, "a flush after the end of a writer");
-    hold(service.stop().counts[1] == counts[1] + 1, "the final counts");
+    service.writer().like(3, 1);
+    hold(service.stop().counts[1] == counts[1] + 2, "the likes of a writer that was destroyed");
 }
 
 // A seat leaves and comes back. Likes of its users stay kept by a writer meanwhile.

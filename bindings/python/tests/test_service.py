@@ -1,6 +1,7 @@
 """The class Likes and its writers: right calls, wrong ones, calls after the end, services that go on, and threads."""
 
 import threading
+import time
 import unittest
 from typing import Any, Callable, Dict, List, Tuple
 
@@ -173,6 +174,7 @@ class Service(unittest.TestCase):
     def test_deadlines(self) -> None:
         # With less room, looks that wait would end the phase early.
         with opened(room=64, marks=[0], period=100) as service:
+            service.like(4, 1)
             while service.phase() % 2 == 0:
                 service.like(4, 1)
             for seconds in (0, 0.001):
@@ -187,14 +189,18 @@ class Service(unittest.TestCase):
         wrong: List[Moment] = []
         with opened(counts=[0, 0, 0], marks=[1], period=0.0002) as service:
 
+            is_over = threading.Event()
+
             def work(number: int) -> None:
-                for i in range(1000):
-                    if number < 4:
-                        service.like(number, 1 + i % 2)
-                    elif i % 10 == 0:
+                if number == 4:
+                    for _ in range(100):
                         moment = service.snapshot()
                         if moment.counts[1] != moment.counts[2] + moment.lasts.count(1):
                             wrong.append(moment)
+                    is_over.set()
+                while not is_over.is_set():
+                    for page in (1, 2):
+                        service.like(number, page)
 
             in_threads(work, 5)
             self.assertEqual(service.snapshot(), service.stop())
@@ -256,6 +262,23 @@ class Service(unittest.TestCase):
             in_threads(work, threads + 1)
             self.assertEqual(totals, sorted(totals))
         self.assertEqual((wrong, service.stop().counts), ([], [threads * each // 2] * 2))
+
+    def test_closing_under_a_look(self) -> None:
+        """A look that waits has its time: the end waits for it, and doesn't end its phase."""
+        told: List[object] = []
+        with opened(room=64, marks=[0], period=100) as service:
+            while service.phase() % 2 == 0:
+                service.like(4, 1)
+
+            def work(number: int) -> None:
+                if number == 0:
+                    told.append(service.look_within(4, 0, 0.1))
+                else:
+                    time.sleep(0.05)
+                    service.close()
+
+            in_threads(work, 2)
+        self.assertEqual(told, [None])
 
     def test_closing_under_calls(self) -> None:
         """A call is done, or raises Closed."""

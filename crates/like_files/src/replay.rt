@@ -23,8 +23,7 @@ use std::thread::Threads;
 
 /// Reads the pages file, the request files in their order and the script file; replays the run that they ask for; and
 /// writes its report. The options say whether that has the totals alone, and whether it has places. Without a script,
-/// no turn comes before the rounds. After `Write` and `Memory` the front of the report may have
-/// been written.
+/// no turn comes before the rounds. After `Write` and `Memory` the front of the report may have been written.
 pub fn replay_files<R: Read + Drop, W: Output>(
     alloc: Global,
     options: &Options,

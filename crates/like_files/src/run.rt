@@ -23,9 +23,8 @@ use std::thread::Threads;
 
 /// Reads the pages file, and the request files in parallel; makes their run on threads; and writes its report. The options
 /// say whether that has the totals alone, and whether it has places. The fault is that of the first file at fault, though
-/// later ones may have been read by then. After `Write` and `Memory` the front of the report may have
-/// been written. Threads
-/// take the readers, so they are `Send`.
+/// later ones may have been read by then. After `Write` and `Memory` the front of the report may have been written.
+/// Threads take the readers, so they are `Send`.
 pub fn run_files<T: Threads + Wait + Sync, R: Read + Drop + Send, W: Output>(
     rt: &T,
     alloc: Global,

@@ -51,7 +51,7 @@ all-alike P p q xs ys same all = λ k d below.
     subst P (get_or-map p xs k d (p d) below)
     (subst (All P) (sym same) (All-map P q ys all) k (p d) (subst (λ n. k < n) (sym (length-map xs p)) below))
 
-abbrev post_at : LiveView → PostView
+abbrev pub post_at : LiveView → PostView
 post_at s = s.seat.post
 
 -- the seats that were given back are those of the driver's board

@@ -27,5 +27,6 @@ pub mod Showing
 pub mod Slotted
 pub mod Standing
 pub mod Stepping
+pub mod Taking
 pub mod Telling
 pub mod Turning

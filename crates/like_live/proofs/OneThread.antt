@@ -11,6 +11,7 @@ use Rattle.std.proofs.lemmas.List.FromFn.{get_or-map-range_with_len}
 use Rattle.std.proofs.lemmas.List.Sums.{sum_by-cons}
 use Rattle.like_board.specs.declared.worker_seat.WorkerSeat.{WorkerSeat}
 use Rattle.like_board.specs.Seats.{BoardId, seat_meaning}
+use Rattle.like_core.specs.declared.opening.Opening.{Opening as CoreOpening}
 use Rattle.like_core.specs.declared.page_step.PageCall.TheVariants.{Add, Read, Glance}
 use Rattle.like_core.specs.declared.page_step.PageStep.{PageStep}
 use Rattle.like_core.specs.declared.worker_state.WorkerState.TheVariants.{Gone}
@@ -38,11 +39,12 @@ use Rattle.like_tables.specs.UserTable.{UserTable, last_in, last_of, table_with_
 use Rattle.like_live.specs.declared.opening.Opening.{Opening}
 use Rattle.like_live.specs.LiveView.{LiveView}
 use Rattle.like_live.specs.History.{IsUnused}
+use Rattle.like_live.specs.Driver.{DriverView}
 use Rattle.like_live.specs.Opening.{board_opening}
 use Rattle.like_live.specs.Service.{AreOpenedSeats, IsOpenedSeat}
 use Rattle.like_live.specs.Deeds.{Act, Deed, ShowsCount, ShowsLast, counted, glimpsed, likes_counted, page_counted, pages_counted, showed}
-use Rattle.like_live.specs.SerialService.{AreOrdered, IsSerialService, SeatHistory, ServicesAreSerial, count_after, deeds_at, deeds_by, deeds_in, last_after}
-use Rattle.like_live.proofs.Closing.{all-alike}
+use Rattle.like_live.specs.SerialService.{IsSerialService, SeatHistory, ServicesAreSerial, count_after, deeds_in, last_after}
+use Rattle.like_live.proofs.Closing.{all-alike, post_at, sum-alike}
 use Rattle.like_live.proofs.DeedLasts.{deeds_show_lasts}
 use Rattle.like_live.proofs.DeedOwners.{AreHis, his_kept}
 use Rattle.like_live.proofs.DeedPhases.{HasRisen, phase_of_deed, risen_kept}
@@ -51,6 +53,12 @@ use Rattle.like_live.proofs.DeedTotals.{HasTotals, deed_in, is_none, likes_of_de
 use Rattle.like_live.proofs.Merging.{FitsAll, IsMerged, merged_serial}
 use Rattle.like_live.proofs.Ordered.{IsOrdered, split_in}
 use Rattle.like_live.proofs.Standing.{IsHis, Stands, kept_by_calls, stands_by_calls}
+
+-- one order of all that these seats did at pages, the latest step first
+record AreInOrder (counts : ℕ → ℕ) (phase : ℕ) (seats : List LiveView) (steps : List PageStep) : Type 0 where
+  in_turn : AreInTurn counts phase steps
+  each : All (λ s. steps_by s.seat.post.worker steps ≡ s.seat.post.did) seats
+  others : (i : ℕ) → count_by (λ s. s.seat.post.worker == i) seats ≡ 0 → steps_by i steps ≡ []
 
 -- what is true of all that a list stands for is true of what its element at a place does
 at_all : {A B : Type 0} (P : B → Type 0) (f : A → B) (xs : List A) (i : ℕ) (x : A) → All P (map f xs)
@@ -72,6 +80,9 @@ place (x ∷ xs) zero = inl (x, refl)
 place (x ∷ xs) (suc i) = elim (place xs i) [ inl there ↦ inl there | inr past ↦ inr (omega (arith, past)) ]
 
 -- the deeds at a place
+abbrev deeds_at : List SeatHistory → ℕ → List Deed
+deeds_at hs i = get_or (map deeds_in hs) i []
+
 deeds_there : (hs : List SeatHistory) (i : ℕ) (h : SeatHistory) → slice_get hs i ≡ Some h → deeds_at hs i ≡ deeds_in h
 deeds_there [] i h at = absurd (not_some h at)
 deeds_there (g ∷ hs) zero h at = ap deeds_in (some_is g h at)
@@ -146,7 +157,7 @@ module _ (o : Opening) (factor : ℕ) (board : BoardId) (hs : List SeatHistory) 
     (opened : AreOpenedSeats o factor board (map (λ (h : SeatHistory). h.first) hs))
     (gone : All (λ (s : LiveView). s.seat.post.state ≡ Gone) (map (λ (h : SeatHistory). h.last) hs))
     (right : All (λ (s : LiveView). AreMasksOf masks s.seat.post.masks) (map (λ (h : SeatHistory). h.last) hs))
-    (order : AreOrdered (λ page. get_or o.counts.items page 0) last (map (λ (h : SeatHistory). h.last) hs) steps) where
+    (order : AreInOrder (λ page. get_or o.counts.items page 0) last (map (λ (h : SeatHistory). h.last) hs) steps) where
   -- whether a page is split in a phase
   abbrev split : ℕ → ℕ → Bool
   split = split_by service_limits.hot (is_marked (board_opening o factor).marks) masks
@@ -424,7 +435,7 @@ module _ (o : Opening) (factor : ℕ) (board : BoardId) (hs : List SeatHistory) 
         m.counts j (record d { act = showed s }) d.page s.count at refl
         ∙ ap (λ n. first_count d.page + n) (sym (sum-weigh (likes_of_deed d.page) (take j serial)))
 
-    is_serial : IsSerialService o hs serial
+    is_serial : IsSerialService o (map deeds_in hs) serial
     is_serial = record {
       own = m.own;
       rising = pairs_of phase_of_deed serial m.rising;
@@ -432,15 +443,30 @@ module _ (o : Opening) (factor : ℕ) (board : BoardId) (hs : List SeatHistory) 
       counts = λ j d at. counts_by j d d.act at;
     }
 
-  pub one_thread : (serial : List Deed) × IsSerialService o hs serial
+  one_thread : (serial : List Deed) × IsSerialService o (map deeds_in hs) serial
   one_thread =
       let m = merged_serial user_home phase_of_deed (step_of split) likes_of_deed split first_count last steps (length hs)
       (deeds_at hs) fits in
       (m.0, is_serial m.0 m.1)
 
 pub services_are_serial : ServicesAreSerial
-services_are_serial o driver now hs counts steps opened same closed gone order =
-    one_thread o opened.factor driver.lead.board hs (mask_of now.lead.seat.masks) now.lead.seat.phase steps opened.fresh gone
-    (all-alike (λ (p : PostView). AreMasksOf (mask_of now.lead.seat.masks) p.masks) (λ (s : LiveView). s.seat.post)
-    seat_meaning (map (λ (h : SeatHistory). h.last) hs) closed.back (sym closed.posts) closed.masks)
-    order
+services_are_serial o driver now hs counts opened same closed gone =
+    let ends = map (λ (h : SeatHistory). h.last) hs in
+    let order = closed.order in
+    let opening : now.lead.seat.opening ≡ board_opening o opened.factor =
+    same.opening ∙ ap (λ (d : DriverView). d.lead.seat.opening) opened.new in
+    one_thread o opened.factor driver.lead.board hs (mask_of now.lead.seat.masks) now.lead.seat.phase closed.steps
+    opened.fresh gone
+    (all-alike (λ (p : PostView). AreMasksOf (mask_of now.lead.seat.masks) p.masks) post_at seat_meaning ends closed.back
+    (sym closed.posts) closed.masks)
+    (record {
+      in_turn =
+          subst (λ (z : CoreOpening). AreInTurn (λ page. get_or z.counts page 0) now.lead.seat.phase closed.steps) opening
+          order.in_turn;
+      each = all-alike (λ (p : PostView). steps_by p.worker closed.steps ≡ p.did) post_at seat_meaning ends closed.back
+          (sym closed.posts) (λ k d below. (order.each k d below).did);
+      others = λ i none.
+          order.others i
+          (sum-alike (λ (p : PostView). cond {A = ℕ} (p.worker == i) 1 0) seat_meaning post_at closed.back ends closed.posts
+          ∙ none);
+    })

@@ -1,5 +1,5 @@
 -- What a live seat did for its users: its deeds.
-use Rattle.std.specs.Prelude.{◌≡◌, ℕ, ◌==◌, if◌then◌else◌, List, [], ◌∷◌, ◌++◌, drop, length, map, slice_get, take, Option, Some, None, sum_by}
+use Rattle.std.specs.Prelude.{◌≡◌, ℕ, ◌==◌, if◌then◌else◌, List, [], ◌∷◌, ◌++◌, drop, flat_map, length, map, slice_get, take, Option, Some, None, sum_by}
 use Rattle.std.specs.List.{filter_map, last_or}
 use Rattle.like_core.specs.Post.{slices}
 use Rattle.like_seat.specs.declared.seen.Seen.{Seen}
@@ -10,7 +10,7 @@ use Rattle.like_live.specs.declared.answer.LikeAnswer.TheVariants.{Liked}
 use Rattle.like_live.specs.declared.answer.LookAnswer.TheVariants as looked
 use Rattle.like_live.specs.declared.asked.Found.{Found}
 use Rattle.like_live.specs.LiveView.{LiveView}
-use Rattle.like_live.specs.History.{HasDone, IsUnused, Told, glance, like, look}
+use Rattle.like_live.specs.History.{HasDone, IsUnused, Told, glance, like, look, take_found}
 
 -- a like was counted; or a last like and a count were shown, by a look, or by a glance at a page that is split then
 pub data Act : Type 0 where
@@ -92,3 +92,24 @@ DeedsShowLasts =
     (v after : LiveView) (told : List Told) (done : HasDone v told after) → IsUnused v
     → (i : ℕ) (d : Deed) → slice_get (deeds_of told v after done) i ≡ Some d
     → ShowsLast (last_or (last_of v.seat.last d.user) (pages_counted d.user (take i (deeds_of told v after done)))) d.act
+
+-- a found look that was taken, if that was the call
+abbrev pub found_taken : Told → List Found
+found_taken (take_found (Some f)) = f ∷ []
+found_taken told = []
+
+-- the found looks that calls took, in order
+abbrev pub all_taken : List Told → List Found
+all_taken told = flat_map found_taken told
+
+-- the looks that calls found, in order
+abbrev pub all_found : (told : List Told) (v after : LiveView) → HasDone v told after → List Found
+all_found [] v after done = []
+all_found (t ∷ told) v after done = found_by v done.0 ++ all_found told done.0 after done.1.1
+
+-- the law of found looks: those that were taken, with what they were shown, and then those that are left, are those that
+-- the calls found, each once and in order
+abbrev pub FoundAreTaken : Type 0
+FoundAreTaken =
+    (v after : LiveView) (told : List Told) (done : HasDone v told after) → IsUnused v
+    → all_taken told ++ after.found ≡ all_found told v after done

@@ -1,8 +1,6 @@
 -- The calls of all seats of a service, as those of one thread.
-use Rattle.std.specs.Prelude.{◌≡◌, ℕ, ◌+◌, ◌≤◌, ◌==◌, All, List, [], count_by, filter, map, take, slice_get, slice_index, slice_index_or, AllPairs, Option, Some}
+use Rattle.std.specs.Prelude.{◌≡◌, ℕ, ◌+◌, ◌≤◌, ◌==◌, List, [], filter, map, take, slice_get, slice_index, slice_index_or, AllPairs, Option, Some}
 use Rattle.std.specs.List.{last_or}
-use Rattle.like_core.specs.declared.page_step.PageStep.{PageStep}
-use Rattle.like_core.specs.PageSteps.{AreInTurn, steps_by}
 use Rattle.like_requests.specs.Verdict.{home}
 use Rattle.like_tables.specs.UserTable.{last_in}
 use Rattle.like_live.specs.declared.opening.Opening.{Opening}
@@ -23,10 +21,6 @@ pub record SeatHistory : Type 0 where
 abbrev pub deeds_in : SeatHistory → List Deed
 deeds_in h = deeds_of h.told h.first h.last h.done
 
--- the deeds of the seat with this number
-abbrev pub deeds_at : List SeatHistory → ℕ → List Deed
-deeds_at histories seat = slice_index_or (map deeds_in histories) seat []
-
 -- the deeds for the users of a seat, in their order: user u belongs to seat u modulo the number of seats
 abbrev pub deeds_by : (seats seat : ℕ) → List Deed → List Deed
 deeds_by seats seat deeds = filter (λ d. home seats d.user == seat) deeds
@@ -39,31 +33,22 @@ last_after o user deeds = last_or (last_in o.lasts.items user) (pages_counted us
 abbrev pub count_after : Opening → ℕ → List Deed → ℕ
 count_after o page deeds = slice_index o.counts.items page + likes_among page deeds
 
--- serial: the deeds of each seat, in their order, are those of its calls, and there are no others; phases never fall; and
+-- serial, where these are the deeds of each seat: the list has them in their order, and no others; phases never fall; and
 -- each look shows its user's last like among the deeds before it, and its page's count after them. (A glance at a page
--- that is split then may lack likes that other seats have in their slices: its count has the bounds of `Answers`)
-pub record IsSerialService (o : Opening) (histories : List SeatHistory) (serial : List Deed) : Type 0 where
-  pub own : (seat : ℕ) → deeds_by o.seats seat serial ≡ deeds_at histories seat
+-- that is split then may lack likes that other seats have in their slices. Its count has the bounds of `IsWithinAdded`)
+pub record IsSerialService (o : Opening) (deeds : List (List Deed)) (serial : List Deed) : Type 0 where
+  pub own : (seat : ℕ) → deeds_by o.seats seat serial ≡ slice_index_or deeds seat []
   pub rising : AllPairs (λ d e. d.phase ≤ e.phase) serial
   pub lasts : (i : ℕ) (d : Deed) → slice_get serial i ≡ Some d → ShowsLast (last_after o d.user (take i serial)) d.act
   pub counts : (i : ℕ) (d : Deed) → slice_get serial i ≡ Some d → ShowsCount (count_after o d.page (take i serial)) d.act
 
--- one order of all that these seats did at pages, the latest step first: each step found what those before it left; none is
--- later than this phase, and phases never fall; the steps of each seat, in their order, are what it did; and no other
--- worker has a step
-pub record AreOrdered (counts : ℕ → ℕ) (phase : ℕ) (seats : List LiveView) (steps : List PageStep) : Type 0 where
-  pub in_turn : AreInTurn counts phase steps
-  pub each : All (λ s. steps_by s.seat.post.worker steps ≡ s.seat.post.did) seats
-  pub others : (i : ℕ) → count_by (λ s. s.seat.post.worker == i) seats ≡ 0 → steps_by i steps ≡ []
-
--- the law of one thread: of a service that was opened so and is closed, where one order is that of all steps of its seats,
--- there is a serial list of all deeds of their calls
+-- the law of one thread: of a service that was opened so and is closed, there is a serial list of all deeds of its seats'
+-- calls
 abbrev pub ServicesAreSerial : Type 0
 ServicesAreSerial =
-    (o : Opening) (driver now : DriverView) (histories : List SeatHistory) (counts : List ℕ) (steps : List PageStep)
+    (o : Opening) (driver now : DriverView) (histories : List SeatHistory) (counts : List ℕ)
     → AreOpened o driver (map (λ h. h.first) histories)
     → IsSameDriver driver now
     → IsClosedService now (map (λ h. h.last) histories) counts
     → AreGone (map (λ h. h.last) histories)
-    → AreOrdered (slice_index o.counts.items) now.lead.seat.phase (map (λ h. h.last) histories) steps
-    → (serial : List Deed) × IsSerialService o histories serial
+    → (serial : List Deed) × IsSerialService o (map deeds_in histories) serial

@@ -1,8 +1,9 @@
 -- What a service is when it is opened, and what is known when it is closed.
 use Rattle.std.specs.Prelude.{◌≡◌, ℕ, ◌+◌, ◌<◌, ◌==◌, All, List, length, map, slice_get, slice_index, Some, count_by}
 use Rattle.std.specs.List.{AllZip, sum_by}
-use Rattle.like_board.specs.Seats.{AreCounted, BoardId, HaveAddedWithin, HaveGlancedBetween, HavePlaces, HaveReadBetween, HaveReadMasks, board_numbers, seat_meaning}
+use Rattle.like_board.specs.Seats.{AreCounted, AreOrdered, BoardId, HaveAddedWithin, HaveGlancedBetween, HavePlaces, HaveReadBetween, HaveReadMasks, board_numbers, seat_meaning}
 use Rattle.like_board.specs.declared.worker_seat.WorkerSeat.{WorkerSeat}
+use Rattle.like_core.specs.declared.page_step.PageStep.{PageStep}
 use Rattle.like_core.specs.Post.{IsFresh, additions_of}
 use Rattle.like_core.specs.OpeningLimits.{service_limits}
 use Rattle.like_core.specs.declared.worker_state.WorkerState.TheVariants.{Gone}
@@ -68,7 +69,8 @@ total_of v seats page = slice_index v.lead.seat.opening.counts page + sum_by (λ
 
 -- what is known of a closed service: each page's last count is its total; no seat added in a phase after the driver's;
 -- each count that a seat read or glanced at is within its bounds; each snapshot has all additions up to its phase; each
--- phase had one mask; and the additions of all seats tile each page's counts
+-- phase had one mask; the additions of all seats tile each page's counts; and all that the seats did at pages has one
+-- order
 pub record IsClosedService (v : DriverView) (seats : List LiveView) (counts : List ℕ) : Type 0 where
   pub len : length counts ≡ length v.lead.seat.opening.counts
   pub totals : (page : ℕ) → page < length counts → slice_index counts page ≡ total_of v seats page
@@ -80,3 +82,5 @@ pub record IsClosedService (v : DriverView) (seats : List LiveView) (counts : Li
   pub snapshots : AreCounted v.lead.seat back
   pub masks : HaveReadMasks v.lead.seat.masks back
   pub places : HavePlaces v.lead.seat.opening back
+  pub steps : List PageStep
+  pub order : AreOrdered v.lead.seat.opening v.lead.seat.phase back steps

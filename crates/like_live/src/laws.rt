@@ -1,7 +1,7 @@
 //! The laws of a live seat's histories and answers, and of a service's seats at a moment of their board. Each is the
 //! contract of a function that does nothing.
 ghost use Rattle.like_live.specs.Answers.{AnswersAreBounded, AnswersAreReads};
-ghost use Rattle.like_live.specs.Deeds.{DeedsShowLasts};
+ghost use Rattle.like_live.specs.Deeds.{DeedsShowLasts, FoundAreTaken};
 ghost use Rattle.like_live.specs.Driver.{LastCountsStay};
 ghost use Rattle.like_live.specs.History.{HistoriesAreCounted, NoneWaitsOnceGone};
 ghost use Rattle.like_live.specs.SerialService.{ServicesAreSerial};
@@ -67,6 +67,12 @@ pub fn last_counts_stay()
 /// that with which the seat was opened. A look that waited shows it as it is where it ran.
 pub fn deeds_show_lasts()
     ensures { DeedsShowLasts }
+{}
+
+/// Whatever calls a fresh seat is asked: the found looks that were taken, with what they were shown, and then those that
+/// are left, are those that the calls found, each once and in order. These are the seat's deeds where they ran.
+pub fn found_are_taken()
+    ensures { FoundAreTaken }
 {}
 
 /// There is one list of all deeds of the seats of a closed service that one thread could have done, one after the other:

@@ -1,4 +1,4 @@
-ghost use Rattle.std.specs.Prelude.{◌≡◌, ◌+◌, min};
+ghost use Rattle.std.specs.Prelude.{◌≡◌, ◌+◌, ◌<◌, min};
 
 use crate::hint::Hint;
 use like_choice::{Kind, Sampler};
@@ -36,7 +36,9 @@ impl Signals {
     }
 
     /// Counts a look that waits, and stores it if it is a sample.
-    pub fn count_waiting(&mut self, page: u32) {
+    pub fn count_waiting(&mut self, page: u32)
+        ensures { 0 < self.old.gap → self.old.gap ≡ self.new.gap + 1 }
+    {
         if self.gap > 0 {
             self.gap -= 1;
             return;

@@ -1,5 +1,5 @@
 -- Runs and replays of the files that options name.
-use Rattle.std.proofs.Common.{◌≡◌, ◌∙◌, ℕ, List, Option, None, Some, Result, Ok, Err, IfErr, length, option_map, refl, inl, inr}
+use Rattle.std.proofs.Common.{◌≡◌, ◌∙◌, ℕ, List, Option, None, Some, Result, Ok, Err, IfErr, option_map, refl, inl, inr}
 use Rattle.std.specs.Prelude.{OnErr, is_some}
 use Rattle.std.proofs.lemmas.List.{length-map}
 use Rattle.like_command.specs.declared.options.Options.{Options}

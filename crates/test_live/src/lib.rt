@@ -20,6 +20,8 @@ mod memory;
 #[cfg(test)]
 mod play;
 #[cfg(test)]
+mod rings;
+#[cfg(test)]
 mod scenes;
 #[cfg(test)]
 mod services;

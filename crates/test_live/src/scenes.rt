@@ -579,6 +579,11 @@ static SPLITS_500: Calls = Calls {
     parts: &[CHANGE, &[splits!(500)]],
 };
 
+static CHANGES: Calls = Calls {
+    name: "a change to the next phase",
+    parts: &[CHANGE],
+};
+
 static SPLITS_999: Calls = Calls {
     name: "none_gets_hot",
     parts: &[CHANGE, &[splits!(999)]],
@@ -671,6 +676,11 @@ pub fn runs() -> &'static Calls {
 /// Page 500 is split in the next phase.
 pub fn splits_500() -> &'static Calls {
     &SPLITS_500
+}
+
+/// The next phase begins.
+pub fn changes() -> &'static Calls {
+    &CHANGES
 }
 
 /// Page 999 is split in the next phase.

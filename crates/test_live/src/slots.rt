@@ -172,8 +172,17 @@ fn likes_500(rt: &impl Abort, seats: &mut [LiveSeat<SharedPost>], user: u32) {
     }
 }
 
-// Likes make page 500 hot.
+// Two likes of each page by user 0 of seat 0.
+fn likes_each(rt: &impl Abort, seats: &mut [LiveSeat<SharedPost>]) {
+    for like in 0..2_000u32 {
+        let call = OnSeat::Like(0, like % 1_000, LikeAnswer::Liked);
+        assert_named(rt, is_answer_of(seats, 0, call), "a like of each page");
+    }
+}
+
+// Likes of each page by seat 0 make none hot. Those of page 500 by seat 1 do, though it has fewer samples by then.
 fn gets_hot(rt: &impl Abort, service: &mut Service<Guided>) {
+    likes_each(rt, &mut service.seats);
     plays(rt, service, runs());
     likes_500(rt, &mut service.seats, 1);
     plays(rt, service, splits_500());

@@ -15,6 +15,18 @@ use crate::service::Service;
 /// a thread flushes before it rests. Likes of a user by one writer are counted in their order.
 ///
 /// A writer that is dropped is flushed. Likes of seats that have left are lost then: `close` tells of them.
+///
+/// No service ends before its writers:
+///
+/// ```compile_fail,E0505
+/// # use likes::{Error, Options, Service};
+/// # fn main() -> Result<(), Error> {
+/// let service = Service::open(&Options::new(10), &[0])?;
+/// let mut writer = service.writer()?;
+/// service.stop()?;
+/// writer.like(0, 0)
+/// # }
+/// ```
 #[derive(Debug)]
 pub struct Writer<'a> {
     at: *mut RawWriter,

@@ -1,4 +1,4 @@
-ghost use Rattle.std.specs.Prelude.{◌≡◌, ◌≢◌, ◌+◌, ◌^◌, ◌<◌, false, IfNone, IfSome, IsTrue, length};
+ghost use Rattle.std.specs.Prelude.{◌≡◌, ◌≢◌, ◌+◌, ◌-◌, ◌^◌, ◌<◌, false, min, IfNone, IfSome, IsTrue, length};
 ghost use Rattle.like_core.specs.Post.{pages_of, slices};
 ghost use Rattle.like_core.specs.WorkerState.{IsRunning, RunsSplit};
 ghost use Rattle.like_seat.specs.StationView.{phase_at};
@@ -52,7 +52,8 @@ fn plan_ahead(room: &mut LookRoom, signals: &mut Signals, found: u32, half: u32)
     requires fits { room.old.left + found < 2 ^ 32 }
     requires none { room.old.free ≡ 0 }
     ensures left { room.new.left ≡ room.old.left }
-    ensures early { 0 < room.new.free → room.new.free + half < room.old.left + found }
+    ensures free { room.new.free
+        ≡ min signals.old.gap (min room.old.left (room.old.left + found - half - 1)) }
     ensures counted { signals.old.gap ≡ signals.new.gap + room.new.free }
 {
     let clear = room.left() + found;

@@ -22,7 +22,7 @@ use std::marker::Model;
 use std::thread::Threads;
 
 /// The text of a report, or of its totals alone, and behind it the rows of its places, if they are asked for. It is
-/// divided into sections, which are made when they are written. After a fault a part may have been written.
+/// divided into sections, which are made when they are written. After a fault the front of it may have been written.
 #[derive(Drop)]
 pub struct Text<'a> {
     names: Names<'a>,
@@ -112,7 +112,7 @@ fn shown_replies(totals: bool, report: &Report) -> &[Vec<Answer>]
     &report.replies.rows
 }
 
-/// Writes the text of a report, without places. After a fault a part may have been written.
+/// Writes the text of a report, without places. After a fault the front of it may have been written.
 pub fn write_report<W: Output>(
     alloc: Global,
     report: &Report,
@@ -132,7 +132,7 @@ pub fn write_report<W: Output>(
     Text::new(alloc, extent, report, pages)?.write(alloc, out)
 }
 
-/// Writes a row for each place of each page, with no header. After a fault a part may have been written.
+/// Writes a row for each place of each page, with no header. After a fault the front of it may have been written.
 pub fn write_places<W: Output>(
     alloc: Global,
     report: &Report,

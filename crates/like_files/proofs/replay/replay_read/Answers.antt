@@ -20,7 +20,15 @@ replayed : (options : Options) (inputs : Inputs) (pages : List Page) (plans : Li
     → IfOk r (HasReplayedLists options (setup_of options pages) plans script old new)
     → IfOk r (HasReplayed options inputs old new)
 replayed options inputs pages plans script old new (Ok notice) given done =
-    record { pages = pages; plans = plans; script = script; given = given; fits = done.fits; reported = done.reported }
+    record {
+      pages = pages;
+      plans = plans;
+      script = script;
+      given = given;
+      fits = done.fits;
+      reported = done.reported;
+      ended = done.ended;
+    }
 replayed options inputs pages plans script old new (Err fault) given done = tt
 
 -- and so is why it was not

@@ -42,4 +42,6 @@ returns g c =
       snapshots = closed.counted;
       masks = closed.masks;
       places = closed.places;
+      steps = closed.steps;
+      order = closed.order;
     }

@@ -26,7 +26,8 @@ invariant_of-self g c =
     (c.take.ensures.left ∙ ap (λ n. n + 1) (sym c.plan_ahead.ensures.left))
     (λ some. omega (
       arith,
-      c.plan_ahead.ensures.early some,
+      some,
+      c.plan_ahead.ensures.free,
       c.len.ensures,
       c.self.invariant.room_is,
       c.self.invariant.half_is,
