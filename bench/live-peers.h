@@ -155,7 +155,7 @@ static bool holds_at(uint32_t *version, uint32_t at) {
     return __atomic_compare_exchange_n(version, &at, at + 1, false, __ATOMIC_ACQUIRE, __ATOMIC_RELAXED);
 }
 
-static void hold(uint32_t *version) {
+static void hold_record(uint32_t *version) {
     while (!holds_at(version, free_version(version)))
         ;
 }
@@ -177,8 +177,8 @@ static void read_look(const user_record *user, uint32_t page, likes_answer *answ
 /* Two-phase locking: holds the user's record and the page's, and lets both go at the end. */
 static void lock_both(user_record *user, const likes_request *request, likes_answer *answer) {
     uint32_t *page = &counts.records[request->page].version;
-    hold(&user->version);
-    hold(page);
+    hold_record(&user->version);
+    hold_record(page);
     if (request->op == LIKES_LIKE)
         write_like(user, request->page);
     else

@@ -63,28 +63,9 @@ static likes_driver driver;
 static likes_seat seats[LIKES_MAX_SEATS];
 static bool is_over;
 
-static void hold(bool is_right, const char *text) {
-    if (!is_right) {
-        fprintf(stderr, "bench/live-phases: %s\n", text);
-        exit(1);
-    }
-}
-
 /* How long this thread has had a processor, in microseconds: what else runs hardly changes that. */
 static double worked(void) {
-    struct timespec time;
-    clock_gettime(CLOCK_THREAD_CPUTIME_ID, &time);
-    return (double)time.tv_sec * 1e6 + (double)time.tv_nsec / 1e3;
-}
-
-static int compare(const void *one, const void *other) {
-    double difference = *(const double *)one - *(const double *)other;
-    return difference < 0 ? -1 : difference > 0;
-}
-
-static double median(double *times, size_t length) {
-    qsort(times, length, sizeof *times, compare);
-    return times[length / 2];
+    return (double)clock_of(CLOCK_THREAD_CPUTIME_ID) / 1e3;
 }
 
 /* How many microseconds it takes to allocate and touch the memory that counts and last likes need. */
@@ -128,7 +109,7 @@ static void measure_opening(uint32_t number) {
         free_service(number);
         hold(taken == before, "memory was not given back");
     }
-    double took = median(opened, TIMES), beside = median(touched, TIMES);
+    double took = median_of(opened, TIMES), beside = median_of(touched, TIMES);
     printf("%5u %12.0f %12.0f %7.1fx %13.2f %13.2f\n", number, took, beside, took / beside,
            ((double)peak - TOUCHED) / 1e6, ((double)kept - TOUCHED) / 1e6);
 }
@@ -157,7 +138,7 @@ static void measure_changes(uint32_t number, uint32_t pages) {
             hold(likes_seat_like(&seats[i / SPLIT], i / SPLIT, pages - 1 - i % SPLIT) == LIKES_LIKED, "no like");
         to_joined[time] = change(number);
     }
-    printf("%5u %10u %12.1f %12.1f\n", number, pages, median(to_split, CHANGES), median(to_joined, CHANGES));
+    printf("%5u %10u %12.1f %12.1f\n", number, pages, median_of(to_split, CHANGES), median_of(to_joined, CHANGES));
     free_service(number);
 }
 
@@ -177,7 +158,7 @@ static void measure_returns(uint32_t threads) {
         hold(likes_driver_take_seat(&driver, &seats[i]) == LIKES_OK, "no seat was taken");
     is_over = false;
     for (uint32_t i = 0; i < threads; i++)
-        hold(pthread_create(&others[i], NULL, like_on, &seats[1 + i]) == 0, "no thread was started");
+        start_thread(&others[i], like_on, &seats[1 + i]);
     uint32_t returned = 0;
     double began = worked();
     for (uint32_t i = 0; i < RETURNS; i++) {
@@ -209,7 +190,7 @@ static void measure_split_returns(void) {
         likes_seat_turn(&seats[1]);
         change(2);
     }
-    printf("\ninto a split phase with %d split pages: %.1f us\n", SPLIT, median(times, CHANGES));
+    printf("\ninto a split phase with %d split pages: %.1f us\n", SPLIT, median_of(times, CHANGES));
     free_service(2);
 }
 

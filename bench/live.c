@@ -156,24 +156,6 @@ enum { KINDS = sizeof kinds / sizeof *kinds };
 /* The kinds that are measured, in this order. */
 static const kind *kinds_asked[MOST_WORDS];
 
-static uint32_t drawn(uint64_t *random) {
-    *random = *random * UINT64_C(6364136223846793005) + 1442695040888963407u;
-    return (uint32_t)(*random >> 32);
-}
-
-/* The first page whose share of all requests, with those before it, is over a number. */
-static uint32_t page_at(const double *shares, double at) {
-    uint32_t low = 0, high = asked.pages - 1;
-    while (low < high) {
-        uint32_t middle = (low + high) / 2;
-        if (shares[middle] > at)
-            high = middle;
-        else
-            low = middle + 1;
-    }
-    return low;
-}
-
 /* The page of a rank: that page, or one that is anywhere. The factor is a prime that divides no number of pages. */
 static uint32_t page_of(uint32_t rank) {
     return asked.is_scattered ? (uint32_t)((rank + 1) * UINT64_C(2654435761) % asked.pages) : rank;
@@ -181,29 +163,22 @@ static uint32_t page_of(uint32_t rank) {
 
 /* Draws the requests of all threads, each with users of its own. */
 static void draw(const load *of, uint32_t threads) {
-    double *shares = (double *)malloc(asked.pages * sizeof *shares), sum = 0;
-    if (shares == NULL)
+    double *sums = (double *)malloc(asked.pages * sizeof *sums), sum = 0;
+    if (sums == NULL)
         fail("out of memory");
     for (uint32_t page = 0; page < asked.pages; page++)
-        shares[page] = sum += of->exponent < 0 ? page == 0 : pow(page + 1, -of->exponent);
+        sums[page] = sum += of->exponent < 0 ? page == 0 : pow(page + 1, -of->exponent);
     for (uint32_t i = 0; i < threads; i++) {
         uint64_t random = i + 1;
         for (uint32_t n = 0; n < ring; n++) {
             likes_request *request = &players[i].ring[n];
             request->tag = n;
-            request->user = i + threads * (drawn(&random) % (asked.users / threads));
-            request->page = page_of(page_at(shares, drawn(&random) / 4294967296.0 * sum));
-            request->op = drawn(&random) % 100 < of->looks ? LIKES_LOOK : LIKES_LIKE;
+            request->user = i + threads * (uint32_t)below(&random, asked.users / threads);
+            request->page = page_of(drawn_rank(&random, sums, asked.pages));
+            request->op = below(&random, 100) < of->looks ? LIKES_LOOK : LIKES_LIKE;
         }
     }
-    free(shares);
-}
-
-/* The processor time that this thread has had, in nanoseconds. */
-static uint64_t worked(void) {
-    struct timespec time;
-    clock_gettime(CLOCK_THREAD_CPUTIME_ID, &time);
-    return (uint64_t)time.tv_sec * UINT64_C(1000000000) + (uint64_t)time.tv_nsec;
+    free(sums);
 }
 
 static void *play(void *at) {
@@ -215,7 +190,7 @@ static void *play(void *at) {
         it->seat = likes_service_lock(service, it->number);
     if (it->of->row == written && likes_writer_open(service, &it->writer) != LIKES_OK)
         fail("no writer was opened");
-    uint64_t done = 0, before = worked();
+    uint64_t done = 0, before = clock_of(CLOCK_THREAD_CPUTIME_ID);
     while (!__atomic_load_n(&is_over, __ATOMIC_RELAXED)) {
         it->of->row(it, &it->ring[done & (ring - 1)], answers);
         done += ROW;
@@ -225,7 +200,7 @@ static void *play(void *at) {
     if (likes_writer_close(it->writer) != LIKES_OK)
         fail("a writer was not closed");
     it->writer = NULL;
-    it->worked = worked() - before;
+    it->worked = clock_of(CLOCK_THREAD_CPUTIME_ID) - before;
     it->done = done;
     return NULL;
 }
@@ -387,15 +362,10 @@ static bool may_wait(const kind *of, const load *at) {
     return of->period > 0 && of->look == LIKES_LOOK && at->looks > 0;
 }
 
-static int compare(const void *one, const void *other) {
-    double difference = *(const double *)one - *(const double *)other;
-    return difference < 0 ? -1 : difference > 0;
-}
-
 /* The best or the median of so many numbers, and puts them in order. */
 static double told(double *numbers) {
-    qsort(numbers, asked.times, sizeof *numbers, compare);
-    return asked.is_median ? (numbers[(asked.times - 1) / 2] + numbers[asked.times / 2]) / 2 : numbers[asked.times - 1];
+    double median = median_of(numbers, asked.times);
+    return asked.is_median ? median : numbers[asked.times - 1];
 }
 
 /* What is told of all times: the best, and ratios of these, or the medians of both. */
@@ -407,7 +377,7 @@ static void sum_up(measured *it) {
             ratios[time] = it->times[n][time] / first[time];
         it->millions[n] = told(it->times[n]);
         it->ratio[n] = asked.is_median ? told(ratios) : it->millions[n] / it->millions[0];
-        qsort(it->nanoseconds[n], asked.times, sizeof *it->nanoseconds[n], compare);
+        qsort(it->nanoseconds[n], asked.times, sizeof *it->nanoseconds[n], compare_numbers);
         it->worked[n] = it->nanoseconds[n][asked.is_median ? asked.times / 2 : 0];
     }
 }

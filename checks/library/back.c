@@ -4,12 +4,9 @@
  *
  * The services have 1 to 64 seats and one page, which is marked. On one thread each call has one right answer. It exits
  * with status 1 at the first wrong one. */
+#include "harness.h"
+
 #include <inttypes.h>
-#include "opening.h"
-#include <stdbool.h>
-#include <stdio.h>
-#include <stdlib.h>
-#include <string.h>
 
 typedef struct {
     likes_seat handle;
@@ -28,15 +25,7 @@ static struct {
 
 static uint64_t state, returns, refused, calls;
 
-/* Random numbers (SplitMix64). */
-static uint64_t below(uint64_t bound) {
-    uint64_t drawn = state += UINT64_C(0x9e3779b97f4a7c15);
-    drawn = (drawn ^ drawn >> 30) * UINT64_C(0xbf58476d1ce4e5b9);
-    drawn = (drawn ^ drawn >> 27) * UINT64_C(0x94d049bb133111eb);
-    return (drawn ^ drawn >> 31) % bound;
-}
-
-static void hold(uint64_t got, uint64_t right, const char *what) {
+static void expect(uint64_t got, uint64_t right, const char *what) {
     calls++;
     if (got == right)
         return;
@@ -65,18 +54,18 @@ static uint32_t move(seat *at, bool retires) {
 
 static void come_back(seat *at) {
     if (at->status != LIKES_GONE) {
-        hold(likes_seat_come_back(&at->handle), move(at, false), "a return of a seat that is there");
+        expect(likes_seat_come_back(&at->handle), move(at, false), "a return of a seat that is there");
         return;
     }
     if (it.is_ending) {
         refused++;
-        hold(likes_seat_come_back(&at->handle), LIKES_BETWEEN, "a return into a phase that is ending");
+        expect(likes_seat_come_back(&at->handle), LIKES_BETWEEN, "a return into a phase that is ending");
         return;
     }
     returns++;
     at->status = LIKES_RUNS;
     at->phase = it.phase;
-    hold(likes_seat_come_back(&at->handle), LIKES_RUNS, "a return");
+    expect(likes_seat_come_back(&at->handle), LIKES_RUNS, "a return");
 }
 
 static void like(seat *at) {
@@ -85,19 +74,19 @@ static void like(seat *at) {
         status = LIKES_LIKED;
         *(at->phase % 2 == 1 ? &at->slice : &it.count) += 1;
     }
-    hold(likes_seat_like(&at->handle, number, 0), status, "a like");
+    expect(likes_seat_like(&at->handle, number, 0), status, "a like");
 }
 
 static void glance(seat *at) {
     uint32_t number = (uint32_t)(at - it.seats), status = move(at, false);
     likes_answer answer;
-    hold(likes_seat_glance(&at->handle, number, 0, &answer), status == LIKES_RUNS ? LIKES_SEEN : status, "a glance");
+    expect(likes_seat_glance(&at->handle, number, 0, &answer), status == LIKES_RUNS ? LIKES_SEEN : status, "a glance");
     if (status == LIKES_RUNS)
-        hold(answer.count, it.count + at->slice, "a count");
+        expect(answer.count, it.count + at->slice, "a count");
 }
 
 static void call_seat(seat *at) {
-    switch (below(8)) {
+    switch (below(&state, 8)) {
     case 0:
     case 1:
         like(at);
@@ -106,13 +95,13 @@ static void call_seat(seat *at) {
         glance(at);
         break;
     case 3:
-        hold(likes_seat_turn(&at->handle), move(at, false), "a turn");
+        expect(likes_seat_turn(&at->handle), move(at, false), "a turn");
         break;
     case 4:
-        hold(likes_seat_retire(&at->handle), move(at, true), "a retirement");
+        expect(likes_seat_retire(&at->handle), move(at, true), "a retirement");
         break;
     case 5:
-        hold(likes_seat_phase(&at->handle), at->status == LIKES_GONE ? 0 : at->phase, "a seat's phase");
+        expect(likes_seat_phase(&at->handle), at->status == LIKES_GONE ? 0 : at->phase, "a seat's phase");
         break;
     default:
         come_back(at);
@@ -147,27 +136,27 @@ static uint32_t drive(uint32_t end) {
 
 static void call_driver(void) {
     uint64_t count;
-    if (below(8) == 0) {
+    if (below(&state, 8) == 0) {
         bool is_moment = it.is_ending && it.phase % 2 == 0 && are_all(true);
-        hold(likes_driver_snapshot(&it.driver, 0, &count, 1), is_moment ? LIKES_COUNTED : LIKES_NO_MOMENT,
+        expect(likes_driver_snapshot(&it.driver, 0, &count, 1), is_moment ? LIKES_COUNTED : LIKES_NO_MOMENT,
              "a snapshot");
         if (is_moment)
-            hold(count, it.count, "a snapshot's count");
+            expect(count, it.count, "a snapshot's count");
         return;
     }
-    uint32_t end = (uint32_t)below(3);
-    hold(likes_driver_turn(&it.driver, end), drive(end), "the driver's turn");
+    uint32_t end = (uint32_t)below(&state, 3);
+    expect(likes_driver_turn(&it.driver, end), drive(end), "the driver's turn");
 }
 
 static void open_service(void) {
     memset(&it, 0, sizeof it);
-    it.seats_len = 1 + (uint32_t)below(1 + below(LIKES_MAX_SEATS));
-    it.count = below(100);
+    it.seats_len = 1 + (uint32_t)below(&state, 1 + below(&state, LIKES_MAX_SEATS));
+    it.count = below(&state, 100);
     const uint32_t mark = 0;
     const likes_options options = {.seats = it.seats_len, .users = it.seats_len, .room = 1};
-    hold(open_core(options, &it.count, 1, &mark, 1, NULL, 0, &it.driver), LIKES_OK, "an opening");
+    expect(open_core(options, &it.count, 1, &mark, 1, NULL, 0, &it.driver), LIKES_OK, "an opening");
     for (uint32_t i = 0; i < it.seats_len; i++) {
-        hold(likes_driver_take_seat(&it.driver, &it.seats[i].handle), LIKES_OK, "a seat's handing out");
+        expect(likes_driver_take_seat(&it.driver, &it.seats[i].handle), LIKES_OK, "a seat's handing out");
         it.seats[i].status = LIKES_RUNS;
     }
 }
@@ -177,13 +166,13 @@ static void close_service(void) {
     uint64_t count;
     while (!are_all(false) || it.phase % 2 == 1 || it.is_ending) {
         for (uint32_t i = 0; i < it.seats_len; i++)
-            hold(likes_seat_retire(&it.seats[i].handle), move(&it.seats[i], true), "a last retirement");
-        hold(likes_driver_turn(&it.driver, LIKES_END), drive(LIKES_END), "a last turn");
+            expect(likes_seat_retire(&it.seats[i].handle), move(&it.seats[i], true), "a last retirement");
+        expect(likes_driver_turn(&it.driver, LIKES_END), drive(LIKES_END), "a last turn");
     }
-    hold(likes_driver_last_counts(&it.driver, 0, &count, 1), LIKES_COUNTED, "the last counts");
-    hold(count, it.count, "the last count");
+    expect(likes_driver_last_counts(&it.driver, 0, &count, 1), LIKES_COUNTED, "the last counts");
+    expect(count, it.count, "the last count");
     for (uint32_t i = 0; i < it.seats_len; i++) {
-        hold(likes_seat_come_back(&it.seats[i].handle), LIKES_BETWEEN, "a return after the end");
+        expect(likes_seat_come_back(&it.seats[i].handle), LIKES_BETWEEN, "a return after the end");
         likes_seat_free(&it.seats[i].handle);
     }
     likes_driver_free(&it.driver);
@@ -198,11 +187,11 @@ int main(int count, char **words) {
     uint64_t most = strtoull(words[2], NULL, 10);
     while (returns < most) {
         open_service();
-        for (uint64_t times = below(1 + below(10000000)); times > 0 && returns < most; times--) {
-            if (below(1 + it.seats_len) == 0)
+        for (uint64_t times = below(&state, 1 + below(&state, 10000000)); times > 0 && returns < most; times--) {
+            if (below(&state, 1 + it.seats_len) == 0)
                 call_driver();
             else
-                call_seat(&it.seats[below(it.seats_len)]);
+                call_seat(&it.seats[below(&state, it.seats_len)]);
         }
         close_service();
     }

@@ -8,13 +8,9 @@
  *     fiftieth after ten;
  *   - popular pages that become others each 100 choices are followed to 90 %;
  *   - at Zipf 0 there is no split phase. */
-#include "opening.h"
+#include "harness.h"
 
 #include <math.h>
-#include <stdbool.h>
-#include <stdio.h>
-#include <stdlib.h>
-#include <string.h>
 
 enum { PAGES = 1000000, SEATS = 4, USERS = 1000, REQUESTS = 120000, ROW = 100, BEST = 64, RING = 1 << 22 };
 
@@ -48,37 +44,22 @@ static void fail(const char *text) {
     exit(1);
 }
 
-static uint32_t drawn(void) {
-    random_state = random_state * UINT64_C(6364136223846793005) + UINT64_C(1442695040888963407);
-    return (uint32_t)(random_state >> 32);
-}
-
 /* Draws all ranks by Zipf's law with this exponent. */
 static void draw(double exponent) {
-    static double shares[PAGES];
+    static double sums[PAGES];
     double sum = 0;
     for (uint32_t rank = 0; rank < PAGES; rank++)
-        shares[rank] = sum += pow(rank + 1.0, -exponent);
-    for (uint32_t n = 0; n < RING; n++) {
-        double at = drawn() / 4294967296.0 * sum;
-        uint32_t low = 0, high = PAGES - 1;
-        while (low < high) {
-            uint32_t middle = (low + high) / 2;
-            if (shares[middle] > at)
-                high = middle;
-            else
-                low = middle + 1;
-        }
-        ranks[n] = low;
-    }
+        sums[rank] = sum += pow(rank + 1.0, -exponent);
+    for (uint32_t n = 0; n < RING; n++)
+        ranks[n] = drawn_rank(&random_state, sums, PAGES);
 }
 
 /* Puts the pages anywhere: a factor that shares no divisor with their number moves no two to one place. */
 static void place_pages(simulation *it) {
     do
-        it->factor = drawn() % PAGES;
+        it->factor = below(&random_state, PAGES);
     while (it->factor % 2 == 0 || it->factor % 5 == 0);
-    it->shift = drawn() % PAGES;
+    it->shift = below(&random_state, PAGES);
 }
 
 static uint32_t page_of(const simulation *it, uint32_t rank) {
@@ -95,7 +76,7 @@ static void open_service(simulation *it) {
         if (likes_driver_take_seat(&it->driver, &it->seats[number]) != LIKES_OK)
             fail("no seat was taken");
     place_pages(it);
-    it->next = drawn() % RING;
+    it->next = (uint32_t)below(&random_state, RING);
 }
 
 static void free_service(simulation *it) {
@@ -137,7 +118,7 @@ static void change_phases(simulation *it) {
 
 static uint32_t next_page(simulation *it, seen *to) {
     uint32_t rank = ranks[it->next++ % RING], page = page_of(it, rank);
-    if (it->times > 0 && drawn() % it->times == 0)
+    if (it->times > 0 && below(&random_state, it->times) == 0)
         page = it->sudden;
     else
         to->best += rank < BEST;
@@ -154,7 +135,7 @@ static void run(simulation *it, seen *to) {
     for (uint32_t row = 0; row < REQUESTS / ROW; row++) {
         uint32_t number = row % SEATS;
         for (size_t n = 0; n < ROW; n++) {
-            requests[n].user = number + SEATS * (drawn() % (USERS / SEATS));
+            requests[n].user = number + SEATS * (uint32_t)below(&random_state, USERS / SEATS);
             requests[n].page = next_page(it, to);
         }
         if (likes_seat_run(&it->seats[number], requests, ROW, answers, ROW) != ROW)

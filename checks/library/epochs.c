@@ -17,18 +17,6 @@ static likes_service *service;
 static worker workers[SEATS];
 static uint64_t until;
 
-static void hold(bool is_right, const char *text) {
-    if (!is_right) {
-        printf("wrong: %s\n", text);
-        exit(1);
-    }
-}
-
-static uint32_t below(worker *it, uint32_t bound) {
-    it->random = it->random * UINT64_C(6364136223846793005) + 1442695040888963407u;
-    return (uint32_t)(it->random >> 33) % bound;
-}
-
 /* Takes found looks: their tags come in the order of asking, with none left out. */
 static void take(worker *it, likes_seat *seat, const uint64_t *tags) {
     likes_found found;
@@ -65,9 +53,9 @@ static void *work(void *at) {
         likes_seat *seat = likes_service_lock(service, it->number);
         for (uint32_t i = 0; i < ROW; i++)
             row[i] = (likes_request){.tag = tag++,
-                                     .user = it->number + SEATS * below(it, USERS / SEATS),
-                                     .page = below(it, 1 + below(it, PAGES)),
-                                     .op = below(it, 10) == 0 ? LIKES_LOOK : LIKES_LIKE};
+                                     .user = it->number + SEATS * (uint32_t)below(&it->random, USERS / SEATS),
+                                     .page = (uint32_t)below(&it->random, 1 + below(&it->random, PAGES)),
+                                     .op = below(&it->random, 10) == 0 ? LIKES_LOOK : LIKES_LIKE};
         for (size_t done = 0; done < ROW;) {
             size_t more = likes_service_run(service, it->number, row + done, ROW - done, answers);
             note(it, row + done, answers, more, tags);
@@ -103,7 +91,7 @@ int main(int count, char **words) {
     for (uint32_t i = 0; i < SEATS; i++) {
         workers[i].random = workers[i].number = i;
         memset(workers[i].last, 0xff, sizeof workers[i].last);
-        hold(pthread_create(&workers[i].thread, NULL, work, &workers[i]) == 0, "no thread was started");
+        start_thread(&workers[i].thread, work, &workers[i]);
     }
     for (uint32_t i = 0; i < SEATS; i++)
         pthread_join(workers[i].thread, NULL);

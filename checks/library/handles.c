@@ -17,13 +17,6 @@ static _Alignas(256) struct {
 static likes_driver driver;
 static pthread_barrier_t begin;
 
-static void hold(bool is_right, const char *text) {
-    if (!is_right) {
-        printf("wrong: %s\n", text);
-        exit(1);
-    }
-}
-
 /* What a thread likes with, and how long it took, in nanoseconds on a processor. */
 typedef struct {
     likes_seat *seat;
@@ -32,21 +25,14 @@ typedef struct {
     pthread_t thread;
 } player;
 
-/* How long this thread has had a processor, in nanoseconds. */
-static uint64_t worked(void) {
-    struct timespec time;
-    clock_gettime(CLOCK_THREAD_CPUTIME_ID, &time);
-    return (uint64_t)time.tv_sec * UINT64_C(1000000000) + (uint64_t)time.tv_nsec;
-}
-
 static void *play(void *at) {
     player *it = (player *)at;
     uint32_t liked = 0;
     pthread_barrier_wait(&begin);
-    uint64_t began = worked();
+    uint64_t began = clock_of(CLOCK_THREAD_CPUTIME_ID);
     for (uint32_t n = 0; n < LIKES; n++)
         liked += likes_seat_like(it->seat, it->user, 0) == LIKES_LIKED;
-    it->took = worked() - began;
+    it->took = clock_of(CLOCK_THREAD_CPUTIME_ID) - began;
     hold(liked == LIKES, "a like was refused");
     return NULL;
 }
@@ -56,21 +42,11 @@ static double measure(likes_seat *second) {
     player players[2] = {{.seat = &room.seats[0], .user = 0}, {.seat = second, .user = 1}};
     pthread_barrier_init(&begin, NULL, 2);
     for (int i = 0; i < 2; i++)
-        hold(pthread_create(&players[i].thread, NULL, play, &players[i]) == 0, "no thread was started");
+        start_thread(&players[i].thread, play, &players[i]);
     for (int i = 0; i < 2; i++)
         pthread_join(players[i].thread, NULL);
     pthread_barrier_destroy(&begin);
     return (double)(players[0].took + players[1].took) / (2.0 * LIKES);
-}
-
-static int compare(const void *one, const void *other) {
-    double difference = *(const double *)one - *(const double *)other;
-    return difference < 0 ? -1 : difference > 0;
-}
-
-static double median(double *times) {
-    qsort(times, TIMES, sizeof *times, compare);
-    return times[TIMES / 2];
 }
 
 /* Moves a handle. */
@@ -106,7 +82,7 @@ int main(void) {
     for (int i = 0; i < 2; i++)
         likes_seat_free(&room.seats[i]);
     likes_driver_free(&driver);
-    double ratio = median(beside) / median(apart);
-    printf("a like takes %.1f ns side by side, %.1f ns apart: %.2f times\n", median(beside), median(apart), ratio);
+    double ratio = median_of(beside, TIMES) / median_of(apart, TIMES);
+    printf("a like takes %.1f ns side by side, %.1f ns apart: %.2f times\n", median_of(beside, TIMES), median_of(apart, TIMES), ratio);
     return 0;
 }

@@ -38,18 +38,6 @@ enum { MOST_THREADS = 80, MANY_PAGES = 10000, WRITTEN = 1 << 22 };
 
 static uint64_t rounds, all_events, all_phases, all_waits, all_moments;
 
-/* Random numbers (SplitMix64). */
-static uint64_t drawn(uint64_t *state) {
-    uint64_t it = *state += UINT64_C(0x9e3779b97f4a7c15);
-    it = (it ^ it >> 30) * UINT64_C(0xbf58476d1ce4e5b9);
-    it = (it ^ it >> 27) * UINT64_C(0x94d049bb133111eb);
-    return it ^ it >> 31;
-}
-
-static uint64_t below(uint64_t *state, uint64_t bound) {
-    return drawn(state) % bound;
-}
-
 /* Lower numbers more often. */
 static uint64_t low(uint64_t *state, uint64_t bound) {
     return below(state, 1 + below(state, bound));

@@ -2,19 +2,7 @@
  * likes, what is told of them and when, and phases that end in any case.
  *
  * If an answer is wrong, it prints a line and exits with status 1. checks/library/live builds and runs it. */
-#include "opening.h"
-
-#include <stdio.h>
-#include <stdlib.h>
-#include <string.h>
-
-static void is(int line, const char *what, uint64_t is, uint64_t should) {
-    if (is != should) {
-        printf("line %d: %s is %llu, not %llu\n", line, what, (unsigned long long)is, (unsigned long long)should);
-        exit(1);
-    }
-}
-#define IS(what, expected) is(__LINE__, #what, what, expected)
+#include "harness.h"
 
 enum { SEATS = 2, PAGES = 3, USERS = 5 };
 
@@ -61,16 +49,17 @@ static uint32_t last_of(service *it, uint32_t user) {
 /* Compares all last likes, told one by one and by ranges. */
 static void tells(int line, service *it, const uint32_t *lasts) {
     for (uint32_t user = 0; user < USERS; user++)
-        is(line, "a last like", last_of(it, user), lasts[user]);
+        hold_answer(line, "a last like", last_of(it, user), lasts[user]);
     for (uint32_t seat = 0; seat < SEATS; seat++) {
         uint32_t own = (USERS - seat + SEATS - 1) / SEATS;
         for (uint32_t from = 0; from <= own; from++)
             for (uint32_t many = 0; many <= own - from; many++) {
                 uint32_t row[USERS + 1];
                 memset(row, 0xa5, sizeof row);
-                is(line, "a range", likes_seat_lasts(&it->seats[seat], from, many ? row : NULL, many), LIKES_OK);
+                uint32_t status = likes_seat_lasts(&it->seats[seat], from, many ? row : NULL, many);
+                hold_answer(line, "a range", status, LIKES_OK);
                 for (uint32_t n = 0; n < USERS + 1; n++)
-                    is(line, "a row", row[n], n < many ? lasts[(from + n) * SEATS + seat] : UNWRITTEN);
+                    hold_answer(line, "a row", row[n], n < many ? lasts[(from + n) * SEATS + seat] : UNWRITTEN);
             }
     }
 }

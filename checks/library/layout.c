@@ -3,12 +3,7 @@
  * these. Each value differs from every other, so that no mix-up goes unseen.
  *
  * If something is elsewhere, it prints a line and exits with status 1. */
-#include "likes.h"
-
-#include <inttypes.h>
-#include <stdio.h>
-#include <stdlib.h>
-#include <string.h>
+#include "harness.h"
 
 /* The places of the fields, and the sizes. */
 enum { COUNTS = 0, PAGES = 8, MARKS = 16, MARKS_LEN = 24, LASTS = 32, LASTS_LEN = 40 };
@@ -23,14 +18,6 @@ typedef union {
     unsigned char bytes[OPTIONS];
     uint64_t aligned[OPTIONS / 8];
 } row;
-
-static void is(int line, const char *what, uint64_t is, uint64_t should) {
-    if (is != should) {
-        printf("line %d: %s is %" PRIu64 ", not %" PRIu64 "\n", line, what, is, should);
-        exit(1);
-    }
-}
-#define IS(what, expected) is(__LINE__, #what, what, expected)
 
 static void put32(row *at, size_t place, uint32_t number) {
     memcpy(at->bytes + place, &number, sizeof number);

@@ -23,16 +23,6 @@ enum { LOOKS = 200 };
 static likes_service *service;
 static bool is_over;
 
-#define IS(call, expected)                                                                                      \
-    do {                                                                                                        \
-        uint64_t is = (uint64_t)(call), should = (uint64_t)(expected);                                          \
-        if (is != should) {                                                                                     \
-            printf("line %d: %s is %llu (%s), not %llu\n", __LINE__, #call, (unsigned long long)is,              \
-                   likes_status_text((uint32_t)is), (unsigned long long)should);                                \
-            exit(1);                                                                                            \
-        }                                                                                                       \
-    } while (0)
-
 /* A service with a page that is split in every split phase, and one that never is. */
 static uint32_t start(uint32_t seats, uint32_t room, uint32_t period) {
     static const uint64_t counts[] = {10, 20};
@@ -168,13 +158,6 @@ static void unknown_seats(void) {
     stop(totals, 2);
 }
 
-/* How long this process has had a processor, in nanoseconds. */
-static uint64_t worked(void) {
-    struct timespec time;
-    clock_gettime(CLOCK_PROCESS_CPUTIME_ID, &time);
-    return (uint64_t)time.tv_sec * UINT64_C(1000000000) + (uint64_t)time.tv_nsec;
-}
-
 /* All seats leave while the driver's thread goes on: it takes no time, and the counts are the final ones. */
 static void all_gone(void) {
     uint64_t totals[2];
@@ -190,9 +173,9 @@ static void all_gone(void) {
         likes_service_unlock(service, i);
     }
     sleep_for(100000000);
-    uint64_t before = worked();
+    uint64_t before = clock_of(CLOCK_PROCESS_CPUTIME_ID);
     sleep_for(300000000);
-    IS(worked() - before < 100000000, true);
+    IS(clock_of(CLOCK_PROCESS_CPUTIME_ID) - before < 100000000, true);
     for (int times = 0; times < 2; times++) {
         IS(likes_service_counts(service, totals, 2), LIKES_COUNTED);
         IS(totals[0], 11);
@@ -312,7 +295,7 @@ static void defaults(void) {
 /* Asks likes_service_look again and again: each look is answered. */
 static void *ask(void *at) {
     uint64_t *looks = (uint64_t *)at;
-    while (!__atomic_load_n(&is_over, __ATOMIC_SEQ_CST)) {
+    while (!is_set(&is_over)) {
         likes_answer answer;
         IS(likes_service_look(service, 0, 0, &answer), LIKES_SEEN);
         IS(answer.count, 10);
@@ -345,12 +328,12 @@ static void taken(int askers) {
     is_over = false;
     IS(start(1, 8, 100), LIKES_OK);
     for (int i = 0; i < askers; i++)
-        IS(pthread_create(&threads[i], NULL, ask, &looks[i]), 0);
+        start_thread(&threads[i], ask, &looks[i]);
     while (took < LOOKS) {
         asked = take_some(asked, &took);
         sleep_for(500000);
     }
-    __atomic_store_n(&is_over, true, __ATOMIC_SEQ_CST);
+    set(&is_over);
     for (int i = 0; i < askers; i++)
         pthread_join(threads[i], NULL);
     IS(looks[0] + looks[1] > 0, true);
@@ -366,7 +349,7 @@ static void taken(int askers) {
 /* Reads the phase until the end: it never falls, and so many changes are seen. */
 static void *read_phases(void *at) {
     uint64_t phase = 0, *changes = (uint64_t *)at;
-    while (!__atomic_load_n(&is_over, __ATOMIC_SEQ_CST)) {
+    while (!is_set(&is_over)) {
         uint64_t now = likes_service_phase(service);
         IS(now >= phase, true);
         __atomic_fetch_add(changes, now > phase, __ATOMIC_SEQ_CST);
@@ -384,13 +367,13 @@ static void phases(void) {
     IS(likes_service_phase(service), 0);
     IS(start(2, 4, 100), LIKES_OK);
     for (int i = 0; i < READERS; i++)
-        IS(pthread_create(&threads[i], NULL, read_phases, &changes[i]), 0);
+        start_thread(&threads[i], read_phases, &changes[i]);
     for (int i = 0; i < READERS; i++)
         while (__atomic_load_n(&changes[i], __ATOMIC_SEQ_CST) < CHANGES) {
             IS(likes_service_like(service, 0, 0), LIKES_LIKED);
             sleep_for(100000);
         }
-    __atomic_store_n(&is_over, true, __ATOMIC_SEQ_CST);
+    set(&is_over);
     for (int i = 0; i < READERS; i++)
         pthread_join(threads[i], NULL);
     IS(likes_service_retire(service), LIKES_OK);

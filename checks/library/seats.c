@@ -10,20 +10,6 @@ enum { SEATS = 4, USERS = 8, PAGES = 2, ROUNDS = 20, LEAVERS = 2 };
 static likes_service *service;
 static bool is_over;
 
-#define IS(call, expected)                                                                                             \
-    do {                                                                                                               \
-        uint64_t is = (uint64_t)(call), should = (uint64_t)(expected);                                                 \
-        if (is != should) {                                                                                            \
-            printf("line %d: %s is %llu (%s), not %llu\n", __LINE__, #call, (unsigned long long)is,                    \
-                   likes_status_text((uint32_t)is), (unsigned long long)should);                                       \
-            exit(1);                                                                                                   \
-        }                                                                                                              \
-    } while (0)
-
-static bool is_on(void) {
-    return !__atomic_load_n(&is_over, __ATOMIC_SEQ_CST);
-}
-
 /* A service in which page 0 is split in every split phase. */
 static void start(uint32_t period) {
     static const uint64_t counts[PAGES] = {10, 20};
@@ -149,7 +135,7 @@ typedef struct {
 
 static void *leave_often(void *at) {
     leaver *it = (leaver *)at;
-    while (is_on()) {
+    while (!is_set(&is_over)) {
         for (uint32_t seat = it->seat; seat < SEATS; seat += LEAVERS) {
             if (it->by_hand)
                 leave_by_tries(seat);
@@ -179,7 +165,7 @@ static void moments_meanwhile(uint32_t period, int moments) {
         leavers[i].seat = i;
         leavers[i].by_hand = i == 0 && period == 1000;
         leavers[i].likes = 0;
-        IS(pthread_create(&leavers[i].thread, NULL, leave_often, &leavers[i]), 0);
+        start_thread(&leavers[i].thread, leave_often, &leavers[i]);
     }
     for (int times = 0; times < moments; times++) {
         if (times % 4 == 0)
@@ -189,7 +175,7 @@ static void moments_meanwhile(uint32_t period, int moments) {
         IS(counts[0] >= earlier, true);
         earlier = counts[0];
     }
-    __atomic_store_n(&is_over, true, __ATOMIC_SEQ_CST);
+    set(&is_over);
     for (uint32_t i = 0; i < LEAVERS; i++) {
         pthread_join(leavers[i].thread, NULL);
         likes += leavers[i].likes;
@@ -200,7 +186,7 @@ static void moments_meanwhile(uint32_t period, int moments) {
 /* Likes, so that phases go on. */
 static void *like_on(void *at) {
     uint64_t *likes = (uint64_t *)at;
-    while (is_on()) {
+    while (!is_set(&is_over)) {
         *likes += likes_service_like(service, 3, 0) == LIKES_LIKED;
         sleep_for(20000);
     }
@@ -213,7 +199,7 @@ static void in_few_phases(uint32_t period, bool is_alone) {
     uint64_t likes = 0;
     start(period);
     if (!is_alone)
-        IS(pthread_create(&thread, NULL, like_on, &likes), 0);
+        start_thread(&thread, like_on, &likes);
     for (int times = 0; times < ROUNDS; times++) {
         likes_answer answer;
         uint64_t began = likes_service_phase(service), time = clock_now();
@@ -231,7 +217,7 @@ static void in_few_phases(uint32_t period, bool is_alone) {
     }
     IS(likes_service_retire_seat(service, SEATS), LIKES_UNKNOWN_SEAT);
     IS(likes_service_bring_back_seat(service, UINT32_MAX), LIKES_UNKNOWN_SEAT);
-    __atomic_store_n(&is_over, true, __ATOMIC_SEQ_CST);
+    set(&is_over);
     if (!is_alone)
         pthread_join(thread, NULL);
     stop(likes);
@@ -240,7 +226,7 @@ static void in_few_phases(uint32_t period, bool is_alone) {
 /* Looks that wait when their seat leaves are answered. */
 static void *look_on(void *at) {
     uint64_t *looks = (uint64_t *)at;
-    while (is_on()) {
+    while (!is_set(&is_over)) {
         likes_answer answer;
         uint32_t status = likes_service_look(service, 1, 0, &answer);
         IS(status == LIKES_SEEN || status == LIKES_GONE, true);
@@ -253,13 +239,13 @@ static void looks_meanwhile(uint32_t period) {
     pthread_t thread;
     uint64_t looks = 0;
     start(period);
-    IS(pthread_create(&thread, NULL, look_on, &looks), 0);
+    start_thread(&thread, look_on, &looks);
     for (int times = 0; times < 5 * ROUNDS; times++) {
         IS(likes_service_retire_seat(service, 1), LIKES_OK);
         IS(likes_service_bring_back_seat(service, 1), LIKES_OK);
         sleep_for((uint64_t)(times % 4) * 300000);
     }
-    __atomic_store_n(&is_over, true, __ATOMIC_SEQ_CST);
+    set(&is_over);
     pthread_join(thread, NULL);
     IS(looks > 0, true);
     stop(0);

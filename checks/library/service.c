@@ -20,21 +20,9 @@ typedef struct {
     pthread_t thread;
 } worker;
 
-static uint32_t below(worker *it, uint32_t bound) {
-    it->random = it->random * UINT64_C(6364136223846793005) + 1442695040888963407u;
-    return (uint32_t)(it->random >> 33) % bound;
-}
-
-static void hold(bool is_right, const char *text) {
-    if (!is_right) {
-        printf("wrong: %s\n", text);
-        exit(1);
-    }
-}
-
 /* One of this thread's users. */
 static uint32_t draw_user(worker *it) {
-    return it->number + THREADS * below(it, USERS / THREADS);
+    return it->number + THREADS * (uint32_t)below(&it->random, USERS / THREADS);
 }
 
 static void note_like(worker *it, uint32_t status, uint32_t user, uint32_t page) {
@@ -52,9 +40,9 @@ static void note_look(worker *it, const likes_answer *answer, uint32_t user, uin
 }
 
 static void single(worker *it) {
-    uint32_t user = draw_user(it), page = below(it, PAGES);
+    uint32_t user = draw_user(it), page = (uint32_t)below(&it->random, PAGES);
     likes_answer answer;
-    switch (below(it, 4)) {
+    switch (below(&it->random, 4)) {
     case 0:
         likes_service_look(service, user, page, &answer);
         note_look(it, &answer, user, page);
@@ -73,12 +61,14 @@ static void single(worker *it) {
 static void batch(worker *it) {
     likes_request row[ROW];
     likes_answer answers[ROW];
-    uint32_t seat = below(it, SEATS);
+    uint32_t seat = (uint32_t)below(&it->random, SEATS);
     for (uint32_t i = 0; i < ROW; i++) {
         uint32_t user = draw_user(it);
         while (likes_seat_of(user, SEATS) != seat)
             user = draw_user(it);
-        row[i] = (likes_request){.user = user, .page = below(it, PAGES), .op = i % 4 ? LIKES_LIKE : LIKES_GLANCE};
+        row[i] = (likes_request){.user = user,
+                                 .page = (uint32_t)below(&it->random, PAGES),
+                                 .op = i % 4 ? LIKES_LIKE : LIKES_GLANCE};
     }
     likes_service_lock(service, seat);
     hold(likes_service_run(service, seat, row, ROW, answers) == ROW, "a row was not done");
@@ -98,8 +88,8 @@ static void *work(void *at) {
             single(it);
         else
             batch(it);
-        if (below(it, 100) == 0)
-            sleep_for(below(it, 2000000));
+        if (below(&it->random, 100) == 0)
+            sleep_for(below(&it->random, 2000000));
     }
     return NULL;
 }
@@ -144,7 +134,7 @@ static void play(uint64_t seed, uint32_t room, uint32_t period) {
         memset(workers[i].last, 0xff, sizeof workers[i].last);
         workers[i].number = i;
         workers[i].random = seed * THREADS + i;
-        hold(pthread_create(&workers[i].thread, NULL, work, &workers[i]) == 0, "no thread was started");
+        start_thread(&workers[i].thread, work, &workers[i]);
     }
     take_counts();
     for (uint32_t i = 0; i < THREADS; i++)

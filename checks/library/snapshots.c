@@ -9,16 +9,6 @@ enum { SEATS = 3, USERS = 6, PAGES = 2 * USERS, SNAPSHOTS = 200, MS = 1000000 };
 static likes_service *service;
 static bool is_over, is_held;
 
-#define IS(call, expected)                                                                                      \
-    do {                                                                                                        \
-        uint64_t is = (uint64_t)(call), should = (uint64_t)(expected);                                          \
-        if (is != should) {                                                                                     \
-            printf("line %d: %s is %llu (%s), not %llu\n", __LINE__, #call, (unsigned long long)is,              \
-                   likes_status_text((uint32_t)is), (unsigned long long)should);                                \
-            exit(1);                                                                                            \
-        }                                                                                                       \
-    } while (0)
-
 /* A service in which page 0 is split in every split phase; and others, where hot pages are found. */
 static void start(uint32_t room, uint32_t period, uint32_t hot) {
     static const uint64_t counts[PAGES];
@@ -33,10 +23,6 @@ static void stop(uint64_t *totals) {
     IS(likes_service_fault(service), LIKES_NOT_STARTED);
     likes_service_close(service);
     service = NULL;
-}
-
-static bool is_on(void) {
-    return !__atomic_load_n(&is_over, __ATOMIC_SEQ_CST);
 }
 
 /* A user likes a page, then another, then the first again, and so on: by single calls, or by rows. */
@@ -61,7 +47,7 @@ static void like_row(liker *it) {
 
 static void *like_by_turns(void *at) {
     liker *it = (liker *)at;
-    while (is_on()) {
+    while (!is_set(&is_over)) {
         if (it->user < SEATS)
             IS(likes_service_like(service, it->user, 2 * it->user + (uint32_t)(it->likes++ % 2)), LIKES_LIKED);
         else
@@ -88,7 +74,7 @@ static void moments(uint32_t period) {
     for (uint32_t i = 0; i < USERS; i++) {
         likers[i].user = i;
         likers[i].likes = 0;
-        IS(pthread_create(&likers[i].thread, NULL, like_by_turns, &likers[i]), 0);
+        start_thread(&likers[i].thread, like_by_turns, &likers[i]);
     }
     for (uint32_t n = 0; n < SNAPSHOTS; n++) {
         IS(likes_service_snapshot(service, counts, PAGES, lasts, USERS), LIKES_COUNTED);
@@ -97,7 +83,7 @@ static void moments(uint32_t period) {
         IS(likes_service_split_pages(service, split, LIKES_MAX_SPLIT) >= 1, true);
         sleep_for(n % 4 * 200000);
     }
-    __atomic_store_n(&is_over, true, __ATOMIC_SEQ_CST);
+    set(&is_over);
     for (uint32_t i = 0; i < USERS; i++) {
         pthread_join(likers[i].thread, NULL);
         likes += likers[i].likes;
@@ -173,8 +159,8 @@ static void late_looks(void) {
 /* A thread that holds a seat, in no call. */
 static void *hold_seat(void *at) {
     IS(likes_service_lock(service, *(uint32_t *)at) != NULL, true);
-    __atomic_store_n(&is_held, true, __ATOMIC_SEQ_CST);
-    while (is_on())
+    set(&is_held);
+    while (!is_set(&is_over))
         sleep_for(MS);
     likes_service_unlock(service, *(uint32_t *)at);
     return NULL;
@@ -189,14 +175,14 @@ static void held_seat(void) {
     likes_answer answer;
     start(8, 1000, 512);
     is_held = false;
-    IS(pthread_create(&thread, NULL, hold_seat, &held), 0);
-    while (!__atomic_load_n(&is_held, __ATOMIC_SEQ_CST))
+    start_thread(&thread, hold_seat, &held);
+    while (!is_set(&is_held))
         sleep_for(MS);
     sleep_for(50 * MS); /* until a phase is ending, which waits for the seat */
     be_late(1, 2);
     be_late(0, 0);
     be_late(0, 2);
-    __atomic_store_n(&is_over, true, __ATOMIC_SEQ_CST);
+    set(&is_over);
     pthread_join(thread, NULL);
     IS(likes_service_look_within(service, 0, 0, 5000000, &answer), LIKES_SEEN);
     IS(likes_service_look_within(service, 1, 2, 5000000, &answer), LIKES_SEEN);
@@ -231,7 +217,7 @@ static void deadlines(uint32_t room, uint32_t period) {
     for (uint32_t i = 0; i < USERS; i++) {
         likers[i].user = i;
         likers[i].likes = 0;
-        IS(pthread_create(&likers[i].thread, NULL, look_often, &likers[i]), 0);
+        start_thread(&likers[i].thread, look_often, &likers[i]);
     }
     for (uint32_t i = 0; i < USERS; i++)
         pthread_join(likers[i].thread, NULL);

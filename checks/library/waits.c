@@ -33,17 +33,6 @@ typedef struct {
     pthread_t thread;
 } worker;
 
-static void hold(bool is_right, const char *text) {
-    if (!is_right) {
-        printf("wrong: %s\n", text);
-        exit(1);
-    }
-}
-
-static bool is_on(void) {
-    return !__atomic_load_n(&is_over, __ATOMIC_SEQ_CST);
-}
-
 /* Starts a service with a page that is split in every split phase. */
 static void start(uint32_t room, uint32_t microseconds) {
     static const uint64_t counts[PAGES];
@@ -64,11 +53,11 @@ static void stop(void) {
 static void begin(worker *it, uint32_t seat, void *(*work)(void *)) {
     memset(it, 0, sizeof *it);
     it->seat = seat;
-    hold(pthread_create(&it->thread, NULL, work, it) == 0, "no thread was started");
+    start_thread(&it->thread, work, it);
 }
 
 static void end(worker *it, int threads) {
-    __atomic_store_n(&is_over, true, __ATOMIC_SEQ_CST);
+    set(&is_over);
     for (int i = 0; i < threads; i++)
         pthread_join(it[i].thread, NULL);
 }
@@ -153,7 +142,7 @@ static void *tick(void *at) {
     for (uint32_t i = 0; i < ROW; i++)
         row[i] = (likes_request){.user = it->seat, .page = i % PAGES, .op = LIKES_LIKE};
     likes_service_lock(service, it->seat);
-    for (it->calls = 0; is_on(); it->calls++) {
+    for (it->calls = 0; !is_set(&is_over); it->calls++) {
         hold(likes_service_run(service, it->seat, row, ROW, answers) == ROW, "a row was not done");
         if (it->calls % 4 == 3)
             likes_service_tick(service);
@@ -173,7 +162,7 @@ static void ticks(uint32_t microseconds, bool is_judged) {
 static void *ask_counts(void *at) {
     worker *it = (worker *)at;
     uint64_t counts[PAGES];
-    for (; is_on(); it->calls++)
+    for (; !is_set(&is_over); it->calls++)
         hold(likes_service_counts(service, counts, PAGES) == LIKES_COUNTED, "there are no counts");
     it->worked = clock_of(CLOCK_THREAD_CPUTIME_ID);
     return NULL;
@@ -182,7 +171,7 @@ static void *ask_counts(void *at) {
 /* Makes turns as fast as it can. */
 static void *make_turns(void *at) {
     worker *it = (worker *)at;
-    for (; is_on(); it->calls++) {
+    for (; !is_set(&is_over); it->calls++) {
         likes_service_drive(service);
         likes_service_seat_turns(service);
     }
@@ -211,7 +200,7 @@ static void storm(const char *what, void *(*work)(void *), bool is_shared) {
 
 static void *like_once(void *at) {
     worker *it = (worker *)at;
-    for (; is_on(); it->calls++) {
+    for (; !is_set(&is_over); it->calls++) {
         hold(likes_service_like(service, it->seat, 0) == LIKES_LIKED, "a like was refused");
         sleep_for(1000000);
     }
@@ -221,7 +210,7 @@ static void *like_once(void *at) {
 
 static void *look_once(void *at) {
     worker *it = (worker *)at;
-    for (; is_on(); it->calls++) {
+    for (; !is_set(&is_over); it->calls++) {
         likes_answer answer;
         hold(likes_service_look(service, it->seat, 0, &answer) == LIKES_SEEN, "a look was not answered");
         sleep_for(1000000);
@@ -234,7 +223,7 @@ static void *run_once(void *at) {
     worker *it = (worker *)at;
     likes_request row[2] = {{.user = it->seat}, {.user = it->seat, .op = LIKES_GLANCE}};
     likes_answer answers[2];
-    for (; is_on(); it->calls++) {
+    for (; !is_set(&is_over); it->calls++) {
         likes_service_lock(service, it->seat);
         hold(likes_service_run(service, it->seat, row, 2, answers) == 2, "a row was not done");
         likes_service_unlock(service, it->seat);

@@ -24,16 +24,6 @@ void *__wrap_calloc(size_t number, size_t size) {
     return refused > 0 && --refused == 0 ? NULL : __real_calloc(number, size);
 }
 
-#define IS(call, expected)                                                                                             \
-    do {                                                                                                               \
-        uint64_t is = (uint64_t)(call), should = (uint64_t)(expected);                                                 \
-        if (is != should) {                                                                                            \
-            printf("line %d: %s is %llu (%s), not %llu\n", __LINE__, #call, (unsigned long long)is,                    \
-                   likes_status_text((uint32_t)is), (unsigned long long)should);                                       \
-            exit(1);                                                                                                   \
-        }                                                                                                              \
-    } while (0)
-
 static uint32_t open_service(uint32_t seats, uint32_t period) {
     static const uint64_t counts[PAGES];
     static const uint32_t marks[] = {0};
@@ -113,7 +103,7 @@ static void on_request(void) {
 
 /* Calls that keep the service from its rest. */
 static void *call_on(void *at) {
-    while (!__atomic_load_n(&is_over, __ATOMIC_SEQ_CST)) {
+    while (!is_set(&is_over)) {
         likes_answer answer;
         IS(likes_service_glance(service, 2, 1, &answer), LIKES_SEEN);
         sleep_for(100000);
@@ -127,7 +117,7 @@ static void after_period(uint32_t period, bool rests) {
     pthread_t thread;
     uint64_t likes = 0, late = 0;
     if (!rests)
-        IS(pthread_create(&thread, NULL, call_on, NULL), 0);
+        start_thread(&thread, call_on, NULL);
     for (int times = 0; times < TIMES; times++) {
         likes_answer answer;
         if (times % 4 == 0)
@@ -145,7 +135,7 @@ static void after_period(uint32_t period, bool rests) {
         late += last != 1 || counted() + 1 < likes;
         IS(likes_writer_flush(writer), LIKES_OK);
     }
-    __atomic_store_n(&is_over, true, __ATOMIC_SEQ_CST);
+    set(&is_over);
     if (!rests)
         pthread_join(thread, NULL);
     if (late > 0)
@@ -256,21 +246,17 @@ typedef struct {
     pthread_t thread;
 } worker;
 
-static uint32_t below(worker *it, uint32_t bound) {
-    it->random = it->random * UINT64_C(6364136223846793005) + 1442695040888963407u;
-    return (uint32_t)(it->random >> 33) % bound;
-}
-
 static void work_once(worker *it, likes_writer *writer) {
-    uint32_t user = it->number + THREADS * below(it, USERS / THREADS), page = below(it, PAGES);
-    uint32_t what = below(it, 1000);
+    uint32_t user = it->number + THREADS * (uint32_t)below(&it->random, USERS / THREADS);
+    uint32_t page = (uint32_t)below(&it->random, PAGES);
+    uint64_t what = below(&it->random, 1000);
     likes_answer answer;
     if (what == 0) {
         IS(likes_writer_look(writer, user, page, &answer), LIKES_SEEN);
         IS(answer.last, it->last[user]);
     } else if (what == 1) {
         IS(likes_writer_flush(writer), LIKES_OK);
-        sleep_for(below(it, 3) * MS);
+        sleep_for(below(&it->random, 3) * MS);
     } else if (what == 2) {
         IS(likes_service_like(service, user, page), LIKES_LIKED);
         /* This like may come before those that are kept, so they are not compared. */
@@ -306,7 +292,7 @@ static uint64_t many(uint64_t seed, uint32_t seats, uint32_t period) {
         memset(workers[i].last, 0xff, sizeof workers[i].last);
         workers[i].number = i;
         workers[i].random = seed * THREADS + i;
-        IS(pthread_create(&workers[i].thread, NULL, work, &workers[i]), 0);
+        start_thread(&workers[i].thread, work, &workers[i]);
     }
     while (clock_now() < until) {
         IS(likes_service_counts(service, counts, PAGES), LIKES_COUNTED);
@@ -342,7 +328,7 @@ static void in_order(uint32_t period) {
     memset(&it, 0, sizeof it);
     IS(open_service(SEATS, period), LIKES_OK);
     until = clock_now() + 300 * MS;
-    IS(pthread_create(&it.thread, NULL, take_turns, &it), 0);
+    start_thread(&it.thread, take_turns, &it);
     while (clock_now() < until) {
         IS(likes_service_snapshot(service, counts, PAGES, lasts, USERS), LIKES_COUNTED);
         IS(counts[1] == counts[2] || counts[1] == counts[2] + 1, true);

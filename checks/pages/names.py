@@ -50,6 +50,7 @@ def unknown(named):
     known = {"also_shares"}
     for folder in pages.FOLDERS:
         for where, folders, names in os.walk(f"{runs.ROOT}/{folder}"):
+            folders[:] = [name for name in folders if name != "out"]
             known.update(folders)
             for name in names:
                 if name.endswith((".antt", ".rt", ".c", ".h", ".edit", ".py", ".sh", ".toml")) or "." not in name:
