@@ -25,7 +25,7 @@ typedef struct {
 } options;
 
 static void fail(const char *text) {
-    fprintf(stderr, "bench/live: %s\n", text);
+    fprintf(stderr, "bench/run live: %s\n", text);
     exit(1);
 }
 
@@ -90,7 +90,7 @@ static options options_in(int count, char **words, const char *kinds) {
         else if (strcmp(words[at], "--scattered") == 0)
             made.is_scattered = true;
         else if (at + 1 == count || !takes(&made, words[at], words[at + 1]))
-            fail("an unknown option, or one without a value: see bench/live --help");
+            fail("an unknown option, or one without a value: see bench/run live -h");
         else
             at++;
     }

@@ -1,5 +1,5 @@
-/* Measures the cost of opening a service and of changing its phases. bench/live-phases builds and runs it, and says
- * what it measures.
+/* Measures the cost of opening a service and of changing its phases. `bench/run live-phases` builds and runs it, and
+ * says what it measures.
  *
  * It replaces malloc and its kin to count the memory in use, and calls those of the GNU C library by their other names.
  */

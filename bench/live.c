@@ -1,12 +1,12 @@
-/* Measures the live core beside six plain ways to count likes, all in one process. bench/live and bench/live-counts
- * build and run it.
+/* Measures the live core beside six plain ways to count likes, all in one process. `bench/run live` and
+ * `bench/run live-counts` build and run it.
  *
  * usage: live [OPTION...]
  *        live rows SYSTEM EXPONENT LOOKS ROWS
  *
- * bench/live explains the options. Every thread has its own users, with a table of their last likes, and cycles through
- * a ring of requests drawn beforehand. The systems take turns. After each measurement the pages' counts must be exact.
- * In one more measurement, five times as long, each look that waits is timed.
+ * bench/live.sh explains the options. Every thread has its own users, with a table of their last likes, and cycles
+ * through a ring of requests drawn beforehand. The systems take turns. After each measurement the pages' counts must be
+ * exact. In one more measurement, five times as long, each look that waits is timed.
  *
  * In the second form, the first of four threads runs ROWS rows by itself, in `counted_rows`, so that a tool can count
  * what they cost. A live service is then in a split phase, and counts aren't compared. */

@@ -1,7 +1,7 @@
-/* bench/core loads this into `likes` to time the threads of its run. Threads that the first thread starts and that run
- * in parallel are a group. One group reads the files, one has the run's workers and submitters, others make the report;
- * with four submitters the run's group has the most threads. At the end of the program, the seconds from the start of
- * the first thread of that group to the end of its last one are written to the file that STAMPS names. */
+/* bench/core.sh loads this into `likes` to time the threads of its run. Threads that the first thread starts and that
+ * run in parallel are a group. One group reads the files, one has the run's workers and submitters, others make the
+ * report; with four submitters the run's group has the most threads. At the end of the program, the seconds from the
+ * start of the first thread of that group to the end of its last one are written to the file that STAMPS names. */
 #define _GNU_SOURCE
 #include <dlfcn.h>
 #include <pthread.h>

@@ -1,4 +1,3 @@
-#!/bin/sh
 # Measures the LIKE workload of the paper on phase reconciliation (OSDI 2014) at its size, 1,000,000 users and 1,000,000
 # pages, and draws it: requests per second by the share of likes, by how popular the first pages are, and by threads.
 #
@@ -7,27 +6,20 @@
 # locking of the user's and the page's record (2pl), and optimistic validation of both (occ). All are in one process,
 # with the same users and requests (bench/live.c).
 #
-# usage: bench/paper FOLDER [PREFIX [OPTION...]]
+# usage: bench/run paper FOLDER [PREFIX [OPTION...]]
 #   FOLDER   gets likes.csv, exponents.csv and threads.csv, and a picture of each
 #   PREFIX   where tools/liblikes installed the library; by default, or with -, a new, temporary one
-#   OPTION   of bench/live: --seconds (1), --times (3), --kinds and others
+#   OPTION   of `bench/run live`: --seconds (1), --times (3), --kinds and others
 #
 # The popular pages are anywhere among the others. It takes half an hour, and needs a C compiler and Python 3. Nothing
 # else should run meanwhile.
 
-. "$(dirname -- "$0")/timing" || exit 2
-help_where_asked "$0" "${1:-}"
-[ $# -ge 1 ] || fail "usage: bench/paper FOLDER [PREFIX [OPTION...]]"
+[ $# -ge 1 ] || fail "usage: bench/run paper FOLDER [PREFIX [OPTION...]]"
 mkdir -p -- "$1" || exit 3
 folder=$(CDPATH='' cd -- "$1" && pwd) || exit 3
 shift
-work_folder
-prefix=${1:--}
+library_at "${1:--}"
 [ $# -eq 0 ] || shift
-if [ "$prefix" = - ]; then
-    prefix=$work/prefix
-    "$root/tools/liblikes" "$prefix" || exit
-fi
 most=$(getconf _NPROCESSORS_ONLN)
 threads=$(awk -v most="$most" 'BEGIN { for (n = 1; n < most; n *= 2) printf "%d ", n; print most }')
 
@@ -35,10 +27,10 @@ threads=$(awk -v most="$most" 'BEGIN { for (n = 1; n < most; n *= 2) printf "%d 
 figure() {
     by=$1
     shift
-    "$root/bench/live" "$prefix" --pages 1000000 --users 1000000 --scattered --median --seconds 1 --times 3 \
+    "$root/bench/run" live "$prefix" --pages 1000000 --users 1000000 --scattered --median --seconds 1 --times 3 \
         --kinds 'atomic mutex 2pl occ sharded look glance' --threads "$most" --exponents 1.4 --looks 0 \
         --file "$folder/$by.csv" "$@" || exit
-    "$root/bench/draw-paper" "$folder/$by.csv" "$by" >"$folder/$by.svg" || exit
+    "$root/bench/draw" lines "$folder/$by.csv" "$by" >"$folder/$by.svg" || exit
 }
 
 figure likes --looks '0 10 25 50 75 90' "$@"

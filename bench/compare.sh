@@ -1,11 +1,10 @@
-#!/bin/sh
 # Measures `likes run` and `likes replay` beside unproved programs that do the same: the elapsed time of the whole
 # program, from files to report, and its peak memory. The others are bench/peer.rs, with a thread for each request file
 # and an atomic number for each page or one lock around all counts, and Redis over loopback (bench/redis), of which only
 # the server's part is timed. First it compares the final counts and last likes of all, and the replies of all but
 # Redis, except for their phases and what looks show. Reports go to /dev/null.
 #
-# usage: bench/compare [FOLDER [SUBMITTERS [REQUESTS [OPTION...]]]]
+# usage: bench/run compare [FOLDER [SUBMITTERS [REQUESTS [OPTION...]]]]
 #   FOLDER      keeps the workload for the next time; without it, the workload is temporary
 #   SUBMITTERS  how many request files (8)      REQUESTS  how many requests in all (2000000)
 #   OPTIONs are those of `likes run` and `likes replay`, such as --workers 1 --turns 0
@@ -14,12 +13,9 @@
 # users. Times are the best of five by hyperfine, or of three if it isn't installed, and ratios are to the peer with
 # atomics. Without rustc or Redis it says so and skips them; memory needs GNU time.
 
-. "$(dirname -- "$0")/timing" || exit 2
-help_where_asked "$0" "${1:-}"
 users=1000000
 submitters=${2:-8}
 requests=${3:-2000000}
-work_folder
 folder=${1:-$work}/$submitters-$requests-$users
 if [ $# -ge 3 ]; then shift 3; else shift $#; fi
 options=$*

@@ -1,8 +1,7 @@
-#!/bin/sh
 # Measures what hot pages gain on this machine: a run whose popular pages are marked in the file, and one whose pages
 # are not, without --hot and with it. The first time it proves and builds the program.
 #
-# usage: bench/hot [REQUESTS [WORKERS]]
+# usage: bench/run hot [REQUESTS [WORKERS]]
 #   REQUESTS  how many requests in all (2000000)
 #   WORKERS   how many workers (4)
 #
@@ -11,11 +10,8 @@
 # One more run gives the phases: how many there are, how many have hot pages, and how many hot pages these have on
 # average. Seconds, phases and hot pages depend on what else the machine does.
 
-. "$(dirname -- "$0")/timing" || exit 2
-help_where_asked "$0" "${1:-}"
 requests=${1:-2000000}
 workers=${2:-4}
-work_folder
 for split in 0 16; do
     workload "$work/load-$split" requests="$requests" looks=0.1 exponent=1.4 split="$split"
 done

@@ -1,21 +1,15 @@
-#!/bin/sh
-# Counts the instructions and the cache misses of a request, of the live core and of other systems that bench/live
+# Counts the instructions and the cache misses of a request, of the live core and of other systems that `bench/run live`
 # measures: one thread of four, in a split phase, under valgrind, whose numbers hardly depend on what else runs. It
 # simulates one core's caches, of 32 KiB and 1 MiB. The cost of cache lines that several threads write is not in these
 # numbers.
 #
-# usage: bench/live-counts [PREFIX]
+# usage: bench/run live-counts [PREFIX]
 #   PREFIX  where tools/liblikes installed the library; by default a new, temporary one
 #
 # It takes two minutes, and needs a C compiler and valgrind.
 
-. "$(dirname -- "$0")/timing" || exit 2
-help_where_asked "$0" "${1:-}"
-work_folder
-prefix=${1:-$work/prefix}
-[ $# -ge 1 ] || "$root/tools/liblikes" "$prefix" || exit
-"${CC:-cc}" -std=gnu11 -O2 -g -Wall -o "$work/live" "$root/bench/live.c" -I"$prefix/include" \
-    "$prefix/lib/liblikes.a" -pthread -lm || fail "bench/live.c could not be built"
+library_at "${1:--}"
+compile live
 
 # What a request costs: instructions, and misses of the small cache and of the large one.
 counted() {

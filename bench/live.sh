@@ -1,4 +1,3 @@
-#!/bin/sh
 # Measures the live core, called from C, beside six plain ways to count likes, all in one process (bench/live.c): an
 # atomic number for each page, relaxed (atomic) or sequentially consistent (seqcst); a lock for each page (mutex);
 # counters of each thread's own, which a look adds up (sharded); and transactions over the user's and the page's record,
@@ -15,7 +14,7 @@
 # that serve all users, with a table of last likes that all of them write: an atomic number for each page, relaxed
 # (atomic,any) or sequentially consistent (seqcst,any), and counters of each thread's own (sharded,any).
 #
-# usage: bench/live [PREFIX] [OPTION...]
+# usage: bench/run live [PREFIX] [OPTION...]
 #   PREFIX             where tools/liblikes installed the library; by default, or with -, a new, temporary one
 #   --pages N          how many pages, 1 to 1000000 (1000)
 #   --users N          how many users, 64 to 16000000 (1000000)
@@ -36,9 +35,6 @@
 # the live core had split at the end, and to the 64 most popular ones. After each measurement it checks the counts.
 # Without options it takes eighteen minutes. It needs a C compiler. Nothing else should run meanwhile.
 
-. "$(dirname -- "$0")/timing" || exit 2
-help_where_asked "$0" "${1:-}"
-work_folder
 prefix=-
 case ${1:-} in
 '' | --*) ;;
@@ -47,11 +43,7 @@ case ${1:-} in
     shift
     ;;
 esac
-if [ "$prefix" = - ]; then
-    prefix=$work/prefix
-    "$root/tools/liblikes" "$prefix" || exit
-fi
-"${CC:-cc}" -std=gnu11 -O2 -Wall -o "$work/live" "$root/bench/live.c" -I"$prefix/include" "$prefix/lib/liblikes.a" \
-    -pthread -lm || fail "bench/live.c could not be built"
+library_at "$prefix"
+compile live
 echo "$(getconf _NPROCESSORS_ONLN) processors"
 "$work/live" "$@"

@@ -1,4 +1,3 @@
-#!/bin/sh
 # Measures the core by itself: how long the threads of `likes run` take for 4,000,000 likes of one page by four
 # submitters, with the page marked as split and not, in requests per second by the number of workers and the
 # coordinator's turns.
@@ -7,16 +6,13 @@
 # the C library, sees them. That covers the turns of the workers and the coordinator, the submitters' pushes, the phases
 # and the logs, but not reading files, gathering answers or writing the report.
 #
-# usage: bench/core [FOLDER [REQUESTS]]
+# usage: bench/run core [FOLDER [REQUESTS]]
 #   FOLDER    keeps the workload for the next time; without it, the workload is temporary
 #   REQUESTS  how many requests in all (4000000)
 #
 # Each number is the best of three runs. It takes about two minutes, and needs a C compiler.
 
-. "$(dirname -- "$0")/timing" || exit 2
-help_where_asked "$0" "${1:-}"
 requests=${2:-4000000}
-work_folder
 "${CC:-cc}" -shared -fPIC -O2 -o "$work/stamps.so" "$root/bench/stamps.c" -ldl ||
     fail "bench/stamps.c could not be built"
 folder=${1:-$work}

@@ -1,4 +1,3 @@
-#!/bin/sh
 # Measures the cost of opening a service of the live core and of changing its phases (bench/live-phases.c).
 #
 #   - Opening a service with 1,000,000 pages and users, 16 seats and room for 256 looks, beside allocating and touching
@@ -9,17 +8,12 @@
 #   - A seat that retires and comes back in a joined phase, alone and beside three threads at work, and into a split
 #     phase.
 #
-# usage: bench/live-phases [PREFIX]
+# usage: bench/run live-phases [PREFIX]
 #   PREFIX  where tools/liblikes installed the library; by default a new, temporary one
 #
 # Times are processor times: medians, or means for the returns in a joined phase. It takes some seconds, and needs a C
 # compiler. Little else should run meanwhile.
 
-. "$(dirname -- "$0")/timing" || exit 2
-help_where_asked "$0" "${1:-}"
-work_folder
-prefix=${1:-$work/prefix}
-[ $# -ge 1 ] || "$root/tools/liblikes" "$prefix" || exit
-"${CC:-cc}" -std=gnu11 -O2 -Wall -o "$work/phases" "$root/bench/live-phases.c" -I"$prefix/include" \
-    "$prefix/lib/liblikes.a" -pthread || fail "bench/live-phases.c could not be built"
-"$work/phases"
+library_at "${1:--}"
+compile live-phases
+"$work/live-phases"

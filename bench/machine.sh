@@ -1,22 +1,18 @@
-#!/bin/sh
 # Measures this machine: how long a whole replay and whole runs take, from files to a report that goes to /dev/null,
 # their peak memory, and how many phases they have. The first time it proves and builds the program.
 #
-# usage: bench/machine [REQUESTS]
+# usage: bench/run machine [REQUESTS]
 #   REQUESTS  how many requests in all, 1 to 8000000 (1000000)
 #
 # The workload: eight request files, half of the requests looks, 1,000 users, and 1,000 pages by Zipf's law, 16 of them
 # marked. Seconds are the best of three; they, and a run's phases, depend on what else the machine does. It takes 15 to
 # 30 seconds. Memory needs GNU time.
 
-. "$(dirname -- "$0")/timing" || exit 2
-help_where_asked "$0" "${1:-}"
 requests=${1:-1000000}
 case $requests in
 *[!0-9]* | 0* | ????????*) fail "$requests: not a whole number from 1 to 8000000" ;;
 esac
 [ "$requests" -le 8000000 ] || fail "$requests: not a whole number from 1 to 8000000"
-work_folder
 workload "$work/load" requests="$requests"
 build_likes
 cd -- "$work/load" || exit 3
