@@ -5,6 +5,7 @@ pub mod Bounding
 pub mod Calling
 pub mod CallsKeep
 pub mod Closing
+pub mod Crossed
 pub mod DeedLasts
 pub mod DeedOwners
 pub mod DeedPhases
@@ -14,6 +15,7 @@ pub mod Finding
 pub mod Gone
 pub mod Histories
 pub mod Keeping
+pub mod LastMoment
 pub mod Lasting
 pub mod Looking
 pub mod Merging
@@ -25,6 +27,7 @@ pub mod Ordered
 pub mod Requests
 pub mod Showing
 pub mod Slotted
+pub mod Snapshots
 pub mod Standing
 pub mod Stepping
 pub mod Taking

@@ -10,13 +10,14 @@ use Rattle.std.proofs.lemmas.List.Elements.{All-head, All-tail, filter-append, f
 use Rattle.std.proofs.lemmas.List.FromFn.{get_or-map-range_with_len}
 use Rattle.std.proofs.lemmas.List.Sums.{sum_by-cons}
 use Rattle.like_board.specs.declared.worker_seat.WorkerSeat.{WorkerSeat}
-use Rattle.like_board.specs.Seats.{BoardId, seat_meaning}
+use Rattle.like_board.specs.Seats.{BoardId, seat_meaning, seats_before}
 use Rattle.like_core.specs.declared.opening.Opening.{Opening as CoreOpening}
 use Rattle.like_core.specs.declared.page_step.PageCall.TheVariants.{Add, Read, Glance}
 use Rattle.like_core.specs.declared.page_step.PageStep.{PageStep}
 use Rattle.like_core.specs.declared.worker_state.WorkerState.TheVariants.{Gone}
 use Rattle.like_core.specs.OpeningLimits.{service_limits}
-use Rattle.like_core.specs.PageSteps.{AddsSome, AreInTurn, adds_to, steps_by}
+use Rattle.like_core.specs.Additions.{added_before}
+use Rattle.like_core.specs.PageSteps.{AddsSome, AreInTurn, additions_among, adds_to, steps_by}
 use Rattle.like_core.specs.Phase.{is_marked, split_by}
 use Rattle.like_core.specs.PhaseMasks.{AreMasksOf, mask_of}
 use Rattle.like_core.specs.Post.{PostView}
@@ -26,14 +27,14 @@ use Rattle.like_seat.specs.declared.seen.Seen.{Seen}
 use Rattle.like_seat.specs.StationView.{phase_at}
 use Rattle.like_seat.proofs.MergedLikes.{same_everywhere}
 use Rattle.like_serial.specs.StepsTold.{step_told}
-use Rattle.like_serial.proofs.Counts.{counts_there, told_adds}
+use Rattle.like_serial.proofs.Counts.{counts_there, told_adds, weigh-map}
 use Rattle.like_serial.proofs.InTurn.{turn_below}
 use Rattle.like_serial.proofs.Interleaved.{with_key}
 use Rattle.like_serial.proofs.Parts.{at_place, place_of_part, take_part}
 use Rattle.like_serial.proofs.Phases.{Rises, all_append, all_then, pairs_of, rec_all, rises-append}
 use Rattle.like_serial.proofs.Seen.{not_some, some_is}
-use Rattle.like_serial.proofs.Totals.{only-none, weigh-reverse}
-use Rattle.like_serial.proofs.Weigh.{only, sum-weigh, weigh}
+use Rattle.like_serial.proofs.Totals.{only-none, same_below, same_in_all}
+use Rattle.like_serial.proofs.Weigh.{only, sum-weigh, weigh, weigh-filter}
 use Rattle.like_tables.specs.Share.{Share, owns, share_of}
 use Rattle.like_tables.specs.UserTable.{UserTable, last_in, last_of, table_with_lasts}
 use Rattle.like_live.specs.declared.opening.Opening.{Opening}
@@ -42,7 +43,7 @@ use Rattle.like_live.specs.History.{IsUnused}
 use Rattle.like_live.specs.Driver.{DriverView}
 use Rattle.like_live.specs.Opening.{board_opening}
 use Rattle.like_live.specs.Service.{AreOpenedSeats, IsOpenedSeat}
-use Rattle.like_live.specs.Deeds.{Act, Deed, ShowsCount, ShowsLast, counted, glimpsed, likes_counted, page_counted, pages_counted, showed}
+use Rattle.like_live.specs.Deeds.{Act, Deed, ShowsCount, ShowsLast, counted, glimpsed, likes_among, likes_counted, page_counted, pages_counted, showed}
 use Rattle.like_live.specs.SerialService.{IsSerialService, SeatHistory, ServicesAreSerial, count_after, deeds_in, last_after}
 use Rattle.like_live.proofs.Closing.{all-alike, post_at, sum-alike}
 use Rattle.like_live.proofs.DeedLasts.{deeds_show_lasts}
@@ -52,13 +53,15 @@ use Rattle.like_live.proofs.DeedSteps.{HasSteps, is_plain, step_by, step_of, ste
 use Rattle.like_live.proofs.DeedTotals.{HasTotals, deed_in, is_none, likes_of_deed, step_in, totals_kept}
 use Rattle.like_live.proofs.Merging.{FitsAll, IsMerged, merged_serial}
 use Rattle.like_live.proofs.Ordered.{IsOrdered, split_in}
+use Rattle.like_live.proofs.Snapshots.{at_number, before_steps, front_before}
 use Rattle.like_live.proofs.Standing.{IsHis, Stands, kept_by_calls, stands_by_calls}
 
 -- one order of all that these seats did at pages, the latest step first
-record AreInOrder (counts : ℕ → ℕ) (phase : ℕ) (seats : List LiveView) (steps : List PageStep) : Type 0 where
-  in_turn : AreInTurn counts phase steps
-  each : All (λ s. steps_by s.seat.post.worker steps ≡ s.seat.post.did) seats
-  others : (i : ℕ) → count_by (λ s. s.seat.post.worker == i) seats ≡ 0 → steps_by i steps ≡ []
+pub record AreInOrder (counts : ℕ → ℕ) (phase : ℕ) (seats : List LiveView) (steps : List PageStep) : Type 0 where
+  pub in_turn : AreInTurn counts phase steps
+  pub each : All (λ s. steps_by s.seat.post.worker steps ≡ s.seat.post.did) seats
+  pub others : (i : ℕ) → count_by (λ s. s.seat.post.worker == i) seats ≡ 0 → steps_by i steps ≡ []
+  pub additions : All (λ s. s.seat.post.additions ≡ additions_among s.seat.post.did) seats
 
 -- what is true of all that a list stands for is true of what its element at a place does
 at_all : {A B : Type 0} (P : B → Type 0) (f : A → B) (xs : List A) (i : ℕ) (x : A) → All P (map f xs)
@@ -72,6 +75,13 @@ at_map : {A B : Type 0} (f : A → B) (xs : List A) (i : ℕ) (x : A) → slice_
 at_map f [] i x at = absurd (not_some x at)
 at_map f (y ∷ xs) zero x at = ap (λ z. Some (f z)) (some_is y x at)
 at_map f (y ∷ xs) (suc i) x at = at_map f xs i x at
+
+-- a sum over a list, place by place
+alike_at : {A : Type 0} (f g : A → ℕ) (xs : List A) → ((k : ℕ) (x : A) → slice_get xs k ≡ Some x → f x ≡ g x)
+    → weigh f xs ≡ weigh g xs
+alike_at f g [] each = refl
+alike_at f g (x ∷ xs) each =
+    ap₂ (λ a b. a + b) (each 0 x refl) (alike_at f g xs (λ k y at. each (suc k) y at))
 
 -- a list's element at a place, if it has one
 place : {A : Type 0} (xs : List A) (i : ℕ) → ((x : A) × (slice_get xs i ≡ Some x)) ⊎ (length xs ≤ i)
@@ -264,6 +274,18 @@ module _ (o : Opening) (factor : ℕ) (board : BoardId) (hs : List SeatHistory) 
               (ap (λ (xs : List ℕ). get_or xs p 0) seat.new.slice ∙ same_everywhere _ p 0)
               ∙ only-none (phase_at h.first.seat == k) ∙ sym (only-none (0 == k)))
 
+    -- what it added before a phase is what its deeds count
+    has_before : (n page : ℕ)
+        → added_before n page h.last.seat.post.additions
+        ≡ weigh (λ d. only (nat_lt d.phase n) (likes_of_deed page d)) (deeds_in h)
+    has_before n page =
+        ap (added_before n page)
+        (at_all (λ (s : LiveView). s.seat.post.additions ≡ additions_among s.seat.post.did) (λ (g : SeatHistory). g.last) hs
+        i h order.additions at ∙ ap additions_among (sym did))
+        ∙ before_steps n page (steps_by i steps)
+        ∙ same_below phase_of_step (adds_to page) phase_of_deed (likes_of_deed page) (steps_by i steps) (deeds_in h)
+        (λ k. sym (has_totals k page)) n
+
     has_risen : Rises phase_of_deed (deeds_in h)
     has_risen =
         (kept_by_calls h.first (IsOrdered masks) HasRisen (risen_kept h.first masks) h.told h.last h.done unused ordered
@@ -435,6 +457,28 @@ module _ (o : Opening) (factor : ℕ) (board : BoardId) (hs : List SeatHistory) 
         m.counts j (record d { act = showed s }) d.page s.count at refl
         ∙ ap (λ n. first_count d.page + n) (sym (sum-weigh (likes_of_deed d.page) (take j serial)))
 
+    -- what the seats added before a phase is what the deeds before it count
+    all_before : (n page : ℕ)
+        → sum_by (λ (s : LiveView). added_before n page s.seat.post.additions) (map (λ (h : SeatHistory). h.last) hs)
+        ≡ likes_among page (take (count_by (λ d. nat_lt (phase_of_deed d) n) serial) serial)
+    all_before n page =
+        let G : Deed → ℕ = λ d. only (nat_lt (phase_of_deed d) n) (likes_of_deed page d) in
+        let number : SeatHistory → ℕ = λ h. h.last.seat.post.worker in
+        sum-weigh (λ (s : LiveView). added_before n page s.seat.post.additions) (map (λ (h : SeatHistory). h.last) hs)
+        ∙ weigh-map (λ (s : LiveView). added_before n page s.seat.post.additions) (λ (h : SeatHistory). h.last) hs
+        ∙ alike_at (λ (h : SeatHistory). added_before n page h.last.seat.post.additions) (λ h. weigh G (deeds_in h)) hs
+        (λ k h at. has_before k h at n page)
+        ∙ sym (same_in_all user_home G number (λ (h : SeatHistory). weigh G (deeds_in h)) serial hs
+        (λ k. sym (weigh-filter (λ (d : Deed). user_home d == k) G serial) ∙ ap (weigh G) (m.own k)
+        ∙ sym (ap (λ j. weigh (λ (h : SeatHistory). only (number h == j) (weigh G (deeds_in h))) hs) (zero_and k)
+        ∙ at_number number (λ (h : SeatHistory). weigh G (deeds_in h)) hs 0
+        (λ j h at. let e = worker_is j h at in omega (arith, e)) (λ j. weigh G (deeds_at hs j))
+        (λ j h at. ap (weigh G) (deeds_there hs j h at)) (λ j past. ap (weigh G) (deeds_past hs j past)) k)))
+        ∙ front_before phase_of_deed (likes_of_deed page) n serial m.rising
+        ∙ sym (sum-weigh (likes_of_deed page) (take (count_by (λ d. nat_lt (phase_of_deed d) n) serial) serial)) where
+          zero_and : (k : ℕ) → k ≡ 0 + k
+          zero_and k = omega arith
+
     is_serial : IsSerialService o (map deeds_in hs) serial
     is_serial = record {
       own = m.own;
@@ -443,11 +487,19 @@ module _ (o : Opening) (factor : ℕ) (board : BoardId) (hs : List SeatHistory) 
       counts = λ j d at. counts_by j d d.act at;
     }
 
-  one_thread : (serial : List Deed) × IsSerialService o (map deeds_in hs) serial
+  -- a serial list, and what it says of the seats' additions before each phase
+  abbrev pub Serial : List Deed → Type 0
+  Serial serial =
+      IsSerialService o (map deeds_in hs) serial
+      × ((n page : ℕ)
+      → sum_by (λ (s : LiveView). added_before n page s.seat.post.additions) (map (λ (h : SeatHistory). h.last) hs)
+      ≡ likes_among page (take (count_by (λ d. nat_lt (phase_of_deed d) n) serial) serial))
+
+  pub one_thread : (serial : List Deed) × Serial serial
   one_thread =
       let m = merged_serial user_home phase_of_deed (step_of split) likes_of_deed split first_count last steps (length hs)
       (deeds_at hs) fits in
-      (m.0, is_serial m.0 m.1)
+      (m.0, (is_serial m.0 m.1, all_before m.0 m.1))
 
 pub services_are_serial : ServicesAreSerial
 services_are_serial o driver now hs counts opened same closed gone =
@@ -455,7 +507,7 @@ services_are_serial o driver now hs counts opened same closed gone =
     let order = closed.order in
     let opening : now.lead.seat.opening ≡ board_opening o opened.factor =
     same.opening ∙ ap (λ (d : DriverView). d.lead.seat.opening) opened.new in
-    one_thread o opened.factor driver.lead.board hs (mask_of now.lead.seat.masks) now.lead.seat.phase closed.steps
+    let one = one_thread o opened.factor driver.lead.board hs (mask_of now.lead.seat.masks) now.lead.seat.phase closed.steps
     opened.fresh gone
     (all-alike (λ (p : PostView). AreMasksOf (mask_of now.lead.seat.masks) p.masks) post_at seat_meaning ends closed.back
     (sym closed.posts) closed.masks)
@@ -465,8 +517,21 @@ services_are_serial o driver now hs counts opened same closed gone =
           order.in_turn;
       each = all-alike (λ (p : PostView). steps_by p.worker closed.steps ≡ p.did) post_at seat_meaning ends closed.back
           (sym closed.posts) (λ k d below. (order.each k d below).did);
+      additions = all-alike (λ (p : PostView). p.additions ≡ additions_among p.did) post_at seat_meaning ends closed.back
+          (sym closed.posts) (λ k d below. (order.each k d below).additions);
       others = λ i none.
           order.others i
           (sum-alike (λ (p : PostView). cond {A = ℕ} (p.worker == i) 1 0) seat_meaning post_at closed.back ends closed.posts
           ∙ none);
-    })
+    }) in (
+      one.0,
+      one.1.0,
+      λ k d below.
+          let r = get_or now.lead.seat.counted k d in
+          closed.snapshots k d below
+          ∙ ap (λ (z : CoreOpening). get_or z.counts r.page 0 + seats_before closed.back (r.phase + 1) r.page) opening
+          ∙ ap (λ n. get_or o.counts.items r.page 0 + n)
+          (sum-alike (λ (p : PostView). added_before (r.phase + 1) r.page p.additions) seat_meaning post_at closed.back ends
+          closed.posts
+          ∙ one.1.1 (r.phase + 1) r.page),
+    )

@@ -1,6 +1,7 @@
 pub mod Answers
 pub mod Batch
 pub mod Calls
+pub mod CrossedLooks
 pub mod Deeds
 pub mod Driver
 pub mod History

@@ -1,12 +1,19 @@
 -- The calls of all seats of a service, as those of one thread.
-use Rattle.std.specs.Prelude.{◌≡◌, ℕ, ◌+◌, ◌≤◌, ◌==◌, List, [], filter, map, take, slice_get, slice_index, slice_index_or, AllPairs, Option, Some}
+use Rattle.std.specs.Prelude.{◌≡◌, ℕ, ◌+◌, ◌≤◌, ◌==◌, nat_lt, All, List, [], count_by, filter, map, take, slice_get, slice_index, slice_index_or, AllPairs, Option, Some}
 use Rattle.std.specs.List.{last_or}
+use Rattle.like_board.specs.Seats.{BoardId}
+use Rattle.like_core.specs.declared.view.PageCount.{PageCount}
+use Rattle.like_core.specs.core.Numbers.{AllGone}
+use Rattle.like_core.specs.core.State.{numbers}
+use Rattle.like_core.specs.views.Shows.{Moment}
 use Rattle.like_requests.specs.Verdict.{home}
 use Rattle.like_tables.specs.UserTable.{last_in}
 use Rattle.like_live.specs.declared.opening.Opening.{Opening}
 use Rattle.like_live.specs.Driver.{DriverView, IsSameDriver}
 use Rattle.like_live.specs.LiveView.{LiveView}
-use Rattle.like_live.specs.Service.{AreGone, AreOpened, IsClosedService}
+use Rattle.like_live.specs.Moments.{AreSeatsAt}
+use Rattle.like_live.specs.Opening.{board_opening}
+use Rattle.like_live.specs.Service.{AreGone, AreOpened, AreOpenedSeats, IsClosedService}
 use Rattle.like_live.specs.History.{HasDone, Told}
 use Rattle.like_live.specs.Deeds.{Deed, ShowsCount, ShowsLast, deeds_of, likes_among, pages_counted}
 
@@ -42,8 +49,17 @@ pub record IsSerialService (o : Opening) (deeds : List (List Deed)) (serial : Li
   pub lasts : (i : ℕ) (d : Deed) → slice_get serial i ≡ Some d → ShowsLast (last_after o d.user (take i serial)) d.act
   pub counts : (i : ℕ) (d : Deed) → slice_get serial i ≡ Some d → ShowsCount (count_after o d.page (take i serial)) d.act
 
+-- how many deeds are of this phase or an earlier one
+abbrev pub until : ℕ → List Deed → ℕ
+until phase serial = count_by (λ d. nat_lt d.phase (phase + 1)) serial
+
+-- a snapshot stands in the order at the end of its phase: each count that the driver read in a phase is its page's after
+-- all deeds of the phase and of earlier ones
+abbrev pub SnapshotsStand : Opening → List PageCount → List Deed → Type 0
+SnapshotsStand o counted serial = All (λ r. r.count ≡ count_after o r.page (take (until r.phase serial) serial)) counted
+
 -- the law of one thread: of a service that was opened so and is closed, there is a serial list of all deeds of its seats'
--- calls
+-- calls, in which each snapshot stands
 abbrev pub ServicesAreSerial : Type 0
 ServicesAreSerial =
     (o : Opening) (driver now : DriverView) (histories : List SeatHistory) (counts : List ℕ)
@@ -51,4 +67,14 @@ ServicesAreSerial =
     → IsSameDriver driver now
     → IsClosedService now (map (λ h. h.last) histories) counts
     → AreGone (map (λ h. h.last) histories)
+    → (serial : List Deed) × IsSerialService o (map deeds_in histories) serial
+    × SnapshotsStand o now.lead.seat.counted serial
+
+-- the same at a moment at which all seats are gone and none was given back: C gives none back
+abbrev pub LastMomentsAreSerial : Type 0
+LastMomentsAreSerial =
+    (o : Opening) (factor : ℕ) (board : BoardId) (histories : List SeatHistory) (m : Moment (board_opening o factor))
+    → AreOpenedSeats o factor board (map (λ h. h.first) histories)
+    → AreSeatsAt (board_opening o factor) m (map (λ h. h.last) histories)
+    → AllGone (numbers (board_opening o factor) m.state)
     → (serial : List Deed) × IsSerialService o (map deeds_in histories) serial

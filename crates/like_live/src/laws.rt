@@ -1,10 +1,11 @@
 //! The laws of a live seat's histories and answers, and of a service's seats at a moment of their board. Each is the
 //! contract of a function that does nothing.
 ghost use Rattle.like_live.specs.Answers.{AnswersAreBounded, AnswersAreReads};
+ghost use Rattle.like_live.specs.CrossedLooks.{CrossedLooksAreNotSerial};
 ghost use Rattle.like_live.specs.Deeds.{DeedsShowLasts, FoundAreTaken};
 ghost use Rattle.like_live.specs.Driver.{LastCountsStay};
 ghost use Rattle.like_live.specs.History.{HistoriesAreCounted, NoneWaitsOnceGone};
-ghost use Rattle.like_live.specs.SerialService.{ServicesAreSerial};
+ghost use Rattle.like_live.specs.SerialService.{LastMomentsAreSerial, ServicesAreSerial};
 ghost use Rattle.like_live.specs.Moments.{LastCountsAreTallies, MarkedKeepSlots, SeatsAreExclusive, SlicesAreSlots};
 
 /// Whatever calls a fresh seat is asked: a page's tally is the number of its likes that were told `Liked`. A user's
@@ -81,4 +82,14 @@ pub fn found_are_taken()
 /// seats have in their slices then.
 pub fn services_are_serial()
     ensures { ServicesAreSerial }
+{}
+
+/// An example: two seats like a page each, and then each looks at the page that the other liked. Not both looks show 0.
+pub fn crossed_looks_are_not_serial()
+    ensures { CrossedLooksAreNotSerial }
+{}
+
+/// There is such a list at each moment at which all seats are gone and none was given back, as in C.
+pub fn last_moments_are_serial()
+    ensures { LastMomentsAreSerial }
 {}

@@ -85,7 +85,7 @@ between (suc zero) =
 between (suc (suc worker)) = λ i page e at look. absurd (not_some e at)
 
 -- the longer beginning of a list counts no less
-take_most : (f : Ran → ℕ) (xs : List Ran) (i j : ℕ) → i ≤ j → weigh f (take i xs) ≤ weigh f (take j xs)
+pub take_most : {X : Type 0} (f : X → ℕ) (xs : List X) (i j : ℕ) → i ≤ j → weigh f (take i xs) ≤ weigh f (take j xs)
 take_most f [] zero zero less = omega arith
 take_most f [] zero (suc j) less = omega arith
 take_most f [] (suc i) zero less = omega arith
