@@ -105,10 +105,15 @@ def run(words, folder, limits=(), user=None, out=None, errors=None, seconds=60, 
         )
         timer = threading.Timer(seconds, child.kill)
         timer.start()
-        _, code, used = os.wait4(child.pid, 0)
-        hung = time.monotonic() - began >= seconds
-        timer.cancel()
-        timer.join()
+        try:
+            _, code, used = os.wait4(child.pid, 0)
+        except BaseException:
+            child.kill()
+            raise
+        finally:
+            hung = time.monotonic() - began >= seconds
+            timer.cancel()
+            timer.join()
         child.returncode = -os.WTERMSIG(code) if os.WIFSIGNALED(code) else os.WEXITSTATUS(code)
         written.seek(0)
         lines.seek(0)
