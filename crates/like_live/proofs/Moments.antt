@@ -80,7 +80,7 @@ merged-once-gone s live gone page =
     omega arith
 
 -- what is true of each view of a worker's seat
-all-workers : (P : WorkerSeatView → Type 0) (views : List View)
+pub all-workers : (P : WorkerSeatView → Type 0) (views : List View)
     → ((place : ℕ) (v : WorkerSeatView) → get_elem? views place ≡ some (Worker v) → P v)
     → All P (workers_in views)
 all-workers P [] each = All-nil P
