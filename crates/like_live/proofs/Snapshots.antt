@@ -77,8 +77,7 @@ front_before {X} phase f n (x ∷ xs) rises = by (cases_lt (phase x) n) (front_b
       ap₂ (λ a b. a + b) (ap (λ b. only b (f x)) here) rest
       ∙ sym (ap (λ k. weigh f (take k (x ∷ xs))) places)
   by (inr least) rest =
-      let all : AllByRecursion (λ y. n ≤ phase y) (x ∷ xs) =
-      (least, all_then (λ y. phase x ≤ phase y) (λ y. n ≤ phase y) xs (λ y is. omega (arith, is, least)) rises.0) in
+      let all : AllByRecursion (λ y. n ≤ phase y) (x ∷ xs) = (least, all_then (λ y. phase x ≤ phase y) (λ y. n ≤ phase y) xs (λ y is. omega (arith, is, least)) rises.0) in
       let none = none_left phase f n (x ∷ xs) all in
       none.1 ∙ sym (ap (λ k. weigh f (take k (x ∷ xs))) none.0)
 
