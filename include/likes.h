@@ -191,7 +191,11 @@ typedef struct likes_found {
 
 /* A call of a seat answers the first that applies of LIKES_EMPTY, GONE, BETWEEN, UNKNOWN_USER, OTHER_SEAT,
  * UNKNOWN_PAGE, LIKE_LIMIT and NO_ROOM, as far as it can answer them, or else what it did. (likes_seat_last and
- * likes_seat_lasts do no phase work, so they answer neither GONE nor BETWEEN.) */
+ * likes_seat_lasts do no phase work, so they answer neither GONE nor BETWEEN.)
+ *
+ * All that the seats do could be done by one thread, one request after the other, with each seat's requests in their
+ * order and phases that never fall. A look that waits has its place where it is found. A glance at a split page may
+ * lack likes. Of two seats' requests in one phase, either may come first. */
 
 /* Adds one like: LIKES_LIKED, BETWEEN, GONE, LIKE_LIMIT, EMPTY, UNKNOWN_USER, OTHER_SEAT or UNKNOWN_PAGE. */
 uint32_t likes_seat_like(likes_seat *seat, uint32_t user, uint32_t page);
