@@ -193,9 +193,10 @@ typedef struct likes_found {
  * UNKNOWN_PAGE, LIKE_LIMIT and NO_ROOM, as far as it can answer them, or else what it did. (likes_seat_last and
  * likes_seat_lasts do no phase work, so they answer neither GONE nor BETWEEN.)
  *
- * All that the seats do could be done by one thread, one request after the other, with each seat's requests in their
- * order and phases that never fall. A look that waits has its place where it is found. A glance at a split page may
- * lack likes. Of two seats' requests in one phase, either may come first. */
+ * Once all seats are gone, one thread could have done all that they did, one request after the other, with each seat's
+ * requests in their order and phases that never fall. A look that waits has its place where it is found. The count of
+ * a glance at a split page need not fit: it may lack likes. Of two seats' requests in one phase, either may come first.
+ */
 
 /* Adds one like: LIKES_LIKED, BETWEEN, GONE, LIKE_LIMIT, EMPTY, UNKNOWN_USER, OTHER_SEAT or UNKNOWN_PAGE. */
 uint32_t likes_seat_like(likes_seat *seat, uint32_t user, uint32_t page);
@@ -290,10 +291,10 @@ size_t likes_driver_split_pages(likes_driver *driver, uint32_t *pages, size_t pa
  * library finds by itself: LIKES_OK, or LIKES_EMPTY. They hold for all split phases from the next one or the one after
  * it on, until those of a later call do. An array of no entries: the library finds pages by itself again.
  *
- * A turn that ends a split phase takes the pages of the last call for the next one. So does a turn that may end a joined
- * phase, if no page would be split in the next one. Other turns leave what was taken. Numbers that are no pages, and doubled and marked ones, do
- * nothing. A page is left out if it shares one of the 1,024 buckets of a seat's table with a page that is split, or if
- * LIKES_MAX_SPLIT others are split. */
+ * A turn that ends a split phase takes the pages of the last call for the next one. So does a turn that may end a
+ * joined phase, if no page would be split in the next one. Other turns leave what was taken. Numbers that are no pages,
+ * and doubled and marked ones, do nothing. A page is left out if it shares one of the 1,024 buckets of a seat's table
+ * with a page that is split, or if LIKES_MAX_SPLIT others are split. */
 uint32_t likes_driver_propose(likes_driver *driver, const uint32_t *pages, size_t pages_len);
 
 /* The present phase. Phases with odd numbers are split. */
