@@ -1,7 +1,7 @@
 //! Samples of two seats: each has its own ring, so neither writes over those of the other.
 use crate::asserts::assert_named;
 use crate::play::{is_answer_of, plays};
-use crate::scenes::{OnSeat, changes};
+use crate::scenes::{OnSeat, next_phase};
 use like_board::SharedPost;
 use like_choice::Guided;
 use like_live::{LikeAnswer, LiveSeat, Opening, Service};
@@ -49,7 +49,7 @@ fn are_split(service: &Service<Guided>) -> bool {
 fn both_get_hot(rt: &impl Abort, service: &mut Service<Guided>) {
     likes(rt, &mut service.seats, 0, 400);
     likes(rt, &mut service.seats, 1, 500);
-    plays(rt, service, changes());
+    plays(rt, service, next_phase());
     assert_named(rt, are_split(service), "pages of both seats");
 }
 

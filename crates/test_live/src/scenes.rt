@@ -579,7 +579,7 @@ static SPLITS_500: Calls = Calls {
     parts: &[CHANGE, &[splits!(500)]],
 };
 
-static CHANGES: Calls = Calls {
+static NEXT_PHASE: Calls = Calls {
     name: "a change to the next phase",
     parts: &[CHANGE],
 };
@@ -679,8 +679,8 @@ pub fn splits_500() -> &'static Calls {
 }
 
 /// The next phase begins.
-pub fn changes() -> &'static Calls {
-    &CHANGES
+pub fn next_phase() -> &'static Calls {
+    &NEXT_PHASE
 }
 
 /// Page 999 is split in the next phase.

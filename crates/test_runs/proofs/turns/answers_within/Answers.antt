@@ -23,7 +23,7 @@ play-words-requires g c = λ k d within.
     can-make c.args.setup.now (lists_of c.args.plans.items) c.expect-site.result.0 c.expect-crew.result
     (get_or c.args.script.now k d)
     (subst (λ r. IfOk r (IsCrew c.args.setup.now (lists_of c.args.plans.items) c.expect-site.result.0))
-    c.expect-crew.ensures c.new-2.ensures) c.requires.within.numbers.workers.0
+    c.expect-crew.ensures c.new-2.ensures.crew) c.requires.within.numbers.workers.0
     (subst (λ n. IsInRun c.args.setup.now.workers n (get_or c.args.script.now k d))
     (sym (length-map c.args.plans.items requests_of)) (c.requires.script k d within))
 
@@ -43,4 +43,4 @@ report_of-requires-clause-ended g c =
     (has-ended c.args.setup.now
     (lists_of c.args.plans.items) c.expect-site.result.0 c.expect-crew.result c.play-words.result.1
     (subst (λ r. IfOk r (IsCrew c.args.setup.now (lists_of c.args.plans.items) c.expect-site.result.0))
-    c.expect-crew.ensures c.new-2.ensures) c.play-words.ensures)
+    c.expect-crew.ensures c.new-2.ensures.crew) c.play-words.ensures)

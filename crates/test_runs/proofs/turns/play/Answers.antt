@@ -10,4 +10,4 @@ returns g c =
     ended-later c.args.crew c.end_run.new.crew _
     (crew-further c.args.crew c.answers_of-words.new.crew c.end_run.new.crew c.answers_of-words.ensures
     c.end_run.ensures.goes_on)
-    (subst (λ r. IfOk r (HasEnded c.end_run.new.crew)) c.expect-ended.ensures c.finish.ensures)
+    (subst (λ r. IfOk r (HasEnded c.end_run.new.crew)) c.expect-ended.ensures c.finish.ensures.ended)
