@@ -289,7 +289,7 @@ size_t likes_driver_split_pages(likes_driver *driver, uint32_t *pages, size_t pa
 
 /* Proposes pages to be split beside the marked ones, the first LIKES_MAX_SPLIT of the array, in place of those that the
  * library finds by itself: LIKES_OK, or LIKES_EMPTY. They hold for all split phases from the next one or the one after
- * it on, until those of a later call do. An array of no entries: the library finds pages by itself again.
+ * it on, until those of a later call take their place. An array of no entries: the library finds pages by itself again.
  *
  * A turn that ends a split phase takes the pages of the last call for the next one. So does a turn that may end a
  * joined phase, if no page would be split in the next one. Other turns leave what was taken. Numbers that are no pages,

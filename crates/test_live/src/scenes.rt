@@ -215,15 +215,15 @@ const CHANGE: &[Step] = &[
     drive!(IfItServes, Released),
 ];
 
-// Turns that may not end the phase.
-const GOES_ON_TWICE: &[Step] = &[drive!(No, Running), drive!(No, Running)];
-
 // The same where seat 0 is gone.
 const CHANGE_BY_SEAT_1: &[Step] = &[
     drive!(IfItServes, Announced),
     turn!(1, Between),
     drive!(IfItServes, Released),
 ];
+
+// Turns that may not end the phase.
+const GOES_ON_TWICE: &[Step] = &[drive!(No, Running), drive!(No, Running)];
 
 // The end of a phase that is not due, which both seats answer.
 const EARLY_CHANGE: &[Step] = &[
