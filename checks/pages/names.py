@@ -13,11 +13,11 @@ SOURCE = re.compile(r"(?<![\w./-])((?:specs|src)/[\w./-]+\.(?:antt|rt))")
 
 
 def every_page(*others):
-    """README.md, those of docs/, and the crates' READMEs; and those of other places."""
+    """README.md, CONTRIBUTING.md, those of docs/, and the crates' READMEs; and those of other places."""
     found = []
     for where in ("docs/*.md", "crates/*/README.md", *others):
         found += glob.glob(where, root_dir=runs.ROOT, recursive=True)
-    return ["README.md", *sorted(found)]
+    return ["README.md", "CONTRIBUTING.md", *sorted(found)]
 
 
 def absent(page):
