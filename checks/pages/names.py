@@ -23,9 +23,12 @@ def every_page(*others):
 def absent(page):
     """What a page names that isn't there: files, pages, sections, and functions or definitions in backquotes."""
     text = pages.text_of(page)
-    for link in re.findall(r"\]\(([^):#]+)\)", text):
-        if not os.path.exists(f"{runs.ROOT}/{os.path.dirname(page)}/{link}"):
+    for link, anchor in re.findall(r"\]\(([^):#]*)(?:#([\w-]+))?\)", text):
+        file = os.path.normpath(f"{os.path.dirname(page)}/{link}" if link else page)
+        if not os.path.exists(f"{runs.ROOT}/{file}"):
             yield f"{page}: there is no {link}"
+        elif anchor and anchor not in anchors_of(pages.text_of(file)):
+            yield f"{page}: {file} has no section #{anchor}"
     for name in set(re.findall(rf"(?<![\w./-])((?:{'|'.join(pages.FOLDERS)})/[\w./-]*[\w-])", text)):
         if not os.path.exists(f"{runs.ROOT}/{name}") and "NAME" not in name and "/out/" not in name:
             yield f"{page}: there is no {name}"
@@ -38,6 +41,12 @@ def absent(page):
     for name in set(SOURCE.findall(text)):
         if not glob.glob(f"crates/*/{name}", root_dir=runs.ROOT):
             yield f"{page}: no crate has {name}"
+
+
+def anchors_of(text):
+    """The sections of a page, as links name them."""
+    headings = re.findall(r"^#+ (.*)$", text, re.M)
+    return {re.sub(r"[^\w -]", "", heading.lower()).replace(" ", "-") for heading in headings}
 
 
 def find_page(name):
