@@ -24,7 +24,7 @@ def absent(page):
     """What a page names that isn't there: files, pages, sections, and functions or definitions in backquotes."""
     text = pages.text_of(page)
     for link, anchor in re.findall(r"\]\(([^):#]*)(?:#([\w-]+))?\)", text):
-        file = os.path.normpath(f"{os.path.dirname(page)}/{link}" if link else page)
+        file = os.path.normpath(os.path.join(os.path.dirname(page), link)) if link else page
         if not os.path.exists(f"{runs.ROOT}/{file}"):
             yield f"{page}: there is no {link}"
         elif anchor and anchor not in anchors_of(pages.text_of(file)):
