@@ -12,7 +12,7 @@ SECTION = re.compile(r"([A-Z]\w*\.md)`?,? \(?\"([^\"]+)\"")
 SOURCE = re.compile(r"(?<![\w./-])((?:specs|src)/[\w./-]+\.(?:antt|rt))")
 
 # The endings of files with names that pages may use.
-SOURCES = (".antt", ".rt", ".c", ".h", ".edit", ".edits", ".py", ".sh", ".toml")
+ENDINGS = (".antt", ".rt", ".c", ".h", ".edit", ".edits", ".py", ".sh", ".toml")
 
 
 def every_page(*others):
@@ -65,7 +65,7 @@ def unknown(named):
             folders[:] = [name for name in folders if name != "out"]
             known.update(folders)
             for name in names:
-                if name.endswith(SOURCES) or "." not in name:
+                if name.endswith(ENDINGS) or "." not in name:
                     with open(f"{where}/{name}", encoding="utf-8", errors="replace") as file:
                         known.update(re.findall(r"\w+", file.read()))
     for page in named:
