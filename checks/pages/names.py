@@ -11,6 +11,9 @@ import runs
 SECTION = re.compile(r"([A-Z]\w*\.md)`?,? \(?\"([^\"]+)\"")
 SOURCE = re.compile(r"(?<![\w./-])((?:specs|src)/[\w./-]+\.(?:antt|rt))")
 
+# The endings of files with names that pages may use.
+ENDINGS = (".antt", ".rt", ".c", ".h", ".edit", ".edits", ".py", ".sh", ".toml")
+
 
 def every_page(*others):
     """README.md, CONTRIBUTING.md, those of docs/, and the crates' READMEs; and those of other places."""
@@ -62,7 +65,7 @@ def unknown(named):
             folders[:] = [name for name in folders if name != "out"]
             known.update(folders)
             for name in names:
-                if name.endswith((".antt", ".rt", ".c", ".h", ".edit", ".py", ".sh", ".toml")) or "." not in name:
+                if name.endswith(ENDINGS) or "." not in name:
                     with open(f"{where}/{name}", encoding="utf-8", errors="replace") as file:
                         known.update(re.findall(r"\w+", file.read()))
     for page in named:
