@@ -30,14 +30,18 @@ typedef struct likes_tally {
     uint64_t looks, late, waits, wait_time, longest_wait; /* written under `asleep` */
 } likes_tally;
 
-/* 128 bytes of padding prevent false sharing. */
+/* What each call uses lies in two lines of a cache, side by side, and apart from what each call at another seat uses. */
+enum { LIKES_LINES = 128 };
+
 typedef struct likes_place {
-    likes_lock lock;
-    bool is_lent;              /* a thread that waits for a phase has the seat, and sleeps */
-    bool is_leaving;           /* the seat retires in the next joined phase, by whoever does its phase work */
-    bool has_found, has_back;  /* threads have to be woken once the lock is given back */
-    likes_wait *first, **last; /* the looks of likes_service_look that wait, in the order of asking */
+    _Alignas(LIKES_LINES) likes_lock lock;
+    bool is_lent;             /* a thread that waits for a phase has the seat, and sleeps */
+    bool is_leaving;          /* the seat retires in the next joined phase, by whoever does its phase work */
+    bool has_found, has_back; /* threads have to be woken once the lock is given back */
+    likes_wait *first;        /* the looks of likes_service_look that wait, in the order of asking */
+    likes_seat seat;
     likes_tally tally;
+    likes_wait **last;   /* where the next look that waits is put */
     pthread_cond_t back; /* the seat isn't lent any more */
     likes_wait *unused, *waits;
     likes_ring others;
@@ -47,9 +51,6 @@ typedef struct likes_place {
     uint64_t row_phase, row_waits; /* about how many looks of rows wait in that phase */
     const struct likes_service *service;
     struct likes_place *next_held; /* for the thread that holds the seat (held.h) */
-    char apart[128];
-    likes_seat seat;
-    char apart_too[128];
 } likes_place;
 
 /* A look's tag is its address, with the bit of such tags. */

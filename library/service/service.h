@@ -80,9 +80,9 @@ struct likes_service {
 
 /* The remainder of a division by a divisor whose inverse is UINT64_MAX / divisor + 1, without the division
  * (D. Lemire, O. Kaser, N. Kurz, "Faster Remainder by Direct Computation", 2019). */
-static inline uint32_t likes_remainder(uint32_t number, uint64_t inverse, uint32_t divisor) {
+static inline size_t likes_remainder(uint32_t number, uint64_t inverse, uint64_t divisor) {
     __extension__ typedef unsigned __int128 wide;
-    return (uint32_t)(((wide)(inverse * number) * divisor) >> 64);
+    return (size_t)(((wide)(inverse * number) * divisor) >> 64);
 }
 
 static inline likes_place *likes_place_of(likes_service *service, uint32_t user) {
