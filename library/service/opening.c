@@ -11,6 +11,7 @@ static likes_service *made(uint32_t seats) {
     if (service == NULL)
         return NULL;
     memset(service, 0, size);
+    service->places = (likes_place *)(service + 1);
     service->seats = seats;
     service->inverse = UINT64_MAX / seats + 1;
     pthread_mutex_init(&service->driving.mutex, NULL);
