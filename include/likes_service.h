@@ -103,7 +103,7 @@ uint32_t likes_service_glance(likes_service *service, uint32_t user, uint32_t pa
  * their order. */
 
 /* Opens a writer: LIKES_OK, and then `writer`, which pointed to NULL, points to it. Else that stays as it is:
- * LIKES_NOT_STARTED, IN_USE or NO_MEMORY. A writer takes 1.5 KB for each seat. */
+ * LIKES_NOT_STARTED, IN_USE or NO_MEMORY. A writer takes 4 KB, and 0.5 KB for each seat. */
 uint32_t likes_writer_open(likes_service *service, likes_writer **writer);
 
 /* Keeps a like, which will be counted: LIKES_OK. Or nothing is kept: LIKES_NOT_STARTED, where the writer is NULL, or

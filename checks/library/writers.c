@@ -14,14 +14,25 @@ static likes_service *service;
 static bool is_over;
 static uint64_t until;
 
-/* The linker calls this in place of calloc: the call of this number from now on is refused, if it isn't 0. */
+/* The linker calls these in place of calloc and aligned_alloc: the call of this number from now on is refused, if it
+ * isn't 0. */
 static int refused;
+
+static bool is_refused(void) {
+    return refused > 0 && --refused == 0;
+}
 
 void *__real_calloc(size_t number, size_t size);
 void *__wrap_calloc(size_t number, size_t size);
+void *__real_aligned_alloc(size_t alignment, size_t size);
+void *__wrap_aligned_alloc(size_t alignment, size_t size);
 
 void *__wrap_calloc(size_t number, size_t size) {
-    return refused > 0 && --refused == 0 ? NULL : __real_calloc(number, size);
+    return is_refused() ? NULL : __real_calloc(number, size);
+}
+
+void *__wrap_aligned_alloc(size_t alignment, size_t size) {
+    return is_refused() ? NULL : __real_aligned_alloc(alignment, size);
 }
 
 static uint32_t open_service(uint32_t seats, uint32_t period) {

@@ -6,9 +6,12 @@
 
 /* Makes a service with its locks, that has no driver yet. NULL: no memory. */
 static likes_service *made(uint32_t seats) {
-    likes_service *service = (likes_service *)calloc(1, sizeof *service + seats * sizeof *service->places);
+    size_t size = sizeof(likes_service) + seats * sizeof(likes_place);
+    likes_service *service = (likes_service *)aligned_alloc(LIKES_LINES, size);
     if (service == NULL)
         return NULL;
+    memset(service, 0, size);
+    service->places = (likes_place *)(service + 1);
     service->seats = seats;
     service->inverse = UINT64_MAX / seats + 1;
     pthread_mutex_init(&service->driving.mutex, NULL);

@@ -90,7 +90,15 @@ void likes_place_hand_out(likes_place *place) {
     hand_all(place);
     place->founds += place->first != first;
     pthread_mutex_unlock(&place->asleep);
-    place->has_found |= place->first != first;
+    if (place->first != first)
+        place->wakes |= LIKES_FOUND;
+}
+
+LIKES_SELDOM void likes_place_wake(likes_place *place, uint8_t wakes) {
+    if (wakes & LIKES_FOUND)
+        pthread_cond_broadcast(&place->found);
+    if (wakes & LIKES_BACK)
+        pthread_cond_broadcast(&place->back);
 }
 
 bool likes_place_take_found(likes_place *place, likes_found *found) {

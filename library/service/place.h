@@ -30,14 +30,18 @@ typedef struct likes_tally {
     uint64_t looks, late, waits, wait_time, longest_wait; /* written under `asleep` */
 } likes_tally;
 
-/* 128 bytes of padding prevent false sharing. */
+/* What each call uses lies in two lines of a cache, side by side, and apart from what each call at another seat uses. */
+enum { LIKES_LINES = 128 };
+
 typedef struct likes_place {
-    likes_lock lock;
-    bool is_lent;              /* a thread that waits for a phase has the seat, and sleeps */
-    bool is_leaving;           /* the seat retires in the next joined phase, by whoever does its phase work */
-    bool has_found, has_back;  /* threads have to be woken once the lock is given back */
-    likes_wait *first, **last; /* the looks of likes_service_look that wait, in the order of asking */
+    _Alignas(LIKES_LINES) likes_lock lock;
+    bool is_lent;      /* a thread that waits for a phase has the seat, and sleeps */
+    bool is_leaving;   /* the seat retires in the next joined phase, by whoever does its phase work */
+    uint8_t wakes;     /* LIKES_FOUND, LIKES_BACK: threads have to be woken once the lock is given back */
+    likes_wait *first; /* the looks of likes_service_look that wait, in the order of asking */
+    likes_seat seat;
     likes_tally tally;
+    likes_wait **last;   /* where the next look that waits is put */
     pthread_cond_t back; /* the seat isn't lent any more */
     likes_wait *unused, *waits;
     likes_ring others;
@@ -47,10 +51,11 @@ typedef struct likes_place {
     uint64_t row_phase, row_waits; /* about how many looks of rows wait in that phase */
     const struct likes_service *service;
     struct likes_place *next_held; /* for the thread that holds the seat (held.h) */
-    char apart[128];
-    likes_seat seat;
-    char apart_too[128];
 } likes_place;
+
+/* Of `wakes`: those that wait for looks, and those that wait for the seat to be lent no more. */
+#define LIKES_FOUND 1u
+#define LIKES_BACK 2u
 
 /* A look's tag is its address, with the bit of such tags. */
 static inline uint64_t likes_tag_of(const likes_wait *wait) {
@@ -69,16 +74,17 @@ static inline uint32_t likes_refuse(likes_answer *answer, uint32_t status) {
     return status;
 }
 
+/* Wakes threads that wait at a place. */
+void likes_place_wake(likes_place *place, uint8_t wakes);
+
 /* Gives a place's lock back. Whether somebody tried it in vain. Threads are woken after that: on a busy processor, one
  * that is woken may take this thread's place. */
 static inline bool likes_place_unlock(likes_place *place) {
-    bool has_found = place->has_found, has_back = place->has_back;
-    place->has_found = place->has_back = false;
+    uint8_t wakes = place->wakes;
+    place->wakes = 0;
     bool is_missed = likes_lock_give(&place->lock);
-    if (has_found)
-        pthread_cond_broadcast(&place->found);
-    if (has_back)
-        pthread_cond_broadcast(&place->back);
+    if (wakes != 0)
+        likes_place_wake(place, wakes);
     return is_missed;
 }
 
@@ -113,7 +119,7 @@ bool likes_place_wait(likes_place *place, bool has_lock, uint64_t until);
 /* Takes a place's lock for a call, but not one that is lent. False: it is too late. */
 static inline bool likes_place_take(likes_place *place, uint64_t until) {
     bool has_lock = pthread_mutex_trylock(&place->lock.mutex) == 0;
-    if (!has_lock || place->is_lent)
+    if (__builtin_expect(!has_lock || place->is_lent, false))
         return likes_place_wait(place, has_lock, until);
     likes_add(&place->tally.calls, 1);
     return true;

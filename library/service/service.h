@@ -41,19 +41,20 @@
 #define LIKES_MOMENT UINT64_C(100000000)
 
 struct likes_service {
-    bool is_open;
+    _Alignas(LIKES_LINES) bool is_open;
     uint32_t seats, users;
     size_t pages;
-    uint64_t period;  /* in nanoseconds */
-    uint64_t inverse; /* of `seats`, for likes_remainder */
-    bool may_find;    /* pages get hot by themselves */
-    char apart[128];
+    uint64_t period;     /* in nanoseconds */
+    uint64_t inverse;    /* of `seats`, for likes_remainder */
+    likes_place *places; /* one for each seat, behind the service */
+    bool may_find;       /* pages get hot by themselves */
+    char apart[LIKES_LINES];
     bool is_resting;   /* the driver's thread sleeps until a call comes; atomic */
     uint64_t pulse;    /* for writers: goes up LIKES_PULSES times in a period. 0: the service rests; atomic */
     uint64_t due;      /* when the phase may end, by likes_clock; atomic */
     uint64_t next;     /* when the driver's next turn is worth making, by likes_clock; atomic */
     uint64_t released; /* the phase that was last released; atomic, written under `changing` */
-    char apart_too[128];
+    char apart_too[LIKES_LINES];
     uint32_t writers;  /* how many are open; atomic */
     uint32_t starving; /* how many threads have missed phases, and wait for the next one to make a call; atomic */
     uint32_t was_held; /* LIKES_HELD_NAP, LIKES_HELD_ROUND: a seat's lock was taken when somebody tried it; atomic */
@@ -71,7 +72,6 @@ struct likes_service {
     bool is_called; /* used under `napping` */
     pthread_t thread;
     bool has_thread, is_stopping;
-    likes_place places[];
 };
 
 /* Of `was_held`: for the driver's thread, and for the rounds. */
@@ -80,9 +80,9 @@ struct likes_service {
 
 /* The remainder of a division by a divisor whose inverse is UINT64_MAX / divisor + 1, without the division
  * (D. Lemire, O. Kaser, N. Kurz, "Faster Remainder by Direct Computation", 2019). */
-static inline uint32_t likes_remainder(uint32_t number, uint64_t inverse, uint32_t divisor) {
+static inline size_t likes_remainder(uint32_t number, uint64_t inverse, uint64_t divisor) {
     __extension__ typedef unsigned __int128 wide;
-    return (uint32_t)(((wide)(inverse * number) * divisor) >> 64);
+    return (size_t)(((wide)(inverse * number) * divisor) >> 64);
 }
 
 static inline likes_place *likes_place_of(likes_service *service, uint32_t user) {

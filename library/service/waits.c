@@ -3,7 +3,7 @@
 
 #include <sched.h>
 
-void likes_place_give_missed(likes_service *service, likes_place *place) {
+LIKES_SELDOM void likes_place_give_missed(likes_service *service, likes_place *place) {
     likes_place_turn(place);
     likes_service_advance(service);
 }
@@ -31,7 +31,7 @@ static void lend(likes_service *service, likes_place *place, uint64_t phase, uin
     pthread_mutex_unlock(&service->changing);
     likes_lock_take(&place->lock, UINT64_MAX);
     place->is_lent = false;
-    place->has_back = true;
+    place->wakes |= LIKES_BACK;
 }
 
 /* Waits for the next phase, with the lock held of a place whose seat is between two phases. It may come back early.

@@ -13,41 +13,66 @@ enum { ROW = 64 };
 /* In place of the pulse that a writer has seen: there was none. */
 #define NO_PULSE UINT64_MAX
 
+/* A like that is kept. */
+typedef struct kept {
+    uint32_t user, page;
+} kept;
+
 struct likes_writer {
     likes_service *service;
-    uint32_t users, seats;
-    size_t pages;
-    uint64_t inverse;      /* of `seats`, for likes_remainder */
-    uint64_t pulse;        /* at the last call */
+    uint32_t open_users;   /* below it, a user's like is kept without more tests: all users, or 0 where a row is full */
+    uint32_t pages, users;
+    uint64_t pulse;          /* at the last call */
+    uint64_t seats, inverse; /* for likes_remainder */
     uint64_t since;        /* without a pulse: when the first like that is kept came */
-    uint64_t begun, older; /* the seats whose rows have got likes since the last pulse, and before. A bit for each */
+    uint64_t begun, older; /* the seats whose rows were begun since the last pulse, and before. A bit for each */
+    uint64_t full;         /* the seats whose rows are full */
     uint32_t handed;       /* how many full rows were handed over */
-    uint8_t lengths[LIKES_MAX_SEATS];
+    kept (*rows)[ROW];           /* one for each seat. Their addresses are multiples of their size */
+    kept *ends[LIKES_MAX_SEATS]; /* of each row: where the next like goes */
+    likes_request requests[ROW]; /* of a row that is handed over */
     likes_answer answers[ROW];
-    likes_request rows[][ROW];
 };
 
+static inline uint32_t length_of(const likes_writer *writer, size_t seat) {
+    return (uint32_t)(writer->ends[seat] - writer->rows[seat]);
+}
+
 /* Notes that so many likes of a row are counted, or dropped. */
-static void take_off(likes_writer *writer, uint32_t seat, uint32_t done) {
-    uint32_t left = writer->lengths[seat] - done;
-    likes_request *row = writer->rows[seat];
-    writer->lengths[seat] = (uint8_t)left;
-    if (left > 0) {
+static void take_off(likes_writer *writer, size_t seat, uint32_t done) {
+    uint32_t left = length_of(writer, seat) - done;
+    uint64_t bit = UINT64_C(1) << seat;
+    kept *row = writer->rows[seat];
+    writer->ends[seat] = row + left;
+    if (left > 0)
         memmove(row, row + done, left * sizeof *row);
-    } else {
-        writer->begun &= ~(UINT64_C(1) << seat);
-        writer->older &= ~(UINT64_C(1) << seat);
+    if (left < ROW)
+        writer->full &= ~bit;
+    if (left == 0) {
+        writer->begun &= ~bit;
+        writer->older &= ~bit;
+    }
+    writer->open_users = writer->full == 0 ? writer->users : 0;
+}
+
+/* Asks for the likes of a row. All that is the same in each request stands there. */
+static inline void ask_for(likes_writer *writer, const kept *row, uint32_t length) {
+#pragma GCC unroll 8
+    for (uint32_t i = 0; i < length; i++) {
+        writer->requests[i].user = row[i].user;
+        writer->requests[i].page = row[i].page;
     }
 }
 
 /* Hands a row over: LIKES_OK, or why likes stay kept. Those that are counted come first. */
-static uint32_t hand_over(likes_writer *writer, uint32_t seat) {
+static uint32_t hand_over(likes_writer *writer, size_t seat) {
     likes_place *place = &writer->service->places[seat];
-    uint32_t length = writer->lengths[seat], done = length;
+    uint32_t length = length_of(writer, seat), done = length;
     if (length == 0)
         return LIKES_OK;
+    ask_for(writer, writer->rows[seat], length);
     likes_place_take(place, UINT64_MAX);
-    likes_place_run(writer->service, place, writer->rows[seat], length, writer->answers);
+    likes_place_run(writer->service, place, writer->requests, length, writer->answers);
     uint32_t status = writer->answers[length - 1].status;
     if (status != LIKES_LIKED)
         for (done = 0; writer->answers[done].status == LIKES_LIKED;)
@@ -62,7 +87,7 @@ static uint32_t hand_over(likes_writer *writer, uint32_t seat) {
 static uint32_t hand_over_all(likes_writer *writer, uint64_t seats) {
     uint32_t status = LIKES_OK;
     for (; seats != 0; seats &= seats - 1) {
-        uint32_t told = hand_over(writer, (uint32_t)__builtin_ctzll(seats));
+        uint32_t told = hand_over(writer, (size_t)__builtin_ctzll(seats));
         status = status == LIKES_OK ? told : status;
     }
     return status;
@@ -117,37 +142,47 @@ uint32_t likes_writer_open(likes_service *service, likes_writer **writer) {
         return fault;
     if (*writer != NULL)
         return LIKES_IN_USE;
-    likes_writer *made = (likes_writer *)calloc(1, sizeof *made + service->seats * sizeof *made->rows);
+    const size_t row = ROW * sizeof(kept);
+    likes_writer *made = (likes_writer *)calloc(1, sizeof *made + (service->seats + 1) * row);
     if (made == NULL)
         return LIKES_NO_MEMORY;
     made->service = service;
-    made->users = service->users;
+    made->rows = (kept(*)[ROW])(((uintptr_t)(made + 1) + row - 1) / row * row);
+    made->open_users = made->users = service->users;
     made->seats = service->seats;
-    made->pages = service->pages;
+    made->pages = (uint32_t)service->pages;
     made->inverse = service->inverse;
     made->pulse = NO_PULSE;
+    for (uint32_t seat = 0; seat < service->seats; seat++)
+        made->ends[seat] = made->rows[seat];
     __atomic_fetch_add(&service->writers, 1, __ATOMIC_SEQ_CST);
     *writer = made;
     return LIKES_OK;
 }
 
-/* Hands over a row that has become full. Now and then the writer makes the driver's turn, if one is due. */
-LIKES_SELDOM static uint32_t hand_over_full(likes_writer *writer, uint32_t seat) {
+/* What is done when a row has got its first like, or its last one: then it is handed over. Now and then the writer
+ * makes the driver's turn, if one is due. */
+LIKES_SELDOM static uint32_t note_row(likes_writer *writer, size_t seat) {
+    if (length_of(writer, seat) < ROW) {
+        writer->begun |= UINT64_C(1) << seat;
+        return LIKES_OK;
+    }
+    writer->full |= UINT64_C(1) << seat;
     if (hand_over(writer, seat) == LIKES_OK && ++writer->handed % 4 == 0)
         likes_service_tick(writer->service);
     return LIKES_OK;
 }
 
 /* Keeps a like in a row that has room. */
-static inline uint32_t keep(likes_writer *writer, uint32_t seat, uint32_t user, uint32_t page) {
-    likes_request *at = &writer->rows[seat][writer->lengths[seat]];
+static inline uint32_t keep(likes_writer *writer, size_t seat, uint32_t user, uint32_t page) {
+    kept *at = writer->ends[seat];
     at->user = user;
     at->page = page;
-    writer->begun |= UINT64_C(1) << seat;
-    return ++writer->lengths[seat] < ROW ? (uint32_t)LIKES_OK : hand_over_full(writer, seat);
+    writer->ends[seat] = ++at;
+    return (uintptr_t)at / sizeof *at % ROW > 1 ? (uint32_t)LIKES_OK : note_row(writer, seat);
 }
 
-/* What likes_writer_like does where rows may be due, and where it may be refused. */
+/* What likes_writer_like does where rows may be due or full, and where it may be refused. */
 LIKES_SELDOM static uint32_t like_with_care(likes_writer *writer, uint32_t user, uint32_t page) {
     uint32_t fault = fault_of(writer);
     if (fault != LIKES_OK)
@@ -157,17 +192,16 @@ LIKES_SELDOM static uint32_t like_with_care(likes_writer *writer, uint32_t user,
     if (page >= writer->pages)
         return LIKES_UNKNOWN_PAGE;
     notice(writer);
-    uint32_t seat = likes_remainder(user, writer->inverse, writer->seats);
-    uint32_t status = writer->lengths[seat] == ROW ? hand_over(writer, seat) : (uint32_t)LIKES_OK;
-    return writer->lengths[seat] == ROW ? status : keep(writer, seat, user, page);
+    size_t seat = likes_remainder(user, writer->inverse, writer->seats);
+    uint32_t status = length_of(writer, seat) == ROW ? hand_over(writer, seat) : (uint32_t)LIKES_OK;
+    return length_of(writer, seat) == ROW ? status : keep(writer, seat, user, page);
 }
 
 uint32_t likes_writer_like(likes_writer *writer, uint32_t user, uint32_t page) {
-    if (writer == NULL || likes_held != NULL || user >= writer->users || page >= writer->pages ||
+    if (writer == NULL || likes_held != NULL || user >= writer->open_users || page >= writer->pages ||
         !has_seen_pulse(writer))
         return like_with_care(writer, user, page);
-    uint32_t seat = likes_remainder(user, writer->inverse, writer->seats);
-    return writer->lengths[seat] < ROW ? keep(writer, seat, user, page) : like_with_care(writer, user, page);
+    return keep(writer, likes_remainder(user, writer->inverse, writer->seats), user, page);
 }
 
 uint32_t likes_writer_look(likes_writer *writer, uint32_t user, uint32_t page, likes_answer *answer) {
@@ -192,9 +226,9 @@ size_t likes_writer_drop(likes_writer *writer) {
     size_t dropped = 0;
     if (writer == NULL)
         return 0;
-    for (uint32_t seat = 0; seat < writer->seats; seat++) {
-        dropped += writer->lengths[seat];
-        take_off(writer, seat, writer->lengths[seat]);
+    for (size_t seat = 0; seat < writer->seats; seat++) {
+        dropped += length_of(writer, seat);
+        take_off(writer, seat, length_of(writer, seat));
     }
     return dropped;
 }
