@@ -3,12 +3,13 @@
 use crate::asserts::assert_named;
 use crate::play::{is_answer_of, plays};
 use crate::scenes::{
-    OnSeat, asks_when_due, changes, live_moves_calls, live_slots_calls, runs, splits_500,
-    splits_999,
+    OnSeat, asks_when_due, changes, live_moves_calls, live_slots_calls, next_phase, runs,
+    splits_500, splits_999,
 };
 use like_board::SharedPost;
 use like_choice::{Choice, Guided, NoProposal, Proposal, Slots};
-use like_live::{Driver, LikeAnswer, LiveSeat, Opening, Service};
+use like_live::{Driver, LikeAnswer, LiveSeat, LookAnswer, Opening, Service};
+use like_seat::Seen;
 use std::alloc::{AllocError, Global};
 use std::process::Abort;
 use std::test::Fail;
@@ -153,6 +154,7 @@ fn marks_beside_proposals(rt: HostRuntime) -> Result<(), Fail> {
 // A service of 1,000 pages in which pages get hot by themselves, or none does.
 fn opened_hot(alloc: Global, hot: Option<u32>) -> Result<Service<Guided>, Fail> {
     let mut opening = opening_of(alloc, 1_000, &[])?;
+    opening.room = 4_096;
     opening.hot = hot;
     match Service::open(alloc, &opening) {
         Ok(service) => Ok(service),
@@ -160,16 +162,28 @@ fn opened_hot(alloc: Global, hot: Option<u32>) -> Result<Service<Guided>, Fail> 
     }
 }
 
-// 2,000 likes of page 500 by user 0 of seat 0, or by user 1 of seat 1.
-fn likes_500(rt: &impl Abort, seats: &mut [LiveSeat<SharedPost>], user: u32) {
-    for _ in 0..2_000 {
-        let call = OnSeat::Like(user, 500, LikeAnswer::Liked);
-        assert_named(
-            rt,
-            is_answer_of(seats, user as usize, call),
-            "a like of page 500",
-        );
+// The same call of a seat, this many times.
+fn repeats(
+    rt: &impl Abort,
+    seats: &mut [LiveSeat<SharedPost>],
+    seat: usize,
+    call: OnSeat,
+    times: u32,
+) {
+    for _ in 0..times {
+        assert_named(rt, is_answer_of(seats, seat, call), "a call of page 500");
     }
+}
+
+// Likes of page 500 by user 0 of seat 0, or by user 1 of seat 1.
+fn likes_500(rt: &impl Abort, seats: &mut [LiveSeat<SharedPost>], user: u32, times: u32) {
+    let call = OnSeat::Like(user, 500, LikeAnswer::Liked);
+    repeats(rt, seats, user as usize, call, times);
+}
+
+// 4,000 looks at page 500 by user 0 of seat 0, each with this answer.
+fn looks_at_500(rt: &impl Abort, seats: &mut [LiveSeat<SharedPost>], answer: LookAnswer) {
+    repeats(rt, seats, 0, OnSeat::Look(0, 500, 0, answer), 4_000);
 }
 
 // Two likes of each page by user 0 of seat 0.
@@ -184,7 +198,7 @@ fn likes_each(rt: &impl Abort, seats: &mut [LiveSeat<SharedPost>]) {
 fn gets_hot(rt: &impl Abort, service: &mut Service<Guided>) {
     likes_each(rt, &mut service.seats);
     plays(rt, service, runs());
-    likes_500(rt, &mut service.seats, 1);
+    likes_500(rt, &mut service.seats, 1, 2_000);
     plays(rt, service, splits_500());
 }
 
@@ -198,7 +212,7 @@ fn live_hot(rt: HostRuntime) -> Result<(), Fail> {
 
 // Likes make no page hot. A host can have pages split all the same.
 fn gets_none_hot(rt: &impl Abort, service: &mut Service<Guided>) {
-    likes_500(rt, &mut service.seats, 0);
+    likes_500(rt, &mut service.seats, 0, 2_000);
     plays(rt, service, runs());
     service.driver.propose(&[999]);
     plays(rt, service, splits_999());
@@ -208,6 +222,44 @@ fn gets_none_hot(rt: &impl Abort, service: &mut Service<Guided>) {
 fn none_gets_hot(rt: HostRuntime) -> Result<(), Fail> {
     let mut service = opened_hot(rt.alloc(), None)?;
     gets_none_hot(&rt, &mut service);
+    drop(service);
+    Ok(())
+}
+
+// 380 likes are too few: 1 to 511 for `hot` act as 512. Of 1,000 likes and 4,000 looks, the looks are more.
+fn is_not_popular(rt: &impl Abort, service: &mut Service<Guided>) {
+    likes_500(rt, &mut service.seats, 0, 380);
+    plays(rt, service, runs());
+    likes_500(rt, &mut service.seats, 0, 620);
+    let seen = Seen {
+        last: Some(500),
+        count: 1_000,
+    };
+    looks_at_500(rt, &mut service.seats, LookAnswer::Seen(seen));
+    plays(rt, service, runs());
+}
+
+#[test]
+fn few_likes_make_none_hot(rt: HostRuntime) -> Result<(), Fail> {
+    let mut service = opened_hot(rt.alloc(), Some(1))?;
+    is_not_popular(&rt, &mut service);
+    drop(service);
+    Ok(())
+}
+
+// Page 500 gets hot by 1,000 likes, and then 4,000 looks at it wait.
+fn looks_wait(rt: &impl Abort, service: &mut Service<Guided>) {
+    likes_500(rt, &mut service.seats, 0, 1_000);
+    plays(rt, service, splits_500());
+    looks_at_500(rt, &mut service.seats, LookAnswer::Waits);
+    plays(rt, service, next_phase());
+    plays(rt, service, runs());
+}
+
+#[test]
+fn looks_that_wait_cost_a_slot(rt: HostRuntime) -> Result<(), Fail> {
+    let mut service = opened_hot(rt.alloc(), Some(1))?;
+    looks_wait(&rt, &mut service);
     drop(service);
     Ok(())
 }
