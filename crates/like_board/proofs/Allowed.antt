@@ -42,7 +42,7 @@ use Rattle.like_board.proofs.worker.Moves.{known_of, no_seat}
 use Rattle.like_board.proofs.worker.WorkerSteps.{looks, acknowledges, reports, retires, returns}
 use Rattle.like_board.proofs.coordinator.CoordSteps.{surveys, announces, releases}
 use Rattle.like_board.proofs.coordinator.Choosing.{counts, publishes, puts, publishes_slots}
-use Rattle.like_board.proofs.Tallying.{tallied_made, places_made}
+use Rattle.like_board.proofs.Tallying.{tallied_made}
 use Rattle.like_board.proofs.worker.Additions.{adds}
 use Rattle.like_board.proofs.worker.Readings.{IsRead, reads, glances, reads_mask, reads_slot, reads_slots}
 use Rattle.like_board.proofs.Gathering.{gathers}
@@ -469,7 +469,6 @@ making {S} key id v is room = λ st shows at.
       reachable = shows.reachable;
       shows = splits z shows.state st.words st.views id c shows.shows here below;
       tallied = tallied_made z shows.state st.views id c here (omega arith) shows.tallied;
-      places = places_made z st.views id c here shows.places;
       steps = shows.steps;
       order = new_seat_keeps_order z shows.state st.views shows.steps id c here
           (no_seat z shows.state st.words st.views id c shows.shows here) shows.order;

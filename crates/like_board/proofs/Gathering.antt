@@ -1,5 +1,5 @@
 -- A worker's seat is given back to the coordinator, and what the words show where all were.
-use Rattle.std.proofs.Common.{◌≡◌, ◌≢◌, ℕ, zero, suc, ◌+◌, ◌<◌, ◌==◌, nat_lt, cond, inl, inr, List, [], ◌∷◌, All, length, get_or, slice_index, set, Bool, subst, ap, sym, ◌∙◌, refl, eq-eqb, arith}
+use Rattle.std.proofs.Common.{◌≡◌, ◌≢◌, ℕ, zero, suc, ◌+◌, ◌<◌, ◌==◌, nat_lt, cond, inl, inr, List, [], ◌∷◌, All, length, count_by, get_or, slice_index, set, Bool, subst, ap, sym, ◌∙◌, refl, eq-eqb, arith}
 use Rattle.std.specs.List.{sum_by}
 use Rattle.std.proofs.lemmas.List.Sums.{sum_by-cons}
 use Rattle.std.proofs.lemmas.Bool.{cond-true}
@@ -14,17 +14,18 @@ use Rattle.like_core.specs.declared.view.View.{View}
 use Rattle.like_core.specs.declared.view.View.TheVariants.{Coord, Worker, Spent}
 use Rattle.like_core.specs.core.State.{CoreState}
 use Rattle.like_core.specs.Additions.{added_to, added_before}
-use Rattle.like_core.specs.PageSteps.{steps_by}
+use Rattle.like_core.specs.PageSteps.{additions_among, steps_by}
 use Rattle.like_core.specs.views.Views.{gathered_coord, seats_of}
-use Rattle.like_core.specs.views.Reads.{before_in, all_before, HaveBetween, IsCounted}
-use Rattle.like_core.specs.views.Places.{Counting, AreTiles, HavePlaced, passing, all_passing, count_after}
+use Rattle.like_core.specs.views.Reads.{before_in, all_before, IsCounted}
+use Rattle.like_core.specs.Post.{PostView}
+use Rattle.like_core.specs.views.Order.{HasDone}
+use Rattle.like_core.specs.views.PostOrder.{IsOrderOf}
 use Rattle.like_core.specs.views.Tallies.{paged, left_to, room}
 use Rattle.like_core.specs.views.Layout.{word_of}
 use Rattle.like_core.specs.views.Shows.{Shows, ShowsSome, Fits, FitsWorker, FitsCoord}
-use Rattle.like_core.proofs.views.ViewLists.{within, sum_two, sum_lone, sum_gathered}
+use Rattle.like_core.proofs.views.ViewLists.{within, sum_two, sum_lone, sum_gathered, sum_part}
 use Rattle.like_core.proofs.views.KeptOrder.{join_keeps_order}
-use Rattle.like_core.proofs.views.KeptPlaces.{join_keeps_places, both_placed_on, tiles_on}
-use Rattle.like_core.proofs.views.KeptReads.{both_between_on, counted_on, join_keeps_reads}
+use Rattle.like_core.proofs.views.KeptCounts.{counted_on}
 use Rattle.like_board.proofs.worker.Moves.{same_coord, has_seat, once_at_most}
 use Rattle.like_board.proofs.coordinator.Fitting.{same_phase, same_choice}
 use Rattle.like_board.proofs.coordinator.Leads.{of_coord}
@@ -118,37 +119,26 @@ gathers z words views place other c v some_state at apart mine =
             ]
           ];
         };
-        reads = record {
-          workers = join_keeps_reads z.counts s.phase views place other c v at there sh.reads.workers;
-          coordinator = counted_on z.counts (all_before views) (all_before (gathered views place other c v)) c.counted
-              (λ i r inside.
-              let k : ℕ = (get_or c.counted i r).phase + 1 in
-              let p : ℕ = (get_or c.counted i r).page in
-              sum_gathered (before_in k p) views place other c v at mine refl
-              (sum_by-cons (λ (w : WorkerSeatView). added_before k p w.additions) v c.joined))
-              known.1;
-        };
+        counted = counted_on z.counts (all_before views) (all_before (gathered views place other c v)) c.counted
+            (λ i r inside.
+            let k : ℕ = (get_or c.counted i r).phase + 1 in
+            let p : ℕ = (get_or c.counted i r).page in
+            sum_gathered (before_in k p) views place other c v at mine refl
+            (sum_by-cons (λ (w : WorkerSeatView). added_before k p (additions_among w.did)) v c.joined))
+            known.1;
       };
       tallied = record {
         sums = λ page.
             some_state.tallied.sums page ∙
             sym
             (sum_gathered (paged page) views place other c v at mine refl
-            (sum_by-cons (λ (w : WorkerSeatView). added_to page w.additions) v c.joined));
+            (sum_by-cons (λ (w : WorkerSeatView). added_to page (additions_among w.did)) v c.joined));
         rooms = λ page.
             let before = some_state.tallied.rooms page in
             let more = sum_by-cons (λ (w : WorkerSeatView). left_to z.limits.likes page w) v c.joined in
             let same = sum_gathered (room z.limits page) views place other c v at mine refl (omega arith) in
             omega arith;
-        past = λ phase page later.
-            sum_gathered (before_in phase page) views place other c v at mine refl
-            (sum_by-cons (λ (w : WorkerSeatView). added_before phase page w.additions) v c.joined) ∙
-            (some_state.tallied.past phase page later ∙
-            sym
-            (sum_gathered (paged page) views place other c v at mine refl
-            (sum_by-cons (λ (w : WorkerSeatView). added_to page w.additions) v c.joined)));
       };
-      places = join_keeps_places z.counts views place other c v at there some_state.places;
       steps = some_state.steps;
       order = join_keeps_order z s views some_state.steps place other c v at there some_state.order;
     }
@@ -206,7 +196,7 @@ pub last_word : (z : Opening) (words : List ℕ) (views : List View) (place : �
     → ((i : ℕ) → i < c.made → seats_of i (Coord c) ≡ 1)
     → (page : ℕ)
     → page < length z.counts
-    → get_or words (word_of page) 0 ≡ get_or z.counts page 0 + sum_by (λ w. added_to page w.additions) c.joined
+    → get_or words (word_of page) 0 ≡ get_or z.counts page 0 + sum_by (λ w. added_to page (additions_among w.did)) c.joined
 last_word z words views place c some_state at all page on =
     let s = some_state.state in
     let sh = some_state.shows in
@@ -214,24 +204,6 @@ last_word z words views place c some_state at all page on =
     let sums = some_state.tallied.sums page in
     let found = sh.board.pages page on in
     omega arith
-
--- and each count that was read or glanced at lies between what they have added
-pub last_reads : (z : Opening) (words : List ℕ) (views : List View) (place : ℕ) (c : CoordSeatView)
-    → (shows : ShowsSome z words views)
-    → get_elem? views place ≡ some (Coord c)
-    → ((i : ℕ) → i < c.made → seats_of i (Coord c) ≡ 1)
-    → (j : ℕ) (w : WorkerSeatView)
-    → get_elem? c.joined j ≡ some w
-    → HaveBetween z.counts (λ phase page. before_in phase page (Coord c)) shows.state.phase w
-last_reads z words views place c some_state at all j w found =
-    let s = some_state.state in
-    let sh = some_state.shows in
-    let lone : (k p : ℕ) → all_before views k p ≡ before_in k p (Coord c) =
-    λ k p. sum_coord (before_in k p) z s words views place c refl sh at all in
-    both_between_on z.counts (all_before views) (λ k p. before_in k p (Coord c)) s.phase s.phase w (omega arith)
-    (λ k p _. (let e = lone k p in omega arith))
-    (λ k p. (let e = lone k p in omega arith))
-    (sh.reads.workers place (Coord c) at j w found)
 
 -- and each count that the coordinator read is the one at the start and what they have added up to its phase
 pub last_counted : (z : Opening) (words : List ℕ) (views : List View) (place : ℕ) (c : CoordSeatView)
@@ -249,46 +221,24 @@ last_counted z words views place c some_state at all =
     sym (sum_coord (before_in k p) z s words views place c refl sh at all))
     (of_coord z s words views place c sh at).1
 
--- and the stretches of what they have added tile the counts of each page, and all their calls have their places
-pub last_places : (z : Opening) (words : List ℕ) (views : List View) (place : ℕ) (c : CoordSeatView) (last : ℕ → ℕ)
-    (counting : Counting)
-    → ShowsSome z words views
+-- what all those workers did at pages has one order
+pub last_order : (z : Opening) (words : List ℕ) (views : List View) (place : ℕ) (c : CoordSeatView)
+    → (shows : ShowsSome z words views)
     → get_elem? views place ≡ some (Coord c)
     → ((i : ℕ) → i < c.made → seats_of i (Coord c) ≡ 1)
-    → ((page : ℕ) → slice_index z.counts page + paged page (Coord c) ≡ last page)
-    → ((test : Addition → Bool) → passing test (Coord c) ≡ counting test)
-    → AreTiles (slice_index z.counts) last counting
-    × ((j : ℕ) (w : WorkerSeatView) → get_elem? c.joined j ≡ some w → HavePlaced (slice_index z.counts) counting w)
-last_places z words views place c last counting some_state at all last_is same =
-    let s = some_state.state in
-    let sh = some_state.shows in
-    let p = some_state.places in
-    let lone : (test : Addition → Bool) → counting test ≡ all_passing views test =
-    λ test. sym (sum_coord (passing test) z s words views place c refl sh at all ∙ same test)
-    in
-    let ends : (page : ℕ) → last page ≡ count_after z.counts views page =
-    λ page. (let e = last_is page in
-    let one = sum_coord (paged page) z s words views place c refl sh at all in omega arith)
-    in (
-      tiles_on (slice_index z.counts) (count_after z.counts views) last (all_passing views) counting ends lone p.tiles,
-      λ j w found.
-          both_placed_on (slice_index z.counts) (all_passing views) counting w
-          (λ test. (let e = lone test in omega arith))
-          (p.each place (Coord c) at j w found),
-    )
-
--- and nothing that they have added is of a later phase
-pub last_past : (z : Opening) (words : List ℕ) (views : List View) (place : ℕ) (c : CoordSeatView)
-    → ShowsSome z words views
-    → get_elem? views place ≡ some (Coord c)
-    → ((i : ℕ) → i < c.made → seats_of i (Coord c) ≡ 1)
-    → (page : ℕ)
-    → before_in (c.phase + 1) page (Coord c) ≡ paged page (Coord c)
-last_past z words views place c some_state at all page =
-    let s = some_state.state in
-    let sh = some_state.shows in
-    let old : FitsCoord z s c = sh.seats.each place (Coord c) at in
-    let phase = old.phase.present in
-    sym (sum_coord (before_in (c.phase + 1) page) z s words views place c refl sh at all) ∙
-    (some_state.tallied.past (c.phase + 1) page (omega arith)
-    ∙ sum_coord (paged page) z s words views place c refl sh at all)
+    → (posts : List PostView)
+    → ((k : ℕ) (d : PostView) → k < length posts → HasDone shows.steps (get_or posts k d))
+    → ((i : ℕ) → count_by (λ v. v.worker == i) posts ≡ seats_of i (Coord c))
+    → IsOrderOf (slice_index z.counts) shows.state.phase posts shows.steps
+last_order z words views place c some_state at all posts done same = record {
+  in_turn = some_state.order.in_turn;
+  each = λ k d below. done k d below;
+  once = λ i.
+      let sh = some_state.shows in
+      let here = same i in
+      let part = sum_part (seats_of i) views place (Coord c) at in
+      let all_seats = sh.seats.once i in
+      let most = once_at_most (nat_lt i sh.coord.made) in
+      omega arith;
+  others = λ i none. last_others z words views place c some_state at all i (sym (same i) ∙ none);
+}

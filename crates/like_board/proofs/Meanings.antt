@@ -23,9 +23,6 @@ is_fresh board v f = record {
   runs = f.runs;
   never_looked = f.never_looked;
   no_looks = f.no_looks;
-  added_nothing = f.added_nothing;
-  read_nothing = f.read_nothing;
-  glanced_nothing = f.glanced_nothing;
   did_nothing = f.did_nothing;
   no_masks = f.no_masks;
 }

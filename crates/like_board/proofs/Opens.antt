@@ -16,12 +16,11 @@ use Rattle.like_limits.specs.Limits.{hot_pages}
 use Rattle.like_core.specs.core.Numbers.{AllIn}
 use Rattle.like_core.specs.core.State.{start, numbers}
 use Rattle.like_core.specs.views.Views.{fresh_coord}
-use Rattle.like_core.specs.views.Reads.{all_before, IsCounted, HasReads, ReadsFit}
+use Rattle.like_core.specs.views.Reads.{all_before, IsCounted}
 use Rattle.like_core.specs.views.Layout.{mask_place, slot_in, word_of}
 use Rattle.like_core.specs.views.Shows.{IsOpening, ShowsSome, Fits, FitsCoord}
 use Rattle.like_core.proofs.views.Chosen.{mask_in-none, chosen-none}
 use Rattle.like_core.specs.views.Order.{HasOrder}
-use Rattle.like_core.proofs.views.KeptPlaces.{places_open}
 use Rattle.like_core.proofs.core.Moved.{moves_begin}
 use Rattle.like_board.specs.declared.key.Key.{Key}
 use Rattle.like_board.specs.Marks.{marks_of}
@@ -90,10 +89,7 @@ opens z words opening width word pages mask_word slots =
           once = λ i. sym (counts_none (nat_lt i 0) (le-ltb i 0 (omega arith)));
           slots = no_worker c;
         };
-        reads = record {
-          workers = no_reads z c refl;
-          coordinator = All-nil (IsCounted z.counts (all_before (Coord c ∷ [])));
-        };
+        counted = All-nil (IsCounted z.counts (all_before (Coord c ∷ [])));
       };
       tallied = record {
         sums = λ page. refl;
@@ -101,9 +97,7 @@ opens z words opening width word pages mask_word slots =
             let none_made : z.limits.seats - c.made ≡ z.limits.seats = omega arith in
             let whole = ap (λ (n : ℕ). z.limits.likes * n) none_made in
             omega arith;
-        past = λ phase page later. refl;
       };
-      places = places_open z.counts c refl;
       steps = [];
       order = record {
         in_turn = tt;
@@ -137,15 +131,6 @@ opens z words opening width word pages mask_word slots =
         in
         subst (HasOrder []) (some-injective (Coord c) v at) has
     none_done c none (suc place) v at = absurd (some-ne-none v (sym at))
-
-    no_reads : (z : Opening) (c : CoordSeatView) → c.joined ≡ [] → ReadsFit z.counts 0 (Coord c ∷ [])
-    no_reads z c none zero v at =
-        let has : HasReads z.counts (all_before (Coord c ∷ [])) 0 (Coord c) =
-        λ place w found. absurd (some-ne-none w
-        (sym (sym (ap (λ (l : List WorkerSeatView). get_elem? l place) none) ∙ found)))
-        in
-        subst (HasReads z.counts (all_before (Coord c ∷ [])) 0) (some-injective (Coord c) v at) has
-    no_reads z c none (suc place) v at = absurd (some-ne-none v (sym at))
 
 -- the words of a new board: the phase word, the counts at their places, no mask, and no page in a slot
 pub record AreFirst (words : List ℕ) (word : ℕ) (counts : List ℕ) : Type 0 where

@@ -12,23 +12,18 @@ use Rattle.like_core.specs.declared.view.View.{View}
 use Rattle.like_core.specs.declared.view.View.TheVariants.{Coord, Worker}
 use Rattle.like_core.specs.core.State.{CoreState, Label}
 use Rattle.like_core.specs.views.Views.{fresh, made_coord}
-use Rattle.like_core.specs.views.Reads.{before_in}
-use Rattle.like_core.specs.views.Places.{PlacesTile}
 use Rattle.like_core.specs.views.Tallies.{Tallied, paged, room}
-use Rattle.like_core.proofs.views.KeptPlaces.{placed_nothing, places_push, places_same}
 use Rattle.like_core.proofs.views.ViewLists.{sum_set, sum_swap}
 
 -- after a step that applies no like, with a new view that has the same additions
 pub tallied_on : (l : Limits) (s t : CoreState) (views : List View) (place : ℕ) (a b : View)
-    → s.phase ≤ t.phase
     → ((page : ℕ) → t.applied page ≡ s.applied page)
     → get_elem? views place ≡ some a
     → ((page : ℕ) → paged page b ≡ paged page a)
     → ((page : ℕ) → room l page b ≡ room l page a)
-    → ((phase page : ℕ) → before_in phase page b ≡ before_in phase page a)
     → Tallied l s views
     → Tallied l t (set views place b)
-tallied_on l s t views place a b on applied at same_pages same_rooms same_before old = record {
+tallied_on l s t views place a b applied at same_pages same_rooms old = record {
   sums = λ page.
       ap (λ (ls : List Label). length ls) (applied page) ∙
       (old.sums page ∙ sym (sum_set (paged page) views place a b at (same_pages page)));
@@ -37,9 +32,6 @@ tallied_on l s t views place a b on applied at same_pages same_rooms same_before
       let same = sum_set (room l page) views place a b at (same_rooms page) in
       let before = old.rooms page in
       omega arith;
-  past = λ phase page later.
-      sum_set (before_in phase page) views place a b at (same_before phase page) ∙
-      (old.past phase page (omega arith) ∙ sym (sum_set (paged page) views place a b at (same_pages page)));
 }
 
 -- so much room has one more worker
@@ -75,26 +67,4 @@ tallied_made z s views place c at few old =
           let all : room z.limits page new ≡ z.limits.likes = omega arith in
           let one = room_of_one z.limits.seats z.limits.likes c.made few in
           omega arith;
-      past = λ phase page later.
-          let before = old.past phase page later in
-          let here = sum_set (before_in phase page) views place (Coord c) (Coord d) at refl in
-          let same = sum_set (paged page) views place (Coord c) (Coord d) at refl in
-          let more_before = sum_by_push (before_in phase page) changed new in
-          let more = sum_by_push (paged page) changed new in
-          let none : paged page new ≡ 0 = refl in
-          let none_before : before_in phase page new ≡ 0 = refl in
-          omega arith;
     }
-
--- places tile after a worker's seat was made
-pub places_made : (z : Opening) (views : List View) (place : ℕ) (c : CoordSeatView)
-    → get_elem? views place ≡ some (Coord c)
-    → PlacesTile z.counts views
-    → PlacesTile z.counts (set views place (Coord (made_coord c)) ++ Worker (fresh z c.made) ∷ [])
-places_made z views place c at old =
-    let d : CoordSeatView = made_coord c in
-    let new : View = Worker (fresh z c.made) in
-    let changed : List View = set views place (Coord d) in
-    places_push z.counts changed new (λ _. refl) (λ _. refl)
-    (λ first f. (placed_nothing first f, placed_nothing first f)) (λ j u found. at_snoc changed new u j found)
-    (places_same z.counts views place (Coord c) (Coord d) at (λ _. refl) (λ _. refl) (λ _ _ has. has) old)

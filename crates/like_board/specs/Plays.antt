@@ -20,6 +20,7 @@ use Rattle.like_core.specs.views.Views.{looked_view, returned_view, added_view, 
 use Rattle.like_core.specs.views.Layout.{slot_place, word_of}
 use Rattle.like_core.specs.views.Shows.{IsKnown, IsStep}
 use Rattle.like_core.specs.views.Actions.{Adds, ComesBack, ReadsMask, Counts}
+use Rattle.like_core.specs.PageSteps.{additions_among}
 use Rattle.like_board.specs.Known.{worker_view_of, coord_view_of}
 
 -- what a worker in this state sees in a phase word of this opening
@@ -99,7 +100,7 @@ pub record TellsReturn (expected : ℕ) (v : View) (found : ℕ) (w : View) : Ty
 -- additions are in that; and it is the action
 pub record TellsAdd (page n : ℕ) (v : View) (found : ℕ) (w : View) : Type 0 where
   pub view : w ≡ Worker (added_view (worker_view_of v) page found n)
-  pub own : added_to page (worker_view_of v).additions ≤ found
+  pub own : added_to page (additions_among (worker_view_of v).did) ≤ found
   pub step : let me = worker_view_of v in Adds me page n found (added_view me page found n)
 
 -- the same of a word, where it is a page's
@@ -115,7 +116,7 @@ PageAct = WorkerSeatView → ℕ → ℕ → WorkerSeatView → Type 0
 pub record TellsRead (does : PageAct) (next : WorkerSeatView → ℕ → ℕ → WorkerSeatView) (page : ℕ)
     (v : View) (found : ℕ) (w : View) : Type 0 where
   pub view : w ≡ Worker (next (worker_view_of v) page found)
-  pub own : added_to page (worker_view_of v).additions ≤ found
+  pub own : added_to page (additions_among (worker_view_of v).did) ≤ found
   pub bounded : found < total_bound
   pub step : let me = worker_view_of v in does me page found (next me page found)
 

@@ -11,7 +11,7 @@ use Rattle.like_board.specs.declared.coord_seat.CoordSeat.{CoordSeat}
 use Rattle.like_board.specs.declared.worker_seat.WorkerSeat.{WorkerSeat}
 use Rattle.like_board.specs.declared.post.PostAt.{PostAt}
 use Rattle.like_core.specs.Additions.{added_before}
-use Rattle.like_core.specs.PageSteps.{AreInTurn, steps_by}
+use Rattle.like_core.specs.PageSteps.{AreInTurn, additions_among, glances_among, reads_among, steps_by}
 use Rattle.like_core.specs.Post.{PostView, IsFresh, additions_of}
 use Rattle.like_core.specs.views.Views.{fresh, post_of}
 use Rattle.like_core.specs.views.Reads.{AreBetween, IsCounted, StandBetween}
@@ -84,30 +84,30 @@ last_count z seats page =
 -- how much the workers of these seats have added to a page in the phases before one
 abbrev pub seats_before : List WorkerSeat → ℕ → ℕ → ℕ
 seats_before seats phase page =
-    sum_by (λ seat. added_before phase page (seat_meaning seat).additions) seats
+    sum_by (λ seat. added_before phase page (additions_among (seat_meaning seat).did)) seats
 
 -- each addition of the workers of these seats is of no later phase than this
 abbrev pub HaveAddedWithin : ℕ → List WorkerSeat → Type 0
-HaveAddedWithin phase seats = All (λ seat. All (λ a. a.phase ≤ phase) (seat_meaning seat).additions) seats
+HaveAddedWithin phase seats = All (λ seat. All (λ a. a.phase ≤ phase) (additions_among (seat_meaning seat).did)) seats
 
 -- each count that a worker of these seats read lies between what they all have added, and none is of a later phase than
 -- this
 abbrev pub HaveReadBetween : Opening → ℕ → List WorkerSeat → Type 0
 HaveReadBetween z phase seats =
     All (λ seat. let post = seat_meaning seat in
-    AreBetween z.counts (seats_before seats) phase post.additions post.reads) seats
+    AreBetween z.counts (seats_before seats) phase (additions_among post.did) (reads_among post.did)) seats
 
 -- the stretch of each addition of these seats' workers lies between what they all have added before its phase and up to
 -- it
 abbrev pub HaveAddedBetween : Opening → ℕ → List WorkerSeat → Type 0
 HaveAddedBetween z phase seats =
-    All (λ seat. StandBetween z.counts (seats_before seats) phase (seat_meaning seat).additions) seats
+    All (λ seat. StandBetween z.counts (seats_before seats) phase (additions_among (seat_meaning seat).did)) seats
 
 -- and so does each count at which it glanced
 abbrev pub HaveGlancedBetween : Opening → ℕ → List WorkerSeat → Type 0
 HaveGlancedBetween z phase seats =
     All (λ seat. let post = seat_meaning seat in
-    AreBetween z.counts (seats_before seats) phase post.additions post.glances) seats
+    AreBetween z.counts (seats_before seats) phase (additions_among post.did) (glances_among post.did)) seats
 
 -- each count that the coordinator read is the one at the start and all that the workers of these seats have added up to
 -- its phase
@@ -121,7 +121,7 @@ HaveReadMasks released seats =
 
 -- how many additions of the workers of these seats pass a test
 abbrev pub seats_passing : List WorkerSeat → Counting
-seats_passing seats test = sum_by (λ seat. count_by test (seat_meaning seat).additions) seats
+seats_passing seats test = sum_by (λ seat. count_by test (additions_among (seat_meaning seat).did)) seats
 
 -- one order of all that these seats' workers did at pages, the latest step first: each step found what those before it
 -- left, phases never fall, and none is later than this; all that each seat did are its worker's steps, in their order;
@@ -137,6 +137,6 @@ pub record AreOrdered (z : Opening) (phase : ℕ) (seats : List WorkerSeat) (ste
 pub record HavePlaces (z : Opening) (seats : List WorkerSeat) : Type 0 where
   pub tiles : AreTiles (slice_index z.counts) (last_count z seats) (seats_passing seats)
   pub each : All (λ seat. let post = seat_meaning seat in
-      ArePlaced (slice_index z.counts) (seats_passing seats) post.additions post.reads) seats
+      ArePlaced (slice_index z.counts) (seats_passing seats) (additions_among post.did) (reads_among post.did)) seats
   pub glanced : All (λ seat. let post = seat_meaning seat in
-      ArePlaced (slice_index z.counts) (seats_passing seats) post.additions post.glances) seats
+      ArePlaced (slice_index z.counts) (seats_passing seats) (additions_among post.did) (glances_among post.did)) seats

@@ -6,6 +6,7 @@ ghost use Rattle.like_core.specs.OpeningLimits.{has_slots, most_seats};
 ghost use Rattle.like_core.specs.Slots.{IsChoice};
 ghost use Rattle.like_core.specs.WorkerState.{turn_of};
 ghost use Rattle.like_core.specs.views.Layout.{word_of};
+ghost use Rattle.like_core.specs.PageSteps.{additions_among};
 ghost use Rattle.like_board.specs.Known.{worker_view_of};
 
 use crate::answer::put_answer;
@@ -167,7 +168,7 @@ impl WorkerSeat {
         requires may { MayAdd (seat_meaning self.old) page n }
         ensures board { seat_board self.new ≡ seat_board self.old }
         ensures view { seat_view self.new ≡ added_view (seat_view self.old) page result n }
-        ensures own { added_to page (seat_view self.old).additions ≤ result }
+        ensures own { added_to page (additions_among (seat_view self.old).did) ≤ result }
         ensures event { Adds (seat_view self.old) page n result (seat_view self.new) }
     {
         let word = word_of(page);
@@ -183,7 +184,7 @@ impl WorkerSeat {
         requires may { MayRead (seat_meaning self.old) page }
         ensures board { seat_board self.new ≡ seat_board self.old }
         ensures view { seat_view self.new ≡ read_view (seat_view self.old) page result }
-        ensures own { added_to page (seat_view self.old).additions ≤ result }
+        ensures own { added_to page (additions_among (seat_view self.old).did) ≤ result }
         ensures event { Reads (seat_view self.old) page result (seat_view self.new) }
     {
         let word = word_of(page);
@@ -196,7 +197,7 @@ impl WorkerSeat {
         requires may { MayGlance (seat_meaning self.old) page }
         ensures board { seat_board self.new ≡ seat_board self.old }
         ensures view { seat_view self.new ≡ glanced_view (seat_view self.old) page result }
-        ensures own { added_to page (seat_view self.old).additions ≤ result }
+        ensures own { added_to page (additions_among (seat_view self.old).did) ≤ result }
         ensures bounded { result < total_bound }
         ensures event { Glances (seat_view self.old) page result (seat_view self.new) }
     {

@@ -8,3 +8,7 @@ pub mod Below
 pub mod PhaseMasks
 pub mod Slots
 pub mod views
+pub mod Steps
+pub mod Totals
+pub mod Between
+pub mod Tiled

@@ -1,9 +1,7 @@
--- Additions to pages' counts, reads of them, and looks; and how many likes the additions of a list have.
-use Rattle.std.specs.Prelude.{ℕ, ◌==◌, ◌&&◌, nat_lt, if◌then◌else◌, List, length}
+-- Additions to pages' counts, and reads of them; and how many likes the additions of a list have.
+use Rattle.std.specs.Prelude.{ℕ, ◌==◌, ◌&&◌, nat_lt, if◌then◌else◌, List}
 use Rattle.std.specs.List.{sum_by}
-use Rattle.like_core.specs.declared.sight.Sight.{Sight}
 use Rattle.like_core.specs.declared.view.Addition.{Addition}
-use Rattle.like_core.specs.declared.view.Look.{Look}
 use Rattle.like_core.specs.declared.view.PageRead.{PageRead}
 
 -- likes that were added to a page in a phase, when its count was `old`
@@ -15,15 +13,6 @@ addition phase page old likes =
 abbrev pub page_read : ℕ → ℕ → ℕ → ℕ → PageRead
 page_read phase page count after =
     record { phase = phase; page = page; count = count; after = after }
-
--- a look that showed this, after these additions, reads and glances
-abbrev pub look_after : Sight → List Addition → List PageRead → List PageRead → Look
-look_after sight additions reads glances = record {
-  sight = sight;
-  additions = length additions;
-  reads = length reads;
-  glances = length glances;
-}
 
 -- how many likes were added in all
 abbrev pub all_added : List Addition → ℕ

@@ -1,11 +1,14 @@
 -- What workers do at the counts of pages, one atomic step after another.
-use Rattle.std.specs.Prelude.{◌≡◌, ℕ, ◌+◌, ◌≤◌, ◌==◌, if◌then◌else◌, List, [], ◌∷◌, filter, reverse, Option, Some, None}
-use Rattle.std.specs.List.{filter_map, sum_by}
+use Rattle.std.specs.Prelude.{◌≡◌, ℕ, ◌+◌, ◌≤◌, ◌==◌, if◌then◌else◌, List, [], ◌∷◌, ◌++◌, filter, length}
+use Rattle.std.specs.List.{sum_by}
 use Rattle.like_core.specs.declared.page_step.PageCall.{PageCall}
 use Rattle.like_core.specs.declared.page_step.PageCall.TheVariants.{Add, Read, Glance}
 use Rattle.like_core.specs.declared.page_step.PageStep.{PageStep}
+use Rattle.like_core.specs.declared.sight.Sight.{Sight}
 use Rattle.like_core.specs.declared.view.Addition.{Addition}
-use Rattle.like_core.specs.Additions.{addition}
+use Rattle.like_core.specs.declared.view.Look.{Look}
+use Rattle.like_core.specs.declared.view.PageRead.{PageRead}
+use Rattle.like_core.specs.Additions.{addition, page_read}
 
 -- a worker's step in a phase at a page, whose count was this
 abbrev pub page_step : ℕ → ℕ → ℕ → ℕ → PageCall → PageStep
@@ -15,6 +18,10 @@ page_step worker phase page found call =
 -- the step of a worker that made this addition
 abbrev pub step_adding : ℕ → Addition → PageStep
 step_adding worker a = page_step worker a.phase a.page a.old (Add a.likes)
+
+-- a look that showed this, after these steps
+abbrev pub look_after : Sight → List PageStep → Look
+look_after sight did = record { sight = sight; did = length did }
 
 -- how many likes a step adds
 abbrev pub likes_of : PageCall → ℕ
@@ -44,20 +51,51 @@ AreInTurn first phase (s ∷ before) =
     (s.found ≡ first s.page + likes_in s.page before) × (s.phase ≤ phase) × AddsSome s.call
     × AreInTurn first s.phase before
 
--- the steps of worker i in their order, where these are all steps, the latest first
+-- the steps of worker i among these
 abbrev pub steps_by : ℕ → List PageStep → List PageStep
-steps_by i steps = filter (λ s. s.worker == i) (reverse steps)
+steps_by i steps = filter (λ s. s.worker == i) steps
 
--- the addition that a call of this phase is, at a page whose count was `found`, if it is one
-abbrev pub addition_by : ℕ → ℕ → ℕ → PageCall → Option Addition
-addition_by phase page found (Add n) = Some (addition phase page found n)
-addition_by phase page found Read = None
-addition_by phase page found Glance = None
+-- steps in their order, where the latest is the first in the list
+abbrev pub earliest_first : List PageStep → List PageStep
+earliest_first [] = []
+earliest_first (s ∷ before) = earliest_first before ++ s ∷ []
 
--- the addition that a step is, if it is one
-abbrev pub addition_in : PageStep → Option Addition
-addition_in s = addition_by s.phase s.page s.found s.call
+-- steps made one after the other, behind those before: the latest step first
+abbrev pub then_steps : List PageStep → List PageStep → List PageStep
+then_steps before [] = before
+then_steps before (s ∷ steps) = then_steps (s ∷ before) steps
 
--- the additions among steps, in their order
+-- additions, and one more if a call is one
+abbrev pub and_addition : List Addition → ℕ → ℕ → ℕ → PageCall → List Addition
+and_addition earlier phase page found (Add n) = earlier ++ addition phase page found n ∷ []
+and_addition earlier phase page found Read = earlier
+and_addition earlier phase page found Glance = earlier
+
+-- the additions among steps, the latest step first, in their order
 abbrev pub additions_among : List PageStep → List Addition
-additions_among steps = filter_map addition_in steps
+additions_among [] = []
+additions_among (s ∷ before) = and_addition (additions_among before) s.phase s.page s.found s.call
+
+-- reads after this many additions, and one more if a call is one
+abbrev pub and_read : List PageRead → ℕ → ℕ → ℕ → ℕ → PageCall → List PageRead
+and_read earlier after phase page found (Add n) = earlier
+and_read earlier after phase page found Read = earlier ++ page_read phase page found after ∷ []
+and_read earlier after phase page found Glance = earlier
+
+-- the reads among steps, in their order
+abbrev pub reads_among : List PageStep → List PageRead
+reads_among [] = []
+reads_among (s ∷ before) =
+    and_read (reads_among before) (length (additions_among before)) s.phase s.page s.found s.call
+
+-- glances after this many additions, and one more if a call is one
+abbrev pub and_glance : List PageRead → ℕ → ℕ → ℕ → ℕ → PageCall → List PageRead
+and_glance earlier after phase page found (Add n) = earlier
+and_glance earlier after phase page found Read = earlier
+and_glance earlier after phase page found Glance = earlier ++ page_read phase page found after ∷ []
+
+-- the glances among steps, in their order
+abbrev pub glances_among : List PageStep → List PageRead
+glances_among [] = []
+glances_among (s ∷ before) =
+    and_glance (glances_among before) (length (additions_among before)) s.phase s.page s.found s.call

@@ -3,14 +3,13 @@ use Rattle.like_core.specs.declared.worker_state.WorkerState.{WorkerState}
 use Rattle.like_core.specs.declared.worker_state.WorkerState.TheVariants.{Runs, Answered, Gone}
 use Rattle.like_core.specs.declared.sight.Sight.{Sight}
 use Rattle.like_core.specs.declared.limits.Limits.{Limits}
+use Rattle.like_core.specs.declared.page_step.PageCall.{PageCall}
 use Rattle.like_core.specs.declared.page_step.PageCall.TheVariants.{Add, Read, Glance}
 use Rattle.like_core.specs.declared.page_step.PageStep.{PageStep}
-use Rattle.like_core.specs.declared.view.Addition.{Addition}
 use Rattle.like_core.specs.declared.view.Look.{Look}
-use Rattle.like_core.specs.declared.view.PageRead.{PageRead}
 use Rattle.like_core.specs.declared.view.PhaseMask.{PhaseMask}
-use Rattle.like_core.specs.Additions.{addition, look_after, all_added, added_to, added_in, page_read}
-use Rattle.like_core.specs.PageSteps.{page_step}
+use Rattle.like_core.specs.Additions.{all_added, added_to, added_in}
+use Rattle.like_core.specs.PageSteps.{additions_among, look_after, page_step}
 use Rattle.like_core.specs.Phase.{IsSplit, is_marked, split_by}
 use Rattle.like_core.specs.PhaseMasks.{mask_of, HasMask}
 use Rattle.like_core.specs.WorkerState.{IsRunning, SawEnding, phase_of, running_sight, seen}
@@ -30,12 +29,7 @@ pub record PostView : Type 0 where
   -- its last sight, if it looked, and all its looks, in order, each with how much it had done before
   pub last : Option Sight
   pub looks : List Look
-  -- what it added to pages, in order
-  pub additions : List Addition
-  -- what it read of pages that were not sliced, and what it read at a glance of pages that were, each in order
-  pub reads : List PageRead
-  pub glances : List PageRead
-  -- all that it did at pages, in its order
+  -- all that it did at pages, the latest step first
   pub did : List PageStep
   -- the masks of hot pages that it read, the latest first
   pub masks : List PhaseMask
@@ -46,20 +40,17 @@ pages_of v = length v.marks
 
 -- how much was added to a page
 abbrev pub additions_of : PostView → ℕ → ℕ
-additions_of v page = added_to page v.additions
+additions_of v page = added_to page (additions_among v.did)
 
 -- how much of it in one phase
 abbrev pub additions_in : PostView → ℕ → ℕ → ℕ
-additions_in v phase page = added_in phase page v.additions
+additions_in v phase page = added_in phase page (additions_among v.did)
 
 -- no call was made on the post yet
 pub record IsFresh (v : PostView) : Type 0 where
   pub runs : v.state ≡ Runs 0
   pub never_looked : v.last ≡ None
   pub no_looks : v.looks ≡ []
-  pub added_nothing : v.additions ≡ []
-  pub read_nothing : v.reads ≡ []
-  pub glanced_nothing : v.glances ≡ []
   pub did_nothing : v.did ≡ []
   pub no_masks : v.masks ≡ []
 
@@ -79,7 +70,7 @@ abbrev pub looked_at : PostView → Sight → PostView
 looked_at v sight = record v {
   state = seen v.state sight;
   last = Some sight;
-  looks = v.looks ++ look_after sight v.additions v.reads v.glances ∷ [];
+  looks = v.looks ++ look_after sight v.did ∷ [];
 }
 
 -- the post after an acknowledgement or a report
@@ -95,29 +86,22 @@ abbrev pub returned : PostView → ℕ → PostView
 returned v phase = record v {
   state = Runs phase;
   last = Some (running_sight phase);
-  looks = v.looks ++ look_after (running_sight phase) v.additions v.reads v.glances ∷ [];
+  looks = v.looks ++ look_after (running_sight phase) v.did ∷ [];
 }
 
--- the post after it added n to a page's count, which was `old` before
+-- the post after it did this at a page, whose count was `found` before
+abbrev pub stepped : PostView → ℕ → ℕ → PageCall → PostView
+stepped v page found call = record v { did = page_step v.worker (phase_of v.state) page found call ∷ v.did }
+
+-- after it added n to the count, read it, or glanced at it
 abbrev pub added : PostView → ℕ → ℕ → ℕ → PostView
-added v page old n = record v {
-  additions = v.additions ++ addition (phase_of v.state) page old n ∷ [];
-  did = v.did ++ page_step v.worker (phase_of v.state) page old (Add n) ∷ [];
-}
+added v page old n = stepped v page old (Add n)
 
--- the post after it read a page's count, which was this
 abbrev pub has_read : PostView → ℕ → ℕ → PostView
-has_read v page count = record v {
-  reads = v.reads ++ page_read (phase_of v.state) page count (length v.additions) ∷ [];
-  did = v.did ++ page_step v.worker (phase_of v.state) page count Read ∷ [];
-}
+has_read v page count = stepped v page count Read
 
--- the post after it glanced at a page's count, which was this
 abbrev pub has_glanced : PostView → ℕ → ℕ → PostView
-has_glanced v page count = record v {
-  glances = v.glances ++ page_read (phase_of v.state) page count (length v.additions) ∷ [];
-  did = v.did ++ page_step v.worker (phase_of v.state) page count Glance ∷ [];
-}
+has_glanced v page count = stepped v page count Glance
 
 -- the post after it read the mask of its phase's hot pages, which was this
 abbrev pub with_mask : PostView → ℕ → PostView
@@ -133,7 +117,7 @@ pub record MayAdd (v : PostView) (page n : ℕ) : Type 0 where
   -- a slice has likes, and is merged once the end of the phase was seen
   pub merge : slices v page ≡ true → (1 ≤ n) × SawEnding v.last
   -- all additions of the post together stay within the likes of a worker
-  pub few : all_added v.additions + n ≤ v.limits.likes
+  pub few : all_added (additions_among v.did) + n ≤ v.limits.likes
 
 -- the page may be read: it is not sliced
 pub record MayRead (v : PostView) (page : ℕ) : Type 0 where

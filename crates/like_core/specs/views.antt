@@ -7,6 +7,7 @@ pub mod Places
 pub mod Order
 pub mod Layout
 pub mod Shows
+pub mod PostOrder
 pub mod SplitPages
 pub mod Serves
 pub mod Actions

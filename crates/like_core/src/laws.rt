@@ -10,9 +10,8 @@ ghost use Rattle.like_core.specs.views.Shows.{CountsAreOfOneMoment, MomentsAreRe
 ghost use Rattle.like_core.specs.views.SplitPages.{SlicesAreSplit, SlotsAreExact};
 ghost use Rattle.like_core.specs.views.Serves.{AllGoneCounts, AllInCounts, AnswersOne, FormServes, RetiresOne, ReturnsOne, WordTellsPhase};
 ghost use Rattle.like_core.specs.word.KindTells.{KindTellsPhase};
-ghost use Rattle.like_core.specs.views.Order.{AdditionKeepsOrder, GlanceKeepsOrder, JoinKeepsOrder, NewSeatKeepsOrder, OtherStepKeepsOrder, ReadKeepsOrder};
-ghost use Rattle.like_core.specs.views.Places.{AdditionKeepsPlaces, ReadKeepsPlaces, GlanceKeepsPlaces, JoinKeepsPlaces};
-ghost use Rattle.like_core.specs.views.Reads.{AdditionKeepsReads, ReadKeepsReads, GlanceKeepsReads, JoinKeepsReads};
+ghost use Rattle.like_core.specs.views.Order.{JoinKeepsOrder, NewSeatKeepsOrder, OtherStepKeepsOrder, PageStepKeepsOrder};
+ghost use Rattle.like_core.specs.views.PostOrder.{MomentsAreOrdered, OrderGivesBounds, OrderGivesPast, OrderGivesPlaces};
 
 /// No worker runs joined work while another has unmerged likes, after any list of events.
 pub fn reachable_is_exclusive()
@@ -69,62 +68,10 @@ pub fn kind_tells_phase()
     ensures { KindTellsPhase }
 {}
 
-/// An addition of the present phase leaves each count that was read between what the views have added: it is of no
-/// earlier phase than any read, and later than its worker's own.
-pub fn addition_keeps_reads()
-    ensures { AdditionKeepsReads }
-{}
-
-/// So does a read that finds what was added up to the present phase.
-pub fn read_keeps_reads()
-    ensures { ReadKeepsReads }
-{}
-
-/// So does a glance.
-pub fn glance_keeps_reads()
-    ensures { GlanceKeepsReads }
-{}
-
-/// So does a worker's seat that is given back: the coordinator's view then has its additions and reads.
-pub fn join_keeps_reads()
-    ensures { JoinKeepsReads }
-{}
-
-/// An addition of some likes leaves the stretches of each page one behind the other: a new stretch begins at the page's
-/// count, and the count is then at its end.
-pub fn addition_keeps_places()
-    ensures { AdditionKeepsPlaces }
-{}
-
-/// So does a read, since it finds the page's count: the one at the start, or the end of the last stretch.
-pub fn read_keeps_places()
-    ensures { ReadKeepsPlaces }
-{}
-
-/// So does a glance.
-pub fn glance_keeps_places()
-    ensures { GlanceKeepsPlaces }
-{}
-
-/// So does a worker's seat that is given back: the coordinator's view then has its stretches and reads.
-pub fn join_keeps_places()
-    ensures { JoinKeepsPlaces }
-{}
-
-/// An addition of some likes by a worker with one seat keeps the order of all that was done at pages: its step comes
-/// last, since it finds the page's count, and no step is of a later phase.
-pub fn addition_keeps_order()
-    ensures { AdditionKeepsOrder }
-{}
-
-/// So does a read, since it finds the page's count.
-pub fn read_keeps_order()
-    ensures { ReadKeepsOrder }
-{}
-
-/// So does a glance.
-pub fn glance_keeps_order()
-    ensures { GlanceKeepsOrder }
+/// A step at a page by a worker with one seat keeps the order of all that was done at pages, and comes last: it finds the
+/// page's count, and no step is of a later phase. An addition is of some likes.
+pub fn page_step_keeps_order()
+    ensures { PageStepKeepsOrder }
 {}
 
 /// Each other step of a seat leaves the order as it is. A release raises the phase, and no step is of a later one then.
@@ -140,6 +87,28 @@ pub fn join_keeps_order()
 /// So does a new seat: its worker had none, so the order has no step of it.
 pub fn new_seat_keeps_order()
     ensures { NewSeatKeepsOrder }
+{}
+
+/// At each moment, all that was done at pages up to it has one order.
+pub fn moments_are_ordered()
+    ensures { MomentsAreOrdered }
+{}
+
+/// Each count that a worker read or glanced at has all additions of earlier phases and those that the worker made before
+/// it in its phase, and none of a later phase: that follows from the order. Each addition's stretch lies between, too.
+pub fn order_gives_bounds()
+    ensures { OrderGivesBounds }
+{}
+
+/// The stretches of all additions tile each page's counts, each count that was read is the one at the start or the end of
+/// a stretch, and each worker's calls are in order: that follows, too.
+pub fn order_gives_places()
+    ensures { OrderGivesPlaces }
+{}
+
+/// And nothing is added in a later phase than the last step's.
+pub fn order_gives_past()
+    ensures { OrderGivesPast }
 {}
 
 /// The counts that the coordinator read at the end of a phase are of one moment: each has all that was added by then.

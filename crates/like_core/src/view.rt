@@ -23,13 +23,11 @@ pub struct PageRead {
     pub after: u64,
 }
 
-/// A look that a worker made at the phase word: what it saw, and what it had done before.
+/// A look that a worker made at the phase word: what it saw, and how much it had done before.
 pub struct Look {
     pub sight: Sight,
-    /// How many additions, reads and glances it had made.
-    pub additions: u64,
-    pub reads: u64,
-    pub glances: u64,
+    /// How many steps it had made at pages.
+    pub did: u64,
 }
 
 /// The mask of a phase's hot pages: bit `p` is page `p`'s.
@@ -53,11 +51,7 @@ pub struct WorkerSeatView {
     /// Its last sight, if it looked.
     pub last: Option<Sight>,
     pub looks: LinkedList<Look>,
-    pub additions: LinkedList<Addition>,
-    pub reads: LinkedList<PageRead>,
-    /// The counts of sliced pages that it read.
-    pub glances: LinkedList<PageRead>,
-    /// All that it did at pages, in its order.
+    /// All that it did at pages, the latest step first.
     pub did: LinkedList<PageStep>,
     /// The masks that it read, the latest first.
     pub masks: LinkedList<PhaseMask>,

@@ -1,6 +1,5 @@
 -- The run lists that a run leaves are those of one thread.
-use Rattle.std.proofs.Common.{◌≡◌, ℕ, ◌≤◌, ◌==◌, ◌&&◌, Bool, true, false, cond, List, [], length, filter, get_or, slice_get, Some, All, IfSome, count_by, inl, inr, refl, sym, ap, ◌∙◌, subst, arith, ne_eqb}
-use Rattle.std.specs.Option.{option_map_or}
+use Rattle.std.proofs.Common.{◌≡◌, ℕ, ◌+◌, ◌≤◌, ◌==◌, ◌&&◌, Bool, true, false, cond, List, [], ◌∷◌, length, filter, get_or, slice_get, Some, All, IfSome, count_by, inl, inr, refl, sym, ap, ◌∙◌, subst, arith, ne_eqb}
 use Rattle.std.proofs.lemmas.Bool.{cases_lt}
 use Rattle.std.proofs.lemmas.List.{length-map}
 use Rattle.std.proofs.lemmas.Option.{get_or_from_slice_get, slice_get-get_or, slice_get_within}
@@ -12,8 +11,9 @@ use Rattle.like_core.specs.declared.page_step.PageCall.TheVariants.{Add, Read, G
 use Rattle.like_core.specs.declared.page_step.PageStep.{PageStep}
 use Rattle.like_core.specs.declared.view.Addition.{Addition}
 use Rattle.like_core.specs.Additions.{added_in}
-use Rattle.like_core.specs.PageSteps.{AreInTurn, adds_to, likes_in, likes_of, addition_by, addition_in, additions_among, steps_by}
+use Rattle.like_core.specs.PageSteps.{AreInTurn, additions_among, adds_to, and_addition, earliest_first, likes_in, likes_of, steps_by}
 use Rattle.like_core.specs.views.Order.{HasDone}
+use Rattle.like_core.proofs.core.Labels.{added_in-push}
 use Rattle.like_board.specs.declared.worker_seat.WorkerSeat.{WorkerSeat}
 use Rattle.like_board.specs.Seats.{AreCounted, AreOrdered, HaveReadMasks, coord_view, seat_meaning}
 use Rattle.like_promises.specs.declared.log.Ran.{Ran}
@@ -29,57 +29,57 @@ use Rattle.like_serial.specs.StepsTold.{plain_told, steps_ran}
 use Rattle.like_serial.proofs.Follows.{serial_is_between}
 use Rattle.like_serial.proofs.Logs.{logs_are_run_lists}
 use Rattle.like_serial.proofs.Serial.{no_run, runs_are_serial}
-use Rattle.like_serial.proofs.Totals.{weigh-marks}
-use Rattle.like_serial.proofs.Weigh.{only, sum-weigh, weigh-alike, weigh-filter}
+use Rattle.like_serial.proofs.Weigh.{only, sum-weigh, weigh, weigh-append, weigh-filter}
 use Rattle.like_crew.specs.declared.ended.Ended.{Ended}
 use Rattle.like_crew.specs.declared.site.Site.{Site}
 use Rattle.like_crew.specs.Ended.{IsEnded, IsSeatOf}
 use Rattle.like_crew.specs.Server.{IsLogOf}
 use Rattle.like_crew.proofs.Whole.{hot_known, initial-at, known, left-at, log-there, logs-are, logs-size, right-at, right-at-server, run-at, seat-worker, seats-size, served, server-at}
 
--- what an addition adds to a page in a phase
-abbrev adds_in : ℕ → ℕ → Addition → ℕ
-adds_in phase page a = cond ((a.phase == phase) && (a.page == page)) a.likes 0
-
 -- nothing is added to a page in a phase
-none-added : (a b : Bool) → 0 ≡ only a (cond b 0 0)
+none-added : (a b : Bool) → only a (cond b 0 0) ≡ 0
 none-added true true = refl
 none-added true false = refl
 none-added false b = refl
 
--- a step adds what the addition does that it is
-adds_same : (phase page k q found : ℕ) (call : PageCall)
-    → option_map_or (adds_in phase page) (addition_by k q found call) 0
-    ≡ only (k == phase) (cond (q == page) (likes_of call) 0)
-adds_same phase page k q found (Add n) = both (k == phase) (q == page) where
-  both : (a b : Bool) → cond (a && b) n 0 ≡ only a (cond b n 0)
-  both true b = refl
-  both false b = refl
-adds_same phase page k q found Read = none-added (k == phase) (q == page)
-adds_same phase page k q found Glance = none-added (k == phase) (q == page)
+-- one call more adds this
+call_adds : (xs : List Addition) (phase page k q found : ℕ) (call : PageCall)
+    → added_in phase page (and_addition xs k q found call)
+    ≡ added_in phase page xs + only (k == phase) (cond (q == page) (likes_of call) 0)
+call_adds xs phase page k q found (Add n) =
+    added_in-push xs k q found n phase page ∙ ap (λ m. added_in phase page xs + m) (both (k == phase) (q == page)) where
+      both : (a b : Bool) → cond (a && b) n 0 ≡ only a (cond b n 0)
+      both true b = refl
+      both false b = refl
+call_adds xs phase page k q found Read = let none = none-added (k == phase) (q == page) in omega arith
+call_adds xs phase page k q found Glance = let none = none-added (k == phase) (q == page) in omega arith
 
 -- steps of a phase add what the additions among them do
 steps_add : (did : List PageStep) (phase page : ℕ)
-    → likes_in page (filter (λ s. s.phase == phase) did) ≡ added_in phase page (additions_among did)
+    → likes_in page (filter (λ s. s.phase == phase) (earliest_first did)) ≡ added_in phase page (additions_among did)
 steps_add did phase page =
-    sum-weigh (adds_to page) (filter (λ (s : PageStep). s.phase == phase) did)
-    ∙ weigh-filter (λ (s : PageStep). s.phase == phase) (adds_to page) did
-    ∙ sym
-    (sum-weigh (adds_in phase page) (additions_among did)
-    ∙ weigh-marks (adds_in phase page) addition_in did
-    ∙ weigh-alike (λ (s : PageStep). option_map_or (adds_in phase page) (addition_in s) 0)
-    (λ s. only (s.phase == phase) (adds_to page s)) did
-    (λ s. adds_same phase page s.phase s.page s.found s.call))
+    sum-weigh (adds_to page) (filter (λ (s : PageStep). s.phase == phase) (earliest_first did))
+    ∙ weigh-filter (λ (s : PageStep). s.phase == phase) (adds_to page) (earliest_first did)
+    ∙ all did
+  where
+    all : (steps : List PageStep)
+        → weigh (λ s. only (s.phase == phase) (adds_to page s)) (earliest_first steps)
+        ≡ added_in phase page (additions_among steps)
+    all [] = refl
+    all (s ∷ before) =
+        let rest = all before in
+        let both = weigh-append (λ (t : PageStep). only (t.phase == phase) (adds_to page t)) (earliest_first before) (s ∷ []) in
+        let here = call_adds (additions_among before) phase page s.phase s.page s.found s.call in
+        omega arith
 
 -- what a worker did fits its run list, if its plain steps and its additions do
-pub fits-run : (workload : Workload) (did : List PageStep) (additions : List Addition) (ran : List Ran)
-    → additions ≡ additions_among did
-    → plain_told workload did ≡ steps_ran workload ran
-    → ((phase page : ℕ) → likes_within workload page ran phase ≡ added_in phase page additions)
-    → FitsRunList workload did ran
-fits-run workload did additions ran are plain by_phase = record {
+pub fits-run : (workload : Workload) (did : List PageStep) (ran : List Ran)
+    → plain_told workload (earliest_first did) ≡ steps_ran workload ran
+    → ((phase page : ℕ) → likes_within workload page ran phase ≡ added_in phase page (additions_among did))
+    → FitsRunList workload (earliest_first did) ran
+fits-run workload did ran plain by_phase = record {
   plain = plain;
-  by_phase = λ phase page. steps_add did phase page ∙ ap (added_in phase page) (sym are) ∙ sym (by_phase phase page);
+  by_phase = λ phase page. steps_add did phase page ∙ sym (by_phase phase page);
 }
 
 -- where nothing ran, nothing was done
@@ -91,7 +91,7 @@ module _ (setup : Setup) (plans : List (List Request)) (site : Site) (e : Ended)
     (order : AreOrdered (coord_view e.coord).opening (coord_view e.coord).phase e.seats.items steps) where
   -- what the worker of a log did
   fits-log : (worker : ℕ) (log : WorkerLog) → slice_get e.logs.items worker ≡ Some log
-      → FitsRunList (known setup plans site e h) (steps_by worker steps) log.ran.items
+      → FitsRunList (known setup plans site e h) (earliest_first (steps_by worker steps)) log.ran.items
   fits-log worker log at =
       let s = left-at IsLogOf h.servers e.logs.items worker log h.logs at in
       let is = server-at setup plans site e h worker s.0 s.1.0 in
@@ -104,10 +104,9 @@ module _ (setup : Setup) (plans : List (List Request)) (site : Site) (e : Ended)
       let post : HasDone steps s.0.worker.post = subst (HasDone steps) seat.1.1 own in
       let right = s.1.1.each (known setup plans site e h)
       (is.works (hot_known setup plans site e h), right-at-server setup plans site e h masks worker s.0 s.1.0) in
-      subst (λ did. FitsRunList (known setup plans site e h) did log.ran.items)
-      (sym post.did ∙ ap (λ i. steps_by i steps) is.whose)
-      (fits-run (known setup plans site e h) s.0.worker.post.did s.0.worker.post.additions log.ran.items post.additions
-      right.steps right.by_phase)
+      subst (λ did. FitsRunList (known setup plans site e h) (earliest_first did) log.ran.items)
+      (sym post ∙ ap (λ i. steps_by i steps) is.whose)
+      (fits-run (known setup plans site e h) s.0.worker.post.did log.ran.items right.steps right.by_phase)
 
   -- no seat is of a worker that is not there
   none-seated : (worker : ℕ) → length e.logs.items ≤ worker
@@ -122,15 +121,15 @@ module _ (setup : Setup) (plans : List (List Request)) (site : Site) (e : Ended)
       (omega (arith, own, same, within, past, seats-size setup plans site e h, logs-size setup plans site e h))))
 
   fits-worker : (worker : ℕ)
-      → FitsRunList (known setup plans site e h) (steps_by worker steps) (run_of (runs_of e.logs.items) worker)
+      → FitsRunList (known setup plans site e h) (earliest_first (steps_by worker steps)) (run_of (runs_of e.logs.items) worker)
   fits-worker worker = elim (cases_lt worker (length e.logs.items)) [
     | inl within ↦
         let found = log-there e.logs.items worker within in
-        subst (FitsRunList (known setup plans site e h) (steps_by worker steps))
+        subst (FitsRunList (known setup plans site e h) (earliest_first (steps_by worker steps)))
         (sym (run-at e.logs.items worker found.0 found.1))
         (fits-log worker found.0 found.1)
     | inr past ↦
-        subst (λ did. FitsRunList (known setup plans site e h) did (run_of (runs_of e.logs.items) worker))
+        subst (λ did. FitsRunList (known setup plans site e h) (earliest_first did) (run_of (runs_of e.logs.items) worker))
         (sym (order.others worker (none-seated worker past)))
         (subst (FitsRunList (known setup plans site e h) [])
         (sym (no_run (runs_of e.logs.items) worker

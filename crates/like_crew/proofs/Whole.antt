@@ -24,6 +24,7 @@ use Rattle.like_board.specs.Seats.{AreAll, AreCounted, BoardId, board_id, board_
 use Rattle.like_board.proofs.InOrder.{all_in_order}
 use Rattle.like_board.proofs.Meanings.{same_board}
 use Rattle.like_core.specs.declared.worker_state.WorkerState.TheVariants.{Gone}
+use Rattle.like_core.specs.PageSteps.{additions_among}
 use Rattle.like_tables.specs.Share.{Share, share_of, worker_of}
 use Rattle.like_tables.specs.UserTable.{last_of}
 use Rattle.like_promises.specs.declared.log.Ran.{Ran}
@@ -261,14 +262,14 @@ module _ (setup : Setup) (plans : List (List Request)) (site : Site) (e : Ended)
   pub all-before : HaveReadMasks (coord_view e.coord).masks e.seats.items → (phase page : ℕ)
       → seats_before e.seats.items phase page ≡ likes_below known page (runs_of e.logs.items) phase
   all-before masks phase page =
-      sym (pairs-sum IsSeatOf (λ (s : ServerView). added_before phase page s.worker.post.additions)
-      (λ (seat : WorkerSeat). added_before phase page (seat_meaning seat).additions) h.servers e.seats.items
-      (λ s seat m. ap (λ (p : PostView). added_before phase page p.additions) (sym m)) h.seats)
+      sym (pairs-sum IsSeatOf (λ (s : ServerView). added_before phase page (additions_among s.worker.post.did))
+      (λ (seat : WorkerSeat). added_before phase page (additions_among (seat_meaning seat).did)) h.servers e.seats.items
+      (λ s seat m. ap (λ (p : PostView). added_before phase page (additions_among p.did)) (sym m)) h.seats)
       ∙ pairs-sum (λ (s : ServerView) (log : WorkerLog). HasWorkedFor known s × IsLogOf s log)
-      (λ (s : ServerView). added_before phase page s.worker.post.additions)
+      (λ (s : ServerView). added_before phase page (additions_among s.worker.post.did))
       (λ (log : WorkerLog). likes_among known page (filter (λ x. nat_lt x.phase phase) log.ran.items)) h.servers
       e.logs.items
-      (λ s log m. sym (below-is known log.ran.items s.worker.post.additions (m.1.each known m.0).by_phase phase page))
+      (λ s log m. sym (below-is known log.ran.items (additions_among s.worker.post.did) (m.1.each known m.0).by_phase phase page))
       (with-fact IsLogOf (HasWorkedFor known) h.servers e.logs.items
       (λ k s at. ((server-at k s at).works hot_known, right-at-server masks k s at)) h.logs)
       ∙ sym (sum-of-map (λ (ran : List Ran). likes_among known page (filter (λ x. nat_lt x.phase phase) ran))

@@ -9,6 +9,7 @@ use Rattle.like_core.specs.declared.sight.Sight.{Sight}
 use Rattle.like_core.specs.declared.worker_state.WorkerState.TheVariants.{Gone}
 use Rattle.like_core.specs.PhaseMasks.{AreMasksOf}
 use Rattle.like_core.specs.Post.{additions_in, additions_of, pages_of}
+use Rattle.like_core.specs.PageSteps.{additions_among, earliest_first, reads_among}
 use Rattle.like_queue.specs.Inbox.{InboxView}
 use Rattle.like_tables.specs.Share.{Share, dealt, place_of, serves}
 use Rattle.like_roles.specs.worker.Follows.{AreNoted, Follows}
@@ -123,8 +124,8 @@ pub record IsLogFor (workload : Workload) (s : ServerView) (log : WorkerLog) : T
   pub likes : (page : ℕ) → likes_among workload page log.ran.items ≡ additions_of s.worker.post page
   pub by_phase : (phase page : ℕ)
       → likes_within workload page log.ran.items phase ≡ additions_in s.worker.post phase page
-  pub looks : shown_in workload log.ran.items ≡ map (shown_by s.worker.post.additions) s.worker.post.reads
-  pub steps : plain_told workload s.worker.post.did ≡ steps_ran workload log.ran.items
+  pub looks : shown_in workload log.ran.items ≡ map (shown_by (additions_among s.worker.post.did)) (reads_among s.worker.post.did)
+  pub steps : plain_told workload (earliest_first s.worker.post.did) ≡ steps_ran workload log.ran.items
   pub noted : s.worker.notes ≡ true → AreNoted workload s.worker
 
 -- a server leaves this log: it is what its worker ran and noted, has nothing taken above the phase that it saw last,

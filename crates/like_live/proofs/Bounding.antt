@@ -8,6 +8,7 @@ use Rattle.like_core.specs.declared.worker_state.WorkerState.TheVariants.{Gone}
 use Rattle.like_core.specs.Additions.{added_before, page_read}
 use Rattle.like_core.specs.Post.{PostView, slices}
 use Rattle.like_core.specs.views.Reads.{AreBetween, IsBetween}
+use Rattle.like_core.specs.PageSteps.{additions_among, glances_among, reads_among}
 use Rattle.like_board.specs.declared.worker_seat.WorkerSeat.{WorkerSeat}
 use Rattle.like_board.specs.Seats.{seat_meaning, seats_before}
 use Rattle.like_live.specs.Driver.{DriverView}
@@ -45,7 +46,7 @@ module _ (driver : DriverView) (seats : List LiveView) (back : List WorkerSeat) 
 
   -- some reads of a seat are within their bounds
   abbrev Fit : (PostView → List PageRead) → PostView → Type 0
-  Fit pick p = AreBetween first (seats_before back) driver.lead.seat.phase p.additions (pick p)
+  Fit pick p = AreBetween first (seats_before back) driver.lead.seat.phase (additions_among p.did) (pick p)
 
   -- those of a seat are, if they are of each seat that was given back
   fit : (pick : PostView → List PageRead) → All (λ seat. Fit pick (seat_meaning seat)) back → Fit pick (post_at after)
@@ -56,12 +57,12 @@ module _ (driver : DriverView) (seats : List LiveView) (back : List WorkerSeat) 
   -- the seats that were given back have added the same before a phase
   same_before : (phase page : ℕ) → seats_before back phase page ≡ seats_added_before seats phase page
   same_before phase page =
-      sum-alike (λ (p : PostView). added_before phase page p.additions) seat_meaning post_at back seats same
+      sum-alike (λ (p : PostView). added_before phase page (additions_among p.did)) seat_meaning post_at back seats same
 
   -- a count that was read is within its bounds
-  read-bounded : (s : Shown) → Fit (λ p. p.reads) (post_at after) → IsRead after s → IsWithinAdded driver seats s
+  read-bounded : (s : Shown) → Fit (λ p. (reads_among p.did)) (post_at after) → IsRead after s → IsWithinAdded driver seats s
   read-bounded s all r =
-      let is = is_between first (seats_before back) driver.lead.seat.phase after.seat.post.additions after.seat.post.reads
+      let is = is_between first (seats_before back) driver.lead.seat.phase (additions_among after.seat.post.did) (reads_among after.seat.post.did)
       (page_read s.phase s.page s.count r.0) all r.1 in
       let own = r.2 in
       let least = is.least in
@@ -73,11 +74,11 @@ module _ (driver : DriverView) (seats : List LiveView) (back : List WorkerSeat) 
   -- so is one that was glanced at, with the seat's own likes, which it has added if it is gone
   glance-bounded : (now : LiveView) (s : Shown)
       → after.seat.post.state ≡ Gone
-      → Fit (λ p. p.glances) (post_at after)
+      → Fit (λ p. (glances_among p.did)) (post_at after)
       → IsGlanced now after s
       → IsWithinAdded driver seats s
   glance-bounded now s gone all g =
-      let is = is_between first (seats_before back) driver.lead.seat.phase after.seat.post.additions after.seat.post.glances
+      let is = is_between first (seats_before back) driver.lead.seat.phase (additions_among after.seat.post.did) (glances_among after.seat.post.did)
       (page_read s.phase s.page g.board g.after) all g.there in
       let own = g.own in
       let least = is.least in
@@ -96,8 +97,8 @@ answers_are_bounded driver seats counts v now after t closed gone there unused c
     let same = closed.posts in
     let here : after.seat.post.state ≡ Gone =
     All-contains (λ (s : LiveView). s.seat.post.state ≡ Gone) seats after gone there in
-    let reads = fit driver seats back same after there (λ p. p.reads) closed.reads in
-    let glances = fit driver seats back same after there (λ p. p.glances) closed.glances in
+    let reads = fit driver seats back same after there (λ p. (reads_among p.did)) closed.reads in
+    let glances = fit driver seats back same after there (λ p. (glances_among p.did)) closed.glances in
     let bound : Shown → Type 0 = IsWithinAdded driver seats in
     let read : (s : Shown) → IsRead after s → bound s =
     λ s r. read-bounded driver seats back same after there s reads r in

@@ -5,10 +5,10 @@ use Rattle.std.proofs.lemmas.List.{get_or-set_other, get_or-set_same}
 use Rattle.std.proofs.lemmas.List.Sums.{sum_by-append, sum_by-cons}
 use Rattle.like_core.specs.declared.view.Addition.{Addition}
 use Rattle.like_core.specs.declared.page_step.PageStep.{PageStep}
-use Rattle.like_core.specs.declared.view.PageRead.{PageRead}
 use Rattle.like_core.specs.Additions.{addition, added_to}
 use Rattle.like_core.specs.Post.{has_glanced, has_read, pages_of}
 use Rattle.like_core.specs.WorkerState.{phase_of}
+use Rattle.like_core.specs.PageSteps.{additions_among}
 use Rattle.like_requests.specs.declared.request.PageRef.TheVariants.{Known, Unknown}
 use Rattle.like_requests.specs.declared.verdict.Verdict.TheVariants.{Accepted, UnknownUser, OtherHome, UnknownPage}
 use Rattle.like_requests.specs.Verdict.{is_known}
@@ -78,7 +78,7 @@ counts-tally s after user page None other there c =
     omega arith
 counts-tally s after user page (Some count) other there c =
     let e = ap (λ (t : StationView Asked). tally_of t other) c.1 in
-    let more = added-more s.post.additions (phase_of s.post.state) page count other in
+    let more = added-more (additions_among s.post.did) (phase_of s.post.state) page count other in
     omega arith
 
 pub LikesNow-tallies : (v after : LiveView) (user page : ℕ) (answer : LikeAnswer)
@@ -146,17 +146,18 @@ pub record LeavesLikes (v after : LiveView) : Type 0 where
   pub last : after.seat.last ≡ v.seat.last
 
 -- so reads, glances and looks that wait leave them, after a turn that does
-still-leaves : (u v : LiveView) (reads glances : List PageRead) (did : List PageStep) (held : Waiting Asked)
+still-leaves : (u v : LiveView) (did : List PageStep) (held : Waiting Asked)
+    → additions_among did ≡ additions_among v.seat.post.did
     → LeavesLikes u v
     → LeavesLikes u (with_seat v (record v.seat {
-      post = record v.seat.post { reads = reads; glances = glances; did = did };
+      post = record v.seat.post { did = did };
       held = held;
     }))
-still-leaves u v reads glances did held turn =
+still-leaves u v did held same_adds turn =
     let same = turn.same in
     record {
       same = record { board = same.board; worker = same.worker; marks = same.marks; share = same.share };
-      tallies = turn.tallies;
+      tallies = λ page. ap (λ xs. added_to page xs + get_or v.seat.slice page 0) same_adds ∙ turn.tallies page;
       last = turn.last;
     }
 
@@ -168,13 +169,12 @@ pub LooksNow-leaves : (u v after : LiveView) (user page tag : ℕ) (answer : Loo
 LooksNow-leaves u v after user page tag answer turn (calls.refused fails a is) = subst (LeavesLikes u) (sym is) turn
 LooksNow-leaves u v after user page tag answer turn (calls.seen shown s accepted plain a read is) =
     subst (LeavesLikes u) (sym (is ∙ ap (with_seat v) read.read))
-    (still-leaves u v (has_read v.seat.post page shown.count).reads v.seat.post.glances
-    (has_read v.seat.post page shown.count).did v.seat.held turn)
+    (still-leaves u v (has_read v.seat.post page shown.count).did v.seat.held refl turn)
 LooksNow-leaves u v after user page tag answer turn (calls.no_room accepted split most a is) =
     subst (LeavesLikes u) (sym is) turn
 LooksNow-leaves u v after user page tag answer turn (calls.waits accepted split room a is) =
     subst (LeavesLikes u) (sym is)
-    (still-leaves u v v.seat.post.reads v.seat.post.glances v.seat.post.did (holding v.seat (asked_now v user page tag)).held turn)
+    (still-leaves u v v.seat.post.did (holding v.seat (asked_now v user page tag)).held refl turn)
 
 -- so does a glance
 pub GlancesNow-leaves : (u v after : LiveView) (user page : ℕ) (answer : GlanceAnswer)
@@ -184,9 +184,7 @@ pub GlancesNow-leaves : (u v after : LiveView) (user page : ℕ) (answer : Glanc
 GlancesNow-leaves u v after user page answer turn (calls.refused fails a is) = subst (LeavesLikes u) (sym is) turn
 GlancesNow-leaves u v after user page answer turn (calls.plain shown s accepted plain a read is) =
     subst (LeavesLikes u) (sym (is ∙ ap (with_seat v) read.read))
-    (still-leaves u v (has_read v.seat.post page shown.count).reads v.seat.post.glances
-    (has_read v.seat.post page shown.count).did v.seat.held turn)
+    (still-leaves u v (has_read v.seat.post page shown.count).did v.seat.held refl turn)
 GlancesNow-leaves u v after user page answer turn (calls.split shown s accepted split a glance is) =
     subst (LeavesLikes u) (sym (is ∙ ap (with_seat v) glance.glanced))
-    (still-leaves u v v.seat.post.reads (has_glanced v.seat.post page glance.count).glances
-    (has_glanced v.seat.post page glance.count).did v.seat.held turn)
+    (still-leaves u v (has_glanced v.seat.post page glance.count).did v.seat.held refl turn)

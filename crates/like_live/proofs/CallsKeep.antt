@@ -3,6 +3,7 @@ use Rattle.std.proofs.Common.{◌≡◌, ℕ, ◌<◌, inl, inr, Bool, length, O
 use Rattle.std.proofs.lemmas.List.Elements.{All-drop}
 use Rattle.like_core.specs.WorkerState.{RunsJoined}
 use Rattle.like_core.specs.declared.worker_state.WorkerState.TheVariants.{Gone}
+use Rattle.like_core.specs.PageSteps.{additions_among}
 use Rattle.like_seat.specs.Steps.{came_back}
 use Rattle.like_live.specs.declared.answer.GlanceAnswer.{GlanceAnswer}
 use Rattle.like_live.specs.declared.answer.LikeAnswer.{LikeAnswer}
@@ -50,7 +51,7 @@ Keeps-looks v after user page tag answer (calls.waits accepted split room a is) 
       reads = λ r there. there;
       glances = λ r there. there;
       more = [];
-      additions = sym (append-nil v.seat.post.additions);
+      additions = sym (append-nil (additions_among v.seat.post.did));
       held = λ phase other from n h. record { within = h.within; split = h.split; kept = h.kept };
       found = λ all. all;
     })
@@ -69,7 +70,7 @@ Keeps-takes v after taken takes = subst (Keeps v) (sym takes.1) (record {
   reads = λ r there. there;
   glances = λ r there. there;
   more = [];
-  additions = sym (append-nil v.seat.post.additions);
+  additions = sym (append-nil (additions_among v.seat.post.did));
   held = λ phase other from n h. record { within = h.within; split = h.split; kept = h.kept };
   found = λ all. All-drop (λ f. IsRead v (found_count f)) 1 v.found all;
 })
@@ -95,7 +96,7 @@ Keeps-came_back v phase mask gone = record {
   reads = λ r there. there;
   glances = λ r there. there;
   more = [];
-  additions = sym (append-nil v.seat.post.additions);
+  additions = sym (append-nil (additions_among v.seat.post.did));
   held = λ phase other from n h. record {
     within = h.within;
     split = h.split;

@@ -4,9 +4,10 @@ use Rattle.std.specs.List.{All, AllByRecursion}
 use Rattle.std.proofs.lemmas.List.Elements.{All-head, All-tail}
 use Rattle.like_core.specs.declared.page_step.PageStep.{PageStep}
 use Rattle.like_core.specs.declared.view.Addition.{Addition}
-use Rattle.like_core.specs.PageSteps.{step_adding}
+use Rattle.like_core.specs.PageSteps.{earliest_first, step_adding}
 use Rattle.like_core.specs.Post.{pages_of}
 use Rattle.like_core.specs.WorkerState.{RunsSplit}
+use Rattle.like_core.proofs.Steps.{then-earliest}
 use Rattle.like_seat.specs.StationView.{phase_at}
 use Rattle.like_serial.proofs.Interleaved.{all_front, all_rest}
 use Rattle.like_serial.proofs.Phases.{Rises, all_append, all_then, rises-append, rises-same}
@@ -17,7 +18,7 @@ use Rattle.like_live.specs.Deeds.{Act, Deed, counted, deed, deed_found, glimpsed
 use Rattle.like_live.proofs.Calling.{page_there, slice-more}
 use Rattle.like_live.proofs.Ordered.{IsOrdered, first_add, looked_phase, ordered_back, rises_to}
 use Rattle.like_live.proofs.Standing.{IsKept, Stands, runs_split, unsplit}
-use Rattle.like_live.proofs.Stepping.{IsRequest, Step, acknowledges, adds_like, done_by, finds, glances, holds, looks, next, reads, reports, retires, returns, slices_like, takes}
+use Rattle.like_live.proofs.Stepping.{IsRequest, Step, acknowledges, adds_like, done_by, finds, glances, holds, looks, next, reads, reports, reported, retires, returns, slices_like, takes}
 
 abbrev pub phase_of_deed : Deed → ℕ
 phase_of_deed d = d.phase
@@ -27,7 +28,7 @@ phase_of_step s = s.phase
 
 -- a number is no less than the phases of the seat's steps, and of the likes in its slice
 pub record IsPast (k : ℕ) (v : LiveView) : Type 0 where
-  pub steps : AllByRecursion (λ s. phase_of_step s ≤ k) v.seat.post.did
+  pub steps : AllByRecursion (λ s. phase_of_step s ≤ k) (earliest_first v.seat.post.did)
   pub slice : (page : ℕ) → get_or v.seat.slice page 0 ≢ 0 → phase_at v.seat ≤ k
 
 -- phases never fall along the deeds so far, and none is later than the seat's steps and the likes in its slice
@@ -46,7 +47,7 @@ module _ (first : LiveView) (masks : ℕ → ℕ) where
   -- deeds of the seat's phase, when none of its steps is later
   deeds_now : (v w : LiveView) (ds es : List Deed)
       → AllByRecursion (λ d. phase_of_deed d ≡ phase_at v.seat) es
-      → AllByRecursion (λ s. phase_of_step s ≤ phase_at v.seat) v.seat.post.did
+      → AllByRecursion (λ s. phase_of_step s ≤ phase_at v.seat) (earliest_first v.seat.post.did)
       → ((k : ℕ) → IsPast k w → IsPast k v × (phase_at v.seat ≤ k))
       → HasRisen v ds → HasRisen w (ds ++ es)
   deeds_now v w ds es now least past h =
@@ -66,18 +67,18 @@ module _ (first : LiveView) (masks : ℕ → ℕ) where
 
   -- one deed that is a step
   one_step : (v w : LiveView) (ds : List Deed) (d : Deed) (s : PageStep) → d.phase ≡ phase_at v.seat
-      → s.phase ≡ phase_at v.seat → w.seat.post.did ≡ v.seat.post.did ++ s ∷ []
+      → s.phase ≡ phase_at v.seat → earliest_first w.seat.post.did ≡ earliest_first v.seat.post.did ++ s ∷ []
       → w.seat.slice ≡ v.seat.slice → phase_at w.seat ≡ phase_at v.seat → IsOrdered masks w
       → HasRisen v ds → HasRisen w (ds ++ d ∷ [])
   one_step v w ds d s d_is s_is did slice same o h =
       deeds_now v w ds (d ∷ []) (d_is, tt)
-      (subst (λ n. AllByRecursion (λ t. phase_of_step t ≤ n) v.seat.post.did) s_is
-      (rises_to phase_of_step v.seat.post.did s [] (subst (Rises phase_of_step) did o.rises)))
+      (subst (λ n. AllByRecursion (λ t. phase_of_step t ≤ n) (earliest_first v.seat.post.did)) s_is
+      (rises_to phase_of_step (earliest_first v.seat.post.did) s [] (subst (Rises phase_of_step) did o.rises)))
       (λ k is.
       let all = subst (AllByRecursion (λ t. phase_of_step t ≤ k)) did is.steps in
-      let last = (all_rest (λ t. phase_of_step t ≤ k) v.seat.post.did (s ∷ []) all).0 in (
+      let last = (all_rest (λ t. phase_of_step t ≤ k) (earliest_first v.seat.post.did) (s ∷ []) all).0 in (
         record {
-          steps = all_front (λ t. phase_of_step t ≤ k) v.seat.post.did (s ∷ []) all;
+          steps = all_front (λ t. phase_of_step t ≤ k) (earliest_first v.seat.post.did) (s ∷ []) all;
           slice = λ page has. subst (λ n. n ≤ k) same
               (is.slice page (subst (λ xs. get_or xs page 0 ≢ 0) (sym slice) has));
         },
@@ -96,12 +97,12 @@ module _ (first : LiveView) (masks : ℕ → ℕ) where
 
   finds_risen : (v w : LiveView) (found : List Found) (ds : List Deed) → All (λ f. f.phase ≡ phase_at v.seat) found
       → ((page : ℕ) → get_or v.seat.slice page 0 ≢ 0 → ⊥)
-      → w.seat.post.did ≡ v.seat.post.did ++ map (step_for v.seat.post.worker) found
+      → earliest_first w.seat.post.did ≡ earliest_first v.seat.post.did ++ map (step_for v.seat.post.worker) found
       → IsOrdered masks w → HasRisen v ds → HasRisen w (ds ++ map deed_found found)
   finds_risen v w [] ds all none did o h =
       no_deed v w ds
       (λ k is. record {
-        steps = subst (AllByRecursion (λ t. phase_of_step t ≤ k)) (did ∙ append-nil v.seat.post.did) is.steps;
+        steps = subst (AllByRecursion (λ t. phase_of_step t ≤ k)) (did ∙ append-nil (earliest_first v.seat.post.did)) is.steps;
         slice = λ page has. absurd (none page has);
       })
       h
@@ -109,14 +110,14 @@ module _ (first : LiveView) (masks : ℕ → ℕ) where
       let here = All-head (λ (g : Found). g.phase ≡ phase_at v.seat) f found all in
       let steps = map (step_for v.seat.post.worker) (f ∷ found) in
       deeds_now v w ds (map deed_found (f ∷ found)) (phases_found (phase_at v.seat) (f ∷ found) all)
-      (subst (λ n. AllByRecursion (λ t. phase_of_step t ≤ n) v.seat.post.did) here
-      (rises_to phase_of_step v.seat.post.did (step_for v.seat.post.worker f) (map (step_for v.seat.post.worker) found)
+      (subst (λ n. AllByRecursion (λ t. phase_of_step t ≤ n) (earliest_first v.seat.post.did)) here
+      (rises_to phase_of_step (earliest_first v.seat.post.did) (step_for v.seat.post.worker f) (map (step_for v.seat.post.worker) found)
       (subst (Rises phase_of_step) did o.rises)))
       (λ k is.
       let each = subst (AllByRecursion (λ t. phase_of_step t ≤ k)) did is.steps in
-      let top = (all_rest (λ t. phase_of_step t ≤ k) v.seat.post.did steps each).0 in (
+      let top = (all_rest (λ t. phase_of_step t ≤ k) (earliest_first v.seat.post.did) steps each).0 in (
         record {
-          steps = all_front (λ t. phase_of_step t ≤ k) v.seat.post.did steps each;
+          steps = all_front (λ t. phase_of_step t ≤ k) (earliest_first v.seat.post.did) steps each;
           slice = λ page has. absurd (none page has);
         },
         omega (arith, top, here),
@@ -132,7 +133,8 @@ module _ (first : LiveView) (masks : ℕ → ℕ) where
       }) h
   risen_next v (finds found joined order shown) ds st o h =
       finds_risen v _ found ds (λ i d below. (shown i d below).phase)
-      (λ page has. unsplit v.seat.post.state joined (st.split page has).0) refl o h
+      (λ page has. unsplit v.seat.post.state joined (st.split page has).0)
+      (then-earliest v.seat.post.did (map (step_for v.seat.post.worker) found)) o h
   risen_next v (acknowledges joined) ds st o h =
       no_deed v _ ds (λ k is. record {
         steps = is.steps;
@@ -140,7 +142,7 @@ module _ (first : LiveView) (masks : ℕ → ℕ) where
       }) h
   risen_next v (reports adds runs merges) ds st o h =
       no_deed v _ ds (λ k is. record {
-        steps = all_front (λ t. phase_of_step t ≤ k) v.seat.post.did (map (step_adding v.seat.post.worker) adds) is.steps;
+        steps = all_front (λ t. phase_of_step t ≤ k) (earliest_first v.seat.post.did) (map (step_adding v.seat.post.worker) adds) (now k is);
         slice = λ page has.
             let a = first_add adds page (λ none. has (sym (merges.sums page) ∙ none)) in
             let phase : a.0.phase ≡ phase_at v.seat =
@@ -148,10 +150,16 @@ module _ (first : LiveView) (masks : ℕ → ℕ) where
             let all = subst
             (λ (xs : List Addition). AllByRecursion (λ t. phase_of_step t ≤ k) (map (step_adding v.seat.post.worker) xs))
             a.1.1
-            (all_rest (λ t. phase_of_step t ≤ k) v.seat.post.did (map (step_adding v.seat.post.worker) adds) is.steps) in
+            (all_rest (λ t. phase_of_step t ≤ k) (earliest_first v.seat.post.did) (map (step_adding v.seat.post.worker) adds) (now k is)) in
             let top = all.0 in
             omega (arith, phase, top);
       }) h
+    where
+      now : (k : ℕ) → IsPast k (reported v adds)
+          → AllByRecursion (λ t. phase_of_step t ≤ k)
+          (earliest_first v.seat.post.did ++ map (step_adding v.seat.post.worker) adds)
+      now k is = subst (AllByRecursion (λ t. phase_of_step t ≤ k))
+          (then-earliest v.seat.post.did (map (step_adding v.seat.post.worker) adds)) is.steps
   risen_next v (retires joined) ds st o h =
       no_deed v _ ds (λ k is. record {
         steps = is.steps;

@@ -7,9 +7,10 @@ use Rattle.std.proofs.lemmas.List.{map-append}
 use Rattle.like_core.specs.declared.page_step.PageCall.TheVariants.{Add, Read, Glance}
 use Rattle.like_core.specs.declared.page_step.PageStep.{PageStep}
 use Rattle.like_core.specs.declared.view.Addition.{Addition}
-use Rattle.like_core.specs.PageSteps.{AddsSome, page_step, step_adding}
+use Rattle.like_core.specs.PageSteps.{AddsSome, earliest_first, page_step, step_adding}
 use Rattle.like_core.specs.Post.{slices}
 use Rattle.like_core.specs.WorkerState.{RunsJoined, RunsSplit}
+use Rattle.like_core.proofs.Steps.{then-earliest}
 use Rattle.like_seat.specs.StationView.{phase_at}
 use Rattle.like_serial.specs.StepsTold.{StepTold, step_told}
 use Rattle.like_serial.proofs.Interleaved.{all_rest}
@@ -43,7 +44,7 @@ module _ (first : LiveView) (masks : ℕ → ℕ) where
 
   -- the deeds so far tell the seat's steps at such pages, in their order
   pub record HasSteps (v : LiveView) (ds : List Deed) : Type 0 where
-    pub steps : filter_map (step_of split) ds ≡ map step_told (filter (is_plain split) v.seat.post.did)
+    pub steps : filter_map (step_of split) ds ≡ map step_told (filter (is_plain split) (earliest_first v.seat.post.did))
 
   told-append : (xs ys : List PageStep)
       → map step_told (filter (is_plain split) (xs ++ ys))
@@ -54,18 +55,18 @@ module _ (first : LiveView) (masks : ℕ → ℕ) where
 
   -- deeds more that tell steps more
   more_steps : (v w : LiveView) (ds es : List Deed) (more : List PageStep)
-      → w.seat.post.did ≡ v.seat.post.did ++ more
+      → earliest_first w.seat.post.did ≡ earliest_first v.seat.post.did ++ more
       → filter_map (step_of split) es ≡ map step_told (filter (is_plain split) more)
       → HasSteps v ds → HasSteps w (ds ++ es)
   more_steps v w ds es more did same k = record {
     steps =
         filter_map-append (step_of split) ds es ∙ ap₂ (λ a b. a ++ b) k.steps same
-        ∙ sym (told-append v.seat.post.did more) ∙ sym (ap (λ xs. map step_told (filter (is_plain split) xs)) did);
+        ∙ sym (told-append (earliest_first v.seat.post.did) more) ∙ sym (ap (λ xs. map step_told (filter (is_plain split) xs)) did);
   }
 
   -- no deed, and no step
-  no_steps : (v w : LiveView) (ds : List Deed) → w.seat.post.did ≡ v.seat.post.did → HasSteps v ds → HasSteps w (ds ++ [])
-  no_steps v w ds did k = more_steps v w ds [] [] (did ∙ sym (append-nil v.seat.post.did)) refl k
+  no_steps : (v w : LiveView) (ds : List Deed) → earliest_first w.seat.post.did ≡ (earliest_first v.seat.post.did) → HasSteps v ds → HasSteps w (ds ++ [])
+  no_steps v w ds did k = more_steps v w ds [] [] (did ∙ sym (append-nil (earliest_first v.seat.post.did))) refl k
 
   -- one step, told or not
   plain_step : (s : PageStep) → split s.phase s.page ≡ false
@@ -119,7 +120,8 @@ module _ (first : LiveView) (masks : ℕ → ℕ) where
   steps_next v (looks sight mask can) ds k o h = no_steps v _ ds refl h
   steps_next v (finds found joined order shown) ds k o h =
       let before = ordered_back first masks v (finds found joined order shown) k o in
-      more_steps v _ ds (map deed_found found) (map (step_for v.seat.post.worker) found) refl
+      more_steps v _ ds (map deed_found found) (map (step_for v.seat.post.worker) found)
+      (then-earliest v.seat.post.did (map (step_for v.seat.post.worker) found))
       (steps_found v.seat.post.worker (phase_at v.seat) found
       (λ i d below. let f = get_or found i d in
       ap (λ n. split n f.asked.page) (shown i d below).phase
@@ -129,10 +131,13 @@ module _ (first : LiveView) (masks : ℕ → ℕ) where
   steps_next v (acknowledges joined) ds k o h = no_steps v _ ds refl h
   steps_next v (reports adds runs merges) ds k o h =
       let before = ordered_back first masks v (reports adds runs merges) k o in
-      more_steps v _ ds [] (map (step_adding v.seat.post.worker) adds) refl
+      more_steps v _ ds [] (map (step_adding v.seat.post.worker) adds)
+      (then-earliest v.seat.post.did (map (step_adding v.seat.post.worker) adds))
       (steps_merged v.seat.post.worker adds
       (merges_split v k before runs adds merges.likes_are merges.phase_is
-      (all_rest (λ (t : PageStep). AddsSome t.call) v.seat.post.did (map (step_adding v.seat.post.worker) adds) o.some)))
+      (all_rest (λ (t : PageStep). AddsSome t.call) (earliest_first v.seat.post.did) (map (step_adding v.seat.post.worker) adds)
+      (subst (AllByRecursion (λ (t : PageStep). AddsSome t.call))
+      (then-earliest v.seat.post.did (map (step_adding v.seat.post.worker) adds)) o.some))))
       h
   steps_next v (retires joined) ds k o h = no_steps v _ ds refl h
   steps_next v (returns phase mask gone) ds k o h = no_steps v _ ds refl h
@@ -141,7 +146,7 @@ module _ (first : LiveView) (masks : ℕ → ℕ) where
       let before = ordered_back first masks v (slices_like user page is) k o in
       let there = sym (slices_split first masks v page k before is.runs) ∙ is.at in
       more_steps v _ ds (deed (phase_at v.seat) user page counted ∷ []) []
-      (sym (append-nil v.seat.post.did))
+      (sym (append-nil (earliest_first v.seat.post.did)))
       (ap (λ b. cons_option (step_by b (phase_at v.seat) page counted) []) there) h
   steps_next v (adds_like user page old is) ds k o h =
       let before = ordered_back first masks v (adds_like user page old is) k o in

@@ -7,10 +7,11 @@ use Rattle.like_core.specs.declared.page_step.PageCall.TheVariants.{Add, Read, G
 use Rattle.like_core.specs.declared.page_step.PageStep.{PageStep}
 use Rattle.like_core.specs.declared.view.Addition.{Addition}
 use Rattle.like_core.specs.declared.worker_state.WorkerState.{WorkerState}
-use Rattle.like_core.specs.Additions.{added_in, added_to}
-use Rattle.like_core.specs.PageSteps.{adds_to, page_step, step_adding}
+use Rattle.like_core.specs.Additions.{added_in}
+use Rattle.like_core.specs.PageSteps.{adds_to, earliest_first, page_step, step_adding}
 use Rattle.like_core.specs.Post.{pages_of}
 use Rattle.like_core.specs.WorkerState.{RunsSplit, phase_of, seen}
+use Rattle.like_core.proofs.Steps.{then-earliest}
 use Rattle.like_seat.specs.StationView.{phase_at}
 use Rattle.like_seat.proofs.MergedLikes.{added_in-phase, same_everywhere}
 use Rattle.like_serial.proofs.Totals.{only-none}
@@ -42,7 +43,7 @@ sliced_in phase page v = only (phase_at v.seat == phase) (get_or v.seat.slice pa
 -- the deeds so far count, phase by phase, what the seat added and what it has in its slice
 pub record HasTotals (v : LiveView) (ds : List Deed) : Type 0 where
   pub total : (phase page : ℕ)
-      → weigh (deed_in phase page) ds ≡ weigh (step_in phase page) v.seat.post.did + sliced_in phase page v
+      → weigh (deed_in phase page) ds ≡ weigh (step_in phase page) (earliest_first v.seat.post.did) + sliced_in phase page v
 
 -- a slice that cannot have a like has none
 pub is_none : (n : ℕ) → (n ≢ 0 → ⊥) → n ≡ 0
@@ -51,7 +52,7 @@ is_none (suc n) not = absurd (not (λ e. absurd (cc e)))
 
 module _ (first : LiveView) where
   -- deeds more, steps more, and another slice
-  more : (v w : LiveView) (ds es : List Deed) (steps : List PageStep) → w.seat.post.did ≡ v.seat.post.did ++ steps
+  more : (v w : LiveView) (ds es : List Deed) (steps : List PageStep) → earliest_first w.seat.post.did ≡ earliest_first v.seat.post.did ++ steps
       → ((phase page : ℕ)
       → weigh (deed_in phase page) es + sliced_in phase page v
       ≡ weigh (step_in phase page) steps + sliced_in phase page w)
@@ -63,16 +64,16 @@ module _ (first : LiveView) where
       h.total phase page,
       same phase page,
       ap (weigh (step_in phase page)) did,
-      weigh-append (step_in phase page) v.seat.post.did steps,
+      weigh-append (step_in phase page) (earliest_first v.seat.post.did) steps,
     );
   }
 
   -- no deed and no step, with the same in the slice
-  none : (v w : LiveView) (ds : List Deed) → w.seat.post.did ≡ v.seat.post.did
+  none : (v w : LiveView) (ds : List Deed) → earliest_first w.seat.post.did ≡ earliest_first v.seat.post.did
       → ((phase page : ℕ) → sliced_in phase page v ≡ sliced_in phase page w)
       → HasTotals v ds → HasTotals w (ds ++ [])
   none v w ds did same h =
-      more v w ds [] [] (did ∙ sym (append-nil v.seat.post.did)) (λ phase page. ap (λ n. 0 + n) (same phase page)) h
+      more v w ds [] [] (did ∙ sym (append-nil (earliest_first v.seat.post.did))) (λ phase page. ap (λ n. 0 + n) (same phase page)) h
 
   -- an empty slice counts nothing in whichever phase
   empty : (a b : Bool) (n m : ℕ) → n ≡ 0 → m ≡ 0 → only a n ≡ only b m
@@ -135,13 +136,15 @@ module _ (first : LiveView) where
       (λ phase page. looked_same (phase_at v.seat) (phase_of (seen v.seat.post.state sight)) (get_or v.seat.slice page 0)
       phase (λ has. looked_phase v.seat.post.state sight (k.split page has).0)) h
   totals_next v (finds found joined order shown) ds k h =
-      more v _ ds (map deed_found found) (map (step_for v.seat.post.worker) found) refl
+      more v _ ds (map deed_found found) (map (step_for v.seat.post.worker) found)
+      (then-earliest v.seat.post.did (map (step_for v.seat.post.worker) found))
       (λ phase page.
       let a = found_none phase page found in
       let b = reads_none phase page v.seat.post.worker found in omega arith) h
   totals_next v (acknowledges joined) ds k h = none v _ ds refl (λ phase page. refl) h
   totals_next v (reports adds runs merges) ds k h =
-      more v _ ds [] (map (step_adding v.seat.post.worker) adds) refl
+      more v _ ds [] (map (step_adding v.seat.post.worker) adds)
+      (then-earliest v.seat.post.did (map (step_adding v.seat.post.worker) adds))
       (λ phase page.
       let added : weigh (step_in phase page) (map (step_adding v.seat.post.worker) adds)
       ≡ only (phase_at v.seat == phase) (get_or v.seat.slice page 0) =
@@ -165,7 +168,7 @@ module _ (first : LiveView) where
       empty (phase_at v.seat == phase) (to == phase) _ _ zero_is zero_is) h
   totals_next v takes ds k h = none v _ ds refl (λ phase page. refl) h
   totals_next v (slices_like user page is) ds k h =
-      more v _ ds (deed (phase_at v.seat) user page counted ∷ []) [] (sym (append-nil v.seat.post.did))
+      more v _ ds (deed (phase_at v.seat) user page counted ∷ []) [] (sym (append-nil (earliest_first v.seat.post.did)))
       (λ phase other.
       let there = subst (λ n. page < n) (sym k.sized) (page_there v.seat user page is.accepted) in
       like_one (phase_at v.seat == phase) (page == other) _ _ (slice-more v.seat.slice page other there)) h

@@ -9,7 +9,7 @@ use Rattle.like_core.specs.declared.page_step.PageCall.TheVariants.{Read}
 use Rattle.like_core.specs.declared.page_step.PageStep.{PageStep}
 use Rattle.like_core.specs.declared.view.PageRead.{PageRead}
 use Rattle.like_core.specs.Additions.{added_to, page_read}
-use Rattle.like_core.specs.PageSteps.{page_step}
+use Rattle.like_core.specs.PageSteps.{additions_among, glances_among, page_step, reads_among, then_steps}
 use Rattle.like_core.specs.declared.worker_state.WorkerState.{WorkerState}
 use Rattle.like_core.specs.declared.worker_state.WorkerState.TheVariants as state
 use Rattle.like_core.specs.Post.{PostView, has_read, slices}
@@ -18,6 +18,7 @@ use Rattle.like_core.specs.PhaseMasks.{mask_of}
 use Rattle.like_core.specs.WorkerState.{IsRunning, RunsJoined, RunsSplit, phase_of}
 use Rattle.like_tables.specs.Share.{owns}
 use Rattle.like_tables.specs.UserTable.{UserTable, last_of}
+use Rattle.like_core.proofs.Steps.{then-push}
 use Rattle.like_seat.specs.declared.seen.Seen.{Seen}
 use Rattle.like_seat.specs.StationView.{StationView, phase_at}
 use Rattle.like_seat.specs.Steps.{Reads, without_first}
@@ -25,7 +26,8 @@ use Rattle.like_live.specs.declared.asked.Asked.{Asked}
 use Rattle.like_live.specs.declared.asked.Found.{Found}
 use Rattle.like_live.specs.declared.answer.TurnAnswer.TheVariants as turn
 use Rattle.like_live.specs.LiveView.{LiveView, IsOwn, RanNext, waiting}
-use Rattle.like_live.specs.Moves.{FindsAll, IsFoundAt, Works, read_for, runs_joined, runs_split, step_for}
+use Rattle.like_live.specs.Moves.{FindsAll, IsFoundAt, Works, runs_joined, runs_split, step_for}
+use Rattle.like_live.proofs.FoundSteps.{found-additions}
 
 -- a list with a first element
 pub first_of : {X : Type 0} (xs : List X) (x : X) → slice_get xs 0 ≡ Some x → xs ≡ x ∷ drop 1 xs
@@ -80,10 +82,7 @@ pub record Finding (v now : LiveView) : Type 0 where
   pub order : map (λ f. f.asked) found ++ waiting now ≡ waiting v
   pub shown : All (IsFoundAt v.seat) found
   pub post : now.seat.post
-      ≡ record v.seat.post {
-        reads = v.seat.post.reads ++ map (read_for (length v.seat.post.additions)) found;
-        did = v.seat.post.did ++ map (step_for v.seat.post.worker) found;
-      }
+      ≡ record v.seat.post { did = then_steps v.seat.post.did (map (step_for v.seat.post.worker) found) }
   pub capacity : now.seat.held.capacity ≡ v.seat.held.capacity
   pub slice : now.seat.slice ≡ v.seat.slice
   pub sliced : now.seat.sliced ≡ v.seat.sliced
@@ -96,10 +95,7 @@ Finding-start v = record {
   found = [];
   order = refl;
   shown = All-nil (IsFoundAt v.seat);
-  post = λ m. record v.seat.post {
-    reads = sym (append-nil v.seat.post.reads) m;
-    did = sym (append-nil v.seat.post.did) m;
-  };
+  post = refl;
   capacity = refl;
   slice = refl;
   sliced = refl;
@@ -159,10 +155,7 @@ Finding-ran v now f before next =
 pub Finding-more : (v now next : LiveView) (a : Asked) (f : Found) → Finding v now
     → waiting now ≡ a ∷ waiting next → f.asked ≡ a → IsFoundAt v.seat f
     → next.seat.post
-    ≡ record now.seat.post {
-      reads = now.seat.post.reads ++ read_for (length v.seat.post.additions) f ∷ [];
-      did = now.seat.post.did ++ step_for v.seat.post.worker f ∷ [];
-    }
+    ≡ record now.seat.post { did = step_for v.seat.post.worker f ∷ now.seat.post.did }
     → next.seat.held.capacity ≡ now.seat.held.capacity
     → next.seat.slice ≡ now.seat.slice
     → next.seat.sliced ≡ now.seat.sliced
@@ -180,12 +173,8 @@ Finding-more v now next a f d first is shown post capacity slice sliced last fou
   post =
       post
       ∙ ap
-      (λ (p : PostView). record p {
-        reads = p.reads ++ read_for (length v.seat.post.additions) f ∷ [];
-        did = p.did ++ step_for v.seat.post.worker f ∷ [];
-      })
-      d.post
-      ∙ (λ m. record v.seat.post { reads = reads m; did = did m });
+      (λ (p : PostView). record p { did = step_for v.seat.post.worker f ∷ p.did }) d.post
+      ∙ (λ m. record v.seat.post { did = did m });
   capacity = capacity ∙ d.capacity;
   slice = slice ∙ d.slice;
   sliced = sliced ∙ d.sliced;
@@ -193,21 +182,11 @@ Finding-more v now next a f d first is shown post capacity slice sliced last fou
   found_is = found ∙ ap (λ xs. xs ++ f ∷ []) d.found_is ∙ append_assoc v.found d.found (f ∷ []);
 }
   where
-    reads : (v.seat.post.reads ++ map (read_for (length v.seat.post.additions)) d.found)
-        ++ read_for (length v.seat.post.additions) f ∷ []
-        ≡ v.seat.post.reads ++ map (read_for (length v.seat.post.additions)) (d.found ++ f ∷ [])
-    reads =
-        append_assoc v.seat.post.reads (map (read_for (length v.seat.post.additions)) d.found)
-        (read_for (length v.seat.post.additions) f ∷ [])
-        ∙ ap (λ (xs : List PageRead). v.seat.post.reads ++ xs)
-        (sym (map-append (read_for (length v.seat.post.additions)) d.found (f ∷ [])))
-
-    did : (v.seat.post.did ++ map (step_for v.seat.post.worker) d.found) ++ step_for v.seat.post.worker f ∷ []
-        ≡ v.seat.post.did ++ map (step_for v.seat.post.worker) (d.found ++ f ∷ [])
+    did : step_for v.seat.post.worker f ∷ then_steps v.seat.post.did (map (step_for v.seat.post.worker) d.found)
+        ≡ then_steps v.seat.post.did (map (step_for v.seat.post.worker) (d.found ++ f ∷ []))
     did =
-        append_assoc v.seat.post.did (map (step_for v.seat.post.worker) d.found) (step_for v.seat.post.worker f ∷ [])
-        ∙ ap (λ (xs : List PageStep). v.seat.post.did ++ xs)
-        (sym (map-append (step_for v.seat.post.worker) d.found (f ∷ [])))
+        sym (then-push v.seat.post.did (map (step_for v.seat.post.worker) d.found) (step_for v.seat.post.worker f))
+        ∙ ap (then_steps v.seat.post.did) (sym (map-append (step_for v.seat.post.worker) d.found (f ∷ [])))
 
 -- they are no more than there is room for
 pub Finding-room : (v now : LiveView) → Finding v now
@@ -257,11 +236,11 @@ pub Finding-next : (v now : LiveView) (s after : StationView Asked) (found : Lis
 Finding-next v now s after found a seen phase d first is reads phase_is found_is =
     let last : s.last ≡ v.seat.last = ap (λ (t : StationView Asked). t.last) is ∙ d.last in
     let post : s.post ≡ now.seat.post = ap (λ (t : StationView Asked). t.post) is in
-    let additions : s.post.additions ≡ v.seat.post.additions = ap (λ (p : PostView). p.additions) (post ∙ d.post) in
+    let additions : additions_among s.post.did ≡ additions_among v.seat.post.did =
+    ap (λ (p : PostView). additions_among p.did) (post ∙ d.post)
+    ∙ found-additions v.seat.post.worker v.seat.post.did d.found in
     let state : phase_of now.seat.post.state ≡ phase = ap (λ (p : PostView). phase_of p.state) d.post ∙ sym phase_is in
     let worker : now.seat.post.worker ≡ v.seat.post.worker = ap (λ (p : PostView). p.worker) d.post in
-    let count : length now.seat.post.additions ≡ length v.seat.post.additions =
-    ap (λ (p : PostView). length p.additions) d.post in
     let e : after ≡ record (without_first now.seat) { post = has_read now.seat.post a.page seen.count } =
     reads.read ∙ ap (λ (t : StationView Asked). record t { post = has_read t.post a.page seen.count }) is in
     let f : Found = record { asked = a; last = seen.last; count = seen.count; phase = phase } in
@@ -276,9 +255,7 @@ Finding-next v now s after found a seen phase d first is reads phase_is found_is
     })
     (ap (λ (t : StationView Asked). t.post) e
     ∙ (λ m. record now.seat.post {
-      reads =
-          now.seat.post.reads ++ page_read (state m) a.page seen.count (count m) ∷ [];
-      did = now.seat.post.did ++ page_step (worker m) (state m) a.page seen.count Read ∷ [];
+      did = page_step (worker m) (state m) a.page seen.count Read ∷ now.seat.post.did;
     }))
     (ap (λ (t : StationView Asked). t.held.capacity) e)
     (ap (λ (t : StationView Asked). t.slice) e)

@@ -7,6 +7,7 @@ use Rattle.std.proofs.lemmas.List.Sums.{sum_by-cons}
 use Rattle.like_core.specs.declared.worker_state.WorkerState.TheVariants as state
 use Rattle.like_core.specs.Additions.{added_to}
 use Rattle.like_core.specs.Post.{PostView, slices}
+use Rattle.like_core.specs.PageSteps.{additions_among}
 use Rattle.like_seat.proofs.MergedLikes.{same_everywhere}
 use Rattle.like_tables.specs.Share.{owns}
 use Rattle.like_tables.specs.UserTable.{UserTable, last_in, last_of}
@@ -257,9 +258,9 @@ histories_are_counted v after told unused done =
     let nothing : asks_left v ≡ [] = λ m. map ask_of (new.found m) ++ map ask_waiting ((new.held m).held) in
     record {
       tallies = λ page.
-          let added : added_to page v.seat.post.additions ≡ 0 =
-          ap (λ (p : PostView). added_to page p.additions) new.at_post
-          ∙ ap (added_to page) unused.fresh.added_nothing in
+          let added : added_to page (additions_among v.seat.post.did) ≡ 0 =
+          ap (λ (p : PostView). added_to page (additions_among p.did)) new.at_post
+          ∙ ap (λ ds. added_to page (additions_among ds)) unused.fresh.did_nothing in
           let slice : get_or v.seat.slice page 0 ≡ 0 =
           ap (λ (xs : List ℕ). get_or xs page 0) new.slice ∙ same_everywhere _ page 0 in
           let all = t.tallies page in

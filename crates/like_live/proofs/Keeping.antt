@@ -14,6 +14,8 @@ use Rattle.like_core.specs.Additions.{added_in, added_to, addition}
 use Rattle.like_core.specs.Phase.{IsSplit}
 use Rattle.like_core.specs.Post.{answered, has_glanced, has_read}
 use Rattle.like_core.specs.WorkerState.{RunsJoined, phase_of, seen}
+use Rattle.like_core.proofs.Steps.{then-additions, then-glances, then-reads}
+use Rattle.like_core.specs.PageSteps.{additions_among, glances_among, reads_among}
 use Rattle.like_seat.specs.Merge.{MergesAndReports, merged}
 use Rattle.like_seat.specs.StationView.{StationView, phase_at}
 use Rattle.like_seat.specs.Steps.{CountsLike}
@@ -22,13 +24,15 @@ use Rattle.like_live.specs.declared.answer.TurnAnswer.{TurnAnswer}
 use Rattle.like_live.specs.declared.asked.Asked.{Asked}
 use Rattle.like_live.specs.LiveView.{LiveView, with_seat}
 use Rattle.like_live.specs.Answers.{AreKept, IsRead, Shown, found_count}
-use Rattle.like_live.specs.Moves.{FindsAll, Moves, MovesBy, Works, acknowledges, is_gone, looked, read_for, reports, runs_joined, runs_split, waits, with_found, works}
+use Rattle.like_live.specs.Moves.{FindsAll, Moves, MovesBy, Works, acknowledges, is_gone, looked, reports, runs_joined, runs_split, waits, with_found, works}
+use Rattle.like_live.proofs.FoundSteps.{found-additions, found-glances, found-reads, read_for}
 use Rattle.like_live.proofs.Calling.{slice-more}
 use Rattle.like_live.proofs.Moving.{IsSized}
+use Rattle.like_core.specs.Additions.{page_read}
 
 -- n likes of a page, which the seat had in its slice in a split phase, are kept
 pub record AreHeld (v : LiveView) (phase page from n : ℕ) : Type 0 where
-  pub within : from ≤ length v.seat.post.additions
+  pub within : from ≤ length (additions_among v.seat.post.did)
   pub split : IsSplit phase
   pub kept : AreKept v phase page from n
 
@@ -38,10 +42,10 @@ AreFound v = All (λ f. IsRead v (found_count f)) v.found
 
 -- what was read and glanced at stays so, what was added stands first, and what is kept stays kept
 pub record Keeps (v after : LiveView) : Type 0 where
-  pub reads : (r : PageRead) → Contains v.seat.post.reads r → Contains after.seat.post.reads r
-  pub glances : (r : PageRead) → Contains v.seat.post.glances r → Contains after.seat.post.glances r
+  pub reads : (r : PageRead) → Contains (reads_among v.seat.post.did) r → Contains (reads_among after.seat.post.did) r
+  pub glances : (r : PageRead) → Contains (glances_among v.seat.post.did) r → Contains (glances_among after.seat.post.did) r
   pub more : List Addition
-  pub additions : after.seat.post.additions ≡ v.seat.post.additions ++ more
+  pub additions : (additions_among after.seat.post.did) ≡ additions_among v.seat.post.did ++ more
   pub held : (phase page from n : ℕ) → AreHeld v phase page from n → AreHeld after phase page from n
   pub found : AreFound v → AreFound after
 
@@ -50,7 +54,7 @@ Keeps-all v = record {
   reads = λ r there. there;
   glances = λ r there. there;
   more = [];
-  additions = sym (append-nil v.seat.post.additions);
+  additions = sym (append-nil (additions_among v.seat.post.did));
   held = λ phase page from n h. h;
   found = λ all. all;
 }
@@ -61,7 +65,7 @@ Keeps-both v now after a b = record {
   glances = λ r there. b.glances r (a.glances r there);
   more = a.more ++ b.more;
   additions =
-      b.additions ∙ ap (λ xs. xs ++ b.more) a.additions ∙ append_assoc v.seat.post.additions a.more b.more;
+      b.additions ∙ ap (λ xs. xs ++ b.more) a.additions ∙ append_assoc (additions_among v.seat.post.did) a.more b.more;
   held = λ phase page from n h. b.held phase page from n (a.held phase page from n h);
   found = λ all. b.found (a.found all);
 }
@@ -77,11 +81,11 @@ take-more f (suc n) (x ∷ xs) ys =
 -- own likes are among the same first additions, once there are more
 pub own-later : (v after : LiveView) (phase page from own slice : ℕ)
     → Keeps v after
-    → own ≤ added_in phase page (take from v.seat.post.additions) + slice
-    → own ≤ added_in phase page (take from after.seat.post.additions) + slice
+    → own ≤ added_in phase page (take from (additions_among v.seat.post.did)) + slice
+    → own ≤ added_in phase page (take from (additions_among after.seat.post.did)) + slice
 own-later v after phase page from own slice keeps few =
     let f : Addition → ℕ = λ a. cond ((a.phase == phase) && (a.page == page)) a.likes 0 in
-    let some = take-more f from v.seat.post.additions keeps.more in
+    let some = take-more f from (additions_among v.seat.post.did) keeps.more in
     subst (λ xs. own ≤ added_in phase page (take from xs) + slice) (sym keeps.additions) (omega arith)
 
 -- a count that was read is
@@ -96,7 +100,7 @@ Keeps-looked v sight mask = record {
   reads = λ r there. there;
   glances = λ r there. there;
   more = [];
-  additions = sym (append-nil v.seat.post.additions);
+  additions = sym (append-nil (additions_among v.seat.post.did));
   held = λ phase page from n h. record {
     within = h.within;
     split = h.split;
@@ -119,7 +123,7 @@ Keeps-stopped v s joined = record {
   reads = λ r there. there;
   glances = λ r there. there;
   more = [];
-  additions = sym (append-nil v.seat.post.additions);
+  additions = sym (append-nil (additions_among v.seat.post.did));
   held = λ phase page from n h. record {
     within = h.within;
     split = h.split;
@@ -144,23 +148,46 @@ mapped f xs k d below = (k, omega (arith, length-map xs f), get_or-map f xs k d 
 -- looks that are found
 pub Keeps-finds : (v after : LiveView) → FindsAll v after → Keeps v after
 Keeps-finds v after f = subst (Keeps v) (sym f.rest) (record {
-  reads = λ r there. Contains-append_left v.seat.post.reads _ r there;
-  glances = λ r there. there;
+  reads = λ r there. was_read r (Contains-append_left (reads_among v.seat.post.did) _ r there);
+  glances = λ r there. subst (λ xs. Contains xs r) (sym (found-glances worker v.seat.post.did f.found)) there;
   more = [];
-  additions = sym (append-nil v.seat.post.additions);
-  held = λ phase page from n h. record { within = h.within; split = h.split; kept = h.kept };
+  additions = same ∙ sym (append-nil (additions_among v.seat.post.did));
+  held = λ phase page from n h. record {
+    within = subst (λ xs. from ≤ length xs) (sym same) h.within;
+    split = h.split;
+    kept = elim h.kept [
+      | inl added ↦ inl (subst (λ xs. n ≤ added_in phase page (drop from xs)) (sym same) added)
+      | inr still ↦ inr still
+    ];
+  };
   found = λ all.
-      let additions = length v.seat.post.additions in
+      let additions = length (additions_among v.seat.post.did) in
       All-append (λ x. IsRead (with_found v f.found) (found_count x)) v.found f.found
       (λ k d below.
-      let r = all k d below in
-      (r.0, Contains-append_left v.seat.post.reads _ _ r.1, r.2))
+      let r = all k d below in (
+        r.0,
+        was_read _ (Contains-append_left (reads_among v.seat.post.did) _ _ r.1),
+        subst (λ xs. (found_count (get_or v.found k d)).own
+            ≤ added_in (found_count (get_or v.found k d)).phase (found_count (get_or v.found k d)).page (take r.0 xs))
+            (sym same) r.2,
+      ))
       (λ k d below. (
         additions,
-        Contains-append_right v.seat.post.reads _ _ (mapped (read_for additions) f.found k d below),
+        was_read _ (Contains-append_right (reads_among v.seat.post.did) _ _ (mapped (read_for additions) f.found k d below)),
         omega arith,
       ));
 })
+  where
+    worker : ℕ
+    worker = v.seat.post.worker
+
+    same : additions_among (with_found v f.found).seat.post.did ≡ additions_among v.seat.post.did
+    same = found-additions worker v.seat.post.did f.found
+
+    was_read : (r : PageRead)
+        → Contains (reads_among v.seat.post.did ++ map (read_for (length (additions_among v.seat.post.did))) f.found) r
+        → Contains (reads_among (with_found v f.found).seat.post.did) r
+    was_read r there = subst (λ xs. Contains xs r) (sym (found-reads worker v.seat.post.did f.found)) there
 
 -- how much later additions have in a phase, once there are more
 more_added : (phase page from : ℕ) (xs ys : List Addition) → from ≤ length xs
@@ -172,19 +199,20 @@ more_added phase page from xs ys within =
 Keeps-merged : (v : LiveView) (s : StationView Asked) → IsSized v → MergesAndReports v.seat s → Keeps v (with_seat v s)
 Keeps-merged v s sized m =
     let adds = m.1.0.0 in
-    let old = v.seat.post.additions in
+    let old = additions_among v.seat.post.did in
+    let now_is = then-additions v.seat.post.worker v.seat.post.did adds in
     let is : s ≡ record (merged v.seat adds) { post = answered (merged v.seat adds).post } =
     m.1.1 ∙ ap (λ (t : StationView Asked). record t { post = answered t.post }) m.1.0.1.1 in
     subst (λ (t : StationView Asked). Keeps v (with_seat v t)) (sym is) (record {
-      reads = λ r there. there;
-      glances = λ r there. there;
+      reads = λ r there. subst (λ xs. Contains xs r) (sym (then-reads v.seat.post.worker v.seat.post.did adds)) there;
+      glances = λ r there. subst (λ xs. Contains xs r) (sym (then-glances v.seat.post.worker v.seat.post.did adds)) there;
       more = adds;
-      additions = refl;
+      additions = now_is;
       held = λ phase page from n h.
           let within : from ≤ length old = h.within in
-          let more = more_added phase page from old adds within in
+          let more = ap (λ xs. added_in phase page (drop from xs)) now_is ∙ more_added phase page from old adds within in
           record {
-            within = omega (arith, length-append old adds);
+            within = omega (arith, length-append old adds, ap (λ (xs : List Addition). length xs) now_is);
             split = h.split;
             kept =
                 elim h.kept [
@@ -200,8 +228,12 @@ Keeps-merged v s sized m =
                 ];
           };
       found = λ all k d below.
-          let r = all k d below in
-          (r.0, r.1, omega arith);
+          let r = all k d below in (
+            r.0,
+            subst (λ xs. Contains xs (page_read (get_or v.found k d).phase (get_or v.found k d).asked.page
+                (get_or v.found k d).count r.0)) (sym (then-reads v.seat.post.worker v.seat.post.did adds)) r.1,
+            omega arith,
+          );
     })
 
 -- a like that is counted
@@ -213,7 +245,7 @@ Keeps-counts v s user page None there c = subst (λ (t : StationView Asked). Kee
   reads = λ r there. there;
   glances = λ r there. there;
   more = [];
-  additions = sym (append-nil v.seat.post.additions);
+  additions = sym (append-nil (additions_among v.seat.post.did));
   held = λ phase other from n h. record {
     within = h.within;
     split = h.split;
@@ -229,7 +261,7 @@ Keeps-counts v s user page None there c = subst (λ (t : StationView Asked). Kee
   found = λ all. all;
 })
 Keeps-counts v s user page (Some count) there c =
-    let old = v.seat.post.additions in
+    let old = additions_among v.seat.post.did in
     let new = addition (phase_at v.seat) page count 1 ∷ [] in
     subst (λ (t : StationView Asked). Keeps v (with_seat v t)) (sym c.1) (record {
       reads = λ r there. there;
@@ -253,14 +285,14 @@ Keeps-counts v s user page (Some count) there c =
 pub Keeps-read : (v : LiveView) (page count : ℕ)
     → Keeps v (with_seat v (record v.seat { post = has_read v.seat.post page count }))
 Keeps-read v page count = record {
-  reads = λ r there. Contains-append_left v.seat.post.reads _ r there;
+  reads = λ r there. Contains-append_left (reads_among v.seat.post.did) _ r there;
   glances = λ r there. there;
   more = [];
-  additions = sym (append-nil v.seat.post.additions);
+  additions = sym (append-nil (additions_among v.seat.post.did));
   held = λ phase page from n h. record { within = h.within; split = h.split; kept = h.kept };
   found = λ all k d below.
       let r = all k d below in
-      (r.0, Contains-append_left v.seat.post.reads _ _ r.1, r.2);
+      (r.0, Contains-append_left (reads_among v.seat.post.did) _ _ r.1, r.2);
 }
 
 -- a glance
@@ -268,9 +300,9 @@ pub Keeps-glanced : (v : LiveView) (page count : ℕ)
     → Keeps v (with_seat v (record v.seat { post = has_glanced v.seat.post page count }))
 Keeps-glanced v page count = record {
   reads = λ r there. there;
-  glances = λ r there. Contains-append_left v.seat.post.glances _ r there;
+  glances = λ r there. Contains-append_left (glances_among v.seat.post.did) _ r there;
   more = [];
-  additions = sym (append-nil v.seat.post.additions);
+  additions = sym (append-nil (additions_among v.seat.post.did));
   held = λ phase page from n h. record { within = h.within; split = h.split; kept = h.kept };
   found = λ all. all;
 }

@@ -9,7 +9,7 @@ use Rattle.like_core.specs.declared.view.View.{View}
 use Rattle.like_core.specs.declared.view.View.TheVariants.{Coord, Worker, Spent}
 use Rattle.like_core.specs.declared.view.WorkerSeatView.{WorkerSeatView}
 use Rattle.like_core.specs.declared.worker_state.WorkerState.TheVariants as state
-use Rattle.like_core.specs.PageSteps.{additions_among, steps_by}
+use Rattle.like_core.specs.PageSteps.{steps_by}
 use Rattle.like_core.specs.PhaseMasks.{AreMasksOf}
 use Rattle.like_core.specs.Post.{PostView}
 use Rattle.like_core.specs.views.Order.{HasDone}
@@ -63,7 +63,7 @@ last_moments_are_serial o factor board hs m opened at gone =
     (record {
       in_turn = m.order.in_turn;
       each = all-alike (λ (p : PostView). steps_by p.worker m.steps ≡ p.did) post_in post_of ends views same
-          (λ k d below. (done k d below).did);
+          done;
       others = λ i none.
           m.order.others i
           (seats-by i m.views
@@ -75,6 +75,4 @@ last_moments_are_serial o factor board hs m opened at gone =
           ap joined is ∙ at.none_back)
           ∙ sum-alike (λ (p : PostView). cond {A = ℕ} (p.worker == i) 1 0) post_of post_in views ends (sym same)
           ∙ none);
-      additions = all-alike (λ (p : PostView). p.additions ≡ additions_among p.did) post_in post_of ends views same
-          (λ k d below. (done k d below).additions);
     }) in (one.0, one.1.0)

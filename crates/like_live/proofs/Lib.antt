@@ -11,6 +11,7 @@ pub mod DeedOwners
 pub mod DeedPhases
 pub mod DeedSteps
 pub mod DeedTotals
+pub mod FoundSteps
 pub mod Finding
 pub mod Gone
 pub mod Histories

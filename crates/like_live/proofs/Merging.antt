@@ -5,7 +5,7 @@ use Rattle.std.specs.Option.{option_map_or}
 use Rattle.std.proofs.lemmas.List.Elements.{filter_map-append}
 use Rattle.like_core.specs.declared.page_step.PageCall.TheVariants.{Read}
 use Rattle.like_core.specs.declared.page_step.PageStep.{PageStep}
-use Rattle.like_core.specs.PageSteps.{AreInTurn, adds_to, likes_of, steps_by}
+use Rattle.like_core.specs.PageSteps.{AreInTurn, adds_to, likes_of}
 use Rattle.like_serial.specs.StepsTold.{StepTold, count_told, step_told}
 use Rattle.like_serial.proofs.Counts.{counts_there, told_adds, weigh-map}
 use Rattle.like_serial.proofs.InTurn.{found_by_phase}
@@ -18,6 +18,10 @@ use Rattle.like_serial.proofs.Weigh.{only, weigh, weigh-alike, weigh-append, wei
 not_split : (b : Bool) → not b ≡ true → b ≡ false
 not_split false is = refl
 not_split true is = absurd (true≢false (sym is))
+
+-- a worker's steps in their order, where these are all steps, the latest first
+abbrev pub own_steps : ℕ → List PageStep → List PageStep
+own_steps w steps = filter (λ s. s.worker == w) (reverse steps)
 
 module _ {X : Type 0} (key phase : X → ℕ) (mark : X → Option StepTold) (likes : ℕ → X → ℕ) (split : ℕ → ℕ → Bool)
     (first : ℕ → ℕ) (last : ℕ) (steps : List PageStep) (n : ℕ) (runs : ℕ → List X) where
@@ -41,8 +45,8 @@ module _ {X : Type 0} (key phase : X → ℕ) (mark : X → Option StepTold) (li
     pub own : (w : ℕ) → AllByRecursion (λ e. key e ≡ w) (runs w)
     pub past : (w : ℕ) → n ≤ w → runs w ≡ []
     pub rising : (w : ℕ) → Rises phase (runs w)
-    pub plain : (w : ℕ) → filter_map mark (runs w) ≡ map step_told (filter is_plain (steps_by w steps))
-    pub totals : (w k page : ℕ) → weigh (likes_in k page) (runs w) ≡ weigh (adds_in k page) (steps_by w steps)
+    pub plain : (w : ℕ) → filter_map mark (runs w) ≡ map step_told (filter is_plain (own_steps w steps))
+    pub totals : (w k page : ℕ) → weigh (likes_in k page) (runs w) ≡ weigh (adds_in k page) (own_steps w steps)
 
   -- a merge of the lists along which phases never fall, in which each read shows what is liked before it
   pub record IsMerged (serial : List X) : Type 0 where

@@ -23,6 +23,7 @@ use Rattle.like_core.specs.views.Shows.{FitsWorker, Moment}
 use Rattle.like_core.specs.views.Tallies.{paged}
 use Rattle.like_core.specs.views.Views.{post_of}
 use Rattle.like_core.proofs.core.Moved.{reached_is_exclusive}
+use Rattle.like_core.specs.PageSteps.{additions_among}
 use Rattle.like_seat.specs.StationView.{IsStation}
 use Rattle.like_live.specs.LiveView.{LiveView, tally}
 use Rattle.like_live.specs.Moments.{HoldsNone, IsSeatAt, LastCountsAreTallies, SeatsAreExclusive, post_in, workers_in}
@@ -92,14 +93,14 @@ all-workers P (Spent ∷ views) each = all-workers P views (λ place w at. each 
 -- where no seat was given back, what all views have added the workers' seats have
 added-by : (page : ℕ) (views : List View)
     → ((place : ℕ) (c : CoordSeatView) → get_elem? views place ≡ some (Coord c) → c.joined ≡ [])
-    → sum_by (paged page) views ≡ sum_by (λ v. added_to page v.additions) (workers_in views)
+    → sum_by (paged page) views ≡ sum_by (λ v. added_to page (additions_among v.did)) (workers_in views)
 added-by page [] none = refl
 added-by page (Worker v ∷ views) none =
-    let f : WorkerSeatView → ℕ = λ w. added_to page w.additions in
+    let f : WorkerSeatView → ℕ = λ w. added_to page (additions_among w.did) in
     let rest = added-by page views (λ place c at. none (suc place) c at) in
     omega (arith, sum_by-cons (paged page) (Worker v) views, sum_by-cons f v (workers_in views))
 added-by page (Coord c ∷ views) none =
-    let f : WorkerSeatView → ℕ = λ w. added_to page w.additions in
+    let f : WorkerSeatView → ℕ = λ w. added_to page (additions_among w.did) in
     let rest = added-by page views (λ place d at. none (suc place) d at) in
     let nothing : sum_by f c.joined ≡ 0 = ap (sum_by f) (none 0 c refl) in
     omega (arith, sum_by-cons (paged page) (Coord c) views)

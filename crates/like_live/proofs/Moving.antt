@@ -1,5 +1,5 @@
 -- What phase work leaves as it is.
-use Rattle.std.proofs.Common.{◌≡◌, ℕ, ◌+◌, ◌/◌, ◌≤◌, Bool, List, length, refl, ap, sym, ◌∙◌, subst, arith, length-append}
+use Rattle.std.proofs.Common.{◌≡◌, ℕ, ◌+◌, ◌/◌, ◌≤◌, Bool, List, length, get_or, refl, ap, sym, ◌∙◌, subst, arith, length-append}
 use Rattle.std.proofs.lemmas.List.{length-map, length-replicate}
 use Rattle.like_core.specs.declared.sight.Sight.{Sight}
 use Rattle.like_core.specs.Post.{answered, pages_of}
@@ -18,6 +18,8 @@ use Rattle.like_seat.specs.Steps.{came_back}
 use Rattle.like_live.specs.Calls as calls
 use Rattle.like_live.specs.Calls.{ComeBackCase, RetireCase, RetireWorks, retired_seat, retires, stays}
 use Rattle.like_live.specs.Moves.{FindsAll, Moves, MovesBy, Works, is_gone, looked, acknowledged, waits, works, runs_joined, acknowledges, runs_split, reports}
+use Rattle.like_core.specs.Additions.{added_to}
+use Rattle.like_live.proofs.FoundSteps.{found-additions}
 
 -- the slice has a number for each page
 abbrev pub IsSized : LiveView → Type 0
@@ -91,7 +93,8 @@ Leaves-acknowledged v = record {
 Leaves-found : (v after : LiveView) → FindsAll v after → Leaves v after
 Leaves-found v after f = subst (Leaves v) (sym f.rest) (record {
   same = record { board = refl; worker = refl; marks = refl; share = refl };
-  tallies = λ page. refl;
+  tallies = λ page. ap (λ xs. added_to page xs + get_or v.seat.slice page 0)
+      (found-additions v.seat.post.worker v.seat.post.did f.found);
   last = refl;
   sized = refl;
   room = refl;

@@ -17,12 +17,13 @@ use Rattle.like_core.specs.declared.page_step.PageStep.{PageStep}
 use Rattle.like_core.specs.declared.worker_state.WorkerState.TheVariants.{Gone}
 use Rattle.like_core.specs.OpeningLimits.{service_limits}
 use Rattle.like_core.specs.Additions.{added_before}
-use Rattle.like_core.specs.PageSteps.{AddsSome, AreInTurn, additions_among, adds_to, steps_by}
+use Rattle.like_core.specs.PageSteps.{AddsSome, AreInTurn, additions_among, adds_to, earliest_first, steps_by}
 use Rattle.like_core.specs.Phase.{is_marked, split_by}
 use Rattle.like_core.specs.PhaseMasks.{AreMasksOf, mask_of}
 use Rattle.like_core.specs.Post.{PostView}
 use Rattle.like_core.specs.WorkerState.{RunsSplit}
 use Rattle.like_requests.specs.Verdict.{home}
+use Rattle.like_core.proofs.Steps.{by-earliest, earliest-reverse}
 use Rattle.like_seat.specs.declared.seen.Seen.{Seen}
 use Rattle.like_seat.specs.StationView.{phase_at}
 use Rattle.like_seat.proofs.MergedLikes.{same_everywhere}
@@ -33,7 +34,7 @@ use Rattle.like_serial.proofs.Interleaved.{with_key}
 use Rattle.like_serial.proofs.Parts.{at_place, place_of_part, take_part}
 use Rattle.like_serial.proofs.Phases.{Rises, all_append, all_then, pairs_of, rec_all, rises-append}
 use Rattle.like_serial.proofs.Seen.{not_some, some_is}
-use Rattle.like_serial.proofs.Totals.{only-none, same_below, same_in_all}
+use Rattle.like_serial.proofs.Totals.{only-none, same_below, same_in_all, weigh-reverse}
 use Rattle.like_serial.proofs.Weigh.{only, sum-weigh, weigh, weigh-filter}
 use Rattle.like_tables.specs.Share.{Share, owns, share_of}
 use Rattle.like_tables.specs.UserTable.{UserTable, last_in, last_of, table_with_lasts}
@@ -51,7 +52,7 @@ use Rattle.like_live.proofs.DeedOwners.{AreHis, his_kept}
 use Rattle.like_live.proofs.DeedPhases.{HasRisen, phase_of_deed, risen_kept}
 use Rattle.like_live.proofs.DeedSteps.{HasSteps, is_plain, step_by, step_of, steps_kept}
 use Rattle.like_live.proofs.DeedTotals.{HasTotals, deed_in, is_none, likes_of_deed, step_in, totals_kept}
-use Rattle.like_live.proofs.Merging.{FitsAll, IsMerged, merged_serial}
+use Rattle.like_live.proofs.Merging.{FitsAll, IsMerged, merged_serial, own_steps}
 use Rattle.like_live.proofs.Ordered.{IsOrdered, split_in}
 use Rattle.like_live.proofs.Snapshots.{at_number, before_steps, front_before}
 use Rattle.like_live.proofs.Standing.{IsHis, Stands, kept_by_calls, stands_by_calls}
@@ -61,7 +62,6 @@ pub record AreInOrder (counts : ℕ → ℕ) (phase : ℕ) (seats : List LiveVie
   pub in_turn : AreInTurn counts phase steps
   pub each : All (λ s. steps_by s.seat.post.worker steps ≡ s.seat.post.did) seats
   pub others : (i : ℕ) → count_by (λ s. s.seat.post.worker == i) seats ≡ 0 → steps_by i steps ≡ []
-  pub additions : All (λ s. s.seat.post.additions ≡ additions_among s.seat.post.did) seats
 
 -- what is true of all that a list stands for is true of what its element at a place does
 at_all : {A B : Type 0} (P : B → Type 0) (f : A → B) (xs : List A) (i : ℕ) (x : A) → All P (map f xs)
@@ -217,11 +217,14 @@ module _ (o : Opening) (factor : ℕ) (board : BoardId) (hs : List SeatHistory) 
     empty : (page : ℕ) → get_or h.last.seat.slice page 0 ≢ 0 → ⊥
     empty page has = subst RunsSplit is_gone (stands.split page has).0
 
-    did : steps_by i steps ≡ h.last.seat.post.did
-    did =
+    done : steps_by i steps ≡ h.last.seat.post.did
+    done =
         ap (λ n. steps_by n steps) (sym worker_is)
         ∙ at_all (λ (s : LiveView). steps_by s.seat.post.worker steps ≡ s.seat.post.did) (λ (g : SeatHistory). g.last) hs i
         h order.each at
+
+    did : own_steps i steps ≡ earliest_first h.last.seat.post.did
+    did = sym (by-earliest i steps) ∙ ap earliest_first done
 
     ordered : IsOrdered masks h.last
     ordered = record {
@@ -238,10 +241,10 @@ module _ (o : Opening) (factor : ℕ) (board : BoardId) (hs : List SeatHistory) 
     split_is : split_in h.first masks ≡ split
     split_is = λ m phase page. split_by (seat.limits m).hot (is_marked (seat.marks m)) masks phase page
 
-    nothing_done : h.first.seat.post.did ≡ []
-    nothing_done = seat.fresh.did_nothing
+    nothing_done : earliest_first h.first.seat.post.did ≡ []
+    nothing_done = ap earliest_first seat.fresh.did_nothing
 
-    has_steps : filter_map (step_of split) (deeds_in h) ≡ map step_told (filter (is_plain split) (steps_by i steps))
+    has_steps : filter_map (step_of split) (deeds_in h) ≡ map step_told (filter (is_plain split) (own_steps i steps))
     has_steps =
         let k = kept_by_calls h.first (IsOrdered masks) (HasSteps h.first masks) (steps_kept h.first masks) h.told h.last
         h.done unused ordered
@@ -249,11 +252,11 @@ module _ (o : Opening) (factor : ℕ) (board : BoardId) (hs : List SeatHistory) 
           steps = sym (ap (λ xs. map step_told (filter (is_plain (split_in h.first masks)) xs)) nothing_done);
         }) in
         subst
-        (λ (f : ℕ → ℕ → Bool). filter_map (step_of f) (deeds_in h) ≡ map step_told (filter (is_plain f) (steps_by i steps)))
+        (λ (f : ℕ → ℕ → Bool). filter_map (step_of f) (deeds_in h) ≡ map step_told (filter (is_plain f) (own_steps i steps)))
         split_is
         (k.steps ∙ ap (λ xs. map step_told (filter (is_plain (split_in h.first masks)) xs)) (sym did))
 
-    has_totals : (phase page : ℕ) → weigh (deed_in phase page) (deeds_in h) ≡ weigh (step_in phase page) (steps_by i steps)
+    has_totals : (phase page : ℕ) → weigh (deed_in phase page) (deeds_in h) ≡ weigh (step_in phase page) (own_steps i steps)
     has_totals phase page =
         let k = kept_by_calls h.first (λ w. Unit {0}) HasTotals (totals_kept h.first) h.told h.last h.done unused tt
         (record {
@@ -266,24 +269,25 @@ module _ (o : Opening) (factor : ℕ) (board : BoardId) (hs : List SeatHistory) 
           only-empty = ap (only (phase_at h.last.seat == phase)) (is_none _ (empty page)) ∙ only-none _
 
           at_first : (k p : ℕ)
-              → weigh (step_in k p) h.first.seat.post.did + only (phase_at h.first.seat == k) (get_or h.first.seat.slice p 0)
-              ≡ weigh (step_in k p) h.first.seat.post.did + only (0 == k) 0
+              → weigh (step_in k p) (earliest_first h.first.seat.post.did) + only (phase_at h.first.seat == k) (get_or h.first.seat.slice p 0)
+              ≡ weigh (step_in k p) (earliest_first h.first.seat.post.did) + only (0 == k) 0
           at_first k p =
-              ap (λ n. weigh (step_in k p) h.first.seat.post.did + n)
+              ap (λ n. weigh (step_in k p) (earliest_first h.first.seat.post.did) + n)
               (ap (only (phase_at h.first.seat == k))
               (ap (λ (xs : List ℕ). get_or xs p 0) seat.new.slice ∙ same_everywhere _ p 0)
               ∙ only-none (phase_at h.first.seat == k) ∙ sym (only-none (0 == k)))
 
     -- what it added before a phase is what its deeds count
     has_before : (n page : ℕ)
-        → added_before n page h.last.seat.post.additions
+        → added_before n page (additions_among h.last.seat.post.did)
         ≡ weigh (λ d. only (nat_lt d.phase n) (likes_of_deed page d)) (deeds_in h)
     has_before n page =
-        ap (added_before n page)
-        (at_all (λ (s : LiveView). s.seat.post.additions ≡ additions_among s.seat.post.did) (λ (g : SeatHistory). g.last) hs
-        i h order.additions at ∙ ap additions_among (sym did))
+        let early : PageStep → ℕ = λ s. only (nat_lt s.phase n) (adds_to page s) in
+        ap (λ ds. added_before n page (additions_among ds)) (sym done)
         ∙ before_steps n page (steps_by i steps)
-        ∙ same_below phase_of_step (adds_to page) phase_of_deed (likes_of_deed page) (steps_by i steps) (deeds_in h)
+        ∙ sym (ap (weigh early) (sym (by-earliest i steps) ∙ earliest-reverse (steps_by i steps))
+        ∙ weigh-reverse early (steps_by i steps))
+        ∙ same_below phase_of_step (adds_to page) phase_of_deed (likes_of_deed page) (own_steps i steps) (deeds_in h)
         (λ k. sym (has_totals k page)) n
 
     has_risen : Rises phase_of_deed (deeds_in h)
@@ -342,8 +346,10 @@ module _ (o : Opening) (factor : ℕ) (board : BoardId) (hs : List SeatHistory) 
     | inr none ↦ subst (P i) (sym (deeds_past hs i none)) (past i none)
   ]
 
-  no_steps : (i : ℕ) → length hs ≤ i → steps_by i steps ≡ []
-  no_steps i past = order.others i (none_past hs 0 i (λ k h at. let e = worker_is k h at in omega (arith, e)) (omega (arith, past)))
+  no_steps : (i : ℕ) → length hs ≤ i → own_steps i steps ≡ []
+  no_steps i past =
+      sym (by-earliest i steps)
+      ∙ ap earliest_first (order.others i (none_past hs 0 i (λ k h at. let e = worker_is k h at in omega (arith, e)) (omega (arith, past))))
 
   -- a deed's step is what it likes, where its page isn't split
   deed_marks : (k page : ℕ) → split k page ≡ false → (d : Deed)
@@ -384,10 +390,10 @@ module _ (o : Opening) (factor : ℕ) (board : BoardId) (hs : List SeatHistory) 
         (λ d both. both.1) (has_owners i h at));
     past = λ i none. deeds_past hs i none;
     rising = each_run (λ i ds. Rises phase_of_deed ds) (λ i past. tt) has_risen;
-    plain = each_run (λ i ds. filter_map (step_of split) ds ≡ map step_told (filter (is_plain split) (steps_by i steps)))
+    plain = each_run (λ i ds. filter_map (step_of split) ds ≡ map step_told (filter (is_plain split) (own_steps i steps)))
         (λ i past. sym (ap (λ xs. map step_told (filter (is_plain split) xs)) (no_steps i past))) has_steps;
     totals = λ i k page.
-        each_run (λ i ds. weigh (deed_in k page) ds ≡ weigh (step_in k page) (steps_by i steps))
+        each_run (λ i ds. weigh (deed_in k page) ds ≡ weigh (step_in k page) (own_steps i steps))
         (λ i past. sym (ap (weigh (step_in k page)) (no_steps i past))) (λ i h at. has_totals i h at k page) i;
   }
 
@@ -459,14 +465,14 @@ module _ (o : Opening) (factor : ℕ) (board : BoardId) (hs : List SeatHistory) 
 
     -- what the seats added before a phase is what the deeds before it count
     all_before : (n page : ℕ)
-        → sum_by (λ (s : LiveView). added_before n page s.seat.post.additions) (map (λ (h : SeatHistory). h.last) hs)
+        → sum_by (λ (s : LiveView). added_before n page (additions_among s.seat.post.did)) (map (λ (h : SeatHistory). h.last) hs)
         ≡ likes_among page (take (count_by (λ d. nat_lt (phase_of_deed d) n) serial) serial)
     all_before n page =
         let G : Deed → ℕ = λ d. only (nat_lt (phase_of_deed d) n) (likes_of_deed page d) in
         let number : SeatHistory → ℕ = λ h. h.last.seat.post.worker in
-        sum-weigh (λ (s : LiveView). added_before n page s.seat.post.additions) (map (λ (h : SeatHistory). h.last) hs)
-        ∙ weigh-map (λ (s : LiveView). added_before n page s.seat.post.additions) (λ (h : SeatHistory). h.last) hs
-        ∙ alike_at (λ (h : SeatHistory). added_before n page h.last.seat.post.additions) (λ h. weigh G (deeds_in h)) hs
+        sum-weigh (λ (s : LiveView). added_before n page (additions_among s.seat.post.did)) (map (λ (h : SeatHistory). h.last) hs)
+        ∙ weigh-map (λ (s : LiveView). added_before n page (additions_among s.seat.post.did)) (λ (h : SeatHistory). h.last) hs
+        ∙ alike_at (λ (h : SeatHistory). added_before n page (additions_among h.last.seat.post.did)) (λ h. weigh G (deeds_in h)) hs
         (λ k h at. has_before k h at n page)
         ∙ sym (same_in_all user_home G number (λ (h : SeatHistory). weigh G (deeds_in h)) serial hs
         (λ k. sym (weigh-filter (λ (d : Deed). user_home d == k) G serial) ∙ ap (weigh G) (m.own k)
@@ -492,7 +498,7 @@ module _ (o : Opening) (factor : ℕ) (board : BoardId) (hs : List SeatHistory) 
   Serial serial =
       IsSerialService o (map deeds_in hs) serial
       × ((n page : ℕ)
-      → sum_by (λ (s : LiveView). added_before n page s.seat.post.additions) (map (λ (h : SeatHistory). h.last) hs)
+      → sum_by (λ (s : LiveView). added_before n page (additions_among s.seat.post.did)) (map (λ (h : SeatHistory). h.last) hs)
       ≡ likes_among page (take (count_by (λ d. nat_lt (phase_of_deed d) n) serial) serial))
 
   pub one_thread : (serial : List Deed) × Serial serial
@@ -516,9 +522,7 @@ services_are_serial o driver now hs counts opened same closed gone =
           subst (λ (z : CoreOpening). AreInTurn (λ page. get_or z.counts page 0) now.lead.seat.phase closed.steps) opening
           order.in_turn;
       each = all-alike (λ (p : PostView). steps_by p.worker closed.steps ≡ p.did) post_at seat_meaning ends closed.back
-          (sym closed.posts) (λ k d below. (order.each k d below).did);
-      additions = all-alike (λ (p : PostView). p.additions ≡ additions_among p.did) post_at seat_meaning ends closed.back
-          (sym closed.posts) (λ k d below. (order.each k d below).additions);
+          (sym closed.posts) order.each;
       others = λ i none.
           order.others i
           (sum-alike (λ (p : PostView). cond {A = ℕ} (p.worker == i) 1 0) seat_meaning post_at closed.back ends closed.posts
@@ -531,7 +535,7 @@ services_are_serial o driver now hs counts opened same closed gone =
           closed.snapshots k d below
           ∙ ap (λ (z : CoreOpening). get_or z.counts r.page 0 + seats_before closed.back (r.phase + 1) r.page) opening
           ∙ ap (λ n. get_or o.counts.items r.page 0 + n)
-          (sum-alike (λ (p : PostView). added_before (r.phase + 1) r.page p.additions) seat_meaning post_at closed.back ends
+          (sum-alike (λ (p : PostView). added_before (r.phase + 1) r.page (additions_among p.did)) seat_meaning post_at closed.back ends
           closed.posts
           ∙ one.1.1 (r.phase + 1) r.page),
     )

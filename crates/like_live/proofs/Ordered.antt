@@ -10,12 +10,13 @@ use Rattle.like_core.specs.declared.view.PhaseMask.{PhaseMask}
 use Rattle.like_core.specs.declared.worker_state.WorkerState.{WorkerState}
 use Rattle.like_core.specs.declared.worker_state.WorkerState.TheVariants as state
 use Rattle.like_core.specs.Additions.{added_to}
-use Rattle.like_core.specs.PageSteps.{AddsSome, step_adding}
+use Rattle.like_core.specs.PageSteps.{AddsSome, earliest_first, step_adding}
 use Rattle.like_core.specs.Phase.{IsSplit, is_marked, split_by}
 use Rattle.like_core.specs.PhaseMasks.{AreMasksOf, HasMask, KeepsMasks, mask_of}
 use Rattle.like_core.specs.Post.{PostView, slices}
 use Rattle.like_core.specs.WorkerState.{IsRunning, RunsSplit, phase_of, seen}
 use Rattle.like_core.proofs.PhaseMasks.{masks-before, split-known}
+use Rattle.like_core.proofs.Steps.{then-earliest}
 use Rattle.like_seat.specs.Steps.{masks_entered, masks_in, saw_at}
 use Rattle.like_seat.specs.StationView.{phase_at}
 use Rattle.like_serial.proofs.Interleaved.{all_front, all_rest}
@@ -24,6 +25,7 @@ use Rattle.like_live.specs.LiveView.{LiveView}
 use Rattle.like_live.proofs.Calling.{page_there, slice-more}
 use Rattle.like_live.proofs.Standing.{Stands, unsplit}
 use Rattle.like_live.proofs.Stepping.{IsRequest, Step, acknowledges, adds_like, done_by, finds, glances, holds, looks, next, reads, reported, reports, retires, returns, slices_like, takes}
+use Rattle.like_live.specs.Moves.{step_for}
 
 -- whether a page is split in a phase of a service, where these are the masks of all phases, by its seats' marks and limits
 abbrev pub split_in : LiveView → (ℕ → ℕ) → ℕ → ℕ → Bool
@@ -32,11 +34,11 @@ split_in v masks phase page = split_by v.seat.post.limits.hot (is_marked v.seat.
 -- each addition of the seat is of some likes; it read the right masks; phases never fall along its steps; and while it
 -- has likes in its slice, none is later than its phase
 pub record IsOrdered (masks : ℕ → ℕ) (v : LiveView) : Type 0 where
-  pub some : AllByRecursion (λ s. AddsSome s.call) v.seat.post.did
+  pub some : AllByRecursion (λ s. AddsSome s.call) (earliest_first v.seat.post.did)
   pub right : AreMasksOf masks v.seat.post.masks
-  pub rises : Rises (λ (s : PageStep). s.phase) v.seat.post.did
+  pub rises : Rises (λ (s : PageStep). s.phase) (earliest_first v.seat.post.did)
   pub none_later : (page : ℕ) → get_or v.seat.slice page 0 ≢ 0
-      → AllByRecursion (λ s. s.phase ≤ phase_at v.seat) v.seat.post.did
+      → AllByRecursion (λ s. s.phase ≤ phase_at v.seat) (earliest_first v.seat.post.did)
 
 -- the front of a list along which phases never fall, and that it comes before the rest
 pub rises_front : {X : Type 0} (phase : X → ℕ) (xs ys : List X) → Rises phase (xs ++ ys) → Rises phase xs
@@ -72,29 +74,29 @@ first_add (a ∷ rest) page some = (a, (rest, refl))
 
 module _ (first : LiveView) (masks : ℕ → ℕ) where
   -- one step more of a phase
-  one_back : (v w : LiveView) (s : PageStep) → w.seat.post.did ≡ v.seat.post.did ++ s ∷ []
+  one_back : (v w : LiveView) (s : PageStep) → earliest_first w.seat.post.did ≡ earliest_first v.seat.post.did ++ s ∷ []
       → w.seat.post.masks ≡ v.seat.post.masks → s.phase ≡ phase_at v.seat → IsOrdered masks w → IsOrdered masks v
   one_back v w s did same phase o =
       let rises = subst (Rises (λ (t : PageStep). t.phase)) did o.rises in
       record {
-        some = all_front (λ t. AddsSome t.call) v.seat.post.did (s ∷ [])
+        some = all_front (λ t. AddsSome t.call) (earliest_first v.seat.post.did) (s ∷ [])
             (subst (AllByRecursion (λ (t : PageStep). AddsSome t.call)) did o.some);
         right = subst (AreMasksOf masks) same o.right;
-        rises = rises_front (λ (t : PageStep). t.phase) v.seat.post.did (s ∷ []) rises;
-        none_later = λ page has. subst (λ k. AllByRecursion (λ (t : PageStep). t.phase ≤ k) v.seat.post.did) phase
-            (rises_to (λ (t : PageStep). t.phase) v.seat.post.did s [] rises);
+        rises = rises_front (λ (t : PageStep). t.phase) (earliest_first v.seat.post.did) (s ∷ []) rises;
+        none_later = λ page has. subst (λ k. AllByRecursion (λ (t : PageStep). t.phase ≤ k) (earliest_first v.seat.post.did)) phase
+            (rises_to (λ (t : PageStep). t.phase) (earliest_first v.seat.post.did) s [] rises);
       }
 
   -- steps more
-  some_back : (v w : LiveView) (more : List PageStep) → w.seat.post.did ≡ v.seat.post.did ++ more
+  some_back : (v w : LiveView) (more : List PageStep) → earliest_first w.seat.post.did ≡ earliest_first v.seat.post.did ++ more
       → w.seat.post.masks ≡ v.seat.post.masks
-      → ((page : ℕ) → get_or v.seat.slice page 0 ≢ 0 → AllByRecursion (λ s. s.phase ≤ phase_at v.seat) v.seat.post.did)
+      → ((page : ℕ) → get_or v.seat.slice page 0 ≢ 0 → AllByRecursion (λ s. s.phase ≤ phase_at v.seat) (earliest_first v.seat.post.did))
       → IsOrdered masks w → IsOrdered masks v
   some_back v w more did same later o = record {
-    some = all_front (λ t. AddsSome t.call) v.seat.post.did more
+    some = all_front (λ t. AddsSome t.call) (earliest_first v.seat.post.did) more
         (subst (AllByRecursion (λ (t : PageStep). AddsSome t.call)) did o.some);
     right = subst (AreMasksOf masks) same o.right;
-    rises = rises_front (λ (t : PageStep). t.phase) v.seat.post.did more
+    rises = rises_front (λ (t : PageStep). t.phase) (earliest_first v.seat.post.did) more
         (subst (Rises (λ (t : PageStep). t.phase)) did o.rises);
     none_later = later;
   }
@@ -108,11 +110,11 @@ module _ (first : LiveView) (masks : ℕ → ℕ) where
         o.right;
     rises = o.rises;
     none_later = λ page has.
-        subst (λ n. AllByRecursion (λ (t : PageStep). t.phase ≤ n) v.seat.post.did)
+        subst (λ n. AllByRecursion (λ (t : PageStep). t.phase ≤ n) (earliest_first v.seat.post.did))
         (looked_phase v.seat.post.state sight (k.split page has).0) (o.none_later page has);
   }
   ordered_back v (finds found joined order shown) k o =
-      some_back v _ _ refl refl (λ page has. absurd (unsplit v.seat.post.state joined (k.split page has).0)) o
+      some_back v _ _ (then-earliest v.seat.post.did (map (step_for v.seat.post.worker) found)) refl (λ page has. absurd (unsplit v.seat.post.state joined (k.split page has).0)) o
   ordered_back v (acknowledges joined) k o = record {
     some = o.some;
     right = o.right;
@@ -120,10 +122,14 @@ module _ (first : LiveView) (masks : ℕ → ℕ) where
     none_later = λ page has. absurd (unsplit v.seat.post.state joined (k.split page has).0);
   }
   ordered_back v (reports adds split merges) k o =
-      some_back v (reported v adds) (map (step_adding v.seat.post.worker) adds) refl refl later o
+      some_back v (reported v adds) (map (step_adding v.seat.post.worker) adds) are refl later o
     where
+      are : earliest_first (reported v adds).seat.post.did
+          ≡ earliest_first v.seat.post.did ++ map (step_adding v.seat.post.worker) adds
+      are = then-earliest v.seat.post.did (map (step_adding v.seat.post.worker) adds)
+
       later : (page : ℕ) → get_or v.seat.slice page 0 ≢ 0
-          → AllByRecursion (λ s. s.phase ≤ phase_at v.seat) v.seat.post.did
+          → AllByRecursion (λ s. s.phase ≤ phase_at v.seat) (earliest_first v.seat.post.did)
       later page has =
           let a = first_add adds page (λ none. has (sym (merges.sums page) ∙ none)) in
           let is = a.1.1 in
@@ -131,9 +137,10 @@ module _ (first : LiveView) (masks : ℕ → ℕ) where
           subst (All (λ (x : Addition). x.phase ≡ phase_at v.seat)) is merges.phase_is 0 a.0 (omega arith) in
           let rises = subst
           (λ (xs : List Addition). Rises (λ (t : PageStep). t.phase)
-          (v.seat.post.did ++ map (step_adding v.seat.post.worker) xs)) is o.rises in
-          subst (λ n. AllByRecursion (λ (t : PageStep). t.phase ≤ n) v.seat.post.did) phase
-          (rises_to (λ (t : PageStep). t.phase) v.seat.post.did (step_adding v.seat.post.worker a.0)
+          (earliest_first v.seat.post.did ++ map (step_adding v.seat.post.worker) xs)) is
+          (subst (Rises (λ (t : PageStep). t.phase)) are o.rises) in
+          subst (λ n. AllByRecursion (λ (t : PageStep). t.phase ≤ n) (earliest_first v.seat.post.did)) phase
+          (rises_to (λ (t : PageStep). t.phase) (earliest_first v.seat.post.did) (step_adding v.seat.post.worker a.0)
           (map (step_adding v.seat.post.worker) a.1.0) rises)
   ordered_back v (retires joined) k o = record {
     some = o.some;

@@ -8,12 +8,10 @@ use Rattle.like_core.specs.OpeningLimits.{service_limits}
 use Rattle.like_core.specs.Phase.{IsJoined}
 use Rattle.like_core.specs.Post.{has_glanced, has_read}
 use Rattle.like_core.specs.declared.page_step.PageStep.{PageStep}
-use Rattle.like_core.specs.declared.view.PageRead.{PageRead}
 use Rattle.like_seat.specs.declared.seen.Seen.{Seen}
 use Rattle.like_core.specs.WorkerState.{RunsSplit, phase_of}
 use Rattle.like_core.specs.declared.worker_state.WorkerState.{WorkerState}
 use Rattle.like_core.specs.declared.worker_state.WorkerState.TheVariants as state
-use Rattle.like_core.specs.declared.view.Addition.{Addition}
 use Rattle.like_requests.specs.Verdict.{is_accepted}
 use Rattle.like_requests.specs.declared.request.Request.{Request}
 use Rattle.like_seat.specs.StationView.{IsStation, StationView, phase_at, likes_of}
@@ -82,9 +80,9 @@ accepted_in v s t found user page placed is same a =
     (subst (λ u. IsAccepted v.seat u page placed) (sym a.user_is) a)
 
 -- the seat with these additions, slice, likes that went into it, and last likes
-abbrev liked_in : StationView Asked → List Addition → List PageStep → List ℕ → List SlicedLike → List (Option ℕ) → StationView Asked
-liked_in s additions did slice likes lasts = record s {
-  post = record s.post { additions = additions; did = did };
+abbrev liked_in : StationView Asked → List PageStep → List ℕ → List SlicedLike → List (Option ℕ) → StationView Asked
+liked_in s did slice likes lasts = record s {
+  post = record s.post { did = did };
   slice = slice;
   sliced = likes;
   last = record s.last { last = lasts };
@@ -92,11 +90,11 @@ liked_in s additions did slice likes lasts = record s {
 
 -- a live seat's parts agree as before, where nothing changed but what a like changes and it is a seat still
 after-like : (s : StationView Asked) (found : Waiting Found) (home : Home) (pages : ℕ) (room : RoomView) (half : ℕ)
-    (additions : List Addition) (did : List PageStep) (slice : List ℕ) (likes : List SlicedLike) (lasts : List (Option ℕ))
+    (did : List PageStep) (slice : List ℕ) (likes : List SlicedLike) (lasts : List (Option ℕ))
     → AreLiveSeatParts s found home pages room half
-    → IsStation (liked_in s additions did slice likes lasts)
-    → AreLiveSeatParts (liked_in s additions did slice likes lasts) found home pages room half
-after-like s found home pages room half additions did slice likes lasts parts kept =
+    → IsStation (liked_in s did slice likes lasts)
+    → AreLiveSeatParts (liked_in s did slice likes lasts) found home pages room half
+after-like s found home pages room half did slice likes lasts parts kept =
     let live = parts.live in
     record {
       live = record {
@@ -128,23 +126,23 @@ after-counted s t found home pages room half user page None parts c kept =
     let lasts = (with_last s.last user page).last in
     let new : StationView Asked = liked_last (sliced s page) user page in
     subst (λ x. AreLiveSeatParts x found home pages room half) (sym c.1)
-    (after-like s found home pages room half s.post.additions s.post.did new.slice new.sliced lasts parts
+    (after-like s found home pages room half s.post.did new.slice new.sliced lasts parts
     (subst (λ x. IsStation x) c.1 kept))
 after-counted s t found home pages room half user page (Some count) parts c kept =
     let lasts = (with_last s.last user page).last in
     let new : StationView Asked = liked_last (with_addition s page count 1) user page in
     subst (λ x. AreLiveSeatParts x found home pages room half) (sym c.1)
-    (after-like s found home pages room half new.post.additions new.post.did s.slice s.sliced lasts parts
+    (after-like s found home pages room half new.post.did s.slice s.sliced lasts parts
     (subst (λ x. IsStation x) c.1 kept))
 
 -- so they do after a seat has some other reads and glances, and has done something else at pages
 after-shown : (s t : StationView Asked) (found : Waiting Found) (home : Home) (pages : ℕ) (room : RoomView) (half : ℕ)
-    (reads glances : List PageRead) (did : List PageStep)
+    (did : List PageStep)
     → AreLiveSeatParts s found home pages room half
-    → t ≡ record s { post = record s.post { reads = reads; glances = glances; did = did } }
+    → t ≡ record s { post = record s.post { did = did } }
     → IsStation t
     → AreLiveSeatParts t found home pages room half
-after-shown s t found home pages room half reads glances did parts is kept =
+after-shown s t found home pages room half did parts is kept =
     let live = parts.live in
     subst (λ x. AreLiveSeatParts x found home pages room half) (sym is) (record {
       live = record {
@@ -173,8 +171,7 @@ pub after-read : (s t : StationView Asked) (found : Waiting Found) (home : Home)
     → IsStation t
     → AreLiveSeatParts t found home pages room half
 after-read s t found home pages room half user page shown parts r kept =
-    after-shown s t found home pages room half (has_read s.post page shown.count).reads s.post.glances
-    (has_read s.post page shown.count).did parts r.read kept
+    after-shown s t found home pages room half (has_read s.post page shown.count).did parts r.read kept
 
 -- and after a glance
 pub after-glanced : (s t : StationView Asked) (found : Waiting Found) (home : Home) (pages : ℕ) (room : RoomView) (half user page : ℕ)
@@ -184,8 +181,7 @@ pub after-glanced : (s t : StationView Asked) (found : Waiting Found) (home : Ho
     → IsStation t
     → AreLiveSeatParts t found home pages room half
 after-glanced s t found home pages room half user page shown parts r kept =
-    after-shown s t found home pages room half s.post.reads (has_glanced s.post page r.count).glances
-    (has_glanced s.post page r.count).did parts r.glanced kept
+    after-shown s t found home pages room half (has_glanced s.post page r.count).did parts r.glanced kept
 
 -- who runs a split phase does not run a joined one
 not-joined : (s : WorkerState) → RunsSplit s → IsJoined (phase_of s) → ⊥

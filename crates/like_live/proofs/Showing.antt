@@ -11,6 +11,7 @@ use Rattle.like_core.specs.Additions.{added_in, page_read}
 use Rattle.like_core.specs.Phase.{IsSplit}
 use Rattle.like_core.specs.Post.{PostView, slices}
 use Rattle.like_core.specs.WorkerState.{IsRunning, RunsSplit, phase_of}
+use Rattle.like_core.specs.PageSteps.{additions_among, glances_among, reads_among}
 use Rattle.like_seat.specs.StationView.{phase_at}
 use Rattle.like_live.specs.declared.answer.GlanceAnswer.{GlanceAnswer}
 use Rattle.like_live.specs.declared.answer.GlanceAnswer.TheVariants as glanced
@@ -78,9 +79,9 @@ split_phase post page split = eqb-true _ _ ((and_parts _ _ split).0)
 pub record IsJustGlanced (now : LiveView) (s : Shown) : Type 0 where
   pub from : ℕ
   pub board : ℕ
-  pub there : Contains now.seat.post.glances (page_read s.phase s.page board from)
+  pub there : Contains (glances_among now.seat.post.did) (page_read s.phase s.page board from)
   pub count_is : s.count ≡ board + get_or now.seat.slice s.page 0
-  pub own : s.own ≤ added_in s.phase s.page (take from now.seat.post.additions) + get_or now.seat.slice s.page 0
+  pub own : s.own ≤ added_in s.phase s.page (take from (additions_among now.seat.post.did)) + get_or now.seat.slice s.page 0
   pub held : AreHeld now s.phase s.page from (get_or now.seat.slice s.page 0)
 
 -- right after a glance
@@ -92,10 +93,10 @@ pub record IsJustRead (now : LiveView) (s : Shown) : Type 0 where
 counted-is : (v : LiveView) (page : ℕ) (split : Bool)
     → slices v.seat.post page ≡ split
     → counted_now v page
-    ≡ added_in (phase_at v.seat) page (take (length v.seat.post.additions) v.seat.post.additions)
+    ≡ added_in (phase_at v.seat) page (take (length (additions_among v.seat.post.did)) (additions_among v.seat.post.did))
     + cond split (get_or v.seat.slice page 0) 0
 counted-is v page split is =
-    let all : List Addition = v.seat.post.additions in
+    let all : List Addition = additions_among v.seat.post.did in
     ap (λ (b : Bool). added_in (phase_at v.seat) page all + cond b (get_or v.seat.slice page 0) 0) is
     ∙ ap (λ xs. added_in (phase_at v.seat) page xs + cond split (get_or v.seat.slice page 0) 0) (sym (take-length all))
 
@@ -117,7 +118,7 @@ shows-look v after user page tag answer d = by_case d
         (subst (λ w. IfShown (IsRead w) (IsJustRead w) w (look user page tag (looked.Seen shown)))
         (sym (is ∙ ap (with_seat now) reads.read))
         (let own = counted-is now page false plain in
-        (length now.seat.post.additions, Contains-push now.seat.post.reads _, omega arith)))
+        (length (additions_among now.seat.post.did), Contains-push (reads_among now.seat.post.did) _, omega arith)))
 
     by_case : LookCase v user page tag answer after → P answer
     by_case (calls.gone m a) = subst P (sym a) tt
@@ -142,7 +143,7 @@ shows-glance v after user page answer d = by_case d
         (record {
           plain = λ _.
               let own = counted-is now page false plain in
-              (length now.seat.post.additions, Contains-push now.seat.post.reads _, omega arith);
+              (length (additions_among now.seat.post.did), Contains-push (reads_among now.seat.post.did) _, omega arith);
           split = λ split. absurd (cc (sym plain ∙ split));
         }))
     now_case now runs (calls.split shown s accepted split a glances is) =
@@ -152,9 +153,9 @@ shows-glance v after user page answer d = by_case d
         (record {
           plain = λ plain. absurd (cc (sym plain ∙ split));
           split = λ _. record {
-            from = length now.seat.post.additions;
+            from = length (additions_among now.seat.post.did);
             board = glances.count;
-            there = Contains-push now.seat.post.glances _;
+            there = Contains-push (glances_among now.seat.post.did) _;
             count_is = glances.counts;
             own = let own = counted-is now page true split in omega arith;
             held = record {

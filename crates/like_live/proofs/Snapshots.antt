@@ -6,9 +6,9 @@ use Rattle.std.proofs.lemmas.List.Sums.{sum_by-cons}
 use Rattle.like_core.specs.declared.page_step.PageCall.{PageCall}
 use Rattle.like_core.specs.declared.page_step.PageCall.TheVariants.{Add, Read, Glance}
 use Rattle.like_core.specs.declared.page_step.PageStep.{PageStep}
-use Rattle.like_core.specs.declared.view.Addition.{Addition}
 use Rattle.like_core.specs.Additions.{added_before}
-use Rattle.like_core.specs.PageSteps.{addition_by, addition_in, additions_among, adds_to, likes_of}
+use Rattle.like_core.specs.PageSteps.{additions_among, adds_to, and_addition, likes_of}
+use Rattle.like_core.proofs.core.Labels.{added_before-push}
 use Rattle.like_serial.proofs.Phases.{Rises, all_then, below, not_below}
 use Rattle.like_serial.proofs.Seen.{not_some, some_is}
 use Rattle.like_serial.proofs.Totals.{only-none}
@@ -30,12 +30,12 @@ before_steps n page (s ∷ steps) =
       none false = refl
 
       by : (call : PageCall)
-          → added_before n page (cons_option (addition_by s.phase s.page s.found call) (additions_among steps))
+          → added_before n page (and_addition (additions_among steps) s.phase s.page s.found call)
           ≡ only (nat_lt s.phase n) (cond (s.page == page) (likes_of call) 0) + added_before n page (additions_among steps)
       by (Add k) =
-          sum_by-cons (λ (a : Addition). cond (nat_lt a.phase n && (a.page == page)) a.likes 0)
-          (record { phase = s.phase; page = s.page; old = s.found; likes = k }) (additions_among steps)
-          ∙ ap (λ m. m + added_before n page (additions_among steps)) (tests (nat_lt s.phase n) (s.page == page) k)
+          let more = added_before-push (additions_among steps) s.phase s.page s.found k n page in
+          let here = tests (nat_lt s.phase n) (s.page == page) k in
+          omega arith
       by Read =
           let zero_is = ap (only (nat_lt s.phase n)) (none (s.page == page)) ∙ only-none (nat_lt s.phase n) in
           omega arith

@@ -4,6 +4,7 @@ use Rattle.std.specs.List.{sum_by}
 use Rattle.like_core.specs.declared.worker_state.WorkerState.TheVariants.{Runs}
 use Rattle.like_core.specs.Additions.{added_before, added_in, page_read}
 use Rattle.like_core.specs.Post.{additions_in, slices}
+use Rattle.like_core.specs.PageSteps.{additions_among, glances_among, reads_among}
 use Rattle.like_seat.specs.StationView.{phase_at}
 use Rattle.like_live.specs.declared.answer.GlanceAnswer.TheVariants as glanced
 use Rattle.like_live.specs.declared.answer.LookAnswer.TheVariants as looked
@@ -48,14 +49,14 @@ IfShown P Q now told = Unit {0}
 -- the seat read this count of this page in this phase, after it had added its own likes
 abbrev pub IsRead : LiveView → Shown → Type 0
 IsRead v s =
-    (after : ℕ) × Contains v.seat.post.reads (page_read s.phase s.page s.count after)
-    × (s.own ≤ added_in s.phase s.page (take after v.seat.post.additions))
+    (after : ℕ) × Contains (reads_among v.seat.post.did) (page_read s.phase s.page s.count after)
+    × (s.own ≤ added_in s.phase s.page (take after (additions_among v.seat.post.did)))
 
 -- n likes of a page that the seat had in its slice in a phase, after this many additions: it has added them in that
 -- phase, or it runs that phase and has them in its slice still
 abbrev pub AreKept : LiveView → (phase page after n : ℕ) → Type 0
 AreKept v phase page after n =
-    (n ≤ added_in phase page (drop after v.seat.post.additions))
+    (n ≤ added_in phase page (drop after (additions_among v.seat.post.did)))
     ⊎ ((v.seat.post.state ≡ Runs phase) × (n ≤ slice_index v.seat.slice page))
 
 -- the seat glanced at this page in this phase. The count is the board's at that glance plus the likes of the page in
@@ -64,10 +65,10 @@ pub record IsGlanced (now v : LiveView) (s : Shown) : Type 0 where
   pub after : ℕ
   pub board : ℕ
   pub sliced : ℕ
-  pub there : Contains v.seat.post.glances (page_read s.phase s.page board after)
+  pub there : Contains (glances_among v.seat.post.did) (page_read s.phase s.page board after)
   pub sliced_is : sliced ≡ slice_index now.seat.slice s.page
   pub count_is : s.count ≡ board + sliced
-  pub own : s.own ≤ added_in s.phase s.page (take after v.seat.post.additions) + sliced
+  pub own : s.own ≤ added_in s.phase s.page (take after (additions_among v.seat.post.did)) + sliced
   pub kept : AreKept v s.phase s.page after sliced
 
 -- the count that a glance was told. If the page isn't split then, the seat read it; otherwise the seat glanced at the
@@ -95,7 +96,7 @@ AnswersAreReads =
 
 -- how much these seats have added to a page in the phases before one
 abbrev pub seats_added_before : List LiveView → ℕ → ℕ → ℕ
-seats_added_before seats phase page = sum_by (λ v. added_before phase page v.seat.post.additions) seats
+seats_added_before seats phase page = sum_by (λ v. added_before phase page (additions_among v.seat.post.did)) seats
 
 -- the count has the page's first count, all that these seats added in earlier phases, and the seat's own likes of the
 -- phase before; and nothing of a later phase

@@ -1,12 +1,10 @@
 -- The phase work of a live seat: what a look at the phase word makes it do.
-use Rattle.std.specs.Prelude.{◌≡◌, ℕ, ◌≤◌, Bool, true, false, List, [], ◌++◌, length, map, All}
+use Rattle.std.specs.Prelude.{◌≡◌, ℕ, ◌≤◌, Bool, true, false, List, [], ◌++◌, map, All}
 use Rattle.like_core.specs.declared.page_step.PageCall.TheVariants.{Read}
 use Rattle.like_core.specs.declared.page_step.PageStep.{PageStep}
 use Rattle.like_core.specs.declared.sight.Sight.{Sight}
-use Rattle.like_core.specs.declared.view.PageRead.{PageRead}
 use Rattle.like_core.specs.declared.worker_state.WorkerState.TheVariants.{Gone}
-use Rattle.like_core.specs.Additions.{page_read}
-use Rattle.like_core.specs.PageSteps.{page_step}
+use Rattle.like_core.specs.PageSteps.{page_step, then_steps}
 use Rattle.like_core.specs.Post.{additions_of, answered}
 use Rattle.like_core.specs.WorkerState.{IsSightOf, RunsJoined, RunsSplit}
 use Rattle.like_seat.specs.Merge.{MergesAndReports}
@@ -34,11 +32,7 @@ pub record IsFoundAt (s : StationView Asked) (f : Found) : Type 0 where
   pub own : additions_of s.post f.asked.page ≤ f.count
   pub phase : f.phase ≡ phase_at s
 
--- the read of a page's count that was made for a found look, after so many additions
-abbrev pub read_for : ℕ → Found → PageRead
-read_for additions f = page_read f.phase f.asked.page f.count additions
-
--- that read, as a step of this worker
+-- the read of a page's count that was made for a found look, as a step of this worker
 abbrev pub step_for : ℕ → Found → PageStep
 step_for worker f = page_step worker f.phase f.asked.page f.count Read
 
@@ -46,10 +40,7 @@ step_for worker f = page_step worker f.phase f.asked.page f.count Read
 abbrev pub with_found : LiveView → List Found → LiveView
 with_found v found = record {
   seat = record v.seat {
-    post = record v.seat.post {
-      reads = v.seat.post.reads ++ map (read_for (length v.seat.post.additions)) found;
-      did = v.seat.post.did ++ map (step_for v.seat.post.worker) found;
-    };
+    post = record v.seat.post { did = then_steps v.seat.post.did (map (step_for v.seat.post.worker) found) };
     held = record v.seat.held { held = [] };
   };
   found = v.found ++ found;

@@ -4,6 +4,7 @@ use Rattle.std.specs.List.{All}
 use Rattle.std.proofs.lemmas.List.Sums.{sum_by-set}
 use Rattle.like_core.specs.Additions.{all_added}
 use Rattle.like_core.specs.Post.{has_read, pages_of}
+use Rattle.like_core.specs.PageSteps.{additions_among}
 use Rattle.like_tables.specs.UserTable.{with_last}
 use Rattle.like_tables.specs.declared.held.Held.{Held}
 use Rattle.like_seat.specs.StationView.{IsStation, StationView, phase_at}
@@ -95,8 +96,8 @@ pub liked-board : (s t : StationView Held) (d e : Desk) (user page phase count :
 liked-board s t d e user page phase count is room seat c phase_is h =
     let now = liked_last (with_addition s page count 1) user page in
     let v = view_of s d in
-    let more : all_added now.post.additions ≡ all_added s.post.additions + 1 =
-    all_added-push s.post.additions (record { phase = phase_at s; page = page; old = count; likes = 1 }) in
+    let more : all_added (additions_among now.post.did) ≡ all_added (additions_among s.post.did) + 1 =
+    all_added-push (additions_among s.post.did) (record { phase = phase_at s; page = page; old = count; likes = 1 }) in
     let before = is.sound.room in
     let noted : view_of now e ≡ serve.noting (view_of now d) page count 1 =
     noting-view now d e phase page count 1 h phase_is in

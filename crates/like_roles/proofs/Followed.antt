@@ -1,11 +1,12 @@
 -- Each turn leads a worker that follows the plans to one that does.
-use Rattle.std.proofs.Common.{◌≡◌, ◌≢◌, ℕ, ◌+◌, ◌%◌, ◌≤◌, ◌==◌, ◌&&◌, ◌||◌, not, Bool, true, false, cond, List, [], ◌∷◌, ◌++◌, length, map, get_or, set, Some, None, refl, ap, sym, ◌∙◌, inl, inr, arith, subst, append_assoc}
+use Rattle.std.proofs.Common.{◌≡◌, ◌≢◌, ℕ, ◌+◌, ◌%◌, ◌≤◌, ◌==◌, ◌&&◌, ◌||◌, not, Bool, true, false, cond, List, [], ◌∷◌, ◌++◌, length, map, get_or, set, Some, None, refl, ap, ap₂, sym, ◌∙◌, inl, inr, arith, subst, subst₂, append_assoc}
 use Rattle.std.proofs.lemmas.Bool.{cases_eq}
 use Rattle.std.proofs.lemmas.List.{map-append, length-map, length-replicate}
 use Rattle.std.proofs.lemmas.List.Elements.{All-head, All-map, All-tail, All-push}
 use Rattle.std.specs.List.{All}
 use Rattle.std.specs.Option.{option_map_or}
 use Rattle.std.specs.Prelude.{option_and_then}
+use Rattle.like_core.proofs.Steps.{then-additions, then-earliest, then-reads}
 use Rattle.like_requests.specs.Pages.{marks_of}
 use Rattle.like_requests.specs.Verdict.{is_accepted}
 use Rattle.like_requests.specs.declared.request.Numbered.{Numbered}
@@ -17,7 +18,7 @@ use Rattle.like_core.specs.declared.worker_state.WorkerState.{WorkerState}
 use Rattle.like_core.specs.declared.worker_state.WorkerState.TheVariants as state
 use Rattle.like_core.specs.declared.view.Addition.{Addition}
 use Rattle.like_core.specs.declared.view.PhaseMask.{PhaseMask}
-use Rattle.like_core.specs.PageSteps.{step_adding}
+use Rattle.like_core.specs.PageSteps.{additions_among, earliest_first, reads_among, step_adding}
 use Rattle.like_core.specs.PhaseMasks.{AreMasksOf, mask_of}
 use Rattle.like_core.proofs.PhaseMasks.{masks-before, split-known}
 use Rattle.like_core.specs.declared.limits.Limits.{Limits}
@@ -53,6 +54,9 @@ use Rattle.like_roles.proofs.Served.{runs-split}
 use Rattle.like_roles.proofs.counts.Shown.{after-more, shown_by-more}
 use Rattle.like_roles.proofs.counts.Steps.{plain_told-split}
 use Rattle.like_roles.proofs.counts.Tallied.{GivesReply-tallied, accepted-true}
+use Rattle.like_roles.specs.worker.Shown.{shown_by}
+use Rattle.like_core.specs.declared.view.PageRead.{PageRead}
+use Rattle.like_serial.specs.StepsTold.{plain_told}
 
 -- a worker that runs a phase follows the plans
 follows-running : (workload : Workload) (v : WorkerView)
@@ -60,7 +64,7 @@ follows-running : (workload : Workload) (v : WorkerView)
     → IsServed workload v
     → IsSized v
     → IsTallied workload v
-    → (v.notes ≡ true → IsNoted workload v.post.additions v.post.reads v.adds v.ran)
+    → (v.notes ≡ true → IsNoted workload (additions_among v.post.did) (reads_among v.post.did) v.adds v.ran)
     → (v.notes ≡ true → IsUnmerged workload v.adds v.post.state)
     → All (IsAsked workload) v.held.held
     → FitsStash workload v.taken
@@ -102,7 +106,7 @@ follows-run : (workload : Workload) (v after : WorkerView) (h : Held) (stashed :
     → IsServed workload v
     → IsSized v
     → IsTallied workload v
-    → (v.notes ≡ true → IsNoted workload v.post.additions v.post.reads v.adds v.ran)
+    → (v.notes ≡ true → IsNoted workload (additions_among v.post.did) (reads_among v.post.did) v.adds v.ran)
     → (v.notes ≡ true → IsUnmerged workload v.adds v.post.state)
     → HasPhaseMask v.post
     → IsAsked workload h
@@ -126,11 +130,11 @@ follows-run workload v after h stashed run here none served sized t was un has a
     alike run.serves in
     let all : IsServed workload after × IsSized after × IsTallied workload after
     × (v.notes ≡ true
-    → IsNoted workload after.post.additions after.post.reads after.adds after.ran
+    → IsNoted workload (additions_among after.post.did) (reads_among after.post.did) after.adds after.ran
     × IsUnmerged workload after.adds (state.Runs (phase_at v))) =
     subst (λ x. IsServed workload x × IsSized x × IsTallied workload x
     × (v.notes ≡ true
-    → IsNoted workload x.post.additions x.post.reads x.adds x.ran
+    → IsNoted workload (additions_among x.post.did) (reads_among x.post.did) x.adds x.ran
     × IsUnmerged workload x.adds (state.Runs (phase_at v)))) (sym run.noted) (
       record {
         users =
@@ -428,6 +432,8 @@ follows-reported workload v adds merges f run none kept has =
     let odd = runs-phase IsSplit v.post.state run in
     let here = runs-weaker IsSplit (λ _. Unit {0}) v.post.state (λ _ _. tt) run in
     let alike = slices-alike workload v f.served here has in
+    let then_added = then-additions v.post.worker v.post.did adds in
+    let then_read = then-reads v.post.worker v.post.did adds in
     let noted = λ (notes : v.notes ≡ true).
     merge-noted workload v adds merges f.tallied notes (f.noted notes)
     (unmerged-running workload v.adds IsSplit v.post.state run (f.unmerged notes))
@@ -450,16 +456,20 @@ follows-reported workload v adds merges f run none kept has =
         likes = λ page. f.tallied.likes page ∙ sym (merge.merged-tally (seat_of v) adds merges f.sized.slice page);
         by_phase = λ phase page. f.tallied.by_phase phase page
             ∙ sym (merge.merged-in (seat_of v) adds merges f.sized.slice phase page);
-        looks = f.tallied.looks ∙ sym (shown_by-more v.post.additions adds v.post.reads f.tallied.after);
-        after = after-more v.post.additions adds v.post.reads f.tallied.after;
-        steps = plain_told-split workload v.post.did (map (step_adding v.post.worker) adds)
+        looks = f.tallied.looks ∙ sym (shown_by-more (additions_among v.post.did) adds (reads_among v.post.did) f.tallied.after)
+            ∙ ap₂ (λ xs rs. map (shown_by xs) rs) (sym then_added) (sym then_read);
+        after = subst₂ (λ xs rs. All (λ (r : PageRead). r.after ≤ length xs) rs) (sym then_added) (sym then_read)
+            (after-more (additions_among v.post.did) adds (reads_among v.post.did) f.tallied.after);
+        steps = ap (plain_told workload) (then-earliest v.post.did (map (step_adding v.post.worker) adds))
+            ∙ plain_told-split workload (earliest_first v.post.did) (map (step_adding v.post.worker) adds)
             (All-map (λ s. is_split_in workload s.phase s.page ≡ true) (step_adding v.post.worker) adds
             (merges-split workload v adds merges kept alike))
             ∙ f.tallied.steps;
         replies = f.tallied.replies;
         last = f.tallied.last;
       };
-      noted = λ notes. (noted notes).0;
+      noted = λ notes. subst₂ (λ xs rs. IsNoted workload xs rs (merged v adds).adds v.ran) (sym then_added) (sym then_read)
+          (noted notes).0;
       unmerged = λ notes. (noted notes).1;
       in_order = f.in_order;
       fits = f.fits;

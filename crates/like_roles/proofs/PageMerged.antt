@@ -5,9 +5,11 @@ use Rattle.std.proofs.lemmas.Bool.{cases_eq, cases_lt, eqb-true, eq-eqb, ne_eqb,
 use Rattle.std.proofs.lemmas.List.{get_or_past}
 use Rattle.std.proofs.lemmas.List.Elements.{All-head, All-tail}
 use Rattle.std.proofs.lemmas.List.Sums.{sum_by-append, sum_by-cons}
+use Rattle.like_core.proofs.Steps.{then-additions}
 use Rattle.like_core.specs.declared.view.Addition.{Addition}
 use Rattle.like_core.specs.Post.{additions_in, pages_of}
 use Rattle.like_core.proofs.core.Labels.{one_before-next}
+use Rattle.like_core.specs.PageSteps.{additions_among}
 use Rattle.like_seat.specs.Merge.{merged}
 use Rattle.like_seat.specs.StationView.{StationView, phase_at, tally_of}
 use Rattle.like_seat.proofs.MergedLikes.{cond_same, same_everywhere}
@@ -106,7 +108,8 @@ module _ {W : Type 0} (s : StationView W) (adds : List Addition)
       let none : get_or (merged s adds).slice page 0 ≡ 0 = same_everywhere (pages_of s.post) page 0 in
       let new : sum_by f adds ≡ get_or s.slice page 0 =
       merging-all (λ _. true) (phase_at s) s.slice page (pages_of s.post) adds merges sized in
-      let more = sum_by-append f s.post.additions adds in
+      let now = ap (sum_by f) (then-additions s.post.worker s.post.did adds) in
+      let more = sum_by-append f (additions_among s.post.did) adds in
       omega arith
 
   -- and in each phase
@@ -122,5 +125,6 @@ module _ {W : Type 0} (s : StationView W) (adds : List Addition)
       in
       let new : sum_by f adds ≡ cond (phase_at s == phase) (get_or s.slice page 0) 0 =
       merging-all (λ k. k == phase) (phase_at s) s.slice page (pages_of s.post) adds merges sized in
-      let more = sum_by-append f s.post.additions adds in
+      let now = ap (sum_by f) (then-additions s.post.worker s.post.did adds) in
+      let more = sum_by-append f (additions_among s.post.did) adds in
       omega arith

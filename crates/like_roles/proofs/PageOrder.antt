@@ -5,9 +5,10 @@ use Rattle.std.proofs.lemmas.List.{length-set, map-append, map-id, map_push, get
 use Rattle.std.proofs.lemmas.List.Elements.{All-nil, All-push}
 use Rattle.std.proofs.lemmas.List.FromFn.{filter_of_map_range_with_len_more}
 use Rattle.std.specs.List.{filter, range_with_len}
+use Rattle.like_core.proofs.Steps.{then-push}
 use Rattle.like_core.specs.declared.page_step.PageStep.{PageStep}
 use Rattle.like_core.specs.declared.view.Addition.{Addition}
-use Rattle.like_core.specs.PageSteps.{step_adding}
+use Rattle.like_core.specs.PageSteps.{step_adding, then_steps}
 use Rattle.like_core.specs.Post.{pages_of}
 use Rattle.like_tables.specs.Liked.{AreUnliked, IsNextLiked}
 use Rattle.like_roles.specs.worker.Merges.{Merges, liked_below}
@@ -80,9 +81,7 @@ module _ {W : Type 0} where
   abbrev pub merged_with : StationView W → List Addition → List ℕ → StationView W
   merged_with s adds slice = record s {
     post = record s.post {
-      additions =
-          s.post.additions ++ adds;
-      did = s.post.did ++ map (step_adding s.post.worker) adds;
+      did = then_steps s.post.did (map (step_adding s.post.worker) adds);
     };
     slice = slice;
   }
@@ -103,10 +102,7 @@ module _ {W : Type 0} where
       likes_are = All-nil (λ (a : Addition). a.likes ≡ get_or s.slice a.page 0);
       phase_is = All-nil (λ (a : Addition). a.phase ≡ phase_at s);
     };
-    rest = λ m. record s {
-      post =
-          record s.post { additions = sym (append-nil s.post.additions) m; did = sym (append-nil s.post.did) m };
-    };
+    rest = refl;
     sized = refl;
     emptied = λ page h. absurd (omega arith);
     left = λ page h. refl;
@@ -127,9 +123,9 @@ module _ {W : Type 0} where
       let same : get_or s.slice n 0 ≡ get_or s0.slice n 0 = m.left n (omega arith) in
       let slice : t.slice ≡ set s.slice n 0 = ap {A = StationView W} (λ x. x.slice) is in
       let step : Addition → PageStep = step_adding s0.post.worker in
-      let did : (s0.post.did ++ map step adds) ++ step new ∷ [] ≡ s0.post.did ++ map step (adds ++ new ∷ []) =
-      append_assoc s0.post.did (map step adds) (step new ∷ [])
-      ∙ ap (λ steps. s0.post.did ++ steps) (sym (map_push step adds new)) in
+      let did : step new ∷ then_steps s0.post.did (map step adds) ≡ then_steps s0.post.did (map step (adds ++ new ∷ [])) =
+      sym (then-push s0.post.did (map step adds) (step new))
+      ∙ ap (then_steps s0.post.did) (sym (map_push step adds new)) in
       let walks : Merging s0 (merged_page s n old) (n + 1) (adds ++ new ∷ []) = record {
         merges = record {
           pages_are = map-append (λ (a : Addition). a.page) adds (new ∷ [])
@@ -142,7 +138,7 @@ module _ {W : Type 0} where
             ap {A = StationView W} (λ x. merged_with x (new ∷ []) (set s.slice n 0)) m.rest
             ∙ (λ k. record s0 {
               post =
-                  record s0.post { additions = append_assoc s0.post.additions adds (new ∷ []) k; did = did k };
+                  record s0.post { did = did k };
               slice =
                   set s.slice n 0;
             });

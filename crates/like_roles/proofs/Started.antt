@@ -11,6 +11,7 @@ use Rattle.like_core.specs.WorkerState.{RunsSplit}
 use Rattle.like_core.specs.Additions.{added_in, added_to}
 use Rattle.like_core.specs.PhaseMasks.{AreMasksOf}
 use Rattle.like_core.specs.Post.{PostView, additions_in, additions_of, pages_of}
+use Rattle.like_core.specs.PageSteps.{additions_among, earliest_first, reads_among}
 use Rattle.like_tables.specs.UserTable.{last_of}
 use Rattle.like_roles.specs.declared.turn.Turn.{Turn}
 use Rattle.like_roles.specs.declared.turn.Turn.TheVariants as turn
@@ -40,11 +41,12 @@ follows-new s sizes worker post notes v workload p new same =
     ap (λ x. x.marks) new.at_post ∙ p.marks ∙ ap (map (λ q. q.split)) (sym same.pages_are) in
     let pages : pages_of v.post ≡ length s.pages =
     ap length (ap (λ x. x.marks) new.at_post ∙ p.marks) ∙ length-map s.pages (λ q. q.split) in
-    let additions : v.post.additions ≡ [] = ap (λ x. x.additions) new.at_post ∙ p.fresh.added_nothing in
+    let did_is : v.post.did ≡ [] = ap (λ x. x.did) new.at_post ∙ p.fresh.did_nothing in
+    let additions : additions_among v.post.did ≡ [] = ap additions_among did_is in
     let state_is : v.post.state ≡ state.Runs 0 = ap (λ x. x.state) new.at_post ∙ p.fresh.runs in
     let held : v.held.held ≡ [] = ap (λ x. x.held) new.held in
-    let reads : v.post.reads ≡ [] = ap (λ x. x.reads) new.at_post ∙ p.fresh.read_nothing in
-    let did : v.post.did ≡ [] = ap (λ x. x.did) new.at_post ∙ p.fresh.did_nothing in
+    let reads : reads_among v.post.did ≡ [] = ap reads_among did_is in
+    let did : earliest_first v.post.did ≡ [] = ap earliest_first did_is in
     let masks : v.post.masks ≡ [] = ap (λ x. x.masks) new.at_post ∙ p.fresh.no_masks in
     let nothing : (page : ℕ) → additions_of v.post page ≡ 0 = λ page. ap (added_to page) additions in
     let in_slice : (page : ℕ) → get_or v.slice page 0 ≡ 0 =
@@ -76,15 +78,15 @@ follows-new s sizes worker post notes v workload p new same =
             let none_kept : cond (phase_at v == phase) (get_or v.slice page 0) 0 ≡ 0 =
             ap (λ (n : ℕ). cond (phase_at v == phase) n 0) (in_slice page) ∙ cond_same (phase_at v == phase) 0 in
             rw new.ran (omega (arith, none, none_kept));
-        looks = ap (shown_in workload) new.ran ∙ sym (ap (map (shown_by v.post.additions)) reads);
-        after = subst (All (λ r. r.after ≤ length v.post.additions)) (sym reads)
-            (All-nil (λ r. r.after ≤ length v.post.additions));
+        looks = ap (shown_in workload) new.ran ∙ sym (ap (map (shown_by (additions_among v.post.did))) reads);
+        after = subst (All (λ r. r.after ≤ length (additions_among v.post.did))) (sym reads)
+            (All-nil (λ r. r.after ≤ length (additions_among v.post.did)));
         steps = ap (plain_told workload) did ∙ sym (ap (steps_ran workload) new.ran);
         replies = λ i e h. let k : None ≡ Some e = rw new.ran at h in cc k;
         last = λ user. ap (λ x. last_of x user) new.last ∙ same_everywhere s.users user None ∙ rw new.ran refl;
       };
       noted = λ _.
-          subst (λ xs. IsNoted workload xs v.post.reads v.adds v.ran) (sym additions)
+          subst (λ xs. IsNoted workload xs (reads_among v.post.did) v.adds v.ran) (sym additions)
           (subst (λ xs. IsNoted workload [] xs v.adds v.ran) (sym reads)
           (subst (λ xs. IsNoted workload [] [] xs v.ran) (sym new.adds)
           (subst (λ xs. IsNoted workload [] [] [] xs) (sym new.ran) (noted-nothing workload))));
@@ -146,7 +148,7 @@ follows-done workload v f gone s =
               rising = noted.rising;
               plain = noted.plain;
               split = λ phase page is.
-                  one-of_likes workload v.post.additions v.post.reads v.adds v.ran phase page noted is
+                  one-of_likes workload (additions_among v.post.did) (reads_among v.post.did) v.adds v.ran phase page noted is
                   (in_phase phase page);
             };
             reads = noted.looks;

@@ -17,6 +17,7 @@ use Rattle.like_core.proofs.Slots.{slots_tell}
 use Rattle.like_limits.specs.Limits.{hot_pages}
 use Rattle.like_core.specs.Post.{PostView, looked_at, pages_of, returned}
 use Rattle.like_core.specs.WorkerState.{IsRunning, RunsSplit, seen}
+use Rattle.like_core.specs.PageSteps.{additions_among}
 use Rattle.like_tables.specs.SplitSlice.{IsSplitSlice, SplitSlice, by_page, has_split, likes_in}
 use Rattle.like_tables.proofs.ByPage.{by_page-none, length-by_page, likes_in-none, likes_in-other}
 use Rattle.like_tables.proofs.Sliced.{counts-none}
@@ -230,8 +231,8 @@ module _ {W C : Type 0} (post looked now : PostView) (t after : Tables W C) (pha
       let same = empty post t after.slice kept idle s.counts in
       let at : PostView = entered post looked phase mask in
       let tables : Tables W C = record t { state = Runs phase; slice = after.slice } in
-      let likes : t.likes.likes ≡ all_added post.additions + sum (by_page after.slice n) =
-      kept.likes ∙ ap (λ (xs : List ℕ). all_added post.additions + sum xs) (sym same) in
+      let likes : t.likes.likes ≡ all_added (additions_among post.did) + sum (by_page after.slice n) =
+      kept.likes ∙ ap (λ (xs : List ℕ). all_added (additions_among post.did) + sum xs) (sym same) in
       let keeps : IsKept at tables = record {
         run = of-run post at t.marks.items t.marks.items refl refl refl refl kept.run;
         service = of-service post at refl refl kept.service;

@@ -8,12 +8,12 @@ use Rattle.like_core.specs.declared.worker_state.WorkerState.{WorkerState}
 use Rattle.like_core.specs.declared.worker_state.WorkerState.TheVariants as state
 use Rattle.like_core.specs.Phase.{IsSplit, is_hot_by, is_marked}
 use Rattle.like_core.specs.declared.page_step.PageStep.{PageStep}
-use Rattle.like_core.specs.declared.view.Addition.{Addition}
-use Rattle.like_core.specs.declared.view.PageRead.{PageRead}
+use Rattle.like_core.specs.Additions.{all_added}
 use Rattle.like_core.specs.OpeningLimits.{AreLimits, has_slots}
 use Rattle.like_core.specs.PhaseMasks.{mask_of}
 use Rattle.like_core.specs.Post.{KnowsSlices, PostView, answered, pages_of, slices}
 use Rattle.like_core.specs.WorkerState.{IsRunning, RunsJoined, RunsSplit, phase_of}
+use Rattle.like_core.specs.PageSteps.{additions_among}
 use Rattle.like_limits.specs.Buckets.{bucket, buckets}
 use Rattle.like_tables.specs.Liked.{AreUnliked}
 use Rattle.like_tables.specs.SplitPages.{SplitPages, is_split}
@@ -157,17 +157,17 @@ pub sum-zeros : (n : ℕ) → sum (replicate n 0) ≡ 0
 sum-zeros n = sum_by-replicate (λ x. x) n 0 ∙ omega arith
 
 -- the tables of a post that made a step in its phase, which leaves the split pages
-pub Kept-written : {W C : Type 0} (post : PostView) (a : List Addition) (r gl : List PageRead) (d : List PageStep)
+pub Kept-written : {W C : Type 0} (post : PostView) (d : List PageStep)
     (t after : Tables W C)
     → IsKept post t
     → after.marks.items ≡ t.marks.items → after.state ≡ t.state → after.held ≡ t.held
     → after.slice.splits ≡ t.slice.splits → length after.slice.counts ≡ length t.slice.counts → IsSplitSlice after.slice
     → sum (by_page after.slice (pages_of post)) ≡ sum after.slice.counts
-    → after.likes.likes ≡ likes_of (view_of (record post { additions = a; reads = r; glances = gl; did = d }) after)
+    → after.likes.likes ≡ likes_of (view_of (record post { did = d }) after)
     → after.likes.likes ≤ post.limits.likes
-    → IsKept (record post { additions = a; reads = r; glances = gl; did = d }) after
-Kept-written {W} {C} post a r gl d t after k marks state_is held splits long is sums likes few =
-    let now : PostView = record post { additions = a; reads = r; glances = gl; did = d } in
+    → IsKept (record post { did = d }) after
+Kept-written {W} {C} post d t after k marks state_is held splits long is sums likes few =
+    let now : PostView = record post { did = d } in
     let split : SplitsPages now after.slice = λ page.
     subst (λ (s : SplitPages). (is_split s page ≡ true)
     ↔ (RunsSplit post.state × (page < pages_of post) × (slices post page ≡ true))) (sym splits) (k.splits page) in
@@ -196,11 +196,13 @@ Kept-written {W} {C} post a r gl d t after k marks state_is held splits long is 
     }
 
 -- the tables of a post that read or glanced
-pub Kept-read : {W C : Type 0} (post now : PostView) (r gl : List PageRead) (d : List PageStep) (t : Tables W C)
-    → IsKept post t → now ≡ record post { reads = r; glances = gl; did = d } → IsKept now t
-Kept-read {W} {C} post now r gl d t k is =
+pub Kept-read : {W C : Type 0} (post now : PostView) (d : List PageStep) (t : Tables W C)
+    → IsKept post t → now ≡ record post { did = d } → additions_among d ≡ additions_among post.did
+    → IsKept now t
+Kept-read {W} {C} post now d t k is same =
     subst (λ (p : PostView). IsKept p t) (sym is)
-    (Kept-written post post.additions r gl d t t k refl refl refl refl refl k.slice k.sums k.likes
+    (Kept-written post d t t k refl refl refl refl refl k.slice k.sums
+    (k.likes ∙ sym (ap (λ xs. all_added xs + sum (by_page t.slice (pages_of post))) same))
     (omega (arith, k.likes, k.seat.few)))
 
 -- the tables hold other requests that wait

@@ -8,6 +8,8 @@ use Rattle.std.proofs.lemmas.List.Sums.{sum_by-append, sum_by-cons, sum_by-set}
 use Rattle.like_core.specs.declared.view.Addition.{Addition}
 use Rattle.like_core.specs.Additions.{added_in, added_to, all_added}
 use Rattle.like_core.specs.Post.{pages_of}
+use Rattle.like_core.specs.PageSteps.{additions_among}
+use Rattle.like_core.proofs.Steps.{then-additions}
 use Rattle.like_seat.specs.Merge.{IsMerged, MergesAll, merged}
 use Rattle.like_seat.specs.StationView.{StationView, likes_of, phase_at, tally_of}
 use Rattle.like_seat.specs.Steps.{merged_page}
@@ -24,7 +26,7 @@ merged_page-likes s page old there =
     let likes : ℕ = get_or s.slice page 0 in
     let less : sum (merged_page s page old).slice + likes ≡ sum s.slice =
     omega (arith, sum_by-set (λ x. x) s.slice page 0 0 there) in
-    let more = all_added-push s.post.additions (record { phase = phase_at s; page = page; old = old; likes = likes }) in
+    let more = all_added-push (additions_among s.post.did) (record { phase = phase_at s; page = page; old = old; likes = likes }) in
     omega (arith, less, more)
 
 -- a choice between the same
@@ -68,7 +70,8 @@ pub merged-tally : {W : Type 0} (s : StationView W) (adds : List Addition)
 merged-tally s adds merges page =
     let f : Addition → ℕ = λ a. cond (a.page == page) a.likes 0 in
     let none : get_or (merged s adds).slice page 0 ≡ 0 = same_everywhere (pages_of s.post) page 0 in
-    omega (arith, none, merges.sums page, sum_by-append f s.post.additions adds)
+    let more = ap (added_to page) (then-additions s.post.worker s.post.did adds) in
+    omega (arith, none, more, merges.sums page, sum_by-append f (additions_among s.post.did) adds)
 
 -- so it is of each page where a slice is merged
 pub IsMerged-tally : {W : Type 0} (s t : StationView W)

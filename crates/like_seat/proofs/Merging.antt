@@ -6,6 +6,7 @@ use Rattle.like_core.specs.declared.worker_state.WorkerState.TheVariants.{Answer
 use Rattle.like_core.specs.Additions.{addition, all_added}
 use Rattle.like_core.specs.Post.{MayAdd, PostView, added, answered, pages_of}
 use Rattle.like_core.specs.WorkerState.{IsRunning, RunsSplit, SawEnding, phase_of}
+use Rattle.like_core.specs.PageSteps.{additions_among}
 use Rattle.like_tables.specs.SplitSlice.{IsSplitSlice, SplitSlice, bucket_in, by_page, has_split, likes_in, no_slice, with_likes}
 use Rattle.like_tables.proofs.ByPage.{by_page-none}
 use Rattle.like_seat.specs.declared.tables.Tables.{Tables}
@@ -24,8 +25,8 @@ IsKept-reported post t phase k none is =
     let m : ℕ = length t.slice.counts in
     let n : ℕ = pages_of post in
     let empty : by_page (no_slice f m) n ≡ by_page t.slice n = by_page-no_slice f m n ∙ sym (by_page-none t.slice n none) in
-    let likes : t.likes.likes ≡ all_added post.additions + sum (by_page (no_slice f m) n) =
-    k.likes ∙ ap (λ (xs : List ℕ). all_added post.additions + sum xs) (sym empty) in
+    let likes : t.likes.likes ≡ all_added (additions_among post.did) + sum (by_page (no_slice f m) n) =
+    k.likes ∙ ap (λ (xs : List ℕ). all_added (additions_among post.did) + sum xs) (sym empty) in
     Kept-unsplit (answered post) (record t { state = Answered phase; slice = no_slice f m }) f m (λ runs. absurd runs) refl
     k.factor k.slice.pages.factor
     (λ page there. omega (arith, k.numbers page there, length-replicate {A = ℕ} m 0)) (of-run post (answered post) t.marks.items t.marks.items refl refl refl refl k.run)
@@ -47,9 +48,8 @@ IsKept-merged {W} {C} post t page old likes after k split likes_are is total law
     let sums : sum (by_page after n) ≡ sum after.counts =
     ap (λ (s : SplitSlice). sum (by_page s n)) is
     ∙ sum-written t.slice n page 0 (sum after.counts) k.slice split there k.sums (omega (arith, total, likes_are)) in
-    let more = all_added-push post.additions (addition (phase_of post.state) page old likes) in
-    Kept-written post (post.additions ++ addition (phase_of post.state) page old likes ∷ []) post.reads post.glances
-    (added post page old likes).did t (record t { slice = after }) k refl refl refl (ap (λ (s : SplitSlice). s.splits) is)
+    let more = all_added-push (additions_among post.did) (addition (phase_of post.state) page old likes) in
+    Kept-written post (added post page old likes).did t (record t { slice = after }) k refl refl refl (ap (λ (s : SplitSlice). s.splits) is)
     (ap (λ (s : SplitSlice). length s.counts) is ∙ length-set t.slice.counts (bucket_in t.slice page) 0) lawful sums
     (omega (arith, k.likes, k.sums, total, sums, more)) (omega (arith, k.likes, k.seat.few))
 

@@ -11,9 +11,10 @@ use Rattle.std.proofs.lemmas.List.Sums.{sum_by-append, sum_by-cons}
 use Rattle.like_core.specs.declared.page_step.PageStep.{PageStep}
 use Rattle.like_core.specs.declared.view.Addition.{Addition}
 use Rattle.like_core.specs.Additions.{added_to}
-use Rattle.like_core.specs.PageSteps.{step_adding}
+use Rattle.like_core.specs.PageSteps.{step_adding, then_steps}
 use Rattle.like_core.specs.Post.{pages_of}
 use Rattle.like_limits.specs.Buckets.{bucket}
+use Rattle.like_core.proofs.Steps.{then-push}
 use Rattle.like_seat.specs.Merge.{MergesAll, merged}
 use Rattle.like_seat.specs.StationView.{StationView, phase_at}
 use Rattle.like_seat.specs.Steps.{IsNext, NoneFrom, merged_page}
@@ -54,8 +55,7 @@ module _ {W : Type 0} where
   abbrev pub merged_with : StationView W → List Addition → List ℕ → StationView W
   merged_with s adds slice = record s {
     post = record s.post {
-      additions = s.post.additions ++ adds;
-      did = s.post.did ++ map (step_adding s.post.worker) adds;
+      did = then_steps s.post.did (map (step_adding s.post.worker) adds);
     };
     slice = slice;
   }
@@ -79,9 +79,7 @@ module _ {W : Type 0} where
     phase_is = All-nil (λ (a : Addition). a.phase ≡ phase_at s);
     in_order = λ k less. absurd (omega (arith, less));
     below = All-nil (λ (a : Addition). bucket factor a.page < 0);
-    rest = λ m. record s {
-      post = record s.post { additions = sym (append-nil s.post.additions) m; did = sym (append-nil s.post.did) m };
-    };
+    rest = refl;
     sized = refl;
     sums = λ page. omega arith;
     emptied = λ page less. absurd (omega (arith, less));
@@ -146,9 +144,9 @@ module _ {W : Type 0} where
         let phase : phase_at s ≡ phase_at s0 = ap {A = StationView W} (λ x. phase_at x) m.rest in
         let same : get_or s.slice page 0 ≡ get_or s0.slice page 0 = m.left page next.after in
         let step : Addition → PageStep = step_adding s0.post.worker in
-        let did : (s0.post.did ++ map step adds) ++ map step (new ∷ []) ≡ s0.post.did ++ map step (adds ++ new ∷ []) =
-        append_assoc s0.post.did (map step adds) (map step (new ∷ []))
-        ∙ ap (λ (ds : List PageStep). s0.post.did ++ ds) (sym (map-append step adds (new ∷ []))) in
+        let did : step new ∷ then_steps s0.post.did (map step adds) ≡ then_steps s0.post.did (map step (adds ++ new ∷ [])) =
+        sym (then-push s0.post.did (map step adds) (step new))
+        ∙ ap (then_steps s0.post.did) (sym (map-append step adds (new ∷ []))) in
         record {
           likes_are = All-push (λ (a : Addition). a.likes ≡ get_or s0.slice a.page 0) adds new m.likes_are same;
           phase_is = All-push (λ (a : Addition). a.phase ≡ phase_at s0) adds new m.phase_is phase;
@@ -167,7 +165,7 @@ module _ {W : Type 0} where
               ap {A = StationView W} (λ x. merged_with x (new ∷ []) (set s.slice page 0)) m.rest
               ∙ (λ k. record s0 {
                 post =
-                    record s0.post { additions = append_assoc s0.post.additions adds (new ∷ []) k; did = did k };
+                    record s0.post { did = did k };
                 slice =
                     set s.slice page 0;
               });

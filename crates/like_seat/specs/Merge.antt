@@ -1,9 +1,9 @@
 -- The merge of a whole slice.
-use Rattle.std.specs.Prelude.{◌≡◌, ℕ, List, ◌++◌, map, replicate, slice_index, All}
+use Rattle.std.specs.Prelude.{◌≡◌, ℕ, List, map, replicate, slice_index, All}
 use Rattle.std.specs.List.Sorted.{IsStrictlyIncreasing}
 use Rattle.like_core.specs.declared.view.Addition.{Addition}
 use Rattle.like_core.specs.Additions.{added_to}
-use Rattle.like_core.specs.PageSteps.{step_adding}
+use Rattle.like_core.specs.PageSteps.{step_adding, then_steps}
 use Rattle.like_core.specs.Post.{answered, pages_of}
 use Rattle.like_limits.specs.Buckets.{bucket}
 use Rattle.like_seat.specs.StationView.{StationView, phase_at}
@@ -20,8 +20,7 @@ pub record MergesAll (factor phase : ℕ) (slice : List ℕ) (adds : List Additi
 abbrev pub merged : {W : Type 0} → StationView W → List Addition → StationView W
 merged s adds = record s {
   post = record s.post {
-    additions = s.post.additions ++ adds;
-    did = s.post.did ++ map (step_adding s.post.worker) adds;
+    did = then_steps s.post.did (map (step_adding s.post.worker) adds);
   };
   slice = replicate (pages_of s.post) 0;
 }

@@ -5,6 +5,7 @@ use Rattle.like_core.specs.OpeningLimits.{AreLimits, has_slots}
 use Rattle.like_core.specs.PhaseMasks.{HasMask}
 use Rattle.like_core.specs.Post.{PostView, additions_of, pages_of, slices}
 use Rattle.like_core.specs.WorkerState.{RunsSplit, phase_of}
+use Rattle.like_core.specs.PageSteps.{additions_among}
 use Rattle.like_limits.specs.Buckets.{run_factor}
 use Rattle.like_seat.specs.SlicedLike.{SlicedLike}
 use Rattle.like_tables.specs.UserTable.{UserTable}
@@ -25,7 +26,7 @@ phase_at s = phase_of s.post.state
 
 -- how many likes it has counted: what it has added, and its slice
 abbrev pub likes_of : {W : Type 0} → StationView W → ℕ
-likes_of s = all_added s.post.additions + sum s.slice
+likes_of s = all_added (additions_among s.post.did) + sum s.slice
 
 -- how many likes of a page
 abbrev pub tally_of : {W : Type 0} → StationView W → ℕ → ℕ

@@ -4,7 +4,7 @@ use Rattle.like_promises.specs.declared.reply.Reply.TheVariants.{Liked, Seen}
 use Rattle.like_promises.specs.Likes.{initial_count, likes_within}
 use Rattle.like_promises.specs.Replies.{HasRightAnswers}
 use Rattle.like_serial.specs.Example.{OrderedLooksFit, crossed, ordered_runs, ordered_steps, ran}
-use Rattle.like_core.specs.PageSteps.{AreInTurn, likes_in, steps_by}
+use Rattle.like_core.specs.PageSteps.{AreInTurn, earliest_first, likes_in, steps_by}
 use Rattle.like_promises.specs.Serial.{AreRising, run_of}
 use Rattle.like_serial.specs.StepsTold.{plain_told, steps_ran}
 use Rattle.like_serial.proofs.Crossed.{right_two}
@@ -37,13 +37,13 @@ first n = ne_eqb 0 (suc n) (λ e. absurd (omega (arith, e)))
 beyond : (n : ℕ) → eqb 1 (suc (suc n)) ≡ false
 beyond n = ne_eqb 1 (suc (suc n)) (λ e. absurd (omega (arith, e)))
 
-plain : (w : ℕ) → plain_told crossed (steps_by w ordered_steps) ≡ steps_ran crossed (run_of ordered_runs w)
+plain : (w : ℕ) → plain_told crossed (earliest_first (steps_by w ordered_steps)) ≡ steps_ran crossed (run_of ordered_runs w)
 plain zero = refl
 plain (suc zero) = refl
 plain (suc (suc w)) = rw (beyond w, first (suc w)) refl
 
 by_phase : (w phase page : ℕ)
-    → likes_in page (filter (λ s. s.phase == phase) (steps_by w ordered_steps))
+    → likes_in page (filter (λ s. s.phase == phase) (earliest_first (steps_by w ordered_steps)))
     ≡ likes_within crossed page (run_of ordered_runs w) phase
 by_phase zero zero zero = refl
 by_phase zero zero (suc zero) = refl

@@ -9,8 +9,9 @@ use Rattle.like_promises.specs.Serial.{AreRising, HasExactCounts, IsSerial, run_
 use Rattle.like_promises.specs.Workload.{Workload}
 use Rattle.like_serial.specs.Laws.{RunsAreSerial}
 use Rattle.like_core.specs.declared.page_step.PageStep.{PageStep}
-use Rattle.like_core.specs.PageSteps.{adds_to, steps_by}
-use Rattle.like_serial.specs.RunLists.{AreRunLists, FitsRuns}
+use Rattle.like_core.specs.PageSteps.{adds_to}
+use Rattle.like_core.proofs.Steps.{by-earliest}
+use Rattle.like_serial.specs.RunLists.{AreRunLists, FitsRunList, FitsRuns}
 use Rattle.like_serial.specs.StepsTold.{is_plain, step_ran, steps_ran, step_told}
 use Rattle.like_serial.proofs.Answers.{answers_of_own}
 use Rattle.like_serial.proofs.Counts.{likes-weigh, likes_by, look_shows}
@@ -35,6 +36,13 @@ phase_of e = e.phase
 
 module _ (workload : Workload) (workers last : ℕ) (runs : List (List Ran)) (steps : List PageStep)
     (lists : AreRunLists workload workers runs) (fits : FitsRuns workload runs last steps) where
+  abbrev own_steps : ℕ → List PageStep → List PageStep
+  own_steps w all = filter (λ s. s.worker == w) (reverse all)
+
+  -- each worker's steps in their order fit its run list
+  each : (w : ℕ) → FitsRunList workload (own_steps w steps) (run_of runs w)
+  each w = subst (λ did. FitsRunList workload did (run_of runs w)) (by-earliest w steps) (fits.each w)
+
   abbrev Merged : Type 0
   Merged =
       Interleaved (server_of workers) (step_ran workload) step_told (filter (is_plain workload) (reverse steps)) (run_of runs)
@@ -47,7 +55,7 @@ module _ (workload : Workload) (workers last : ℕ) (runs : List (List Ran)) (st
       (λ w. all_rec (λ e. server_of workers e ≡ w) (run_of runs w) (lists.own w))
       (λ w past. no_run runs w past)
       (λ w. ap (map step_told) (filter-swap (λ (s : PageStep). s.worker == w) (is_plain workload) (reverse steps))
-      ∙ (fits.each w).plain)
+      ∙ (each w).plain)
 
   module _ (m : Merged) where
     abbrev bound : ℕ
@@ -92,9 +100,9 @@ module _ (workload : Workload) (workers last : ℕ) (runs : List (List Ran)) (st
         (weigh-reverse (λ (s : PageStep). only (s.worker == w) (only (s.phase == phase) (adds_to page s))) steps)
         ∙ sym
         (weigh-filter (λ (s : PageStep). s.worker == w) (λ s. only (s.phase == phase) (adds_to page s)) (reverse steps))
-        ∙ sym (weigh-filter (λ (s : PageStep). s.phase == phase) (adds_to page) (steps_by w steps))
-        ∙ sym (sum-weigh (adds_to page) (filter (λ (s : PageStep). s.phase == phase) (steps_by w steps)))
-        ∙ (fits.each w).by_phase phase page
+        ∙ sym (weigh-filter (λ (s : PageStep). s.phase == phase) (adds_to page) (own_steps w steps))
+        ∙ sym (sum-weigh (adds_to page) (filter (λ (s : PageStep). s.phase == phase) (own_steps w steps)))
+        ∙ (each w).by_phase phase page
         ∙ likes-weigh workload page (with_key phase_of phase (run_of runs w))
         ∙ weigh-filter (λ (e : Ran). e.phase == phase) (likes_by workload page) (run_of runs w)
         ∙ ap (weigh (λ (e : Ran). only (e.phase == phase) (likes_by workload page e))) (sym (m.own w))

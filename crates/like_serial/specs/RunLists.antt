@@ -7,7 +7,7 @@ use Rattle.like_promises.specs.Replies.{HasRightAnswers}
 use Rattle.like_promises.specs.Serial.{AreRising, run_of}
 use Rattle.like_promises.specs.Workload.{Workload}
 use Rattle.like_core.specs.declared.page_step.PageStep.{PageStep}
-use Rattle.like_core.specs.PageSteps.{AreInTurn, likes_in, steps_by}
+use Rattle.like_core.specs.PageSteps.{AreInTurn, earliest_first, likes_in, steps_by}
 use Rattle.like_serial.specs.StepsTold.{plain_told, steps_ran}
 
 -- run lists of workers: each is of its worker's submitters alone, its phases never fall, and its answers are right
@@ -28,4 +28,4 @@ pub record FitsRunList (workload : Workload) (did : List PageStep) (ran : List R
 pub record FitsRuns (workload : Workload) (runs : List (List Ran)) (last : ℕ) (steps : List PageStep)
     : Type 0 where
   pub in_turn : AreInTurn (initial_count workload.pages) last steps
-  pub each : (worker : ℕ) → FitsRunList workload (steps_by worker steps) (run_of runs worker)
+  pub each : (worker : ℕ) → FitsRunList workload (earliest_first (steps_by worker steps)) (run_of runs worker)

@@ -9,6 +9,7 @@ use Rattle.like_core.specs.Phase.{is_hot, is_marked}
 use Rattle.like_core.specs.PhaseMasks.{mask_of, HasMask}
 use Rattle.like_core.specs.Post.{PostView, KnowsSlices, pages_of, slices}
 use Rattle.like_core.specs.WorkerState.{IsRunning}
+use Rattle.like_core.specs.PageSteps.{additions_among}
 use Rattle.like_board.specs.declared.coord_seat.CoordSeat.{CoordSeat}
 use Rattle.like_board.specs.declared.worker_seat.WorkerSeat.{WorkerSeat}
 use Rattle.like_board.specs.Seats.{BoardId, AreFresh, board_numbers, coord_board, coord_view}
@@ -39,8 +40,8 @@ pub record IsKnown (v : PostView) (k : Known) : Type 0 where
   pub pages : pages_of v ≡ k.pages
   pub marked : is_marked v.marks 0 ≡ k.is_marked
   pub hot : (phase : ℕ) → k.hot_in ≡ Some phase → IsFirstHot v phase
-  pub room : all_added v.additions + k.room ≤ v.limits.likes
-  pub likes : added_to 0 v.additions ≡ k.likes
+  pub room : all_added (additions_among v.did) + k.room ≤ v.limits.likes
+  pub likes : added_to 0 (additions_among v.did) ≡ k.likes
   -- no number that is known can wrap
   pub few_phases : v.limits.last_phase < 2 ^ 64
   -- its board has no slots

@@ -24,14 +24,13 @@ use Rattle.like_core.specs.core.Table.{Permits}
 use Rattle.like_core.specs.core.State.{CoreState, numbers}
 use Rattle.like_core.specs.views.Views.{counted_coord, published_coord, slotted_coord, slots_put, SawAllIn, MayCount, MayPublish, MayPut, MayPublishSlots}
 use Rattle.like_core.specs.views.Reads.{before_in, all_before, IsCounted}
-use Rattle.like_core.specs.views.Places.{PlacesTile}
 use Rattle.like_core.specs.views.Tallies.{paged, room}
 use Rattle.like_core.specs.views.Layout.{mask_place, slot_in, slot_place, word_of}
 use Rattle.like_core.specs.views.Shows.{Shows, ShowsSome, FitsWorker, FitsCoord, FixesMask, IsStep}
+use Rattle.like_core.proofs.views.Ordered.{past_now}
 use Rattle.like_core.proofs.Slots.{choice-same, mask-below, mask_by-plain, mask_by-slots, mask_of_slots-same}
 use Rattle.like_core.proofs.views.Apart.{word_of-past}
 use Rattle.like_core.proofs.views.KeptOrder.{other_step_keeps_order, same_coord}
-use Rattle.like_core.proofs.views.KeptPlaces.{places_same}
 use Rattle.like_board.proofs.worker.Moves.{moment_of}
 use Rattle.like_board.proofs.worker.WorkerSteps.{running_is}
 use Rattle.like_board.proofs.Tallying.{tallied_on}
@@ -60,7 +59,7 @@ counts z words views place c page some_state at may =
     let on : page < length z.counts = subst (λ (y : Opening). page < length y.counts) old.seats.opening may.2 in
     let found_is = sh.board.pages page on in
     let sums = some_state.tallied.sums page in
-    let past = some_state.tallied.past (s.phase + 1) page (omega arith) in
+    let past = past_now z (moment_of z words views some_state) (s.phase + 1) page (omega arith) in
     let P : PageCount → Type 0 =
     λ x. (x.phase ≤ s.phase) × (x.phase ≡ s.phase → AllIn (numbers z s) × (s.ending ≡ true)) in
     let Q : ℕ → Type 0 = λ k. found ≡ slice_index z.counts page + all_before views (k + 1) page in
@@ -105,10 +104,8 @@ counts z words views place c page some_state at may =
         state = s;
         reachable = some_state.reachable;
         shows = after_it;
-        tallied = tallied_on z.limits s s views place (Coord c) (Coord d) (omega arith) (λ _. refl) at (λ _. refl)
-            (λ _. refl) (λ _ _. refl) some_state.tallied;
-        places = places_same z.counts views place (Coord c) (Coord d) at (λ _. refl) (λ _. refl)
-            (λ _ _ has. has) some_state.places;
+        tallied = tallied_on z.limits s s views place (Coord c) (Coord d) (λ _. refl) at (λ _. refl)
+            (λ _. refl) some_state.tallied;
         steps = some_state.steps;
         order = other_step_keeps_order z s s views some_state.steps place (Coord c) (Coord d) at
             (same_coord c d refl) (omega arith) (λ _. refl) some_state.order;
@@ -174,14 +171,9 @@ chooses z words views place c d changed word some_state at all_in joined rest la
           (subst (λ (e : CoordSeatView). All (IsCounted z.counts (all_before views)) e.counted) (sym rest) known.1)
           fits
           (λ v f. f);
-      tallied = tallied_on z.limits s s views place (Coord c) (Coord d) (omega arith) (λ _. refl) at
+      tallied = tallied_on z.limits s s views place (Coord c) (Coord d) (λ _. refl) at
           (λ page. ap (λ (e : CoordSeatView). paged page (Coord e)) rest)
-          (λ page. ap (λ (e : CoordSeatView). room z.limits page (Coord e)) rest)
-          (λ phase page. ap (λ (e : CoordSeatView). before_in phase page (Coord e)) rest) some_state.tallied;
-      places =
-          subst (λ (e : CoordSeatView). PlacesTile z.counts (set views place (Coord e))) (sym rest)
-          (places_same z.counts views place (Coord c) (Coord (record c { published = d.published; slots = d.slots })) at
-          (λ _. refl) (λ _. refl) (λ _ _ has. has) some_state.places);
+          (λ page. ap (λ (e : CoordSeatView). room z.limits page (Coord e)) rest) some_state.tallied;
       steps = some_state.steps;
       order = other_step_keeps_order z s s views some_state.steps place (Coord c) (Coord d) at
           (same_coord c d (ap (λ (e : CoordSeatView). e.joined) rest)) (omega arith) (λ _. refl) some_state.order;

@@ -29,7 +29,6 @@ use Rattle.like_core.proofs.Updates.{update-same, update-other}
 use Rattle.like_core.proofs.core.Moved.{moved_in_phase, moves_by}
 use Rattle.like_core.proofs.word.Serving.{coord_sees, serves}
 use Rattle.like_core.proofs.views.KeptOrder.{other_step_keeps_order, same_coord}
-use Rattle.like_core.proofs.views.KeptPlaces.{places_same}
 use Rattle.like_board.specs.Plays.{Surveyed, coord_sight_at}
 use Rattle.like_board.proofs.worker.Moves.{moment_of, if_some}
 use Rattle.like_board.proofs.Tallying.{tallied_on}
@@ -114,10 +113,8 @@ surveys z words views place c some_state at =
         state = s;
         reachable = some_state.reachable;
         shows = after_it;
-        tallied = tallied_on z.limits s s views place (Coord c) (Coord d) (omega arith) (λ _. refl) at (λ _. refl)
-            (λ _. refl) (λ _ _. refl) some_state.tallied;
-        places = places_same z.counts views place (Coord c) (Coord d) at (λ _. refl) (λ _. refl)
-            (λ _ _ has. has) some_state.places;
+        tallied = tallied_on z.limits s s views place (Coord c) (Coord d) (λ _. refl) at (λ _. refl)
+            (λ _. refl) some_state.tallied;
         steps = some_state.steps;
         order = other_step_keeps_order z s s views some_state.steps place (Coord c) (Coord d) at
             (same_coord c d refl) (omega arith) (λ _. refl) some_state.order;
@@ -229,10 +226,8 @@ announces z words views place c some_state at may =
         state = t;
         reachable = reachable;
         shows = after_it;
-        tallied = tallied_on z.limits s t views place (Coord c) (Coord d) (omega arith) (λ _. refl) at (λ _. refl)
-            (λ _. refl) (λ _ _. refl) some_state.tallied;
-        places = places_same z.counts views place (Coord c) (Coord d) at (λ _. refl) (λ _. refl)
-            (λ _ _ has. has) some_state.places;
+        tallied = tallied_on z.limits s t views place (Coord c) (Coord d) (λ _. refl) at (λ _. refl)
+            (λ _. refl) some_state.tallied;
         steps = some_state.steps;
         order = other_step_keeps_order z s t views some_state.steps place (Coord c) (Coord d) at
             (same_coord c d refl) (omega arith) (λ _. refl) some_state.order;
@@ -415,10 +410,8 @@ releases z words views place c seen some_state at may seen_is =
         state = t;
         reachable = moves_by z s (Release mask) some_state.reachable permits;
         shows = after_it;
-        tallied = tallied_on z.limits s t views place (Coord c) (Coord d) (omega arith) (λ _. refl) at (λ _. refl)
-            (λ _. refl) (λ _ _. refl) some_state.tallied;
-        places = places_same z.counts views place (Coord c) (Coord d) at (λ _. refl) (λ _. refl)
-            (λ _ _ has. has) some_state.places;
+        tallied = tallied_on z.limits s t views place (Coord c) (Coord d) (λ _. refl) at (λ _. refl)
+            (λ _. refl) some_state.tallied;
         steps = some_state.steps;
         order = other_step_keeps_order z s t views some_state.steps place (Coord c) (Coord d) at
             (same_coord c d refl) (omega arith) (λ _. refl) some_state.order;

@@ -28,14 +28,10 @@ use Rattle.like_core.specs.views.Shows.{Shows, Fits, FitsWorker, FitsCoord, Fixe
 use Rattle.like_core.proofs.views.Apart.{word_of-past}
 use Rattle.like_core.proofs.views.Chosen.{KeepsChoice, mask_in-kept, chosen-kept}
 use Rattle.like_core.proofs.views.ViewLists.{within, sum_set}
-use Rattle.like_core.proofs.views.KeptReads.{reads_same, reads_push, counted_on, counted_same}
+use Rattle.like_core.proofs.views.KeptCounts.{counted_on, counted_same}
+use Rattle.like_core.specs.PageSteps.{additions_among}
 use Rattle.like_board.proofs.worker.Moves.{if_some, same_coord, counts_none, counts_one, keeps_elsewhere, worker-injective}
 use Rattle.like_board.proofs.coordinator.Fitting.{same_phase, same_choice}
-
--- the reads and glances of the views of seats that were given back lie between
-abbrev HasJoinedReads : List ℕ → (ℕ → ℕ → ℕ) → ℕ → List WorkerSeatView → Type 0
-HasJoinedReads counts before phase joined =
-    (place : ℕ) (v : WorkerSeatView) → get_elem? joined place ≡ some v → HaveBetween counts before phase v
 
 -- the state in another phase, where these are the masks of phases
 abbrev pub phased : CoreState → ℕ → Bool → (ℕ → ℕ) → CoreState
@@ -69,7 +65,7 @@ of_coord z s words views place c sh at =
     }
     in (
       subst (ShowsChoice z words views) is.1 own,
-      subst (λ (e : CoordSeatView). All (IsCounted z.counts (all_before views)) e.counted) is.1 sh.reads.coordinator,
+      subst (λ (e : CoordSeatView). All (IsCounted z.counts (all_before views)) e.counted) is.1 sh.counted,
     )
 
 -- the same of words that keep the choice, and of a view that does
@@ -137,7 +133,7 @@ leads z s words views place c d phase ending hot later sh at made joined on widt
     let t : CoreState = phased s phase ending hot in
     let is = same_coord z s words views place c sh at in
     let same_additions : (k p : ℕ) → before_in k p (Coord d) ≡ before_in k p (Coord c) =
-    λ k p. ap (sum_by (λ (v : WorkerSeatView). added_before k p v.additions)) joined
+    λ k p. ap (sum_by (λ (v : WorkerSeatView). added_before k p (additions_among v.did))) joined
     in
     let others : (j : ℕ) (u : View) → j ≢ place → get_elem? views j ≡ some u → Fits z s u → Fits z t u =
     λ j u other found f.
@@ -187,12 +183,7 @@ leads z s words views place c d phase ending hot later sh at made joined on widt
           | inr there ↦ choice.read j v there.1
         ];
       };
-      reads = record {
-        workers = reads_same z.counts s.phase phase views place (Coord c) (Coord d) on at same_additions
-            (λ f has. subst (HasJoinedReads z.counts f phase) (sym joined) has)
-            sh.reads.workers;
-        coordinator = counted_same z.counts views place (Coord c) (Coord d) d.counted at same_additions counted_are;
-      };
+      counted = counted_same z.counts views place (Coord c) (Coord d) d.counted at same_additions counted_are;
     }
 
 -- the same of a step on the phase word
@@ -330,23 +321,13 @@ splits z s words views place c sh at room =
               subst (λ (x : WorkerSeatView). x.slots ≡ take (length x.slots) c.slots) (worker-injective new v last) refl
         ];
       };
-      reads = record {
-        workers = λ j u found.
-            reads_push z.counts s.phase changed (Worker new) (λ k p. refl)
-            (λ f. let none = All-nil (λ (r : PageRead). (r.phase ≤ s.phase) × IsBetween z.counts f [] r) in
-            (none, none, All-nil (λ (a : Addition). (a.phase ≤ s.phase) × StandsBetween z.counts f a)))
-            (reads_same z.counts s.phase s.phase views place (Coord c) (Coord d) (omega arith) at (λ k p. refl)
-            (λ f has. has) sh.reads.workers)
-            j u
-            (at_snoc changed (Worker new) u j found);
-        coordinator = counted_on z.counts (all_before views) (all_before (changed ++ Worker new ∷ [])) c.counted
-            (λ i r inside.
-            let k : ℕ = (get_or c.counted i r).phase + 1 in
-            let p : ℕ = (get_or c.counted i r).page in
-            let push = sum_by_push (before_in k p) changed (Worker new) in
-            let none : before_in k p (Worker new) ≡ 0 = refl in
-            let same = sum_set (before_in k p) views place (Coord c) (Coord d) at refl in
-            omega arith)
-            known.1;
-      };
+      counted = counted_on z.counts (all_before views) (all_before (changed ++ Worker new ∷ [])) c.counted
+          (λ i r inside.
+          let k : ℕ = (get_or c.counted i r).phase + 1 in
+          let p : ℕ = (get_or c.counted i r).page in
+          let push = sum_by_push (before_in k p) changed (Worker new) in
+          let none : before_in k p (Worker new) ≡ 0 = refl in
+          let same = sum_set (before_in k p) views place (Coord c) (Coord d) at refl in
+          omega arith)
+          known.1;
     }

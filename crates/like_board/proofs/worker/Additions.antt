@@ -25,9 +25,9 @@ use Rattle.like_core.specs.core.Moves.{Reached, makes}
 use Rattle.like_core.specs.WorkerState.{IsIn, phase_of}
 use Rattle.like_core.specs.Post.{PostView, MayAdd, slices}
 use Rattle.like_core.specs.Additions.{added_to, added_in}
-use Rattle.like_core.specs.PageSteps.{page_step}
+use Rattle.like_core.specs.PageSteps.{additions_among, page_step}
 use Rattle.like_core.specs.views.Views.{added_view, post_of, likes_merged, adding}
-use Rattle.like_core.specs.views.Reads.{before_in, all_before, IsCounted, ReadsFit}
+use Rattle.like_core.specs.views.Reads.{before_in, all_before, IsCounted}
 use Rattle.like_core.specs.views.Order.{AppliesTo, IsOrder}
 use Rattle.like_core.specs.views.Tallies.{Tallied, paged, room}
 use Rattle.like_core.specs.views.Layout.{word_of}
@@ -36,9 +36,8 @@ use Rattle.like_core.proofs.Updates.{update-same, update-other, update_cases}
 use Rattle.like_core.proofs.core.Moved.{moved_in_phase, moves_by, moves_by_all}
 use Rattle.like_core.proofs.core.Labels.{label, labelled-append, labels_else, labels_here, added_in-push, added_before-push, added_to-push, added_in_else, added_to_here, added_to_else}
 use Rattle.like_core.proofs.core.Adding.{Adding, with_applied, adds_either}
-use Rattle.like_core.proofs.views.KeptOrder.{addition_keeps_order}
-use Rattle.like_core.proofs.views.KeptPlaces.{addition_keeps_places}
-use Rattle.like_core.proofs.views.KeptReads.{addition_before, counted_on, addition_keeps_reads}
+use Rattle.like_core.proofs.views.KeptOrder.{page_step_keeps_order}
+use Rattle.like_core.proofs.views.KeptCounts.{addition_before, counted_on}
 use Rattle.like_core.proofs.views.Posts.{added_to-le}
 use Rattle.like_core.proofs.views.ViewLists.{sum_part, sum_set, sum_swap}
 use Rattle.like_board.proofs.worker.Moves.{moment_of, one_seat}
@@ -63,19 +62,19 @@ own_labels : (z : Opening) (s : CoreState) (v : WorkerSeatView) (page count n : 
     → FitsWorker z s v
     → phase_of v.state ≡ s.phase
     → (phase q : ℕ)
-    → labelled v.worker phase (applied_by s v.worker page n q) ≡ added_in phase q (added_view v page count n).additions
+    → labelled v.worker phase (applied_by s v.worker page n q) ≡ added_in phase q (additions_among (added_view v page count n).did)
 own_labels z s v page count n f present phase q =
     let more : List Label = replicate n (label v.worker s.phase) in
     let P : ℕ → List Label → Type 0 =
-    λ r l. labelled v.worker phase l ≡ added_in phase r (added_view v page count n).additions in
+    λ r l. labelled v.worker phase l ≡ added_in phase r (additions_among (added_view v page count n).did) in
     let here : P page (s.applied page ++ more) =
     labelled-append v.worker phase (s.applied page) more ∙
     ((λ m. f.labels phase page m + labels_here v.worker s.phase phase page n m) ∙
-    (ap (λ (k : ℕ). added_in phase page v.additions + cond ((k == phase) && (page == page)) n 0) (sym present) ∙
-    sym (added_in-push v.additions (phase_of v.state) page count n phase page)))
+    (ap (λ (k : ℕ). added_in phase page (additions_among v.did) + cond ((k == phase) && (page == page)) n 0) (sym present) ∙
+    sym (added_in-push (additions_among v.did) (phase_of v.state) page count n phase page)))
     in
     update_cases P s.applied page (s.applied page ++ more) here
-    (λ r other. f.labels phase r ∙ sym (added_in_else v.additions (phase_of v.state) page count n phase r other))
+    (λ r other. f.labels phase r ∙ sym (added_in_else (additions_among v.did) (phase_of v.state) page count n phase r other))
     q
 
 -- the view fits after its addition
@@ -128,7 +127,7 @@ tallied_added : (l : Limits) (s : CoreState) (views : List View) (place : ℕ) (
     (rest : ℕ → List ℕ)
     → get_elem? views place ≡ some (Worker v)
     → phase_of v.state ≡ s.phase
-    → added_to page v.additions + n ≤ l.likes
+    → added_to page (additions_among v.did) + n ≤ l.likes
     → Tallied l s views
     → Tallied l (record s { unmerged = rest; applied = applied_by s v.worker page n })
     (set views place (Worker (added_view v page count n)))
@@ -141,14 +140,14 @@ tallied_added l s views place v page count n rest at present few old =
           rw same
           (let before = old.sums page in
           let swap = sum_swap (paged page) views place (Worker v) (Worker w) at in
-          let more = added_to_here v.additions (phase_of v.state) page count n in
+          let more = added_to_here (additions_among v.did) (phase_of v.state) page count n in
           let long = applied_here s v.worker page n in
           omega arith)
       | inr other ↦
           applied_else s v.worker page n q other ∙
           (old.sums q ∙
           sym (sum_set (paged q) views place (Worker v) (Worker w) at
-          (added_to_else v.additions (phase_of v.state) page count n q other)))
+          (added_to_else (additions_among v.did) (phase_of v.state) page count n q other)))
     ]
     in
     let rooms_now : (q : ℕ)
@@ -160,7 +159,7 @@ tallied_added l s views place v page count n rest at present few old =
           rw same
           (let before = old.rooms page in
           let swap = sum_swap (room l page) views place (Worker v) (Worker w) at in
-          let more = added_to_here v.additions (phase_of v.state) page count n in
+          let more = added_to_here (additions_among v.did) (phase_of v.state) page count n in
           let long = applied_here s v.worker page n in
           omega arith)
       | inr other ↦
@@ -168,25 +167,12 @@ tallied_added l s views place v page count n rest at present few old =
           let long = applied_else s v.worker page n q other in
           let same =
           sum_set (room l q) views place (Worker v) (Worker w) at
-          (ap (λ (k : ℕ). l.likes - k) (added_to_else v.additions (phase_of v.state) page count n q other))
+          (ap (λ (k : ℕ). l.likes - k) (added_to_else (additions_among v.did) (phase_of v.state) page count n q other))
           in
           omega arith
     ]
     in
-    let past_now : (phase q : ℕ) → s.phase < phase
-    → all_before (set views place (Worker w)) phase q ≡ sum_by (paged q) (set views place (Worker w)) =
-    λ phase q later.
-    let before = old.past phase q later in
-    let swap_before = sum_swap (before_in phase q) views place (Worker v) (Worker w) at in
-    let swap = sum_swap (paged q) views place (Worker v) (Worker w) at in
-    let more_before = added_before-push v.additions (phase_of v.state) page count n phase q in
-    let more = added_to-push v.additions (phase_of v.state) page count n q in
-    let now : cond {A = ℕ} (nat_lt (phase_of v.state) phase && (page == q)) n 0 ≡ cond (page == q) n 0 =
-    ap (λ b. cond {A = ℕ} (b && (page == q)) n 0) (lt-ltb (phase_of v.state) phase (omega arith))
-    in
-    omega arith
-    in
-    record { sums = sums_now; rooms = rooms_now; past = past_now }
+    record { sums = sums_now; rooms = rooms_now }
 
 -- the counts that the coordinator read have none of it: in their phases nobody runs any more
 counted_added : (z : Opening) (s : CoreState) (words : List ℕ) (views : List View) (place : ℕ) (v : WorkerSeatView)
@@ -210,7 +196,7 @@ counted_added z s words views place v page count n sh at runs present =
           let within = of.0 in
           absurd (subst (IsIn s.phase) runs ((of.1 (omega arith)).0 v.worker old.there))
     ])
-    sh.reads.coordinator
+    sh.counted
 
 -- a count is at most as large as counts may be at the start
 pub count_low : (counts : List ℕ) (page : ℕ)
@@ -237,7 +223,7 @@ pub adds : (z : Opening) (words : List ℕ) (views : List View) (place : ℕ) (v
     (Worker (added_view v page (get_or words (word_of page) 0) n))
     × ShowsSome z (set words (word_of page) ((get_or words (word_of page) 0 + n) % 2 ^ 64))
     (set views place (Worker (added_view v page (get_or words (word_of page) 0) n)))
-    × (added_to page v.additions ≤ get_or words (word_of page) 0)
+    × (added_to page (additions_among v.did) ≤ get_or words (word_of page) 0)
 adds z words views place v page n some_state at may =
     let s = some_state.state in
     let sh = some_state.shows in
@@ -252,8 +238,8 @@ adds z words views place v page n some_state at may =
     in
     let may_there = may.there in
     let on : page < length z.counts = omega arith in
-    let few : added_to page v.additions + n ≤ z.limits.likes =
-    (let part = added_to-le v.additions page in
+    let few : added_to page (additions_among v.did) + n ≤ z.limits.likes =
+    (let part = added_to-le (additions_among v.did) page in
     let all = may.few in
     let same = ap (λ (y : Opening). y.limits.likes) old.opening in
     omega arith)
@@ -276,10 +262,6 @@ adds z words views place v page n some_state at may =
     let t : CoreState = with_applied s a.rest page (replicate n (label i s.phase)) in
     let word : ℕ = (get_or words (word_of page) 0 + n) % 2 ^ 64 in
     let count : ℕ = get_or words (word_of page) 0 in
-    let past = some_state.tallied.past (s.phase + 1) page (omega arith) in
-    let all_found : count ≡ get_or z.counts page 0 + all_before views (s.phase + 1) page = omega arith in
-    let begins : count ≡ get_or z.counts page 0 + all_before views (phase_of v.state + 1) page =
-    subst (λ (now : ℕ). count ≡ get_or z.counts page 0 + all_before views (now + 1) page) (sym present) all_found in
     let w : WorkerSeatView = added_view v page count n in
     let long = applied_here s i page n in
     let word_is : word ≡ get_or z.counts page 0 + length (applied_by s i page n page) = omega arith in
@@ -289,9 +271,6 @@ adds z words views place v page n some_state at may =
     a.merged
     (others_keep s i page n)
     (fits_added z s v page count n a.rest old present)
-    (subst (λ (now : ℕ). ReadsFit z.counts now (set views place (Worker w))) present
-    (addition_keeps_reads z.counts views place v page count n at begins
-    (subst (λ (now : ℕ). ReadsFit z.counts now views) (sym present) sh.reads.workers)))
     (counted_added z s words views place v page count n sh at (here ∙ ap Runs now) present)
     in
     let last : CoreState = after z (after_all z s (likes_merged v page n)) (adding v page) in
@@ -303,7 +282,7 @@ adds z words views place v page n some_state at may =
     let some_are : 1 ≤ n = some_likes (post_of v) page n may in
     let step : PageStep = page_step v.worker (phase_of v.state) page count (Add n) in
     let order : IsOrder z t (set views place (Worker w)) (step ∷ some_state.steps) =
-    addition_keeps_order z s t views some_state.steps place v page count n
+    page_step_keeps_order z s t views some_state.steps place v page count (Add n)
     (record { mine = at; once = one_seat z s words views place v sh at; present = present; finds = found }) some_are
     (applies_to s i page n a.rest) some_state.order
     in (
@@ -331,8 +310,6 @@ adds z words views place v page n some_state at may =
         reachable = subst (Reached z) {x = last} {y = t} a.leads reached;
         shows = shows;
         tallied = tallied_added z.limits s views place v page count n a.rest at present few some_state.tallied;
-        places = addition_keeps_places z.counts views place v page count n at (omega arith)
-            some_are some_state.places;
         steps = step ∷ some_state.steps;
         order = order;
       },

@@ -24,16 +24,17 @@ use Rattle.like_core.specs.core.Moves.{NoneReturns}
 use Rattle.like_core.specs.word.ShownWord.{shown_word}
 use Rattle.like_core.specs.Additions.{added_before}
 use Rattle.like_core.specs.views.Views.{seats_of}
-use Rattle.like_core.specs.views.Reads.{all_before, HaveBetween, IsCounted, ReadsFit}
+use Rattle.like_core.specs.views.Reads.{all_before, HaveBetween, IsCounted}
 use Rattle.like_core.specs.views.Layout.{mask_place, slot_place, word_of}
 use Rattle.like_core.specs.views.Shows.{IsKnown, Shows, ShowsSome, Moment, Fits, FitsWorker, FitsCoord, FixesMask, IsChosen, mask_in}
 use Rattle.like_core.specs.views.Serves.{moved}
 use Rattle.like_core.proofs.Updates.{update-same, update-other}
 use Rattle.like_core.proofs.core.Staying.{moved_same}
-use Rattle.like_core.proofs.views.KeptReads.{reads_same, counted_same}
+use Rattle.like_core.proofs.views.KeptCounts.{counted_same}
 use Rattle.like_core.proofs.views.Apart.{word_of-past}
 use Rattle.like_core.proofs.views.Chosen.{KeepsChoice, mask_in-kept, chosen-kept}
 use Rattle.like_core.proofs.views.ViewLists.{joined_other, within, sum_part, sum_two, sum_set, worker_other}
+use Rattle.like_core.specs.PageSteps.{additions_among}
 
 -- a word that is no slot's and not the mask's leaves the choice
 pub keeps_elsewhere : (words : List ℕ) (place word : ℕ)
@@ -54,7 +55,6 @@ moment_of z words views some_state = record {
   reachable = some_state.reachable;
   shows = some_state.shows;
   tallied = some_state.tallied;
-  places = some_state.places;
   steps = some_state.steps;
   order = some_state.order;
 }
@@ -250,11 +250,10 @@ pub worker_steps : (z : Opening) (s t : CoreState) (words later : List ℕ) (vie
     → w.slots ≡ take (length w.slots) sh.coord.slots
     → ((u : View) → seats_of v.worker u ≡ 0 → ((c : CoordSeatView) → u ≡ Coord c → v.worker < c.made) → Fits z s u
     → Fits z t u)
-    → ReadsFit z.counts t.phase (set views place (Worker w))
     → All (IsCounted z.counts (all_before (set views place (Worker w)))) sh.coord.counted
     → Shows z t later (set views place (Worker w))
 worker_steps z s t words later views place v w sh at number width word pages keeps mask chosen merged fits slots others
-    reads counted =
+    counted =
     let seated = has_seat z s words views place v sh at in
     let not_first : place ≢ 0 = λ zeroth.
     let here : get_elem? views 0 ≡ some (Worker v) = ap (get_elem? views) (sym zeroth) ∙ at in
@@ -311,7 +310,7 @@ worker_steps z s t words later views place v w sh at number width word pages kee
           | inr there ↦ sh.seats.slots j u there.1
         ];
       };
-      reads = record { workers = reads; coordinator = counted };
+      counted = counted;
     }
 
 -- after worker i moved, with a new view of its own that fits and has the same additions and reads, the words and the
@@ -344,10 +343,6 @@ worker_moves z s words views place v w state word sh at rest word_is fits slots 
     fits
     slots
     (λ u none seat f. fits_other z s v.worker state old.there stays gone u none seat f)
-    (reads_same z.counts s.phase s.phase views place (Worker v) (Worker w) (omega arith) at
-    (λ k p. ap (λ (x : WorkerSeatView). added_before k p x.additions) rest)
-    (λ f has. subst (λ (x : WorkerSeatView). HaveBetween z.counts f s.phase x) (sym rest) has)
-    sh.reads.workers)
     (counted_same z.counts views place (Worker v) (Worker w) sh.coord.counted at
-    (λ k p. ap (λ (x : WorkerSeatView). added_before k p x.additions) rest)
-    sh.reads.coordinator)
+    (λ k p. ap (λ (x : WorkerSeatView). added_before k p (additions_among x.did)) rest)
+    sh.counted)

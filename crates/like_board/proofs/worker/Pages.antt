@@ -18,7 +18,7 @@ use Rattle.like_core.specs.Post.{slices, KnowsSlices}
 use Rattle.like_core.specs.core.State.{CoreState, Label, is_split_now, labelled, numbers}
 use Rattle.like_core.specs.word.ShownWord.{shown_word}
 use Rattle.like_core.specs.views.Views.{post_of, seats_of}
-use Rattle.like_core.specs.views.Reads.{all_before, IsCounted, ReadsFit}
+use Rattle.like_core.specs.views.Reads.{all_before, IsCounted}
 use Rattle.like_core.specs.views.Layout.{word_of}
 use Rattle.like_core.specs.views.Shows.{Shows, Fits, FitsWorker}
 use Rattle.like_core.proofs.PhaseMasks.{split-known}
@@ -127,11 +127,10 @@ pub page_steps : (z : Opening) (s : CoreState) (unmerged : ℕ → List ℕ) (ap
     → ((j : ℕ) → unmerged j ≡ [])
     → KeepsOthers s applied v.worker
     → FitsWorker z (with_likes s unmerged applied) w
-    → ReadsFit z.counts s.phase (set views place (Worker w))
     → All (IsCounted z.counts (all_before (set views place (Worker w)))) sh.coord.counted
     → Shows z (with_likes s unmerged applied) (set words (word_of page) word) (set views place (Worker w))
 page_steps z s unmerged applied words views place v w page word sh at number same_slots on word_is others merged
-    keeps fits reads counted =
+    keeps fits counted =
     let wide = sh.board.width in
     let past : 96 ≤ word_of page = word_of-past page in
     let inside = word_of-order page (length z.counts) on in
@@ -157,5 +156,4 @@ page_steps z s unmerged applied words views place v w page word sh at number sam
     fits
     (subst (λ (l : List ℕ). l ≡ take (length l) sh.coord.slots) (sym same_slots) (sh.seats.slots place v at))
     (λ u none seat f. fits_else z s unmerged applied v.worker keeps u none seat f)
-    reads
     counted

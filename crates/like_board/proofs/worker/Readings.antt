@@ -1,6 +1,6 @@
 -- A worker's read of a page's word, or of the mask word, is the event, a glance is the move, and each keeps what the
 -- board shows.
-use Rattle.std.proofs.Common.{◌≡◌, ℕ, ◌+◌, ◌^◌, ◌<◌, ◌≤◌, true, false, inl, List, [], ◌∷◌, ◌++◌, length, take, get_or, slice_index, set, subst, ap, sym, ◌∙◌, refl, arith}
+use Rattle.std.proofs.Common.{◌≡◌, ℕ, ◌+◌, ◌-◌, ◌^◌, ◌<◌, ◌≤◌, true, false, inl, List, [], ◌∷◌, ◌++◌, length, take, get_or, slice_index, set, subst, ap, sym, ◌∙◌, refl, arith}
 use Rattle.std.proofs.Math.Seq.{take-length}
 use Rattle.std.proofs.lemmas.List.{length_push, length-take-le, set-get_or, take-take, take_more}
 use Rattle.std.proofs.lemmas.List.Elements.{All-cons, All-get_or}
@@ -14,7 +14,6 @@ use Rattle.like_core.specs.declared.view.PhaseMask.{PhaseMask}
 use Rattle.like_core.specs.declared.page_step.PageCall.{PageCall}
 use Rattle.like_core.specs.declared.page_step.PageCall.TheVariants.{Read as ReadCall, Glance as GlanceCall}
 use Rattle.like_core.specs.declared.page_step.PageStep.{PageStep}
-use Rattle.like_core.specs.declared.view.PageRead.{PageRead}
 use Rattle.like_core.specs.declared.view.WorkerSeatView.{WorkerSeatView}
 use Rattle.like_core.specs.declared.view.View.{View}
 use Rattle.like_core.specs.declared.view.View.TheVariants.{Worker}
@@ -27,20 +26,19 @@ use Rattle.like_core.specs.WorkerState.{phase_of, IsRunning, RunsSplit}
 use Rattle.like_core.specs.Post.{MayRead, MayGlance, KnowsSlices, slices}
 use Rattle.like_core.specs.OpeningLimits.{has_slots}
 use Rattle.like_core.specs.Slots.{IsChoice}
-use Rattle.like_core.specs.Additions.{added_before, added_to}
-use Rattle.like_core.specs.PageSteps.{page_step}
+use Rattle.like_core.specs.Additions.{added_before, added_in, added_to}
+use Rattle.like_core.specs.PageSteps.{additions_among, page_step}
 use Rattle.like_core.specs.views.Views.{read_view, glanced_view, masked_view, slotted_view, slots_read, MayReadSlot, post_of}
-use Rattle.like_core.specs.views.Reads.{all_before, HaveBetween, ReadsFit}
-use Rattle.like_core.specs.views.Places.{count_after, PlacesTile}
+use Rattle.like_core.specs.views.Reads.{all_before, HaveBetween}
+use Rattle.like_core.specs.views.Places.{count_after}
 use Rattle.like_core.specs.views.Order.{ComesNext, IsOrder}
 use Rattle.like_core.specs.views.Tallies.{paged}
 use Rattle.like_core.specs.views.Layout.{mask_place, slot_in, slot_place, word_of}
 use Rattle.like_core.specs.views.Shows.{Shows, ShowsSome, FitsWorker, IsPageStep, IsStep, mask_in}
 use Rattle.like_core.proofs.core.Moved.{moved_in_phase}
 use Rattle.like_core.proofs.Slots.{choice-same, mask_by-plain, mask_by-slots, mask_of_slots-same}
-use Rattle.like_core.proofs.views.KeptOrder.{glance_keeps_order, other_step_keeps_order, read_keeps_order, same_worker}
-use Rattle.like_core.proofs.views.KeptPlaces.{read_keeps_places, glance_keeps_places, places_same}
-use Rattle.like_core.proofs.views.KeptReads.{read_keeps_reads, glance_keeps_reads, reads_same, counted_same}
+use Rattle.like_core.proofs.views.KeptOrder.{applies_none, other_step_keeps_order, page_step_keeps_order, same_worker}
+use Rattle.like_core.proofs.views.KeptCounts.{counted_same}
 use Rattle.like_core.proofs.views.ViewLists.{sum_part}
 use Rattle.like_board.proofs.worker.Additions.{count_low}
 use Rattle.like_board.proofs.worker.Moves.{moment_of, one_seat, worker_steps}
@@ -63,13 +61,13 @@ IsRead z words views place v page move call w =
     IsPageStep z [] move (Count (get_or words (word_of page) 0))
     (page_step v.worker (phase_of v.state) page (get_or words (word_of page) 0) call) (Worker v) (Worker w)
     × ShowsSome z (set words (word_of page) (get_or words (word_of page) 0)) (set views place (Worker w))
-    × (added_to page v.additions ≤ get_or words (word_of page) 0)
+    × (added_to page (additions_among v.did) ≤ get_or words (word_of page) 0)
     × (get_or words (word_of page) 0 < total_bound)
 
--- a read or a glance, after which the view has these reads, glances and steps, is the move, if that changes nothing, shows
--- the count and is permitted, and if the reads and glances stay between what was added and in their places
+-- a read or a glance, after which the view has these steps, is the move, if that changes nothing, shows
+-- the count and is permitted, and if the order is kept
 reads_word : (z : Opening) (words : List ℕ) (views : List View) (place : ℕ) (v : WorkerSeatView) (page : ℕ)
-    (move : Move) (call : PageCall) (rs gs : List PageRead) (ds : List PageStep)
+    (move : Move) (call : PageCall) (ds : List PageStep)
     → (some_state : ShowsSome z words views)
     → get_elem? views place ≡ some (Worker v)
     → IsRunning v.state
@@ -81,18 +79,14 @@ reads_word : (z : Opening) (words : List ℕ) (views : List View) (place : ℕ) 
     → (some_state.state.state v.worker ≡ Runs some_state.state.phase → v.worker < z.workers → page < length z.counts
     → is_split_now z some_state.state page ≡ slices (post_of v) page
     → MayMove z some_state.state move)
-    → (get_or words (word_of page) 0 ≡ slice_index z.counts page + all_before views (phase_of v.state + 1) page
-    → ReadsFit z.counts (phase_of v.state) views
-    → ReadsFit z.counts (phase_of v.state) (set views place (Worker (record v { reads = rs; glances = gs; did = ds }))))
-    → (get_or words (word_of page) 0 ≡ count_after z.counts views page → PlacesTile z.counts views
-    → PlacesTile z.counts (set views place (Worker (record v { reads = rs; glances = gs; did = ds }))))
+    → additions_among ds ≡ additions_among v.did
     → ((steps : List PageStep) → ComesNext z some_state.state views place v page (get_or words (word_of page) 0)
     → IsOrder z some_state.state views steps
-    → IsOrder z some_state.state (set views place (Worker (record v { reads = rs; glances = gs; did = ds })))
+    → IsOrder z some_state.state (set views place (Worker (record v { did = ds })))
     (page_step v.worker (phase_of v.state) page (get_or words (word_of page) 0) call ∷ steps))
-    → IsRead z words views place v page move call (record v { reads = rs; glances = gs; did = ds })
-reads_word z words views place v page move call rs gs ds some_state at running may_there knows stays shown permitted
-    keep_reads keep_places keep_order =
+    → IsRead z words views place v page move call (record v { did = ds })
+reads_word z words views place v page move call ds some_state at running may_there knows stays shown permitted same_adds
+    keep_order =
     let s = some_state.state in
     let sh = some_state.shows in
     let i = v.worker in
@@ -111,14 +105,7 @@ reads_word z words views place v page move call rs gs ds some_state at running m
     let part = sum_part (paged page) views place (Worker v) at in
     let count : ℕ = get_or words (word_of page) 0 in
     let found : count ≡ get_or z.counts page 0 + length (s.applied page) = sh.board.pages page on in
-    let w : WorkerSeatView = record v { reads = rs; glances = gs; did = ds } in
-    let past = some_state.tallied.past (s.phase + 1) page (omega arith) in
-    let P : ℕ → Type 0 = λ now. count ≡ get_or z.counts page 0 + all_before views (now + 1) page in
-    let Q : ℕ → List View → Type 0 = λ now later. ReadsFit z.counts now later in
-    let all_found : P s.phase = omega arith in
-    let kept : ReadsFit z.counts (phase_of v.state) (set views place (Worker w)) =
-    keep_reads (subst P (sym present) all_found) (subst (λ (now : ℕ). Q now views) (sym present) sh.reads.workers)
-    in
+    let w : WorkerSeatView = record v { did = ds } in
     let fits : FitsWorker z s w =
     record {
       opening = old.opening;
@@ -126,7 +113,7 @@ reads_word z words views place v page move call rs gs ds some_state at running m
       state = old.state;
       number = old.number;
       ending = old.ending;
-      labels = old.labels;
+      labels = λ phase other. old.labels phase other ∙ ap (added_in phase other) (sym same_adds);
       masks = old.masks;
       slots = old.slots;
     }
@@ -137,8 +124,8 @@ reads_word z words views place v page move call rs gs ds some_state at running m
     sh.merged
     (λ j phase q other. refl)
     fits
-    (subst (λ (now : ℕ). Q now (set views place (Worker w))) present kept)
-    (counted_same z.counts views place (Worker v) (Worker w) sh.coord.counted at (λ k p. refl) sh.reads.coordinator)
+    (counted_same z.counts views place (Worker v) (Worker w) sh.coord.counted at (λ k p. ap (added_before k p) same_adds)
+    sh.counted)
     in
     let step : PageStep = page_step v.worker (phase_of v.state) page count call in
     let order : IsOrder z s (set views place (Worker w)) (step ∷ some_state.steps) =
@@ -168,9 +155,9 @@ reads_word z words views place v page move call rs gs ds some_state at running m
         state = s;
         reachable = some_state.reachable;
         shows = shows;
-        tallied = tallied_on z.limits s s views place (Worker v) (Worker w) (omega arith) (λ _. refl) at
-            (λ _. refl) (λ _. refl) (λ _ _. refl) some_state.tallied;
-        places = keep_places (omega arith) some_state.places;
+        tallied = tallied_on z.limits s s views place (Worker v) (Worker w) (λ _. refl) at
+            (λ q. ap (added_to q) same_adds) (λ q. ap (λ xs. z.limits.likes - added_to q xs) same_adds)
+            some_state.tallied;
         steps = step ∷ some_state.steps;
         order = order;
       },
@@ -195,12 +182,12 @@ reads z words views place v page may some_state at =
     let count : ℕ = get_or words (word_of page) 0 in
     let w : WorkerSeatView = read_view v page count in
     reads_word z words views place v page
-    (makes (Read v.worker page)) ReadCall w.reads v.glances w.did some_state at may.runs may.there may.known refl refl
+    (makes (Read v.worker page)) ReadCall w.did some_state at may.runs may.there may.known refl refl
     (λ runs there on
     same. record { there = (there, on); suits = (runs, same ∙ may.plain); leaves_last = tt; room = tt })
-    (λ is. read_keeps_reads z.counts views place v page count at is)
-    (λ is. read_keeps_places z.counts views place v page count at is)
-    (λ steps. read_keeps_order z some_state.state views steps place v page count)
+    refl
+    (λ steps next. page_step_keeps_order z some_state.state some_state.state views steps place v page count ReadCall next tt
+    (applies_none page some_state.state))
 
 -- a glance is the move
 pub glances : (z : Opening) (words : List ℕ) (views : List View) (place : ℕ) (v : WorkerSeatView) (page : ℕ)
@@ -213,12 +200,12 @@ glances z words views place v page may some_state at =
     let count : ℕ = get_or words (word_of page) 0 in
     let w : WorkerSeatView = glanced_view v page count in
     reads_word z words views place v page
-    (glances_at v.worker page) GlanceCall v.reads w.glances w.did some_state at may.runs may.there may.known refl refl
+    (glances_at v.worker page) GlanceCall w.did some_state at may.runs may.there may.known refl refl
     (λ runs there on
     same. record { there = there; known = on; runs = runs; sliced = same ∙ may.sliced })
-    (λ is. glance_keeps_reads z.counts views place v page count at is)
-    (λ is. glance_keeps_places z.counts views place v page count at is)
-    (λ steps. glance_keeps_order z some_state.state views steps place v page count)
+    refl
+    (λ steps next. page_step_keeps_order z some_state.state some_state.state views steps place v page count GlanceCall next tt
+    (applies_none page some_state.state))
 
 -- a read of a word after which the view w has the additions and reads that it had keeps what the board shows
 word_reads : (z : Opening) (words : List ℕ) (views : List View) (place : ℕ) (v w : WorkerSeatView) (word : ℕ)
@@ -244,11 +231,8 @@ word_reads z words views place v w word some_state at rest fits slots =
     fits
     slots
     (λ u none seat f. f)
-    (reads_same z.counts s.phase s.phase views place (Worker v) (Worker w) (omega arith) at
-    (λ k p. ap (λ (x : WorkerSeatView). added_before k p x.additions) rest)
-    (λ f has. subst (λ (x : WorkerSeatView). HaveBetween z.counts f s.phase x) (sym rest) has) sh.reads.workers)
     (counted_same z.counts views place (Worker v) (Worker w) sh.coord.counted at
-    (λ k p. ap (λ (x : WorkerSeatView). added_before k p x.additions) rest) sh.reads.coordinator))
+    (λ k p. ap (λ (x : WorkerSeatView). added_before k p (additions_among x.did)) rest) sh.counted))
 
 -- and so what the views show of some state
 word_read : (z : Opening) (words : List ℕ) (views : List View) (place : ℕ) (v : WorkerSeatView) (masks : List PhaseMask)
@@ -266,13 +250,11 @@ word_read z words views place v masks slots word some_state at shows =
       state = s;
       reachable = some_state.reachable;
       shows = shows;
-      tallied = tallied_on z.limits s s views place (Worker v) (Worker w) (omega arith) (λ _. refl) at
-          (λ _. refl) (λ _. refl) (λ _ _. refl) some_state.tallied;
-      places = places_same z.counts views place (Worker v) (Worker w) at (λ _. refl) (λ _. refl)
-          (λ _ _ has. has) some_state.places;
+      tallied = tallied_on z.limits s s views place (Worker v) (Worker w) (λ _. refl) at
+          (λ _. refl) (λ _. refl) some_state.tallied;
       steps = some_state.steps;
       order = other_step_keeps_order z s s views some_state.steps place (Worker v) (Worker w) at
-          (same_worker v w refl refl refl) (omega arith) (λ _. refl) some_state.order;
+          (same_worker v w refl refl) (omega arith) (λ _. refl) some_state.order;
     }
 
 -- a read of the mask word that tells the phase's mask is the event

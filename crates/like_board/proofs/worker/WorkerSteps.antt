@@ -29,7 +29,6 @@ use Rattle.like_core.proofs.core.Moved.{moved_in_phase, moves_back, moves_by}
 use Rattle.like_core.proofs.core.Staying.{looked_in}
 use Rattle.like_core.proofs.word.Serving.{even_runs, serves, worker_sees}
 use Rattle.like_core.proofs.views.KeptOrder.{other_step_keeps_order, same_worker}
-use Rattle.like_core.proofs.views.KeptPlaces.{places_same}
 use Rattle.like_board.specs.Plays.{Looked, phase_at, sight_at}
 use Rattle.like_board.proofs.worker.Moves.{moment_of, worker_moves}
 use Rattle.like_board.proofs.Tallying.{tallied_on}
@@ -184,13 +183,11 @@ looks z words views place v some_state at there =
         state = t;
         reachable = moves_by z s (Look i) some_state.reachable permits;
         shows = shows_after;
-        tallied = tallied_on z.limits s t views place (Worker v) (Worker w) (omega arith) (λ _. refl) at
-            (λ _. refl) (λ _. refl) (λ _ _. refl) some_state.tallied;
-        places = places_same z.counts views place (Worker v) (Worker w) at (λ _. refl) (λ _. refl)
-            (λ _ _ has. has) some_state.places;
+        tallied = tallied_on z.limits s t views place (Worker v) (Worker w) (λ _. refl) at
+            (λ _. refl) (λ _. refl) some_state.tallied;
         steps = some_state.steps;
         order = other_step_keeps_order z s t views some_state.steps place (Worker v) (Worker w) at
-            (same_worker v w refl refl refl) (omega arith) (λ _. refl) some_state.order;
+            (same_worker v w refl refl) (omega arith) (λ _. refl) some_state.order;
       },
     )
 
@@ -280,13 +277,11 @@ acknowledges z words views place v some_state at joined saw =
         tallied =
             tallied_on z.limits s (moved s v.worker (Answered s.phase)) views place (Worker v)
             (Worker (answered_view v))
-            (omega arith) (λ _. refl) at (λ _. refl) (λ _. refl) (λ _ _. refl) some_state.tallied;
-        places = places_same z.counts views place (Worker v) (Worker (answered_view v)) at (λ _. refl) (λ _. refl)
-            (λ _ _ has. has) some_state.places;
+            (λ _. refl) at (λ _. refl) (λ _. refl) some_state.tallied;
         steps = some_state.steps;
         order = other_step_keeps_order z s (moved s v.worker (Answered s.phase)) views some_state.steps place
             (Worker v) (Worker (answered_view v)) at
-            (same_worker v (answered_view v) refl refl refl) (omega arith) (λ _. refl) some_state.order;
+            (same_worker v (answered_view v) refl refl) (omega arith) (λ _. refl) some_state.order;
       },
     )
 
@@ -338,13 +333,11 @@ reports z words views place v some_state at split saw =
         tallied =
             tallied_on z.limits s (moved s v.worker (Answered s.phase)) views place (Worker v)
             (Worker (answered_view v))
-            (omega arith) (λ _. refl) at (λ _. refl) (λ _. refl) (λ _ _. refl) some_state.tallied;
-        places = places_same z.counts views place (Worker v) (Worker (answered_view v)) at (λ _. refl) (λ _. refl)
-            (λ _ _ has. has) some_state.places;
+            (λ _. refl) at (λ _. refl) (λ _. refl) some_state.tallied;
         steps = some_state.steps;
         order = other_step_keeps_order z s (moved s v.worker (Answered s.phase)) views some_state.steps place
             (Worker v) (Worker (answered_view v)) at
-            (same_worker v (answered_view v) refl refl refl) (omega arith) (λ _. refl) some_state.order;
+            (same_worker v (answered_view v) refl refl) (omega arith) (λ _. refl) some_state.order;
       },
     )
 
@@ -407,15 +400,13 @@ retires z words views place v some_state at joined =
         reachable = reaches;
         shows = after_it;
         tallied =
-            tallied_on z.limits s (moved s i Gone) views place (Worker v) (Worker (retired_view v)) (omega arith)
+            tallied_on z.limits s (moved s i Gone) views place (Worker v) (Worker (retired_view v))
             (λ _. refl) at (λ _. refl)
-            (λ _. refl) (λ _ _. refl) some_state.tallied;
-        places = places_same z.counts views place (Worker v) (Worker (retired_view v)) at (λ _. refl) (λ _. refl)
-            (λ _ _ has. has) some_state.places;
+            (λ _. refl) some_state.tallied;
         steps = some_state.steps;
         order = other_step_keeps_order z s (moved s i Gone) views some_state.steps place (Worker v)
             (Worker (retired_view v)) at
-            (same_worker v (retired_view v) refl refl refl) (omega arith) (λ _. refl) some_state.order;
+            (same_worker v (retired_view v) refl refl) (omega arith) (λ _. refl) some_state.order;
       },
     )
 
@@ -494,12 +485,10 @@ returns z words views place v new some_state at gone lets even new_is =
         state = t;
         reachable = moves_back z s i some_state.reachable may;
         shows = shows_after;
-        tallied = tallied_on z.limits s t views place (Worker v) (Worker w) (omega arith) (λ _. refl) at
-            (λ _. refl) (λ _. refl) (λ _ _. refl) some_state.tallied;
-        places = places_same z.counts views place (Worker v) (Worker w) at (λ _. refl) (λ _. refl)
-            (λ _ _ has. has) some_state.places;
+        tallied = tallied_on z.limits s t views place (Worker v) (Worker w) (λ _. refl) at
+            (λ _. refl) (λ _. refl) some_state.tallied;
         steps = some_state.steps;
         order = other_step_keeps_order z s t views some_state.steps place (Worker v) (Worker w) at
-            (same_worker v w refl refl refl) (omega arith) (λ _. refl) some_state.order;
+            (same_worker v w refl refl) (omega arith) (λ _. refl) some_state.order;
       };
     }

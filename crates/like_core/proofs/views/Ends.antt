@@ -14,6 +14,7 @@ use Rattle.like_core.specs.word.ShownWord.{shown_word}
 use Rattle.like_core.specs.views.Places.{count_after}
 use Rattle.like_core.specs.views.Reads.{IsCounted, all_before}
 use Rattle.like_core.specs.views.Shows.{FitsCoord, IsLastMoment, IsKnown, Moment}
+use Rattle.like_core.proofs.views.Ordered.{past_now}
 
 -- the coordinator's counts of its phase are those of the moment
 pub counted_now : (z : Opening) (c : CoordSeatView) (m : Moment z)
@@ -25,10 +26,10 @@ counted_now z c m mine = λ k d below at.
     let same : sh.coord ≡ c = cc in
     let fits : FitsCoord z m.state c = sh.seats.each 0 (Coord c) mine in
     let counted : All (IsCounted z.counts (all_before m.views)) c.counted =
-    subst (λ (e : CoordSeatView). All (IsCounted z.counts (all_before m.views)) e.counted) same sh.reads.coordinator in
+    subst (λ (e : CoordSeatView). All (IsCounted z.counts (all_before m.views)) e.counted) same sh.counted in
     let r : PageCount = get_or c.counted k d in
     let present = fits.phase.present in
-    counted k d below ∙ ap (λ n. slice_index z.counts r.page + n) (m.tallied.past (r.phase + 1) r.page (omega arith))
+    counted k d below ∙ ap (λ n. slice_index z.counts r.page + n) (past_now z m (r.phase + 1) r.page (omega arith))
 
 -- if its last sight showed all in at an ending, and all gone, it knows a last moment
 pub end_known : (z : Opening) (c : CoordSeatView) (sight : CoordSight)

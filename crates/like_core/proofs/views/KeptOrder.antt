@@ -11,44 +11,37 @@ use Rattle.like_core.specs.declared.opening.Opening.{Opening}
 use Rattle.like_core.specs.declared.page_step.PageCall.{PageCall}
 use Rattle.like_core.specs.declared.page_step.PageCall.TheVariants.{Add, Read, Glance}
 use Rattle.like_core.specs.declared.page_step.PageStep.{PageStep}
-use Rattle.like_core.specs.declared.view.Addition.{Addition}
 use Rattle.like_core.specs.declared.view.WorkerSeatView.{WorkerSeatView}
 use Rattle.like_core.specs.declared.view.CoordSeatView.{CoordSeatView}
 use Rattle.like_core.specs.declared.view.View.{View}
 use Rattle.like_core.specs.declared.view.View.TheVariants.{Coord, Worker, Spent}
-use Rattle.like_core.specs.PageSteps.{AddsSome, AreInTurn, addition_in, additions_among, adds_to, likes_of, page_step, steps_by}
+use Rattle.like_core.specs.PageSteps.{AddsSome, AreInTurn, adds_to, likes_of, page_step, steps_by}
 use Rattle.like_core.specs.WorkerState.{phase_of}
 use Rattle.like_core.specs.core.State.{CoreState}
-use Rattle.like_core.specs.views.Views.{added_view, fresh, gathered_coord, glanced_view, made_coord, post_of, read_view, seats_of}
-use Rattle.like_core.specs.views.Order.{AdditionKeepsOrder, AppliesTo, ComesNext, GlanceKeepsOrder, HasDone, HasOrder, IsOrder, JoinKeepsOrder, NewSeatKeepsOrder, OtherStepKeepsOrder, ReadKeepsOrder, SaysSame}
+use Rattle.like_core.specs.views.Views.{fresh, gathered_coord, made_coord, post_of, seats_of, stepped_view}
+use Rattle.like_core.specs.views.Order.{AppliesTo, HasDone, HasOrder, IsOrder, JoinKeepsOrder, NewSeatKeepsOrder, OtherStepKeepsOrder, PageStepKeepsOrder, SaysSame}
 use Rattle.like_core.proofs.views.ViewLists.{joined_other, kept, replaced, sum_gathered, sum_part, sum_set, sum_two, worker_other}
 
 -- a worker's own step comes behind its others
-by_own : (i : ℕ) (s : PageStep) (steps : List PageStep)
+pub by_own : (i : ℕ) (s : PageStep) (steps : List PageStep)
     → s.worker ≡ i
-    → steps_by i (s ∷ steps) ≡ steps_by i steps ++ s ∷ []
+    → steps_by i (s ∷ steps) ≡ s ∷ steps_by i steps
 by_own i s steps own =
-    let test : PageStep → Bool = λ t. t.worker == i in
-    ap (filter test) (reverse-cons s steps) ∙ filter-append test (reverse steps) (s ∷ [])
-    ∙ ap (λ (b : Bool). steps_by i steps ++ cond b (s ∷ []) []) (eq-eqb s.worker i own)
+    ap (λ (b : Bool). cond b (s ∷ steps_by i steps) (steps_by i steps)) (eq-eqb s.worker i own)
 
 -- a step of another worker leaves its steps
-by_other : (i : ℕ) (s : PageStep) (steps : List PageStep)
+pub by_other : (i : ℕ) (s : PageStep) (steps : List PageStep)
     → s.worker ≢ i
     → steps_by i (s ∷ steps) ≡ steps_by i steps
 by_other i s steps other =
-    let test : PageStep → Bool = λ t. t.worker == i in
-    ap (filter test) (reverse-cons s steps) ∙ filter-append test (reverse steps) (s ∷ [])
-    ∙ ap (λ (b : Bool). steps_by i steps ++ cond b (s ∷ []) []) (ne_eqb s.worker i other)
-    ∙ append-nil (steps_by i steps)
+    ap (λ (b : Bool). cond b (s ∷ steps_by i steps) (steps_by i steps)) (ne_eqb s.worker i other)
 
 -- so what another worker did has its order
 done_other : (s : PageStep) (steps : List PageStep) (v : WorkerSeatView)
     → v.worker ≢ s.worker
     → HasDone steps (post_of v)
     → HasDone (s ∷ steps) (post_of v)
-done_other s steps v other has =
-    record { did = by_other v.worker s steps (λ same. other (sym same)) ∙ has.did; additions = has.additions }
+done_other s steps v other has = by_other v.worker s steps (λ same. other (sym same)) ∙ has
 
 -- and what a view did that has no seat of the step's worker
 order_other : (s : PageStep) (steps : List PageStep) (u : View)
@@ -73,35 +66,18 @@ in_turn_later first phase later (s ∷ before) on turn =
 seat_of_own : (v : WorkerSeatView) → seats_of v.worker (Worker v) ≡ 1
 seat_of_own v = cond-true (v.worker == v.worker) 1 0 (eq-eqb v.worker v.worker refl)
 
--- a step at a page keeps the order, where the view after, w, has it behind all that the view before did
-page_step_keeps : (z : Opening) (s t : CoreState) (views : List View) (steps : List PageStep) (place : ℕ)
-    (v w : WorkerSeatView) (page found : ℕ) (call : PageCall)
-    → ComesNext z s views place v page found
-    → AddsSome call
-    → AppliesTo page (likes_of call) s t
-    → w.worker ≡ v.worker
-    → w.did ≡ v.did ++ page_step v.worker (phase_of v.state) page found call ∷ []
-    → w.additions ≡ v.additions ++ additions_among (page_step v.worker (phase_of v.state) page found call ∷ [])
-    → IsOrder z s views steps
-    → IsOrder z t (set views place (Worker w)) (page_step v.worker (phase_of v.state) page found call ∷ steps)
-page_step_keeps z s t views steps place v w page found call next some_likes applies worker did additions old =
+-- a step at a page keeps the order
+pub page_step_keeps_order : PageStepKeepsOrder
+page_step_keeps_order z s t views steps place v page found call next some_likes applies old =
+    let w : WorkerSeatView = stepped_view v page found call in
     let step : PageStep = page_step v.worker (phase_of v.state) page found call in
     let mine : HasDone steps (post_of v) = old.each place (Worker v) next.mine in
     let phase = applies.phase in
     let present = next.present in
     let finds = next.finds in
     let counted = old.applied page in
-    let seats : (i : ℕ) → seats_of i (Worker w) ≡ seats_of i (Worker v) =
-    λ i. ap (λ (n : ℕ). cond {A = ℕ} (n == i) 1 0) worker
-    in
     let own : HasDone (step ∷ steps) (post_of w) =
-    record {
-      did = ap (λ (n : ℕ). steps_by n (step ∷ steps)) worker ∙ by_own v.worker step steps refl
-          ∙ ap (λ (ds : List PageStep). ds ++ step ∷ []) mine.did ∙ sym did;
-      additions = additions ∙ ap (λ (xs : List Addition). xs ++ additions_among (step ∷ [])) mine.additions
-          ∙ sym (filter_map-append addition_in v.did (step ∷ [])) ∙ ap additions_among (sym did);
-    }
-    in
+    by_own v.worker step steps refl ∙ ap (λ (ds : List PageStep). step ∷ ds) mine in
     record {
       in_turn = (
         omega arith,
@@ -123,7 +99,7 @@ page_step_keeps z s t views steps place v w page found call next some_likes appl
             order_other step steps u (omega arith) (old.each j u there.1)
       ];
       others = λ i none.
-          let same = sum_set (seats_of i) views place (Worker v) (Worker w) next.mine (seats i) in
+          let same = sum_set (seats_of i) views place (Worker v) (Worker w) next.mine refl in
           let part = sum_part (seats_of i) views place (Worker v) next.mine in
           let other : v.worker ≢ i =
           λ is.
@@ -133,14 +109,8 @@ page_step_keeps z s t views steps place v w page found call next some_likes appl
           by_other i step steps other ∙ old.others i (omega arith);
     }
 
--- an addition
-pub addition_keeps_order : AdditionKeepsOrder
-addition_keeps_order z s t views steps place v page old n next some_likes applies =
-    page_step_keeps z s t views steps place v (added_view v page old n) page old (Add n) next some_likes applies refl refl
-    refl
-
 -- what applies no like leaves the state
-applies_none : (page : ℕ) (s : CoreState) → AppliesTo page 0 s s
+pub applies_none : (page : ℕ) (s : CoreState) → AppliesTo page 0 s s
 applies_none page s = record {
   phase = refl;
   likes = λ other. (let none = cond-same (page == other) in omega arith);
@@ -150,30 +120,14 @@ applies_none page s = record {
     cond-same true = refl
     cond-same false = refl
 
--- a read
-pub read_keeps_order : ReadKeepsOrder
-read_keeps_order z s views steps place v page count next =
-    page_step_keeps z s s views steps place v (read_view v page count) page count Read next tt (applies_none page s) refl
-    refl (sym (append-nil v.additions))
-
--- a glance
-pub glance_keeps_order : GlanceKeepsOrder
-glance_keeps_order z s views steps place v page count next =
-    page_step_keeps z s s views steps place v (glanced_view v page count) page count Glance next tt (applies_none page s)
-    refl refl (sym (append-nil v.additions))
-
 -- a worker's view that did the same says the same
 pub same_worker : (v w : WorkerSeatView)
     → w.worker ≡ v.worker
     → w.did ≡ v.did
-    → w.additions ≡ v.additions
     → SaysSame (Worker v) (Worker w)
-same_worker v w worker did additions = record {
+same_worker v w worker did = record {
   seats = λ i. ap (λ (n : ℕ). cond {A = ℕ} (n == i) 1 0) worker;
-  did = λ steps has. record {
-    did = ap (λ (n : ℕ). steps_by n steps) worker ∙ has.did ∙ sym did;
-    additions = additions ∙ has.additions ∙ ap additions_among (sym did);
-  };
+  did = λ steps has. ap (λ (n : ℕ). steps_by n steps) worker ∙ has ∙ sym did;
 }
 
 -- so does a coordinator's to which the same seats were given back
@@ -234,7 +188,7 @@ new_seat_keeps_order z s views steps place c at none old =
     let d : CoordSeatView = made_coord c in
     let new : View = Worker (fresh z c.made) in
     let changed : List View = set views place (Coord d) in
-    let has : HasOrder steps new = record { did = old.others c.made none; additions = refl } in
+    let has : HasOrder steps new = old.others c.made none in
     let same : (i : ℕ) → sum_by (seats_of i) changed ≡ sum_by (seats_of i) views =
     λ i. sum_set (seats_of i) views place (Coord c) (Coord d) at refl
     in

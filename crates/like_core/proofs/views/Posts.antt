@@ -26,9 +26,6 @@ post_fresh z i =
       never_looked =
           refl;
       no_looks = refl;
-      added_nothing = refl;
-      read_nothing = refl;
-      glanced_nothing = refl;
       did_nothing = refl;
       no_masks = refl;
     }

@@ -4,22 +4,21 @@ use Rattle.std.specs.List.{sum_by}
 use mathlib.Core.Option.{some}
 use lib.ListN.{get_elem?}
 use Rattle.like_core.specs.declared.opening.Opening.{Opening}
-use Rattle.like_core.specs.declared.page_step.PageCall.TheVariants.{Add, Read, Glance}
+use Rattle.like_core.specs.declared.page_step.PageCall.{PageCall}
 use Rattle.like_core.specs.declared.page_step.PageStep.{PageStep}
 use Rattle.like_core.specs.declared.view.WorkerSeatView.{WorkerSeatView}
 use Rattle.like_core.specs.declared.view.CoordSeatView.{CoordSeatView}
 use Rattle.like_core.specs.declared.view.View.{View}
 use Rattle.like_core.specs.declared.view.View.TheVariants.{Coord, Worker, Spent}
-use Rattle.like_core.specs.PageSteps.{AreInTurn, additions_among, likes_in, page_step, steps_by}
+use Rattle.like_core.specs.PageSteps.{AddsSome, AreInTurn, likes_in, likes_of, page_step, steps_by}
 use Rattle.like_core.specs.Post.{PostView}
 use Rattle.like_core.specs.WorkerState.{phase_of}
 use Rattle.like_core.specs.core.State.{CoreState}
-use Rattle.like_core.specs.views.Views.{added_view, fresh, gathered_coord, glanced_view, made_coord, post_of, read_view, seats_of}
+use Rattle.like_core.specs.views.Views.{fresh, gathered_coord, made_coord, post_of, seats_of, stepped_view}
 
--- all that a worker's post did at pages are that worker's steps, in their order; its additions are those among them
-pub record HasDone (steps : List PageStep) (v : PostView) : Type 0 where
-  pub did : steps_by v.worker steps ≡ v.did
-  pub additions : v.additions ≡ additions_among v.did
+-- all that a worker's post did at pages are that worker's steps, in their order
+abbrev pub HasDone : List PageStep → PostView → Type 0
+HasDone steps v = steps_by v.worker steps ≡ v.did
 
 -- that is so of a view; the coordinator's has what the seats that were given back to it did
 abbrev pub HasOrder : List PageStep → View → Type 0
@@ -53,35 +52,15 @@ pub record AppliesTo (page n : ℕ) (s t : CoreState) : Type 0 where
   pub phase : t.phase ≡ s.phase
   pub likes : (other : ℕ) → length (t.applied other) ≡ length (s.applied other) + (if page == other then n else 0)
 
--- the law of additions: one of some likes keeps the order, and its step is the last
-abbrev pub AdditionKeepsOrder : Type 0
-AdditionKeepsOrder =
+-- the law of page steps: one keeps the order, and is the last in it. An addition is of some likes
+abbrev pub PageStepKeepsOrder : Type 0
+PageStepKeepsOrder =
     (z : Opening) (s t : CoreState) (views : List View) (steps : List PageStep) (place : ℕ) (v : WorkerSeatView)
-    (page old n : ℕ)
-    → ComesNext z s views place v page old → 1 ≤ n → AppliesTo page n s t
+    (page found : ℕ) (call : PageCall)
+    → ComesNext z s views place v page found → AddsSome call → AppliesTo page (likes_of call) s t
     → IsOrder z s views steps
-    → IsOrder z t (slice_set views place (Worker (added_view v page old n)))
-    (page_step v.worker (phase_of v.state) page old (Add n) ∷ steps)
-
--- the law of reads
-abbrev pub ReadKeepsOrder : Type 0
-ReadKeepsOrder =
-    (z : Opening) (s : CoreState) (views : List View) (steps : List PageStep) (place : ℕ) (v : WorkerSeatView)
-    (page count : ℕ)
-    → ComesNext z s views place v page count
-    → IsOrder z s views steps
-    → IsOrder z s (slice_set views place (Worker (read_view v page count)))
-    (page_step v.worker (phase_of v.state) page count Read ∷ steps)
-
--- and of glances
-abbrev pub GlanceKeepsOrder : Type 0
-GlanceKeepsOrder =
-    (z : Opening) (s : CoreState) (views : List View) (steps : List PageStep) (place : ℕ) (v : WorkerSeatView)
-    (page count : ℕ)
-    → ComesNext z s views place v page count
-    → IsOrder z s views steps
-    → IsOrder z s (slice_set views place (Worker (glanced_view v page count)))
-    (page_step v.worker (phase_of v.state) page count Glance ∷ steps)
+    → IsOrder z t (slice_set views place (Worker (stepped_view v page found call)))
+    (page_step v.worker (phase_of v.state) page found call ∷ steps)
 
 -- a view is of the same workers as another, and says the same of what they did
 pub record SaysSame (a b : View) : Type 0 where

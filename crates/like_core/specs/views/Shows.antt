@@ -25,11 +25,12 @@ use Rattle.like_core.specs.word.ShownWord.{shown_word}
 use Rattle.like_core.specs.WorkerState.{IsRunning, RunsSplit, SawEnding, SawNoLater}
 use Rattle.like_core.specs.Additions.{added_in}
 use Rattle.like_core.specs.views.Views.{seats_of}
-use Rattle.like_core.specs.views.Reads.{all_before, IsCounted, ReadsFit}
+use Rattle.like_core.specs.views.Reads.{all_before, IsCounted}
 use Rattle.like_core.specs.views.Tallies.{Tallied}
-use Rattle.like_core.specs.views.Places.{PlacesTile, count_after}
+use Rattle.like_core.specs.views.Places.{count_after}
 use Rattle.like_core.specs.views.Order.{IsOrder}
 use Rattle.like_core.specs.views.Layout.{phase_place, mask_place, slot_in, word_of}
+use Rattle.like_core.specs.PageSteps.{additions_among}
 
 -- an opening that a board may have
 pub record IsOpening (z : Opening) : Type 0 where
@@ -53,7 +54,7 @@ pub record FitsWorker (z : Opening) (s : CoreState) (v : WorkerSeatView) : Type 
   pub ending : IsRunning v.state → SawEnding v.last → s.ending ≡ true
   -- in each phase it added as many likes to a page as have its label there
   pub labels : (phase page : ℕ)
-      → labelled v.worker phase (s.applied page) ≡ added_in phase page v.additions
+      → labelled v.worker phase (s.applied page) ≡ added_in phase page (additions_among v.did)
   -- each mask that it read is its phase's, and none is of a later phase
   pub masks : All (λ m. (m.phase ≤ s.phase) × (m.mask ≡ s.hot m.phase)) v.masks
   -- it knows slots in a split phase alone
@@ -149,14 +150,6 @@ pub record SeatsFit (z : Opening) (s : CoreState) (coord : CoordSeatView) (views
   pub slots : (place : ℕ) (v : WorkerSeatView) → get_elem? views place ≡ some (Worker v)
       → v.slots ≡ take (length v.slots) coord.slots
 
--- each count that a worker or the coordinator read has all additions of earlier phases, and none of later ones
-pub record ReadsAreCounted (z : Opening) (s : CoreState) (coord : CoordSeatView) (views : List View)
-    : Type 0 where
-  -- a worker's reads, and its additions, lie between what all views have added
-  pub workers : ReadsFit z.counts s.phase views
-  -- each count that the coordinator read is the one at the start plus all that they added up to its phase
-  pub coordinator : All (IsCounted z.counts (all_before views)) coord.counted
-
 -- the words and the views of all seats show the state
 pub record Shows (z : Opening) (s : CoreState) (words : List ℕ) (views : List View) : Type 0 where
   pub opening : IsOpening z
@@ -171,7 +164,8 @@ pub record Shows (z : Opening) (s : CoreState) (words : List ℕ) (views : List 
   pub slots_fit : All (λ page. page < 2 ^ 32) coord.slots
   pub board : WordsShow z s words
   pub seats : SeatsFit z s coord views
-  pub reads : ReadsAreCounted z s coord views
+  -- each count that the coordinator read is the one at the start plus all that was added up to its phase
+  pub counted : All (IsCounted z.counts (all_before views)) coord.counted
 
 -- the words and the views show some state that moves reach
 pub record ShowsSome (z : Opening) (words : List ℕ) (views : List View) : Type 0 where
@@ -180,15 +174,12 @@ pub record ShowsSome (z : Opening) (words : List ℕ) (views : List View) : Type
   pub shows : Shows z state words views
   -- the views' additions are the likes applied in it, and no count can wrap by what may still be added
   pub tallied : Tallied z.limits state views
-  -- the stretches of the views' additions tile each page's counts
-  pub places : PlacesTile z.counts views
   -- all that the views did at pages has one order
   pub steps : List PageStep
   pub order : IsOrder z state views steps
 
 -- a moment of a board, between two steps: its words, the views of all its seats, and the state that they show, which
--- moves reach. The views' additions are the likes applied in it, and their stretches tile each page's counts. All that
--- the views did at pages has one order
+-- moves reach. The views' additions are the likes applied in it, and all that the views did at pages has one order
 pub record Moment (z : Opening) : Type 0 where
   pub words : List ℕ
   pub views : List View
@@ -196,7 +187,6 @@ pub record Moment (z : Opening) : Type 0 where
   pub reachable : Reached z state
   pub shows : Shows z state words views
   pub tallied : Tallied z.limits state views
-  pub places : PlacesTile z.counts views
   pub steps : List PageStep
   pub order : IsOrder z state views steps
 

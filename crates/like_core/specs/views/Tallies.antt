@@ -7,16 +7,17 @@ use Rattle.like_core.specs.declared.view.View.TheVariants.{Coord, Worker, Spent}
 use Rattle.like_core.specs.core.State.{CoreState}
 use Rattle.like_core.specs.Additions.{added_to}
 use Rattle.like_core.specs.views.Reads.{all_before}
+use Rattle.like_core.specs.PageSteps.{additions_among}
 
 -- how much a view has added to a page: the coordinator's has what the seats that were given back to it added
 abbrev pub paged : ℕ → View → ℕ
-paged page (Coord c) = sum_by (λ v. added_to page v.additions) c.joined
-paged page (Worker v) = added_to page v.additions
+paged page (Coord c) = sum_by (λ v. added_to page (additions_among v.did)) c.joined
+paged page (Worker v) = added_to page (additions_among v.did)
 paged page Spent = 0
 
 -- how much a worker may still add to a page, if it may add this many likes to it
 abbrev pub left_to : ℕ → ℕ → WorkerSeatView → ℕ
-left_to likes page v = likes - added_to page v.additions
+left_to likes page v = likes - added_to page (additions_among v.did)
 
 -- how much the worker of a view may still add to a page: the coordinator's has what workers without a seat yet may add,
 -- and those whose seat was given back
@@ -32,6 +33,3 @@ pub record Tallied (l : Limits) (s : CoreState) (views : List View) : Type 0 whe
   -- with what may still be added, they are at most what all seats may add
   pub rooms : (page : ℕ)
       → length (s.applied page) + sum_by (room l page) views ≤ l.likes * l.seats
-  -- nothing was added in a later phase
-  pub past : (phase page : ℕ) → s.phase < phase
-      → all_before views phase page ≡ sum_by (paged page) views

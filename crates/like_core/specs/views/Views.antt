@@ -7,13 +7,13 @@ use Rattle.like_core.specs.declared.event.Event.{Event}
 use Rattle.like_core.specs.declared.event.Event.TheVariants.{Like, Merge}
 use Rattle.like_core.specs.declared.limits.Limits.{Limits}
 use Rattle.like_core.specs.declared.opening.Opening.{Opening}
+use Rattle.like_core.specs.declared.page_step.PageCall.{PageCall}
 use Rattle.like_core.specs.declared.page_step.PageCall.TheVariants.{Add, Read, Glance}
 use Rattle.like_core.specs.declared.view.WorkerSeatView.{WorkerSeatView}
 use Rattle.like_core.specs.declared.view.CoordSeatView.{CoordSeatView}
 use Rattle.like_core.specs.declared.view.View.{View}
 use Rattle.like_core.specs.declared.view.View.TheVariants.{Coord, Worker, Spent}
-use Rattle.like_core.specs.Additions.{addition, look_after, page_read}
-use Rattle.like_core.specs.PageSteps.{page_step}
+use Rattle.like_core.specs.PageSteps.{look_after, page_step}
 use Rattle.like_limits.specs.Limits.{hot_pages}
 use Rattle.like_core.specs.Phase.{IsJoined}
 use Rattle.like_core.specs.OpeningLimits.{has_slots}
@@ -30,9 +30,6 @@ fresh z worker = record {
   state = Runs 0;
   last = None;
   looks = [];
-  additions = [];
-  reads = [];
-  glances = [];
   did = [];
   masks = [];
   slots = [];
@@ -62,7 +59,7 @@ abbrev pub looked_view : WorkerSeatView → Sight → WorkerSeatView
 looked_view v sight = record v {
   state = seen v.state sight;
   last = Some sight;
-  looks = v.looks ++ look_after sight v.additions v.reads v.glances ∷ [];
+  looks = v.looks ++ look_after sight v.did ∷ [];
 }
 
 -- a worker's view after an acknowledgement or a report
@@ -78,29 +75,22 @@ abbrev pub returned_view : WorkerSeatView → ℕ → WorkerSeatView
 returned_view v phase = record v {
   state = Runs phase;
   last = Some (running_sight phase);
-  looks = v.looks ++ look_after (running_sight phase) v.additions v.reads v.glances ∷ [];
+  looks = v.looks ++ look_after (running_sight phase) v.did ∷ [];
 }
 
--- a worker's view after it added n to a page's count, which was `old` before
+-- a worker's view after it did this at a page, whose count was `found` before
+abbrev pub stepped_view : WorkerSeatView → ℕ → ℕ → PageCall → WorkerSeatView
+stepped_view v page found call = record v { did = page_step v.worker (phase_of v.state) page found call ∷ v.did }
+
+-- after it added n to the count, read it, or glanced at it
 abbrev pub added_view : WorkerSeatView → ℕ → ℕ → ℕ → WorkerSeatView
-added_view v page old n = record v {
-  additions = v.additions ++ addition (phase_of v.state) page old n ∷ [];
-  did = v.did ++ page_step v.worker (phase_of v.state) page old (Add n) ∷ [];
-}
+added_view v page old n = stepped_view v page old (Add n)
 
--- a worker's view after it read a page's count, which was this
 abbrev pub read_view : WorkerSeatView → ℕ → ℕ → WorkerSeatView
-read_view v page count = record v {
-  reads = v.reads ++ page_read (phase_of v.state) page count (length v.additions) ∷ [];
-  did = v.did ++ page_step v.worker (phase_of v.state) page count Read ∷ [];
-}
+read_view v page count = stepped_view v page count Read
 
--- a worker's view after it glanced at a page's count, which was this
 abbrev pub glanced_view : WorkerSeatView → ℕ → ℕ → WorkerSeatView
-glanced_view v page count = record v {
-  glances = v.glances ++ page_read (phase_of v.state) page count (length v.additions) ∷ [];
-  did = v.did ++ page_step v.worker (phase_of v.state) page count Glance ∷ [];
-}
+glanced_view v page count = stepped_view v page count Glance
 
 -- a worker's view after it read the mask of its phase's hot pages, which was this
 abbrev pub masked_view : WorkerSeatView → ℕ → WorkerSeatView
@@ -139,9 +129,6 @@ post_of v = record {
   state = v.state;
   last = v.last;
   looks = v.looks;
-  additions = v.additions;
-  reads = v.reads;
-  glances = v.glances;
   did = v.did;
   masks = v.masks;
 }

@@ -15,6 +15,7 @@ use Rattle.like_core.specs.declared.view.PageRead.{PageRead}
 use Rattle.like_core.specs.views.Reads.{StandBetween, StandsBetween}
 use Rattle.like_core.specs.views.Places.{ArePlaced, AreTiles, Counting, covers}
 use Rattle.like_core.specs.Post.{PostView}
+use Rattle.like_core.specs.PageSteps.{additions_among, reads_among}
 use Rattle.like_board.specs.declared.worker_seat.WorkerSeat.{WorkerSeat}
 use Rattle.like_board.specs.Seats.{AreCounted, HaveAddedBetween, HavePlaces, HaveReadMasks, coord_view, last_count, seat_meaning, seats_before, seats_passing}
 use Rattle.like_promises.specs.declared.log.Added.{Added}
@@ -59,9 +60,9 @@ pub record HasNoted (setup : Setup) (plans : List (List Request)) (site : Site) 
     (h : IsEnded setup plans site e) (s : ServerView) (log : WorkerLog) : Type 0 where
   pub of_log : IsLogOf s log
   pub worked : HasWorkedFor (known setup plans site e h) s
-  pub additions : s.worker.post.additions ≡ additions_noted log
+  pub additions : (additions_among s.worker.post.did) ≡ additions_noted log
   pub adds : AddsItsLikes (known setup plans site e h) log.ran.items log.adds.items
-  pub reads : map (λ r. r.after) s.worker.post.reads
+  pub reads : map (λ r. r.after) (reads_among s.worker.post.did)
       ≡ adds_before_looks (known setup plans site e h) log.adds.items log.ran.items
 
 -- additions that stand between what all seats have added stand so between the likes of the run lists
@@ -127,27 +128,27 @@ module _ (setup : Setup) (plans : List (List Request)) (site : Site) (e : Ended)
   all-there there worker d within =
       let log : WorkerLog = get_or e.logs.items worker d in
       let n = noted-at worker log (slice_get-get_or e.logs.items worker d within) in
-      adds-there (known setup plans site e h) there n.0.worker.post.additions log.adds.items log.ran.items
+      adds-there (known setup plans site e h) there (additions_among n.0.worker.post.did) log.adds.items log.ran.items
       n.1.1.additions
       (n.1.1.of_log.each (known setup plans site e h) n.1.1.worked).likes n.1.1.adds.each
 
   -- as many of the logs' additions pass a test as of the seats'
   passing-same : (test : Addition → Bool) → seats_passing e.seats.items test ≡ count_by test (all_noted e.logs.items)
   passing-same test =
-      sym (pairs-sum IsSeatOf (λ (s : ServerView). count_by test s.worker.post.additions)
-      (λ (seat : WorkerSeat). count_by test (seat_meaning seat).additions) h.servers e.seats.items
-      (λ s seat m. ap (λ (p : PostView). count_by test p.additions) (sym m)) h.seats)
-      ∙ pairs-sum (λ (s : ServerView) (log : WorkerLog). s.worker.post.additions ≡ additions_noted log)
-      (λ (s : ServerView). count_by test s.worker.post.additions)
+      sym (pairs-sum IsSeatOf (λ (s : ServerView). count_by test (additions_among s.worker.post.did))
+      (λ (seat : WorkerSeat). count_by test (additions_among (seat_meaning seat).did)) h.servers e.seats.items
+      (λ s seat m. ap (λ (p : PostView). count_by test (additions_among p.did)) (sym m)) h.seats)
+      ∙ pairs-sum (λ (s : ServerView) (log : WorkerLog). (additions_among s.worker.post.did) ≡ additions_noted log)
+      (λ (s : ServerView). count_by test (additions_among s.worker.post.did))
       (λ (log : WorkerLog). count_by test (additions_noted log)) h.servers e.logs.items
       (λ s log m. ap (count_by test) m) matched
       ∙ count-all test e.logs.items
     where
       matches : (ss : List ServerView) (logs : List WorkerLog)
           → ((i : ℕ) (s : ServerView) (log : WorkerLog) → slice_get ss i ≡ Some s → IsLogOf s log
-          → s.worker.post.additions ≡ additions_noted log)
+          → additions_among s.worker.post.did ≡ additions_noted log)
           → AllZip IsLogOf ss logs
-          → AllZip (λ (s : ServerView) (log : WorkerLog). s.worker.post.additions ≡ additions_noted log) ss logs
+          → AllZip (λ (s : ServerView) (log : WorkerLog). (additions_among s.worker.post.did) ≡ additions_noted log) ss logs
       matches [] [] each all = tt
       matches [] (log ∷ logs) each all = absurd all
       matches (s ∷ ss) [] each all = absurd all
@@ -155,7 +156,7 @@ module _ (setup : Setup) (plans : List (List Request)) (site : Site) (e : Ended)
           (each 0 s log refl all.0, matches ss logs (λ i t l at of_log. each (suc i) t l at of_log) all.1)
 
       matched : AllZip
-          (λ (s : ServerView) (log : WorkerLog). s.worker.post.additions ≡ additions_noted log) h.servers e.logs.items
+          (λ (s : ServerView) (log : WorkerLog). (additions_among s.worker.post.did) ≡ additions_noted log) h.servers e.logs.items
       matched = matches h.servers e.logs.items (λ i s log at of_log. (noted-by i s log at of_log).additions) h.logs
 
   -- each page's count at the start
@@ -204,7 +205,7 @@ module _ (setup : Setup) (plans : List (List Request)) (site : Site) (e : Ended)
       let seat = right-at IsSeatOf h.servers e.seats.items worker n.0 h.seats n.1.0 in
       let P : PostView → Type 0 =
       λ p. ArePlaced (λ page. get_or (coord_view e.coord).opening.counts page 0)
-      (seats_passing e.seats.items) p.additions p.reads in
+      (seats_passing e.seats.items) (additions_among p.did) (reads_among p.did) in
       let own : P (seat_meaning seat.0) =
       subst (λ (x : WorkerSeat). P (seat_meaning x)) (get_or_from_slice_get e.seats.items worker seat.0 seat.0 seat.1.0)
       (places.each worker seat.0 (slice_get_within e.seats.items worker seat.0 seat.1.0))
@@ -214,8 +215,8 @@ module _ (setup : Setup) (plans : List (List Request)) (site : Site) (e : Ended)
       λ i page. first-same page i in
       let passing : seats_passing e.seats.items ≡ (λ test. count_by test (all_noted e.logs.items)) =
       λ i test. passing-same test i in
-      let reads : reads_of (known setup plans site e h) log ≡ n.0.worker.post.reads =
-      reads-are (known setup plans site e h) log n.0.worker.post.additions n.0.worker.post.reads
+      let reads : reads_of (known setup plans site e h) log ≡ (reads_among n.0.worker.post.did) =
+      reads-are (known setup plans site e h) log (additions_among n.0.worker.post.did) (reads_among n.0.worker.post.did)
       (n.1.1.of_log.each (known setup plans site e h) n.1.1.worked).looks n.1.1.reads
       in
       subst (λ (c : Counting). ArePlaced (initial_count setup.pages) c (additions_noted log)
@@ -225,7 +226,7 @@ module _ (setup : Setup) (plans : List (List Request)) (site : Site) (e : Ended)
       (subst (λ (rs : List PageRead). ArePlaced (λ page. get_or (coord_view e.coord).opening.counts page 0)
       (seats_passing e.seats.items) (additions_noted log) rs) (sym reads)
       (subst (λ (made : List Addition). ArePlaced (λ page. get_or (coord_view e.coord).opening.counts page 0)
-      (seats_passing e.seats.items) made n.0.worker.post.reads) n.1.1.additions post)))
+      (seats_passing e.seats.items) made (reads_among n.0.worker.post.did)) n.1.1.additions post)))
 
   -- their stretches stand in the order of phases
   pub stand-are : HaveAddedBetween (coord_view e.coord).opening (coord_view e.coord).phase e.seats.items
@@ -239,12 +240,12 @@ module _ (setup : Setup) (plans : List (List Request)) (site : Site) (e : Ended)
       let counts : List ℕ = (coord_view e.coord).opening.counts in
       let last : ℕ = (coord_view e.coord).phase in
       let P : List Addition → Type 0 = StandBetween counts (seats_before e.seats.items) last in
-      let own : P (seat_meaning seat.0).additions =
-      subst (λ (x : WorkerSeat). P (seat_meaning x).additions)
+      let own : P (additions_among (seat_meaning seat.0).did) =
+      subst (λ (x : WorkerSeat). P (additions_among (seat_meaning x).did))
       (get_or_from_slice_get e.seats.items worker seat.0 seat.0 seat.1.0)
       (stand worker seat.0 (slice_get_within e.seats.items worker seat.0 seat.1.0))
       in
-      let post : P n.0.worker.post.additions = subst (λ (p : PostView). P p.additions) seat.1.1 own in
+      let post : P (additions_among n.0.worker.post.did) = subst (λ (p : PostView). P (additions_among p.did)) seat.1.1 own in
       stand-noted (served setup plans site e h) (runs_of e.logs.items) counts
       (seats_before e.seats.items) last log.adds.items first-same (all-before setup plans site e h masks)
       (subst P n.1.1.additions post)

@@ -5,7 +5,7 @@ use Rattle.std.proofs.lemmas.List.Elements.{All-head, All-tail, filter-append, f
 use Rattle.std.specs.List.{All, cons_option, filter}
 use Rattle.like_core.specs.declared.page_step.PageCall.TheVariants.{Add}
 use Rattle.like_core.specs.declared.page_step.PageStep.{PageStep}
-use Rattle.like_core.specs.PageSteps.{page_step}
+use Rattle.like_core.specs.PageSteps.{earliest_first, page_step}
 use Rattle.like_core.specs.Post.{slices}
 use Rattle.like_promises.specs.Accepted.{AcceptedRequest}
 use Rattle.like_promises.specs.Likes.{like_ran}
@@ -73,12 +73,12 @@ module _ (workload : Workload) where
 
   -- an accepted like is counted
   pub counted-steps : (v : WorkerView) (e : Ran) (l : AcceptedRequest) (old : ℕ)
-      → plain_told workload v.post.did ≡ steps_ran workload v.ran
+      → plain_told workload (earliest_first v.post.did) ≡ steps_ran workload v.ran
       → e.phase ≡ phase_at v
       → look_ran workload e ≡ None
       → like_ran workload e ≡ Some l
       → is_split_in workload (phase_at v) l.page ≡ slices v.post l.page
-      → plain_told workload (counted v l.page old).post.did ≡ steps_ran workload (v.ran ++ e ∷ [])
+      → plain_told workload (earliest_first (counted v l.page old).post.did) ≡ steps_ran workload (v.ran ++ e ∷ [])
   counted-steps v e l old same now no_look like alike = by_test (slices v.post l.page) refl
     where
       one : StepTold
@@ -93,14 +93,14 @@ module _ (workload : Workload) where
 
       -- what the steps tell then
       tells : (b : Bool) → slices v.post l.page ≡ b
-          → plain_told workload (counted v l.page old).post.did
-          ≡ plain_told workload (cond b (sliced v l.page) (with_addition v l.page old 1)).post.did
-      tells b is = ap (λ t. plain_told workload (cond t (sliced v l.page) (with_addition v l.page old 1)).post.did) is
+          → plain_told workload (earliest_first (counted v l.page old).post.did)
+          ≡ plain_told workload (earliest_first (cond b (sliced v l.page) (with_addition v l.page old 1)).post.did)
+      tells b is = ap (λ t. plain_told workload (earliest_first (cond t (sliced v l.page) (with_addition v l.page old 1)).post.did)) is
 
       by_test : (b : Bool) → slices v.post l.page ≡ b
-          → plain_told workload (counted v l.page old).post.did ≡ steps_ran workload (v.ran ++ e ∷ [])
+          → plain_told workload (earliest_first (counted v l.page old).post.did) ≡ steps_ran workload (v.ran ++ e ∷ [])
       by_test true is = tells true is ∙ (same ∙ sym (steps_ran-none v.ran e (took true is)))
       by_test false is =
           tells false is
-          ∙ (plain_told-push v.post.did (page_step v.post.worker (phase_at v) l.page old (Add 1)) (alike ∙ is)
+          ∙ (plain_told-push (earliest_first v.post.did) (page_step v.post.worker (phase_at v) l.page old (Add 1)) (alike ∙ is)
           ∙ (ap (λ xs. xs ++ one ∷ []) same ∙ sym (steps_ran-push v.ran e one (took false is))))

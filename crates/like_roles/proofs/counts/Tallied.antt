@@ -18,8 +18,8 @@ use Rattle.like_core.specs.WorkerState.{phase_of}
 use Rattle.like_core.specs.declared.page_step.PageCall.TheVariants.{Read}
 use Rattle.like_core.specs.declared.page_step.PageStep.{PageStep}
 use Rattle.like_core.specs.declared.view.PageRead.{PageRead}
-use Rattle.like_core.specs.Additions.{addition, added_in}
-use Rattle.like_core.specs.PageSteps.{page_step}
+use Rattle.like_core.specs.Additions.{addition, added_in, added_to}
+use Rattle.like_core.specs.PageSteps.{additions_among, earliest_first, page_step, reads_among}
 use Rattle.like_core.specs.Post.{additions_of, additions_in, pages_of, slices}
 use Rattle.like_core.proofs.core.Labels.{added_to-push, added_in-push}
 use Rattle.like_tables.specs.UserTable.{last_of}
@@ -206,7 +206,7 @@ counted-one v page old other in_slice =
     v page old (omega (arith, one_more-at v.slice page other in_slice))
     (let push : additions_of (with_addition v page old 1).post other
     ≡ additions_of v.post other + cond (eqb page other) 1 0 =
-    added_to-push v.post.additions (phase_of v.post.state) page old 1 other in
+    added_to-push (additions_among v.post.did) (phase_of v.post.state) page old 1 other in
     omega arith)
 
 -- and in its phase
@@ -223,7 +223,7 @@ counted-in v page old other phase in_slice =
     (let more = ap (λ (k : ℕ). cond (phase_at v == phase) k 0) (one_more-at v.slice page other in_slice) in
     let parts = cond_sum (phase_at v == phase) (get_or v.slice other 0) (cond (page == other) 1 0) in
     omega arith)
-    (let push = added_in-push v.post.additions (phase_at v) page old 1 phase other in
+    (let push = added_in-push (additions_among v.post.did) (phase_at v) page old 1 phase other in
     let both = cond_both (phase_at v == phase) (page == other) in
     omega arith)
   where
@@ -237,21 +237,21 @@ counted-in v page old other phase in_slice =
 
 -- it comes after all reads
 counted-after : (v : WorkerView) (page old : ℕ)
-    → All (λ r. r.after ≤ length v.post.additions) v.post.reads
-    → All (λ r. r.after ≤ length (counted v page old).post.additions) (counted v page old).post.reads
+    → All (λ r. r.after ≤ length (additions_among v.post.did)) (reads_among v.post.did)
+    → All (λ r. r.after ≤ length (additions_among (counted v page old).post.did)) (reads_among (counted v page old).post.did)
 counted-after v page old after =
-    counted_by (λ w. All (λ r. r.after ≤ length w.post.additions) w.post.reads) v page old after
-    (after-more v.post.additions (addition (phase_at v) page old 1 ∷ []) v.post.reads after)
+    counted_by (λ w. All (λ r. r.after ≤ length (additions_among w.post.did)) (reads_among w.post.did)) v page old after
+    (after-more (additions_among v.post.did) (addition (phase_at v) page old 1 ∷ []) (reads_among v.post.did) after)
 
 -- and changes nothing that they show
 counted-shown : (v : WorkerView) (page old : ℕ)
-    → All (λ r. r.after ≤ length v.post.additions) v.post.reads
-    → map (shown_by v.post.additions) v.post.reads
-    ≡ map (shown_by (counted v page old).post.additions) (counted v page old).post.reads
+    → All (λ r. r.after ≤ length (additions_among v.post.did)) (reads_among v.post.did)
+    → map (shown_by (additions_among v.post.did)) (reads_among v.post.did)
+    ≡ map (shown_by (additions_among (counted v page old).post.did)) (reads_among (counted v page old).post.did)
 counted-shown v page old after =
-    counted_by (λ w. map (shown_by v.post.additions) v.post.reads ≡ map (shown_by w.post.additions) w.post.reads) v page
+    counted_by (λ w. map (shown_by (additions_among v.post.did)) (reads_among v.post.did) ≡ map (shown_by (additions_among w.post.did)) (reads_among w.post.did)) v page
     old refl
-    (sym (shown_by-more v.post.additions (addition (phase_at v) page old 1 ∷ []) v.post.reads after))
+    (sym (shown_by-more (additions_among v.post.did) (addition (phase_at v) page old 1 ∷ []) (reads_among v.post.did) after))
 
 -- a like that is counted changes no size, and whom the worker serves as little
 counted-sized : (v : WorkerView) (page old : ℕ) → IsSized v → IsSized (counted v page old)
@@ -313,23 +313,23 @@ abbrev IsAfter : Workload → WorkerView → Held → Bool → Reply → WorkerV
 IsAfter workload v h stashed answer w =
     IsServed workload w × IsSized w × IsTallied workload (record w { ran = v.ran ++ ran_now v h stashed answer ∷ [] })
 
--- the worker, whose post has made these reads, and has done this
-abbrev with_reads : WorkerView → List PageRead → List PageStep → WorkerView
-with_reads v reads did = record v { post = record v.post { reads = reads; did = did } }
+-- the worker, whose post has done this
+abbrev with_did : WorkerView → List PageStep → WorkerView
+with_did v did = record v { post = record v.post { did = did } }
 
--- an entry that is no accepted like changes neither likes nor last likes; these are the post's reads then, and what it
--- did
-unchanged : (workload : Workload) (v : WorkerView) (h : Held) (stashed : Bool) (answer : Reply) (reads : List PageRead)
-    (did : List PageStep)
+-- an entry that is no accepted like changes neither likes nor last likes; this is what the post did then, which has added
+-- nothing
+unchanged : (workload : Workload) (v : WorkerView) (h : Held) (stashed : Bool) (answer : Reply) (did : List PageStep)
+    → additions_among did ≡ additions_among v.post.did
     → IsServed workload v
     → IsSized v
     → IsTallied workload v
     → like_ran workload (ran_now v h stashed answer) ≡ None → IsRightAnswer workload v.ran (ran_now v h stashed answer)
-    → shown_in workload (v.ran ++ ran_now v h stashed answer ∷ []) ≡ map (shown_by v.post.additions) reads
-    → All (λ r. r.after ≤ length v.post.additions) reads
-    → plain_told workload did ≡ steps_ran workload (v.ran ++ ran_now v h stashed answer ∷ [])
-    → IsAfter workload v h stashed answer (with_reads v reads did)
-unchanged workload v h stashed answer reads did served sized t none right shows later steps =
+    → shown_in workload (v.ran ++ ran_now v h stashed answer ∷ []) ≡ map (shown_by (additions_among v.post.did)) (reads_among did)
+    → All (λ r. r.after ≤ length (additions_among v.post.did)) (reads_among did)
+    → plain_told workload (earliest_first did) ≡ steps_ran workload (v.ran ++ ran_now v h stashed answer ∷ [])
+    → IsAfter workload v h stashed answer (with_did v did)
+unchanged workload v h stashed answer did same_adds served sized t none right shows later steps =
     let e = ran_now v h stashed answer in
     let same : likes_ran workload (v.ran ++ e ∷ []) ≡ likes_ran workload v.ran =
     likes_ran-push workload v.ran e None none ∙ append-nil _ in (
@@ -346,10 +346,12 @@ unchanged workload v h stashed answer reads did served sized t none right shows 
       },
       record { slice = sized.slice; users = sized.users },
       record {
-        likes = λ page. ap (page_likes page) same ∙ t.likes page;
-        by_phase = λ phase page. within-none workload v.ran e page phase none ∙ t.by_phase phase page;
-        looks = shows;
-        after = later;
+        likes = λ page. ap (page_likes page) same ∙ t.likes page
+            ∙ ap (λ xs. added_to page xs + get_or v.slice page 0) (sym same_adds);
+        by_phase = λ phase page. within-none workload v.ran e page phase none ∙ t.by_phase phase page
+            ∙ ap (λ xs. added_in phase page xs + cond (phase_at v == phase) (get_or v.slice page 0) 0) (sym same_adds);
+        looks = shows ∙ ap (λ xs. map (shown_by xs) (reads_among did)) (sym same_adds);
+        after = subst (λ xs. All (λ (r : PageRead). r.after ≤ length xs) (reads_among did)) (sym same_adds) later;
         steps = steps;
         replies = HasRightAnswers-push workload v.ran e t.replies right;
         last = λ user. t.last user ∙ ap (last_page user) (sym same);
@@ -448,7 +450,7 @@ GivesReply-tallied workload v h stashed answer w served sized t asked kept alike
     let right = right-by_request workload v.ran x r asked.asked (sym V-is, n) in
     subst (λ y. IsAfter workload v h stashed answer y) (sym e)
     (subst (λ y. IsAfter workload v h stashed y v) (sym a)
-    (unchanged workload v h stashed (reply.Refused V) v.post.reads v.post.did served sized t none right
+    (unchanged workload v h stashed (reply.Refused V) v.post.did refl served sized t none right
     (shown_in-none workload v.ran x no_look ∙ t.looks) t.after
     (t.steps ∙ sym (steps_ran-none workload v.ran x (λ m. look_or_like workload x (no_look m) (none m))))))
 GivesReply-tallied workload v h stashed answer w served sized t asked kept alike plain (likes page a o p l e) =
@@ -485,33 +487,33 @@ GivesReply-tallied workload v h stashed answer w served sized t asked kept alike
     ∙ (let none_kept = ap (λ (k : ℕ). cond (now == now) k 0) (clear v page kept unsliced) in
     let zero_is = cond_same (now == now) 0 in omega arith)
     in
-    let read : PageRead = record { phase = now; page = page; count = count; after = length v.post.additions } in
+    let read : PageRead = record { phase = now; page = page; count = count; after = length (additions_among v.post.did) } in
     let c : ShownCount =
     record { phase = now; page = page; count = count; before = likes_within workload page v.ran now } in
     let to_it : shown_to workload v.ran x ≡ Some c =
     ap (option_map
     (λ (q : ℕ). record { phase = now; page = q; count = count; before = likes_within workload q v.ran now })) look in
-    let by_it : c ≡ shown_by v.post.additions read =
+    let by_it : c ≡ shown_by (additions_among v.post.did) read =
     ap (λ (k : ℕ). record { phase = now; page = page; count = count; before = k })
-    (as_many ∙ sym (ap (added_in now page) (take-length v.post.additions)))
+    (as_many ∙ sym (ap (added_in now page) (take-length (additions_among v.post.did))))
     in
-    let shows : shown_in workload (v.ran ++ x ∷ []) ≡ map (shown_by v.post.additions) (v.post.reads ++ read ∷ []) =
+    let shows : shown_in workload (v.ran ++ x ∷ []) ≡ map (shown_by (additions_among v.post.did)) (reads_among v.post.did ++ read ∷ []) =
     shown_in-push workload v.ran x
     ∙ (ap (λ o. shown_in workload v.ran ++ option_to_list o) to_it
     ∙ (ap (λ l. l ++ c ∷ []) t.looks
-    ∙ (ap (λ d. map (shown_by v.post.additions) v.post.reads ++ d ∷ []) by_it
-    ∙ sym (map-append (shown_by v.post.additions) v.post.reads (read ∷ [])))))
+    ∙ (ap (λ d. map (shown_by (additions_among v.post.did)) (reads_among v.post.did) ++ d ∷ []) by_it
+    ∙ sym (map-append (shown_by (additions_among v.post.did)) (reads_among v.post.did) (read ∷ [])))))
     in
-    let after = All-push (λ q. q.after ≤ length v.post.additions) v.post.reads read t.after (omega arith) in
+    let after = All-push (λ q. q.after ≤ length (additions_among v.post.did)) (reads_among v.post.did) read t.after (omega arith) in
     let step : PageStep = page_step v.post.worker now page count Read in
     let took : step_ran workload x ≡ Some (step_told step) =
     ap (λ o. look_or_like workload x o (like_ran workload x)) look in
-    let steps : plain_told workload (v.post.did ++ step ∷ []) ≡ steps_ran workload (v.ran ++ x ∷ []) =
-    plain_told-push workload v.post.did step (alike page ∙ unsliced)
+    let steps : plain_told workload (earliest_first v.post.did ++ step ∷ []) ≡ steps_ran workload (v.ran ++ x ∷ []) =
+    plain_told-push workload (earliest_first v.post.did) step (alike page ∙ unsliced)
     ∙ (ap (λ xs. xs ++ step_told step ∷ []) t.steps ∙ sym (steps_ran-push workload v.ran x (step_told step) took))
     in
     let P : Reply → Type 0 = λ y. IsAfter workload v h stashed y (shown v page count) in
     subst (λ y. IsAfter workload v h stashed answer y) (sym e)
     (subst P (sym s)
-    (unchanged workload v h stashed seen (v.post.reads ++ read ∷ []) (v.post.did ++ step ∷ []) served sized t none right
+    (unchanged workload v h stashed seen (step ∷ v.post.did) refl served sized t none right
     shows after steps))

@@ -10,7 +10,7 @@ use Rattle.std.specs.Option.{option_to_list}
 use Rattle.std.specs.Prelude.{option_and_then, option_map}
 use Rattle.like_core.specs.declared.view.Addition.{Addition}
 use Rattle.like_core.specs.declared.view.PageRead.{PageRead}
-use Rattle.like_core.proofs.views.KeptPlaces.{counts_one}
+use Rattle.like_core.proofs.Tiled.{counts_one}
 use Rattle.like_promises.specs.declared.log.Added.{Added}
 use Rattle.like_promises.specs.declared.log.Ran.{Ran}
 use Rattle.like_promises.specs.places.Adds.{IsOfLikes, addition_of, is_add_to, adds_before}

@@ -13,6 +13,7 @@ use Rattle.like_core.specs.declared.worker_state.WorkerState.TheVariants as stat
 use Rattle.like_core.specs.Additions.{added_in}
 use Rattle.like_core.specs.Post.{additions_in, pages_of, slices}
 use Rattle.like_core.proofs.core.Labels.{one_before-next}
+use Rattle.like_core.specs.PageSteps.{additions_among, reads_among}
 use Rattle.like_promises.specs.declared.log.Added.{Added}
 use Rattle.like_promises.specs.declared.log.Ran.{Ran}
 use Rattle.like_promises.specs.places.Adds.{IsOfLikes, addition_of, is_add_to}
@@ -160,12 +161,12 @@ pub merge-noted : (workload : Workload) (v : WorkerView) (adds : List Addition)
     → Merges (phase_at v) v.slice (pages_of v.post) adds
     → IsTallied workload v
     → v.notes ≡ true
-    → IsNoted workload v.post.additions v.post.reads v.adds v.ran
+    → IsNoted workload (additions_among v.post.did) (reads_among v.post.did) v.adds v.ran
     → IsUnmerged workload v.adds (state.Runs (phase_at v))
     → All (λ e. e.phase ≤ phase_at v) v.ran
     → IsSliceInSplit v.post v.slice
     → ((page : ℕ) → is_split_in workload (phase_at v) page ≡ slices v.post page)
-    → IsNoted workload (v.post.additions ++ adds) v.post.reads (v.adds ++ noted v adds) v.ran
+    → IsNoted workload (additions_among v.post.did ++ adds) (reads_among v.post.did) (v.adds ++ noted v adds) v.ran
     × IsUnmerged workload (v.adds ++ noted v adds) (state.Answered (phase_at v))
 merge-noted workload v adds merges t notes was un within kept alike =
     let k = phase_at v in
@@ -248,9 +249,9 @@ merge-noted workload v adds merges t notes was un within kept alike =
       ];
     }
     in
-    subst (λ (xs : List Added). IsNoted workload (v.post.additions ++ adds) v.post.reads (v.adds ++ xs) v.ran
+    subst (λ (xs : List Added). IsNoted workload (additions_among v.post.did ++ adds) (reads_among v.post.did) (v.adds ++ xs) v.ran
     × IsUnmerged workload (v.adds ++ xs) (state.Answered (phase_at v))) (sym (noted-each v adds notes)) (
-      noted-merged workload v.post.additions adds v.post.reads v.adds more v.ran was new
+      noted-merged workload (additions_among v.post.did) adds (reads_among v.post.did) v.adds more v.ran was new
           ((λ m. was.additions_are m ++ sym (noted-are (length v.ran) adds) m)
           ∙ sym (map-append addition_of v.adds more)),
       All-append (λ a. a.phase ≤ k) v.adds more un.0

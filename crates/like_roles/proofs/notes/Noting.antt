@@ -13,6 +13,7 @@ use Rattle.like_core.specs.declared.worker_state.WorkerState.{WorkerState}
 use Rattle.like_core.specs.declared.worker_state.WorkerState.TheVariants as state
 use Rattle.like_core.specs.WorkerState.{RunsSome, phase_of, seen}
 use Rattle.like_core.specs.Post.{slices}
+use Rattle.like_core.specs.PageSteps.{additions_among, reads_among}
 use Rattle.like_tables.specs.declared.held.Held.{Held}
 use Rattle.like_promises.specs.Accepted.{AcceptedRequest}
 use Rattle.like_promises.specs.declared.log.Added.{Added}
@@ -54,7 +55,7 @@ adds-none workload e none xs phase page = within-none workload xs e page phase n
 -- what stands of the additions, where an entry is noted
 abbrev IsNotedNow : Workload → ℕ → WorkerView → List Ran → Type 0
 IsNotedNow workload phase w ran =
-    IsNoted workload w.post.additions w.post.reads w.adds ran × IsUnmerged workload w.adds (state.Runs phase)
+    IsNoted workload (additions_among w.post.did) (reads_among w.post.did) w.adds ran × IsUnmerged workload w.adds (state.Runs phase)
 
 -- additions to pages that are split in their phase are of earlier phases than the one that runs
 earlier : (workload : Workload) (adds : List Added) (k : ℕ)
@@ -76,13 +77,13 @@ earlier workload adds k un i d inside is =
 
 -- an entry that is no accepted like
 no_like : (workload : Workload) (v : WorkerView) (e : Ran) (reads : List PageRead)
-    → IsNoted workload v.post.additions v.post.reads v.adds v.ran
+    → IsNoted workload (additions_among v.post.did) (reads_among v.post.did) v.adds v.ran
     → All (λ a. is_split_in workload a.phase a.page ≡ true → a.phase < e.phase) v.adds
     → like_ran workload e ≡ None
     → map (λ r. r.after) reads ≡ adds_before_looks workload v.adds (v.ran ++ e ∷ [])
-    → IsNoted workload v.post.additions reads v.adds (v.ran ++ e ∷ [])
+    → IsNoted workload (additions_among v.post.did) reads v.adds (v.ran ++ e ∷ [])
 no_like workload v e reads old before none shows =
-    noted-push workload v.post.additions v.post.additions v.post.reads reads v.adds [] v.adds v.ran e (λ _ _. 0) old
+    noted-push workload (additions_among v.post.did) (additions_among v.post.did) (reads_among v.post.did) reads v.adds [] v.adds v.ran e (λ _ _. 0) old
     (adds-none workload e none) (sym (append-nil v.adds))
     (no-more workload (v.ran ++ e ∷ []) v.adds (length v.ran) (λ _ _. 0) (λ _ _ _. refl) old.split)
     (λ i d inside is. (refl, before i d inside is))
@@ -102,7 +103,7 @@ no_look workload adds ran e none =
 -- an accepted like
 one_like : (workload : Workload) (v : WorkerView) (e : Ran) (page old user : ℕ)
     → v.notes ≡ true
-    → IsNoted workload v.post.additions v.post.reads v.adds v.ran
+    → IsNoted workload (additions_among v.post.did) (reads_among v.post.did) v.adds v.ran
     → IsUnmerged workload v.adds (state.Runs (phase_at v))
     → e.phase ≡ phase_at v
     → like_ran workload e ≡ Some (record { user = user; page = page })
@@ -134,10 +135,10 @@ one_like workload v e page old user notes was un now like no_look_ran alike = by
         ap (λ (b : Bool). cond {A = ℕ} b 1 0) (apart workload k page phase q s t is other differ)
 
     in_slice : is_split_in workload k page ≡ true
-        → IsNoted workload v.post.additions v.post.reads v.adds (v.ran ++ e ∷ [])
+        → IsNoted workload (additions_among v.post.did) (reads_among v.post.did) v.adds (v.ran ++ e ∷ [])
         × IsUnmerged workload v.adds (state.Runs k)
     in_slice is = (
-      noted-push workload v.post.additions v.post.additions v.post.reads v.post.reads v.adds [] v.adds v.ran e one was by
+      noted-push workload (additions_among v.post.did) (additions_among v.post.did) (reads_among v.post.did) (reads_among v.post.did) v.adds [] v.adds v.ran e one was by
           (sym (append-nil v.adds))
           (no-more workload (v.ran ++ e ∷ []) v.adds (length v.ran) one
           (λ phase q other. none_else phase q true false is other (λ m. cc m)) was.split)
@@ -163,7 +164,7 @@ one_like workload v e page old user notes was un now like no_look_ran alike = by
         λ phase q. (sum_by-cons (λ (b : Added). cond {A = ℕ} (is_add_to phase q b) 1 0) a [] ∙ omega arith) in
         subst (λ (xs : List Added). P (record (with_addition v page old 1) { adds = v.adds ++ xs }))
         (sym (noted-each v (new ∷ []) notes)) (
-          noted-push workload v.post.additions (v.post.additions ++ new ∷ []) v.post.reads v.post.reads v.adds
+          noted-push workload (additions_among v.post.did) (additions_among v.post.did ++ new ∷ []) (reads_among v.post.did) (reads_among v.post.did) v.adds
               (a ∷ []) all v.ran e one was by refl
               (record {
                 at_end = one_of (λ b. b.at ≡ length v.ran) a refl;
@@ -213,7 +214,7 @@ pub GivesReply-noted : (workload : Workload) (v : WorkerView) (h : Held) (stashe
     (w : WorkerView)
     → IsServed workload v
     → v.notes ≡ true
-    → IsNoted workload v.post.additions v.post.reads v.adds v.ran
+    → IsNoted workload (additions_among v.post.did) (reads_among v.post.did) v.adds v.ran
     → IsUnmerged workload v.adds (state.Runs (phase_at v))
     → IsAsked workload h
     → ((page : ℕ) → is_split_in workload (phase_at v) page ≡ slices v.post page)
@@ -227,7 +228,7 @@ GivesReply-noted workload v h stashed answer w served notes was un asked alike (
     let none : like_ran workload x ≡ None = like_ran-is workload x r asked.asked ∙ rw no refl in
     let no_look_ran : look_ran workload x ≡ None = look_ran-is workload x r asked.asked ∙ rw no refl in
     subst (λ u. IsNotedNow workload (phase_at v) u (v.ran ++ x ∷ [])) (sym e) (
-      no_like workload v x v.post.reads was (earlier workload v.adds (phase_at v) un) none
+      no_like workload v x (reads_among v.post.did) was (earlier workload v.adds (phase_at v) un) none
           (was.looks ∙ sym (no_look workload v.adds v.ran x no_look_ran)),
       un,
     )
@@ -248,24 +249,24 @@ GivesReply-noted workload v h stashed answer w served notes was un asked alike (
     let x = ran_now v h stashed answer in
     let none : like_ran workload x ≡ None = like_ran-is workload x r asked.asked ∙ rw (yes, o) refl in
     let look : look_ran workload x ≡ Some page = look_ran-is workload x r asked.asked ∙ rw (yes, o, p) refl in
-    let read : PageRead = record { phase = phase_at v; page = page; count = count; after = length v.post.additions } in
+    let read : PageRead = record { phase = phase_at v; page = page; count = count; after = length (additions_among v.post.did) } in
     let all_before : adds_before (length v.ran) v.adds ≡ length v.adds =
     count-all (λ (b : Added). nat_le b.at (length v.ran)) v.adds
     (λ i d inside. let b : Added = get_or v.adds i d in le-leb b.at (length v.ran) (was.at i d inside))
     in
-    let as_many : length v.post.additions ≡ adds_before (length v.ran) v.adds =
+    let as_many : length (additions_among v.post.did) ≡ adds_before (length v.ran) v.adds =
     ap (λ (xs : List Addition). length xs) was.additions_are ∙ (length-map v.adds addition_of ∙ sym all_before)
     in
-    let shows : map (λ (q : PageRead). q.after) (v.post.reads ++ read ∷ [])
+    let shows : map (λ (q : PageRead). q.after) (reads_among v.post.did ++ read ∷ [])
     ≡ adds_before_looks workload v.adds (v.ran ++ x ∷ []) =
-    map-append (λ (q : PageRead). q.after) v.post.reads (read ∷ [])
+    map-append (λ (q : PageRead). q.after) (reads_among v.post.did) (read ∷ [])
     ∙ ((λ m. was.looks m ++ as_many m ∷ [])
     ∙ sym (looks-push workload v.adds v.ran x
     ∙ ap (λ o. adds_before_looks workload v.adds v.ran
     ++ option_to_list (option_map (λ _. adds_before (length v.ran) v.adds) o)) look))
     in
     subst (λ u. IsNotedNow workload (phase_at v) u (v.ran ++ x ∷ [])) (sym e) (
-      no_like workload v x (v.post.reads ++ read ∷ []) was (earlier workload v.adds (phase_at v) un) none shows,
+      no_like workload v x (reads_among v.post.did ++ read ∷ []) was (earlier workload v.adds (phase_at v) un) none shows,
       un,
     )
 

@@ -15,6 +15,7 @@ use Rattle.like_core.specs.Phase.{IsJoined}
 use Rattle.like_core.specs.PhaseMasks.{AreMasksOf}
 use Rattle.like_core.specs.WorkerState.{IsRunning, RunsJoined}
 use Rattle.like_core.specs.Post.{additions_of, additions_in, pages_of}
+use Rattle.like_core.specs.PageSteps.{additions_among, earliest_first, reads_among}
 use Rattle.like_tables.specs.UserTable.{last_of}
 use Rattle.like_tables.specs.declared.held.Held.{Held}
 use Rattle.like_promises.specs.declared.log.Added.{Added}
@@ -54,9 +55,9 @@ pub record IsTallied (workload : Workload) (v : WorkerView) : Type 0 where
   pub by_phase : (phase page : ℕ) → likes_within workload page v.ran phase
       ≡ additions_in v.post phase page
       + (if phase_at v == phase then slice_index v.slice page else 0)
-  pub looks : shown_in workload v.ran ≡ map (shown_by v.post.additions) v.post.reads
-  pub after : All (λ r. r.after ≤ length v.post.additions) v.post.reads
-  pub steps : plain_told workload v.post.did ≡ steps_ran workload v.ran
+  pub looks : shown_in workload v.ran ≡ map (shown_by (additions_among v.post.did)) (reads_among v.post.did)
+  pub after : All (λ r. r.after ≤ length (additions_among v.post.did)) (reads_among v.post.did)
+  pub steps : plain_told workload (earliest_first v.post.did) ≡ steps_ran workload v.ran
   pub replies : HasRightAnswers workload v.ran
   pub last : (user : ℕ) → last_of v.last user ≡ last_like workload user v.ran
 
@@ -137,7 +138,7 @@ pub record Follows (workload : Workload) (v : WorkerView) : Type 0 where
   pub served : IsServed workload v
   pub sized : IsSized v
   pub tallied : IsTallied workload v
-  pub noted : v.notes ≡ true → IsNoted workload v.post.additions v.post.reads v.adds v.ran
+  pub noted : v.notes ≡ true → IsNoted workload (additions_among v.post.did) (reads_among v.post.did) v.adds v.ran
   pub unmerged : v.notes ≡ true → IsUnmerged workload v.adds v.post.state
   pub in_order : IsInOrder workload v
   pub fits : FitsStash workload v.taken
@@ -164,9 +165,9 @@ pub record IsWorkloadOf (s : Setup) (sizes : List ℕ) (workload : Workload) : T
 -- the additions of a worker that is gone are noted: they are its post's, in order; each is of its likes; and as many came
 -- before each look as its post had made before the read
 pub record AreNoted (workload : Workload) (v : WorkerView) : Type 0 where
-  pub additions : v.post.additions ≡ map addition_of v.adds
+  pub additions : (additions_among v.post.did) ≡ map addition_of v.adds
   pub adds : AddsItsLikes workload v.ran v.adds
-  pub reads : map (λ r. r.after) v.post.reads ≡ adds_before_looks workload v.adds v.ran
+  pub reads : map (λ r. r.after) (reads_among v.post.did) ≡ adds_before_looks workload v.adds v.ran
 
 -- what a worker that is gone has done: it ran what it took in run order, and in no phase more out of its stash than
 -- fits there; its post's additions are the accepted likes that it ran, in each phase, and its post's reads the accepted
@@ -179,8 +180,8 @@ pub record IsDone (workload : Workload) (v : WorkerView) : Type 0 where
   pub likes : (page : ℕ) → likes_among workload page v.ran ≡ additions_of v.post page
   pub by_phase : (phase page : ℕ)
       → likes_within workload page v.ran phase ≡ additions_in v.post phase page
-  pub looks : shown_in workload v.ran ≡ map (shown_by v.post.additions) v.post.reads
-  pub steps : plain_told workload v.post.did ≡ steps_ran workload v.ran
+  pub looks : shown_in workload v.ran ≡ map (shown_by (additions_among v.post.did)) (reads_among v.post.did)
+  pub steps : plain_told workload (earliest_first v.post.did) ≡ steps_ran workload v.ran
   pub noted : v.notes ≡ true → AreNoted workload v
   pub replies : HasRightAnswers workload v.ran
   pub last : (user : ℕ) → last_of v.last user ≡ last_like workload user v.ran

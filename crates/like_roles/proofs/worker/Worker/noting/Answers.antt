@@ -6,6 +6,7 @@ use Rattle.like_core.specs.Additions.{all_added}
 use Rattle.like_core.specs.OpeningLimits.{has_slots}
 use Rattle.like_core.specs.Post.{PostView, pages_of}
 use Rattle.like_core.specs.declared.limits.Limits.{Limits}
+use Rattle.like_core.specs.PageSteps.{additions_among}
 use Rattle.like_requests.specs.declared.setup.Setup.{Setup}
 use Rattle.like_seat.proofs.Keeping.{sum-zeros}
 use Rattle.like_seat.specs.StationView.{StationView}
@@ -54,8 +55,9 @@ sound s sizes worker post notes last seat d p n users k is_worker =
     let held : seat.held.held ≡ [] = ap (λ (x : Waiting Held). x.held) n.held in
     let none : length seat.held.held ≡ 0 = ap (λ (xs : List Held). length xs) held in
     let zeros : sum seat.slice ≡ 0 = ap (λ (xs : List ℕ). sum xs) n.slice ∙ sum-zeros (length post.marks) in
-    let additions : all_added seat.post.additions ≡ 0 =
-    ap (λ (x : PostView). all_added x.additions) n.at_post ∙ ap all_added p.fresh.added_nothing in
+    let additions : all_added (additions_among seat.post.did) ≡ 0 =
+    ap (λ (x : PostView). all_added (additions_among x.did)) n.at_post
+    ∙ ap (λ ds. all_added (additions_among ds)) p.fresh.did_nothing in
     let sized : length d.ended.items ≡ length d.left.items =
     ap (λ (xs : List Bool). length xs) k.ended ∙ length-replicate (length d.left.items) false in
     record {

@@ -2,6 +2,7 @@ use Rattle.std.proofs.Common.{ℕ, ◌<◌, ◌∷◌, ◌++◌, [], refl, sym, 
 use Rattle.like_core.specs.Additions.{addition}
 use Rattle.like_core.specs.Post.{PostView, added}
 use Rattle.like_core.specs.WorkerState.{phase_of}
+use Rattle.like_core.specs.PageSteps.{additions_among}
 use Rattle.like_seat.specs.Kept.{IsKept, view_of}
 use Rattle.like_seat.specs.StationView.{StationView, likes_of}
 use Rattle.like_seat.specs.Steps.{liked_last, with_addition}
@@ -18,10 +19,10 @@ invariant_of-self g c =
     let room : likes_of (view_of p t) < p.limits.likes =
     subst (λ (v : StationView g.row.W.Denot). likes_of v < v.post.limits.likes) (sym c.self.view_is) c.requires.fits in
     let one = addition (phase_of p.state) page c.add.result 1 in
-    let more = all_added-push p.additions one in
+    let more = all_added-push (additions_among p.did) one in
     subst (λ (q : PostView). IsKept q (record t { likes = c.count.new.self; last = c.set_at.new.self }))
     (sym c.add.ensures.view)
-    (Kept-written p (p.additions ++ one ∷ []) p.reads p.glances (added p page c.add.result 1).did t
+    (Kept-written p (added p page c.add.result 1).did t
     (record t { likes = c.count.new.self; last = c.set_at.new.self }) k refl refl refl refl refl k.slice k.sums
     (omega (arith, k.likes, more, c.count.ensures.likes)) (omega (arith, k.likes, room, c.count.ensures.likes)))
 

@@ -1,7 +1,6 @@
-use Rattle.std.proofs.Common.{◌≡◌, true, ℕ, ◌+◌, ◌<◌, ◌++◌, ◌∷◌, [], get_or, length, sym, ap, subst, ◌∙◌, arith}
-use Rattle.like_core.specs.Additions.{page_read}
+use Rattle.std.proofs.Common.{◌≡◌, true, ℕ, ◌+◌, ◌<◌, get_or, sym, refl, ap, subst, ◌∙◌, arith}
 use Rattle.like_core.specs.Post.{PostView, has_glanced, pages_of, slices}
-use Rattle.like_core.specs.WorkerState.{IsRunning, phase_of}
+use Rattle.like_core.specs.WorkerState.{IsRunning}
 use Rattle.like_tables.specs.Placed.{IsPlaced}
 use Rattle.like_tables.specs.SplitSlice.{by_page}
 use Rattle.like_tables.proofs.ByPage.{get_or-by_page}
@@ -35,10 +34,8 @@ returns-clause-glances g c =
 pub invariant_of-self : goal.invariant_of-self
 invariant_of-self g c =
     let p = g.P.Post.view c.self.inside.post in
-    Kept-read p (g.P.Post.view c.glance.new.self) p.reads
-    (p.glances ++ page_read (phase_of p.state) c.args.page c.glance.result (length p.additions) ∷ [])
-    (has_glanced p c.args.page c.glance.result).did
-    c.self.inside.tables c.self.invariant c.glance.ensures.view
+    Kept-read p (g.P.Post.view c.glance.new.self) (has_glanced p c.args.page c.glance.result).did
+    c.self.inside.tables c.self.invariant c.glance.ensures.view refl
 
 pub returns-clause-seat : goal.returns-clause-seat
 returns-clause-seat g c = (invariant_of-self g c).seat

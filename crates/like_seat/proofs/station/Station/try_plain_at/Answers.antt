@@ -2,6 +2,7 @@ use Rattle.std.proofs.Common.{◌≡◌, false, ℕ, ◌+◌, ◌^◌, ◌<◌, 
 use Rattle.like_core.specs.Additions.{addition}
 use Rattle.like_core.specs.Post.{PostView, added, pages_of, slices}
 use Rattle.like_core.specs.WorkerState.{IsRunning, phase_of}
+use Rattle.like_core.specs.PageSteps.{additions_among}
 use Rattle.like_seat.specs.LikeCount.{LikeCountView}
 use Rattle.like_seat.specs.Kept.{IsKept, view_of}
 use Rattle.like_seat.specs.StationView.{StationView, likes_of}
@@ -22,10 +23,10 @@ invariant_of-self-2 g c =
     let few : t.likes.likes < 2 ^ 56 = c.try_count.ensures.room c.if-not-try_count.false in
     let one_more : c.try_count.new.self.likes ≡ t.likes.likes + 1 = c.try_count.ensures.added c.if-not-try_count.false in
     let one = addition (phase_of p.state) page c.add.result 1 in
-    let more = all_added-push p.additions one in
+    let more = all_added-push (additions_among p.did) one in
     subst (λ (q : PostView). IsKept q (record t { likes = c.try_count.new.self; last = c.set_at.new.self }))
     (sym c.add.ensures.view)
-    (Kept-written p (p.additions ++ one ∷ []) p.reads p.glances (added p page c.add.result 1).did t
+    (Kept-written p (added p page c.add.result 1).did t
     (record t { likes = c.try_count.new.self; last = c.set_at.new.self }) k refl refl refl refl refl k.slice k.sums (omega (arith, k.likes, more, one_more)) (omega (arith, few, most, one_more)))
 
 pub invariant_of-self : goal.invariant_of-self

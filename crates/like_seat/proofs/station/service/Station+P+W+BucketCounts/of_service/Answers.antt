@@ -2,6 +2,7 @@ use Rattle.std.proofs.Common.{◌≡◌, ℕ, sum, refl, sym, ap, subst, ◌∙�
 use Rattle.like_core.specs.Additions.{all_added}
 use Rattle.like_core.specs.Post.{pages_of}
 use Rattle.like_core.specs.WorkerState.{RunsSplit, phase_of}
+use Rattle.like_core.specs.PageSteps.{additions_among}
 use Rattle.like_tables.specs.SplitSlice.{SplitSlice, by_page}
 use Rattle.like_tables.specs.Waiting.{IsWaiting, Waiting}
 use Rattle.std.proofs.lemmas.List.{length-replicate}
@@ -18,7 +19,8 @@ invariant_of-result g c =
     let n : ℕ = pages_of p in
     let none : sum (by_page t.slice n) ≡ 0 =
     ap (λ (s : SplitSlice). sum (by_page s n)) e.slice ∙ ap sum (by_page-no_slice c.args.factor buckets n) ∙ sum-zeros n in
-    let added : all_added p.additions ≡ 0 = ap all_added c.requires.fresh.added_nothing in
+    let added : all_added (additions_among p.did) ≡ 0 =
+    ap (λ ds. all_added (additions_among ds)) c.requires.fresh.did_nothing in
     let phase : phase_of p.state ≡ 0 = ap phase_of c.requires.fresh.runs in
     Kept-unsplit p t c.args.factor buckets
     (λ runs. absurd (omega (arith, subst RunsSplit c.requires.fresh.runs runs)))

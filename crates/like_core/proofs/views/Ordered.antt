@@ -1,0 +1,193 @@
+-- What follows from one order of all that was done at pages.
+use Rattle.std.proofs.Common.{◌≡◌, ℕ, zero, suc, ◌+◌, ◌<◌, ◌≤◌, ◌==◌, Bool, true, false, ◌&&◌, nat_lt, cond, List, [], ◌∷◌, ◌++◌, All, length, get_or, map, slice_index, count_by, subst, ap, sym, ◌∙◌, refl, arith}
+use Rattle.std.specs.List.{flat_map, sum_by}
+use Rattle.std.proofs.lemmas.List.Elements.{All-append, All-cons, All-nil, All-map}
+use Rattle.std.proofs.lemmas.List.Sums.{sum_by-append, sum_by-cons}
+use mathlib.Core.Option.{some, some-injective}
+use lib.ListN.{get_elem?}
+use Rattle.like_core.specs.declared.opening.Opening.{Opening}
+use Rattle.like_core.specs.declared.page_step.PageStep.{PageStep}
+use Rattle.like_core.specs.declared.view.Addition.{Addition}
+use Rattle.like_core.specs.declared.view.WorkerSeatView.{WorkerSeatView}
+use Rattle.like_core.specs.declared.view.View.{View}
+use Rattle.like_core.specs.declared.view.View.TheVariants.{Coord, Worker, Spent}
+use Rattle.like_core.specs.Additions.{added_before, added_to}
+use Rattle.like_core.specs.PageSteps.{additions_among, glances_among, likes_in, reads_among, steps_by}
+use Rattle.like_core.specs.Post.{PostView}
+use Rattle.like_core.specs.core.State.{CoreState}
+use Rattle.like_core.specs.views.Views.{post_of, seats_of}
+use Rattle.like_core.specs.views.Order.{HasDone, HasOrder, IsOrder}
+use Rattle.like_core.specs.views.Places.{AreTiles, Counting, HavePlaced}
+use Rattle.like_core.specs.views.PostOrder.{IsOrderOf, MomentsAreOrdered, OrderGivesBounds, OrderGivesPast, OrderGivesPlaces, posts_added, posts_before, posts_of, posts_passing, workers_of}
+use Rattle.like_core.specs.views.Reads.{HaveBetween, all_before, before_in}
+use Rattle.like_core.specs.views.Shows.{Moment}
+use Rattle.like_core.specs.views.Tallies.{paged}
+use Rattle.like_core.proofs.Between.{AllBetween, own_between, steps_before}
+use Rattle.like_core.proofs.Tiled.{Placed, counting_in, own_placed, tiled}
+use Rattle.like_core.proofs.Totals.{added-in, none_later, sum_alike, totals}
+
+module _ (first : ℕ → ℕ) (phase : ℕ) (posts : List PostView) (steps : List PageStep)
+    (order : IsOrderOf first phase posts steps) where
+  -- what all posts' additions count is what those of all steps do
+  all_posts : (f : Addition → ℕ) → sum_by (λ v. sum_by f (additions_among v.did)) posts ≡ sum_by f (additions_among steps)
+  all_posts f =
+      sym
+      (sum_alike (λ v. v.worker) (λ v. sum_by f (additions_among (steps_by v.worker steps)))
+      (λ v. sum_by f (additions_among v.did)) posts
+      (λ k d below. ap (λ ds. sum_by f (additions_among ds)) (order.each k d below)))
+      ∙ totals (λ v. v.worker) f posts steps order.once order.others
+
+  before_is : (k page : ℕ) → posts_before posts k page ≡ steps_before steps k page
+  before_is k page = all_posts (λ a. cond (nat_lt a.phase k && (a.page == page)) a.likes 0)
+
+  added_is : (page : ℕ) → posts_added posts page ≡ added_to page (additions_among steps)
+  added_is page = all_posts (λ a. cond (a.page == page) a.likes 0)
+
+pub order_gives_past : OrderGivesPast
+order_gives_past first phase later page posts steps order past =
+    before_is first phase posts steps order later page
+    ∙ none_later first phase later page steps order.in_turn past
+    ∙ sym (added_is first phase posts steps order page)
+
+pub order_gives_bounds : OrderGivesBounds
+order_gives_bounds counts phase posts steps order k d below =
+    let v : PostView = get_or posts k d in
+    let same : steps_before steps ≡ posts_before posts =
+    λ i j page. sym (before_is (slice_index counts) phase posts steps order j page) i in
+    subst (λ f. HaveBetween counts f phase v) same
+    (subst (λ ds. AllBetween counts (steps_before steps) phase (additions_among ds) (reads_among ds) (glances_among ds))
+    (order.each k d below) (own_between counts phase v.worker steps order.in_turn))
+
+pub order_gives_places : OrderGivesPlaces
+order_gives_places first phase posts steps order =
+    let all = tiled first phase steps order.in_turn in
+    let same : counting_in (additions_among steps) ≡ posts_passing posts =
+    λ i test. sym (all_posts first phase posts steps order (λ a. cond (test a) 1 0)) i in
+    let last : (λ page. first page + likes_in page steps) ≡ (λ page. first page + posts_added posts page) =
+    λ i page. (ap (λ n. first page + n) (sym (added_is first phase posts steps order page ∙ added-in page steps))) i in (
+      subst (λ f. AreTiles first f (posts_passing posts)) last
+          (subst (λ (c : Counting). AreTiles first (λ page. first page + likes_in page steps) c) same all.tiles),
+      λ k d below.
+          let v : PostView = get_or posts k d in
+          subst (λ (c : Counting). HavePlaced first c v) same
+          (subst (λ ds. Placed first (counting_in (additions_among steps)) (additions_among ds) (reads_among ds)
+          (glances_among ds)) (order.each k d below) (own_placed first phase v.worker steps order.in_turn)),
+    )
+
+-- a sum over all views is one over all seats that they tell
+module _ (f : View → ℕ) (g : WorkerSeatView → ℕ) (each : (u : View) → f u ≡ sum_by g (workers_of u)) where
+  sum_seats : (views : List View) → sum_by f views ≡ sum_by (λ v. g v) (flat_map workers_of views)
+  sum_seats [] = refl
+  sum_seats (u ∷ views) =
+      let here = each u in
+      let rest = sum_seats views in
+      omega (arith, sum_by-cons f u views, sum_by-append g (workers_of u) (flat_map workers_of views))
+
+-- so it is one over their posts
+sum_posts : (f : View → ℕ) (g : PostView → ℕ) (views : List View)
+    → ((u : View) → f u ≡ sum_by (λ v. g (post_of v)) (workers_of u))
+    → sum_by f views ≡ sum_by g (posts_of views)
+sum_posts f g views each =
+    sum_seats f (λ v. g (post_of v)) each views ∙ mapped (flat_map workers_of views)
+  where
+    mapped : (vs : List WorkerSeatView) → sum_by (λ v. g (post_of v)) vs ≡ sum_by g (map post_of vs)
+    mapped [] = refl
+    mapped (v ∷ vs) =
+        let rest = mapped vs in
+        omega (arith, sum_by-cons (λ w. g (post_of w)) v vs, sum_by-cons g (post_of v) (map post_of vs))
+
+-- how many seats of a worker a view has is how many of its posts are
+seats_posts : (i : ℕ) (views : List View)
+    → sum_by (seats_of i) views ≡ count_by (λ v. v.worker == i) (posts_of views)
+seats_posts i views = sum_posts (seats_of i) (λ v. cond (v.worker == i) 1 0) views by where
+  by : (u : View) → seats_of i u ≡ sum_by (λ v. cond (v.worker == i) 1 0) (workers_of u)
+  by (Coord c) = refl
+  by (Worker v) = omega (arith, sum_by-cons (λ (w : WorkerSeatView). cond {A = ℕ} (w.worker == i) 1 0) v [])
+  by Spent = refl
+
+before_posts : (k page : ℕ) (views : List View) → all_before views k page ≡ posts_before (posts_of views) k page
+before_posts k page views =
+    sum_posts (before_in k page) (λ v. added_before k page (additions_among v.did)) views by where
+      by : (u : View) → before_in k page u ≡ sum_by (λ v. added_before k page (additions_among v.did)) (workers_of u)
+      by (Coord c) = refl
+      by (Worker v) = omega (arith, sum_by-cons (λ (w : WorkerSeatView). added_before k page (additions_among w.did)) v [])
+      by Spent = refl
+
+added_posts : (page : ℕ) (views : List View) → sum_by (paged page) views ≡ posts_added (posts_of views) page
+added_posts page views = sum_posts (paged page) (λ v. added_to page (additions_among v.did)) views by where
+  by : (u : View) → paged page u ≡ sum_by (λ v. added_to page (additions_among v.did)) (workers_of u)
+  by (Coord c) = refl
+  by (Worker v) = omega (arith, sum_by-cons (λ (w : WorkerSeatView). added_to page (additions_among w.did)) v [])
+  by Spent = refl
+
+-- what each view says that it did, its posts do
+done_posts : (steps : List PageStep) (views : List View)
+    → ((place : ℕ) (u : View) → get_elem? views place ≡ some u → HasOrder steps u)
+    → All (HasDone steps) (posts_of views)
+done_posts steps views each = All-map (HasDone steps) post_of (flat_map workers_of views) (all views each) where
+  Done : WorkerSeatView → Type 0
+  Done v = HasDone steps (post_of v)
+
+  joined : (vs : List WorkerSeatView)
+      → ((place : ℕ) (v : WorkerSeatView) → get_elem? vs place ≡ some v → HasDone steps (post_of v))
+      → All (λ v. HasDone steps (post_of v)) vs
+  joined [] has = All-nil (λ v. HasDone steps (post_of v))
+  joined (v ∷ vs) has =
+      All-cons (λ w. HasDone steps (post_of w)) v vs (has 0 v refl) (joined vs (λ place w at. has (suc place) w at))
+
+  one : (u : View) → HasOrder steps u → All (λ v. HasDone steps (post_of v)) (workers_of u)
+  one (Coord c) has = joined c.joined has
+  one (Worker v) has =
+      All-cons (λ w. HasDone steps (post_of w)) v [] has (All-nil (λ w. HasDone steps (post_of w)))
+  one Spent has = All-nil (λ w. HasDone steps (post_of w))
+
+  all : (us : List View)
+      → ((place : ℕ) (u : View) → get_elem? us place ≡ some u → HasOrder steps u)
+      → All (λ v. HasDone steps (post_of v)) (flat_map workers_of us)
+  all [] has = All-nil (λ v. HasDone steps (post_of v))
+  all (u ∷ us) has =
+      All-append (λ v. HasDone steps (post_of v)) (workers_of u) (flat_map workers_of us) (one u (has 0 u refl))
+      (all us (λ place w at. has (suc place) w at))
+
+-- the order of a board is one of all posts, where no worker has two seats
+pub posts_ordered : (z : Opening) (s : CoreState) (views : List View) (steps : List PageStep)
+    → IsOrder z s views steps
+    → ((i : ℕ) → sum_by (seats_of i) views ≤ 1)
+    → IsOrderOf (slice_index z.counts) s.phase (posts_of views) steps
+posts_ordered z s views steps order once = record {
+  in_turn = order.in_turn;
+  each = done_posts steps views order.each;
+  once = λ i. (let same = seats_posts i views in let most = once i in omega arith);
+  others = λ i none. order.others i (seats_posts i views ∙ none);
+}
+
+-- so nothing was added in a later phase
+pub added_past : (z : Opening) (s : CoreState) (views : List View) (steps : List PageStep)
+    → IsOrder z s views steps
+    → ((i : ℕ) → sum_by (seats_of i) views ≤ 1)
+    → (later page : ℕ)
+    → s.phase < later
+    → all_before views later page ≡ sum_by (paged page) views
+added_past z s views steps order once later page past =
+    before_posts later page views
+    ∙ order_gives_past (slice_index z.counts) s.phase later page (posts_of views) steps
+    (posts_ordered z s views steps order once) past
+    ∙ sym (added_posts page views)
+
+-- a worker has one seat or none
+pub one_or_none : (b : Bool) → cond {A = ℕ} b 1 0 ≤ 1
+one_or_none true = omega arith
+one_or_none false = omega arith
+
+one_seat : (z : Opening) (m : Moment z) (i : ℕ) → sum_by (seats_of i) m.views ≤ 1
+one_seat z m i =
+    let same = m.shows.seats.once i in
+    let few = one_or_none (nat_lt i m.shows.coord.made) in
+    omega arith
+
+pub moments_are_ordered : MomentsAreOrdered
+moments_are_ordered z m = posts_ordered z m.state m.views m.steps m.order (one_seat z m)
+
+pub past_now : (z : Opening) (m : Moment z) (later page : ℕ) → m.state.phase < later
+    → all_before m.views later page ≡ sum_by (paged page) m.views
+past_now z m later page past = added_past z m.state m.views m.steps m.order (one_seat z m) later page past
