@@ -33,7 +33,7 @@ pub fn collect(alloc: Global, sizes: &[u32], logs: &[WorkerLog]) -> Result<Repli
 
 /// The same in parallel, where the entries of submitter s's requests are in log s mod N, of N logs. Else it collects one
 /// log after the other. It starts at most `starts` threads, and with 0 the calling thread collects all.
-pub fn collect_at_once<T: Threads + Sync>(
+pub fn collect_in_parallel<T: Threads + Sync>(
     rt: &T,
     alloc: Global,
     sizes: &[u32],

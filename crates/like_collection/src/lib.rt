@@ -7,5 +7,5 @@ mod collection;
 mod page_places;
 
 pub use collect_fault::CollectFault;
-pub use collection::{collect, collect_at_once};
+pub use collection::{collect, collect_in_parallel};
 pub use page_places::places;

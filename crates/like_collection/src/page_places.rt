@@ -16,7 +16,7 @@ pub fn places(alloc: Global, pages: u32, logs: &[WorkerLog]) -> Result<Vec<Vec<P
     let mut rows = empty_rows(alloc, pages)?;
     let mut worker = 0;
     for log in logs {
-        put_adds(&mut rows, worker, &log.adds)?;
+        add_places(&mut rows, worker, &log.adds)?;
         worker += 1;
     }
     sort_all(&mut rows)?;
@@ -46,7 +46,7 @@ fn put(rows: &mut Vec<Vec<Place>>, page: usize, place: Place) -> Result<(), Allo
 }
 
 // Appends the places of a worker's additions to their pages' places.
-fn put_adds(rows: &mut Vec<Vec<Place>>, worker: u32, adds: &[Added]) -> Result<(), AllocError>
+fn add_places(rows: &mut Vec<Vec<Place>>, worker: u32, adds: &[Added]) -> Result<(), AllocError>
     requires { All (λ a. a.page < length rows.old.items) adds.now }
     ensures len { OnOk result (length (lists_in rows.new.items)
         ≡ length (lists_in rows.old.items)) }

@@ -9,5 +9,5 @@ mod site;
 
 pub use crew::{CoordinatorAt, Crew, Server};
 pub use ended::Ended;
-pub use report::{report_at_once, report_of};
+pub use report::{report_in_parallel, report_of};
 pub use site::{Seats, Site};

@@ -14,7 +14,7 @@ use crate::ended::Ended;
 use crate::report::gathered::{last_likes, places_of, replies_of};
 use crate::site::Site;
 use like_board::{Board, CoordSeat, WorkerSeat};
-use like_collection::{CollectFault, collect, collect_at_once};
+use like_collection::{CollectFault, collect, collect_in_parallel};
 use like_promises::{Replies, Report};
 use like_requests::{Request, Setup};
 use std::alloc::{AllocError, Global};
@@ -45,7 +45,7 @@ pub fn report_of(
 }
 
 /// The same, with the replies collected in parallel by at most `starts` further threads.
-pub fn report_at_once<T: Threads + Sync>(
+pub fn report_in_parallel<T: Threads + Sync>(
     rt: &T,
     alloc: Global,
     setup: &Setup,
@@ -63,7 +63,7 @@ pub fn report_at_once<T: Threads + Sync>(
     ensures none { site.notes ≡ false → IfOk result HasNoPlaces }
     ensures phases { IfOk result (λ report. report.phases ≡ ended.phases) }
 {
-    let collected = collect_at_once(rt, alloc, &site.sizes, &ended.logs, starts);
+    let collected = collect_in_parallel(rt, alloc, &site.sizes, &ended.logs, starts);
     report_with(alloc, setup, plans, site, ended, collected)
 }
 

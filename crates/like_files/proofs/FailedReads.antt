@@ -55,11 +55,11 @@ next-told source_of pages readers done reader answer plans fault there is given 
     (subst (λ n. Stops answer n fault) size stops)
 
 -- of files that are read at once, the first that gave none is told
-told-at_once : {R : Type 0} (readers : List R) (answers : List Answer) (fault : DriverFault)
+told-in_parallel : {R : Type 0} (readers : List R) (answers : List Answer) (fault : DriverFault)
     → AllZip TellsOwn readers answers
     → IsFirstStop answers fault
     → TellsPlanRead readers fault
-told-at_once {R = Reader} readers answers fault own first =
+told-in_parallel {R = Reader} readers answers fault own first =
     by_answer (slice_get answers first.place) first.stops (AllZip-right TellsOwn readers answers own first.place)
   where
     by_reader : (o : Option Reader) (answer : Answer) → slice_get readers first.place ≡ o
@@ -80,7 +80,7 @@ pub gathered-told : {R : Type 0} (readers : List R) (answers : List Answer)
     → MatchResult result (λ plans. answers ≡ map Ok plans.items) (IsFirstStop answers)
     → IfErr result (TellsPlanRead readers)
 gathered-told readers answers (Ok plans) own gathered = tt
-gathered-told readers answers (Err fault) own gathered = told-at_once readers answers fault own gathered
+gathered-told readers answers (Err fault) own gathered = told-in_parallel readers answers fault own gathered
 
 module _ {R : Type 0} (pages : R) (requests : List R) where
   -- request files that were refused are told by a fault of theirs

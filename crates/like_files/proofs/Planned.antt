@@ -129,12 +129,12 @@ AllZip-jobs {J = Job} {R = Reply} P jobs answers same each = AllZip-by_place P j
       (subst (λ j. P j (slice_index_or answers i y)) source given.holds)
 
 -- all files gave their plans
-pub GivesPlans-at_once : {R : Type 0} (source_of : R → Option (List ℕ)) (pages : List Page) (readers : List R)
+pub GivesPlans-in_parallel : {R : Type 0} (source_of : R → Option (List ℕ)) (pages : List Page) (readers : List R)
     (answers : List Answer) (plans : List (Vec Request Global))
     → AllZip (Reads source_of pages) readers answers
     → answers ≡ map Ok plans
     → GivesPlans pages (map source_of readers) (map requests_of plans)
-GivesPlans-at_once source_of pages readers answers plans reads is =
+GivesPlans-in_parallel source_of pages readers answers plans reads is =
     by_lists readers plans (subst (AllZip (Reads source_of pages) readers) is reads) where
       by_lists : (rs : List _) (ps : List (Vec Request Global)) → AllZip (Reads source_of pages) rs (map Ok ps)
           → GivesPlans pages (map source_of rs) (map requests_of ps)
@@ -152,12 +152,12 @@ RefusesPlans-memory source_of pages (reader ∷ readers) some =
     (0, refl, record { plans = []; before = tt; refused = λ rows there. tt })
 
 -- the first that gave none is refused
-pub RefusesPlans-at_once : {R : Type 0} (source_of : R → Option (List ℕ)) (pages : List Page) (readers : List R)
+pub RefusesPlans-in_parallel : {R : Type 0} (source_of : R → Option (List ℕ)) (pages : List Page) (readers : List R)
     (answers : List Answer) (fault : DriverFault)
     → AllZip (Reads source_of pages) readers answers
     → IsFirstStop answers fault
     → RefusesPlans pages (map source_of readers) fault
-RefusesPlans-at_once source_of pages readers answers fault reads first =
+RefusesPlans-in_parallel source_of pages readers answers fault reads first =
     by_answer (slice_get answers first.place) first.stops
     (AllZip-right (Reads source_of pages) readers answers reads first.place) where
       sources : List (Option (List ℕ))
@@ -166,7 +166,7 @@ RefusesPlans-at_once source_of pages readers answers fault reads first =
       before : GivesPlans pages (take first.place sources) (map requests_of first.plans)
       before =
           rw (take-map source_of first.place readers)
-          (GivesPlans-at_once source_of pages (take first.place readers) (take first.place answers) first.plans
+          (GivesPlans-in_parallel source_of pages (take first.place readers) (take first.place answers) first.plans
           (AllZip-take (Reads source_of pages) first.place readers answers reads) first.before)
 
       by_reader : (o : Option _) (answer : Answer) → slice_get readers first.place ≡ o → Stops answer first.place fault
@@ -191,13 +191,13 @@ RefusesPlans-at_once source_of pages readers answers fault reads first =
       by_answer (Some answer) stops reads_it = by_reader (slice_get readers first.place) answer refl stops reads_it
 
 -- so the plans of all files are given, or the first fault stands
-pub at_once : {R : Type 0} (source_of : R → Option (List ℕ)) (pages : List Page) (readers : List R)
+pub in_parallel : {R : Type 0} (source_of : R → Option (List ℕ)) (pages : List Page) (readers : List R)
     (answers : List Answer) (result : Result (Vec (Vec Request Global) Global) DriverFault)
     → AllZip (Reads source_of pages) readers answers
     → MatchResult result (λ plans. answers ≡ map Ok plans.items) (IsFirstStop answers)
     → MatchResult result (λ plans. GivesPlans pages (map source_of readers) (map requests_of plans.items))
     (RefusesPlans pages (map source_of readers))
-at_once source_of pages readers answers (Ok plans) reads gathered =
-    GivesPlans-at_once source_of pages readers answers plans.items reads gathered
-at_once source_of pages readers answers (Err fault) reads gathered =
-    RefusesPlans-at_once source_of pages readers answers fault reads gathered
+in_parallel source_of pages readers answers (Ok plans) reads gathered =
+    GivesPlans-in_parallel source_of pages readers answers plans.items reads gathered
+in_parallel source_of pages readers answers (Err fault) reads gathered =
+    RefusesPlans-in_parallel source_of pages readers answers fault reads gathered

@@ -11,7 +11,7 @@ ghost use Rattle.like_replies.specs.declared.notice.Notice.{Notice};
 use crate::asked::{extent_of, with_pages};
 use crate::fault::DriverFault;
 use crate::opened::Opened;
-use crate::plans::{read_plans, read_plans_at_once};
+use crate::plans::{read_plans, read_plans_in_parallel};
 use crate::progress::{NoProgress, Part, Progress};
 use like_command::Options;
 use like_replies::{Notice, Output, Text};
@@ -74,7 +74,7 @@ pub fn replay_opened<T: Threads + Sync, R: Read + Drop + Send, W: Output, P: Pro
         script,
     } = files;
     let pages = read_pages(alloc, pages)?;
-    let plans = read_plans_at_once(rt, alloc, &pages, requests)?;
+    let plans = read_plans_in_parallel(rt, alloc, &pages, requests)?;
     replay_read(alloc, options, pages, plans, script, out, progress)
 }
 

@@ -9,7 +9,7 @@ ghost use Rattle.like_replies.specs.declared.notice.Notice.{Notice};
 use crate::asked::{extent_of, with_pages};
 use crate::fault::DriverFault;
 use crate::opened::Opened;
-use crate::plans::read_plans_at_once;
+use crate::plans::read_plans_in_parallel;
 use crate::progress::{NoProgress, Part, Progress};
 use like_command::Options;
 use like_replies::{Notice, Output, Text};
@@ -70,7 +70,7 @@ pub fn run_opened<T: Threads + Wait + Sync, R: Read + Drop + Send, W: Output, P:
     ensures read { IfErr result (TellsRead files.pages files.requests.items None) }
 {
     let pages = read_pages(alloc, files.pages)?;
-    let plans = read_plans_at_once(rt, alloc, &pages, files.requests)?;
+    let plans = read_plans_in_parallel(rt, alloc, &pages, files.requests)?;
     progress.done(Part::Reading);
     let setup = with_pages(options, pages);
     run_lists(rt, alloc, options, &setup, plans, out, progress)
@@ -95,7 +95,7 @@ fn run_lists<T: Threads + Wait + Sync, W: Output, P: Progress>(
     let report = run_noting(rt, alloc, setup, plans, &NoGate, u32::MAX, options.places)?;
     progress.done(Part::Running);
     let text = Text::new(alloc, extent_of(options), &report, &setup.pages)?;
-    text.write_at_once(rt, alloc, out)?;
+    text.write_in_parallel(rt, alloc, out)?;
     progress.done(Part::Writing);
     Ok(Notice::of(&report, options.summary))
 }

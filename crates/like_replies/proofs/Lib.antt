@@ -1,4 +1,4 @@
-pub mod AtOnce
+pub mod InParallel
 pub mod Begun
 pub mod Examples
 pub mod rows

@@ -11,7 +11,7 @@ mod summary;
 mod write_fault;
 
 pub use extent::Extent;
-pub use like_collection::{CollectFault, collect, collect_at_once, places};
+pub use like_collection::{CollectFault, collect, collect_in_parallel, places};
 pub use like_promises::{Answer, Place, Replies, Report};
 pub use notice::Notice;
 pub use output::Output;

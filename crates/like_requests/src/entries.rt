@@ -70,7 +70,7 @@ impl Entries {
         self.by_name.get_index(i as usize).unwrap().1.initial.count
     }
 
-    pub fn split(&self, i: u32) -> bool
+    pub fn is_marked(&self, i: u32) -> bool
         requires { i < length self.now }
         ensures { option_map (λ p. p.split) (slice_get self.now i) ≡ Some result }
     {

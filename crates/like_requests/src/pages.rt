@@ -71,7 +71,7 @@ impl Pages {
         requires { i < length self.now }
         ensures { option_map (λ p. p.split) (slice_get self.now i) ≡ Some result }
     {
-        self.entries.split(i)
+        self.entries.is_marked(i)
     }
 
     /// The initial count of each page.

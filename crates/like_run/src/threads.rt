@@ -14,7 +14,7 @@ use crate::threads::submitters::start_submitters;
 use crate::threads::worker::{Owes, Served};
 use crate::threads::workers::start_workers;
 use like_board::BoardPost;
-use like_crew::{Crew, Ended, Seats, Server, Site, report_at_once};
+use like_crew::{Crew, Ended, Seats, Server, Site, report_in_parallel};
 use like_promises::{Report, RunFault};
 use like_queue::{Lines, Parkers, SendEnd, TakeEnd, ends_of, tell};
 use like_requests::{Request, Setup, check_setup};
@@ -115,7 +115,7 @@ fn run_within<R: Threads + Wait + Sync, G: Gate>(
     let lists = Snapshot::of(&plans);
     let left = starts.saturating_sub(own_threads(setup, &plans));
     let ended = run_at(rt, alloc, setup, &site, seats, plans, gate, starts as usize)?;
-    Ok(report_at_once(rt, alloc, setup, &lists, site, ended, left)?)
+    Ok(report_in_parallel(rt, alloc, setup, &lists, site, ended, left)?)
 }
 
 // Runs a crew at a new site, with a line for each submitter. The plans make room for the answers of the report.

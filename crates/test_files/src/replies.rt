@@ -11,7 +11,7 @@ mod notices;
 mod place_rows;
 mod places;
 mod texts;
-mod texts_at_once;
+mod texts_in_parallel;
 mod written;
 
 // The log of a worker that ran these entries and made these additions.

@@ -67,7 +67,7 @@ pub fn write_rows<W: Output>(
 }
 
 /// The same by these sheets, as many sections in parallel as there are sheets.
-pub fn write_rows_at_once<T: Threads + Sync, W: Output>(
+pub fn write_rows_in_parallel<T: Threads + Sync, W: Output>(
     rt: &T,
     names: &Names,
     sections: &[Section],

@@ -13,7 +13,7 @@ use crate::report::names::Names;
 use crate::report::section::Section;
 use crate::report::sections::{asked_sections, place_sections, report_sections};
 use crate::report::sheet::Sheet;
-use crate::report::sheets::{room_for, sheets_with, write_rows, write_rows_at_once};
+use crate::report::sheets::{room_for, sheets_with, write_rows, write_rows_in_parallel};
 use crate::write_fault::WriteFault;
 use like_promises::{Answer, Report};
 use like_requests::Pages;
@@ -79,7 +79,7 @@ impl<'a> Text<'a> {
 
     /// The same, with sections made in parallel. A thread that can't be started is no fault: the caller's own does its
     /// work.
-    pub fn write_at_once<T: Threads + Sync, W: Output>(
+    pub fn write_in_parallel<T: Threads + Sync, W: Output>(
         &self,
         rt: &T,
         alloc: Global,
@@ -91,8 +91,8 @@ impl<'a> Text<'a> {
     {
         let count = self.report.len().max(self.places.len());
         let mut sheets = sheets_with(alloc, count, self.room())?;
-        write_rows_at_once(rt, &self.names, &self.report, &mut sheets, out)?;
-        write_rows_at_once(rt, &self.names, &self.places, &mut sheets, out)
+        write_rows_in_parallel(rt, &self.names, &self.report, &mut sheets, out)?;
+        write_rows_in_parallel(rt, &self.names, &self.places, &mut sheets, out)
     }
 
     // Room for the text of any of its sections.

@@ -1,7 +1,7 @@
 //! What logs are collected to.
 use crate::files::{assert_text, assert_that, push, shown};
 use crate::replies::log_of;
-use like_replies::{collect, collect_at_once};
+use like_replies::{collect, collect_in_parallel};
 use like_roles::{Ran, Reply, WorkerLog};
 use std::alloc::Global;
 use std::process::Abort;
@@ -147,7 +147,7 @@ fn assert_collected<R: Abort + Threads + Sync>(
     let logs = logs(rt, alloc, workers);
     assert_text(rt, shown(rt, alloc, collect(alloc, sizes, &logs)), wanted);
     for starts in [0, 1, 64] {
-        let replies = collect_at_once(rt, alloc, sizes, &logs, starts);
+        let replies = collect_in_parallel(rt, alloc, sizes, &logs, starts);
         assert_text(rt, shown(rt, alloc, replies), wanted);
     }
     drop(logs);

@@ -17,8 +17,8 @@ loop-log-init c = record {
       ∙ get_or-replicate c.args.pages page [] [] below;
 }
 
-pub put_adds-requires : goal.put_adds-requires
-put_adds-requires c = λ k d inside.
+pub add_places-requires : goal.add_places-requires
+add_places-requires c = λ k d inside.
     let l = c.loop-log in
     let log = c.log-item.result in
     let there = subst (λ (w : WorkerLog). All (λ (a : Added). a.page < c.args.pages) w.adds.items) (sym c.log-item.is)
@@ -41,11 +41,11 @@ loop-log-preserved c =
     take_more logs w log c.loop-log-test.true ∙ ap (λ (l : WorkerLog). done ++ l ∷ []) (sym c.log-item.is) in
     record {
       worker = omega (arith, i.worker);
-      sized = c.in_ok-put_adds.ensures.len ∙ i.sized;
+      sized = c.in_ok-add_places.ensures.len ∙ i.sized;
       each = λ page below.
           let pushed = places_in-push page done log
           ∙ ap (λ n. places_in page done ++ places_of page n log.adds.items) size in
-          c.in_ok-put_adds.ensures.each page (omega (arith, i.sized))
+          c.in_ok-add_places.ensures.each page (omega (arith, i.sized))
           ∙ (ap (λ n. get_or (lists_in c.loop-log.rows.items) page [] ++ places_of page n c.deref.result.now) i.worker
           ∙ (ap (λ (xs : List Place). xs ++ places_of page w c.deref.result.now) (i.each page below)
           ∙ (ap (λ adds. places_in page done ++ places_of page w adds) c.deref.ensures.value

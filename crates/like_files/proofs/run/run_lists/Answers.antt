@@ -42,14 +42,15 @@ returns-in_err-text-clause-run g c =
       untouched = λ before. refl;
     })
 
-pub returns-in_err-write_at_once-clause-run : goal.returns-in_err-write_at_once-clause-run
-returns-in_err-write_at_once-clause-run g c =
-    let p = err_from_is_err_and c.from_residual-in_err-write_at_once.result c.from_residual-in_err-write_at_once.ensures.1 in
+pub returns-in_err-write_in_parallel-clause-run : goal.returns-in_err-write_in_parallel-clause-run
+returns-in_err-write_in_parallel-clause-run g c =
+    let p = err_from_is_err_and c.from_residual-in_err-write_in_parallel.result
+            c.from_residual-in_err-write_in_parallel.ensures.1 in
     rw (p.1, p.2) (record {
       done = tt;
       fault = run-unwritten c.args.setup.now
-          (lists_of c.args.plans.items) c.in_err-write_at_once.field-0.0 c.in_ok-report.ensures.within;
-      untouched = not-before c.in_err-write_at_once.field-0.0;
+          (lists_of c.args.plans.items) c.in_err-write_in_parallel.field-0.0 c.in_ok-report.ensures.within;
+      untouched = not-before c.in_err-write_in_parallel.field-0.0;
     })
 
 pub returns-clause-run : goal.returns-clause-run
@@ -59,7 +60,7 @@ returns-clause-run g c = record {
     reported = record {
       report = c.in_ok-report.report;
       right = c.in_ok-report.ensures.report;
-      written = rw (c.in_ok-text.ensures.text, c.extent_of.ensures) at c.in_ok-write_at_once.ensures.written;
+      written = rw (c.in_ok-text.ensures.text, c.extent_of.ensures) at c.in_ok-write_in_parallel.ensures.written;
       noticed = c.of.ensures;
     };
   };
@@ -67,12 +68,13 @@ returns-clause-run g c = record {
   untouched = tt;
 }
 
-pub returns-in_err-write_at_once-clause-begun : goal.returns-in_err-write_at_once-clause-begun
-returns-in_err-write_at_once-clause-begun g c =
-    let p = err_from_is_err_and c.from_residual-in_err-write_at_once.result c.from_residual-in_err-write_at_once.ensures.1 in
+pub returns-in_err-write_in_parallel-clause-begun : goal.returns-in_err-write_in_parallel-clause-begun
+returns-in_err-write_in_parallel-clause-begun g c =
+    let p = err_from_is_err_and c.from_residual-in_err-write_in_parallel.result
+            c.from_residual-in_err-write_in_parallel.ensures.1 in
     rw p.1
     (inr (record {
       report = c.in_ok-report.report;
       right = c.in_ok-report.ensures.report;
-      begun = rw (c.in_ok-text.ensures.text, c.extent_of.ensures) at c.in_err-write_at_once.ensures.written;
+      begun = rw (c.in_ok-text.ensures.text, c.extent_of.ensures) at c.in_err-write_in_parallel.ensures.written;
     }))

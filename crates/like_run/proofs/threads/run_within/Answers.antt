@@ -12,29 +12,30 @@ new-requires g c =
     subst (λ (xs : List (Vec Request Global)). FitsRun c.args.setup.now (lists_of xs))
     (sym c.deref.ensures.value) c.requires
 
-pub report_at_once-requires-clause-site : goal.report_at_once-requires-clause-site
-report_at_once-requires-clause-site g c κs lives =
+pub report_in_parallel-requires-clause-site : goal.report_in_parallel-requires-clause-site
+report_in_parallel-requires-clause-site g c κs lives =
     subst (λ (v : Vec (Vec Request Global) Global). IsSite c.args.setup.now (lists_of v.items) c.in_ok-site.site)
     (sym c.of-lists.ensures)
     (subst (λ (xs : List (Vec Request Global)). IsSite c.args.setup.now (lists_of xs) c.in_ok-site.site)
     c.deref.ensures.value c.in_ok-site.ensures.site)
 
-pub report_at_once-requires-clause-ended : goal.report_at_once-requires-clause-ended
-report_at_once-requires-clause-ended g c κs lives =
+pub report_in_parallel-requires-clause-ended : goal.report_in_parallel-requires-clause-ended
+report_in_parallel-requires-clause-ended g c κs lives =
     subst (λ (v : Vec (Vec Request Global) Global). IsEnded c.args.setup.now
     (lists_of v.items) c.in_ok-site.site c.in_ok-ended.ended) (sym c.of-lists.ensures) c.in_ok-ended.ensures.ended
 
-pub report_at_once-requires-clause-within : goal.report_at_once-requires-clause-within
-report_at_once-requires-clause-within g c κs lives =
+pub report_in_parallel-requires-clause-within : goal.report_in_parallel-requires-clause-within
+report_in_parallel-requires-clause-within g c κs lives =
     subst (λ (v : Vec (Vec Request Global) Global). FitsRun c.args.setup.now (lists_of v.items)) (sym c.of-lists.ensures)
     c.requires
 
 pub returns-clause-report : goal.returns-clause-report
 returns-clause-report g c =
     is-report c.args.setup.now (lists_of c.of-lists.result.value.items) (lists_of c.args.plans.items)
-    c.in_ok-site.site.notes c.args.notes c.in_ok-report_at_once.field-0
+    c.in_ok-site.site.notes c.args.notes c.in_ok-report_in_parallel.field-0
     (ap (λ (v : Vec (Vec Request Global) Global). lists_of v.items) c.of-lists.ensures) c.in_ok-site.ensures.notes
-    c.in_ok-report_at_once.ensures.report c.in_ok-report_at_once.ensures.places c.in_ok-report_at_once.ensures.none
+    c.in_ok-report_in_parallel.ensures.report c.in_ok-report_in_parallel.ensures.places
+        c.in_ok-report_in_parallel.ensures.none
 
 pub returns-clause-enough : goal.returns-clause-enough
 returns-clause-enough g c = c.in_ok-ended.ensures.enough

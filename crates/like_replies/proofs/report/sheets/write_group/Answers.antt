@@ -7,7 +7,7 @@ use Rattle.like_replies.specs.Output.{HasBegun, Writes}
 use Rattle.like_replies.specs.declared.report.section.Section.{Section}
 use Rattle.like_replies.specs.Rows.{rows_text}
 use Rattle.like_replies.specs.Sections.{rows_in}
-use Rattle.like_replies.proofs.AtOnce.{rows-parts, texts-at_once}
+use Rattle.like_replies.proofs.InParallel.{rows-parts, texts-in_parallel}
 use Rattle.like_replies.proofs.Begun.{begun-longer}
 use Rattle.like_replies.proofs.report.sheets.write_group.Goals as goal
 
@@ -42,7 +42,7 @@ returns-clause-written g c =
     (λ count. rows_text (rows_in pages (take count group)))
     (λ count. rows_text (rows_in pages (drop count group)))
     (λ count texts made.
-    texts-at_once pages group sheets count texts same
+    texts-in_parallel pages group sheets count texts same
     (λ i s d at there. let given = (c.for_each_mut.ensures i d (omega (arith, there, c.for_each_mut.auto.s))).1 in
     rw (← given.left) (given.call s at)) made)
     (ap (λ xs. rows_text (rows_in pages xs)) (sym (take_all (length sheets) group (omega (arith, same)))))

@@ -6,7 +6,7 @@ use Rattle.like_collection.proofs.Lists.{parts_at}
 use Rattle.like_replies.specs.Rows.{rows_text}
 use Rattle.like_replies.specs.Sections.{rows_in, section_rows}
 use Rattle.like_replies.specs.declared.report.section.Section.TheVariants.{Header}
-use Rattle.like_replies.proofs.AtOnce.{begun-sections, rows-append, rows-parts}
+use Rattle.like_replies.proofs.InParallel.{begun-sections, rows-append, rows-parts}
 use Rattle.like_replies.proofs.Begun.{begun-whole, writes-kept}
 use Rattle.like_replies.proofs.report.sheets.write_rows.Goals as goal
 

@@ -4,7 +4,7 @@ use Rattle.std.specs.Result.{IfOk}
 use Rattle.std.proofs.lemmas.List.Elements.{All-cons, All-nil, All-replicate}
 use Rattle.like_promises.specs.declared.answer.Answer.{Answer}
 use Rattle.like_replies.specs.Rows.{IsShowable}
-use Rattle.test_files.proofs.replies.texts_at_once.liked.Goals as goal
+use Rattle.test_files.proofs.replies.texts_in_parallel.liked.Goals as goal
 
 abbrev items_of : Vec Answer Global → List Answer
 items_of row = row.items

@@ -4,7 +4,7 @@ use Rattle.like_promises.specs.declared.log.Added.{Added}
 use Rattle.like_promises.specs.declared.place.Place.{Place}
 use Rattle.like_promises.specs.places.Places.{lists_in, place_made, places_of}
 use Rattle.like_collection.proofs.PlaceLists.{place_if, places_of-push, put-place}
-use Rattle.like_collection.proofs.page_places.put_adds.Goals as goal
+use Rattle.like_collection.proofs.page_places.add_places.Goals as goal
 
 -- an addition where there is none
 abbrev none : Added

@@ -131,7 +131,8 @@ fn written(
 {
     let mut out = Vec::new(alloc);
     let text = Text::new(alloc, extent, report, pages).expect(rt, "memory");
-    text.write_at_once(rt, alloc, &mut out).expect(rt, "memory");
+    text.write_in_parallel(rt, alloc, &mut out)
+        .expect(rt, "memory");
     out
 }
 

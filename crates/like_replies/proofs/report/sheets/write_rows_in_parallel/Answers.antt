@@ -4,10 +4,10 @@ use Rattle.std.proofs.lemmas.Result.{err_from_is_err_and}
 use Rattle.std.specs.Slice.Iter.{chunks_rest}
 use Rattle.like_replies.specs.declared.report.section.Section.{Section}
 use Rattle.like_replies.specs.Sections.{HasRows, rows_in, section_rows}
-use Rattle.like_replies.proofs.AtOnce.{begun-sections}
+use Rattle.like_replies.proofs.InParallel.{begun-sections}
 use Rattle.like_replies.proofs.Sections.{All-part}
 use Rattle.like_replies.proofs.rows.Texts.{Appends-rows}
-use Rattle.like_replies.proofs.report.sheets.write_rows_at_once.Goals as goal
+use Rattle.like_replies.proofs.report.sheets.write_rows_in_parallel.Goals as goal
 
 pub write_group-requires-clause-has : goal.write_group-requires-clause-has
 write_group-requires-clause-has g c κs lives =

@@ -4,7 +4,7 @@ use Rattle.std.specs.Slice.Iter.{chunks_rest}
 use Rattle.like_replies.specs.declared.report.section.Section.{Section}
 use Rattle.like_replies.specs.Rows.{rows_text}
 use Rattle.like_replies.specs.Sections.{rows_in}
-use Rattle.like_replies.proofs.report.sheets.write_rows_at_once.Given as goal
+use Rattle.like_replies.proofs.report.sheets.write_rows_in_parallel.Given as goal
 
 abbrev pub invariant-loop-group : goal.invariant-loop-group
 invariant-loop-group g l =

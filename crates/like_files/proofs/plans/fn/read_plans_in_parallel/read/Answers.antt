@@ -3,7 +3,7 @@ use Rattle.like_requests.specs.RequestsFile.{IsRequestsFault, IsRequestsFile}
 use Rattle.like_records.specs.Rows.{Record}
 use Rattle.like_requests.specs.declared.request.Request.{Request}
 use Rattle.like_files.proofs.Planned.{of_records}
-use Rattle.like_files.proofs.plans.fn.read_plans_at_once.read.Goals as goal
+use Rattle.like_files.proofs.plans.fn.read_plans_in_parallel.read.Goals as goal
 
 pub returns : goal.returns
 returns g c = record {

@@ -1,7 +1,7 @@
 use Rattle.std.proofs.Common.{rules, ◌<◌, length}
 use Rattle.like_promises.specs.Collected.{rows_of}
 use Rattle.like_collection.proofs.Parts.{IsCollected-parts, parts-many}
-use Rattle.like_collection.proofs.collection.collect_at_once.Goals as goal
+use Rattle.like_collection.proofs.collection.collect_in_parallel.Goals as goal
 
 pub join-requires-clause-full : goal.join-requires-clause-full
 join-requires-clause-full g c =

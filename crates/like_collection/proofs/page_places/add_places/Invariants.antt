@@ -1,6 +1,6 @@
 use Rattle.std.proofs.Common.{◌≡◌, ℕ, ◌<◌, ◌++◌, [], get_or, length, take}
 use Rattle.like_promises.specs.places.Places.{lists_in, places_of}
-use Rattle.like_collection.proofs.page_places.put_adds.Given as goal
+use Rattle.like_collection.proofs.page_places.add_places.Given as goal
 
 abbrev pub invariant-loop-added : goal.invariant-loop-added
 invariant-loop-added l = record {

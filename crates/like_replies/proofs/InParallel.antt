@@ -1,4 +1,4 @@
--- The text of sections that are made side by side.
+-- The text of sections that are made in parallel.
 use Rattle.std.proofs.Common.{◌≡◌, ℕ, zero, suc, ◌<◌, List, [], ◌∷◌, ◌++◌, Result, Ok, None, Some, Option, IfOk, drop, length, map, min, option_map, refl, sym, take, take-append-drop, ap, ◌∙◌, subst}
 use Rattle.std.proofs.lemmas.Grind.{flat_map-append}
 use Rattle.std.proofs.lemmas.List.{length-map, length-take}
@@ -43,14 +43,14 @@ slice_get-front (suc n) (y ∷ ys) (suc i) x at = slice_get-front n ys i x at
 
 -- sheets that each have the text of one section, or none: if the first so many have one, these are the texts of as many
 -- sections
-pub texts-at_once : {E : Type 0} (pages : List Page) (sections : List Section) (sheets : List (Result (List ℕ) E))
+pub texts-in_parallel : {E : Type 0} (pages : List Page) (sections : List Section) (sheets : List (Result (List ℕ) E))
     (count : ℕ) (texts : List (List ℕ))
     → length sheets ≡ length sections
     → ((i : ℕ) (s : Section) (d : Result (List ℕ) E) → slice_get sections i ≡ Some s → i < length sheets
     → IfOk (slice_index_or sheets i d) (λ text. text ≡ rows_text (section_rows pages s)))
     → take count sheets ≡ map Ok texts
     → flat_map (λ text. text) texts ≡ rows_text (rows_in pages (take count sections))
-texts-at_once {E = Fault} pages sections sheets count texts same makes made =
+texts-in_parallel {E = Fault} pages sections sheets count texts same makes made =
     texts-of_each pages (take count sections) texts
     (AllZip-by_place _ (take count sections) texts
     (sym (length-map texts Ok) ∙ ap length (sym made) ∙ length-take count sheets ∙ ap (min count) same

@@ -1,7 +1,7 @@
 use Rattle.std.proofs.Common.{◌≡◌, ◌<◌, length, arith}
 use Rattle.like_files.proofs.FailedReads.{TellsOwn, gathered-told}
-use Rattle.like_files.proofs.Planned.{AllZip-jobs, Reads, RefusesPlans-memory, at_once}
-use Rattle.like_files.proofs.plans.read_plans_at_once.Goals as goal
+use Rattle.like_files.proofs.Planned.{AllZip-jobs, Reads, RefusesPlans-memory, in_parallel}
+use Rattle.like_files.proofs.plans.read_plans_in_parallel.Goals as goal
 
 pub returns-in-Ok : goal.returns-in-Ok
 returns-in-Ok g c =
@@ -14,7 +14,8 @@ returns-in-Ok g c =
     (λ i d there. let given = (c.in-Ok.ensures.each i d there).1 in
     record { job = given.job; is_job = given.job_is; holds = given.call.met.1 }) in
     record {
-      plans = at_once g.R.Read.remaining c.args.pages.now c.args.requests.items c.in-Ok.answers.items c.gather.result reads
+      plans = in_parallel g.R.Read.remaining c.args.pages.now c.args.requests.items c.in-Ok.answers.items
+          c.gather.result reads
           c.gather.ensures;
       read = gathered-told c.args.requests.items c.in-Ok.answers.items c.gather.result own c.gather.ensures;
     }

@@ -1,6 +1,6 @@
 use Rattle.std.proofs.Common.{arith}
 use Rattle.std.proofs.lemmas.Grind.{common_steps}
-use Rattle.test_files.proofs.replies.texts_at_once.report_of_likes.Goals as goal
+use Rattle.test_files.proofs.replies.texts_in_parallel.report_of_likes.Goals as goal
 
 pub returns-clause-written : goal.returns-clause-written
 returns-clause-written g c pages one = record {
