@@ -8,6 +8,7 @@ pub struct Narrow {
     writes_left: usize,
     flushes_left: usize,
     recovers: bool,
+    fault: ErrorKind,
 }
 
 impl Narrow {
@@ -18,6 +19,7 @@ impl Narrow {
             writes_left: writes,
             flushes_left: if flushes { usize::MAX } else { 0 },
             recovers: false,
+            fault: ErrorKind::BrokenPipe,
         }
     }
 
@@ -28,6 +30,15 @@ impl Narrow {
             writes_left: writes,
             flushes_left: flushes,
             recovers: true,
+            fault: ErrorKind::BrokenPipe,
+        }
+    }
+
+    /// A writer of up to `width` bytes a write. One write is interrupted, after this many.
+    pub fn interrupted_once(width: usize, writes: usize) -> Self {
+        Narrow {
+            fault: ErrorKind::Interrupted,
+            ..Narrow::failing_once(width, writes, usize::MAX)
         }
     }
 
@@ -43,7 +54,7 @@ impl Write for Narrow {
             if self.recovers {
                 self.writes_left = usize::MAX;
             }
-            return Err(io::Error::from(ErrorKind::BrokenPipe));
+            return Err(io::Error::from(self.fault));
         }
         self.writes_left -= 1;
         Ok(buf.len().min(self.width))

@@ -135,3 +135,32 @@ fn failing_writes(rt: HostRuntime) {
     }
     assert_that(&rt, DriverFault::Write.status() == 3, "another status");
 }
+
+// A writer that takes no byte is at fault at its first write.
+#[test]
+fn no_byte_written_is_a_fault(rt: HostRuntime) {
+    let (pages, requests) = plain_files();
+    let mut out = Narrow::new(0, 9, true);
+    let files = list_of(&rt, rt.alloc(), requests.as_bytes());
+    let fault = fault_of(
+        &rt,
+        rt.alloc(),
+        SETTINGS,
+        pages.as_bytes(),
+        files,
+        None,
+        &mut out,
+    );
+    assert_fault(&rt, fault, DriverFault::Write, 0);
+    assert_that(&rt, out.writes_left() == 8, "more than one write");
+}
+
+// A write that is interrupted is made again.
+#[test]
+fn writes_again_once_interrupted(rt: HostRuntime) {
+    for writes in 0..139 {
+        let out = Narrow::interrupted_once(1, writes);
+        let fault = write_fault(&rt, rt.alloc(), SETTINGS, out);
+        assert_done(&rt, "interrupted once", fault);
+    }
+}
