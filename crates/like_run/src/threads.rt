@@ -26,6 +26,7 @@ use std::thread;
 use std::thread::{JoinHandle, PromisedHandle, Scope, Threads};
 
 mod coordinator;
+mod pace;
 mod room;
 mod submitters;
 mod worker;

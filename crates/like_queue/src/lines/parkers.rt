@@ -7,9 +7,6 @@ use std::time::Duration;
 // How many microseconds a thread waits at most until it looks again.
 const PATIENCE: u64 = 1000;
 
-// How many microseconds the coordinator leaves the processor to others at a time.
-const PAUSE: u64 = 50;
-
 /// Where the threads that make turns wait: the workers, in order, for requests or for a change of phase, and the
 /// coordinator for the workers. A thread that is woken before it waits goes on at once.
 #[derive(Drop)]
@@ -60,11 +57,12 @@ impl Parkers {
             .park_timeout(rt, Duration::from_micros(PATIENCE));
     }
 
-    /// The coordinator leaves the processor to others, unless a worker is idle.
-    pub fn pause<R: Wait>(&self, rt: &R) {
+    /// The coordinator leaves the processor to others for this many microseconds, at most a millisecond, unless a worker
+    /// is idle. It goes on when one becomes idle, answers, or is gone.
+    pub fn pause<R: Wait>(&self, rt: &R, microseconds: u64) {
         if self.idle.load(Ordering::SeqCst) == 0 {
             self.coordinator
-                .park_timeout(rt, Duration::from_micros(PAUSE));
+                .park_timeout(rt, Duration::from_micros(microseconds.min(PATIENCE)));
         }
     }
 

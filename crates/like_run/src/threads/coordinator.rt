@@ -3,6 +3,7 @@ ghost use Rattle.like_roles.specs.coordinator.CoordTurns.{HasEndedJoined};
 ghost use Rattle.like_crew.specs.Crew.{CoordinatorGoesOn};
 ghost use Rattle.like_crew.specs.Ended.{HaveLeft};
 
+use crate::threads::pace::Pace;
 use crate::threads::worker::{Owes, Served};
 use like_board::WorkerSeat;
 use like_crew::CoordinatorAt;
@@ -12,8 +13,8 @@ use like_roles::CoordTurn;
 use std::sync::{OnceToken, Wait};
 use std::thread::{PromisedHandle, Threads};
 
-// How many turns it counts between two pauses.
-const STRETCH: u32 = 32;
+// How many microseconds it pauses for each wait for a release.
+const FOR_WAIT: u64 = 50;
 
 /// Makes the coordinator's turns until it finds the run ended. A change of phase keeps workers from their requests, so
 /// after a release it pauses as often as it waited for that release.
@@ -21,19 +22,15 @@ pub fn coordinate<R: Wait>(rt: &R, parkers: &Parkers, coordinator: &mut Coordina
     ensures goes_on { CoordinatorGoesOn coordinator.old coordinator.new }
     ensures ended { HasEndedJoined coordinator.new }
 {
-    let mut counted = 0u32;
+    let mut pace = Pace::new();
     let mut waits = 0u32;
     for _ in rt.forever() {
         match coordinator.turn() {
             CoordTurn::Ended => return,
-            CoordTurn::Counted | CoordTurn::Stays => {
-                counted = counted.wrapping_add(1);
-                if counted % STRETCH == 0 {
-                    parkers.pause(rt);
-                }
-            }
+            CoordTurn::Counted | CoordTurn::Stays => pace.count(rt, parkers),
             CoordTurn::Announced => {
                 parkers.wake_all();
+                pace.begin();
                 waits = 0;
             }
             CoordTurn::Waiting => {
@@ -52,7 +49,7 @@ pub fn coordinate<R: Wait>(rt: &R, parkers: &Parkers, coordinator: &mut Coordina
 // Pauses this many times.
 fn rest<R: Wait>(rt: &R, parkers: &Parkers, times: u32) {
     for _ in 0..times {
-        parkers.pause(rt);
+        parkers.pause(rt, FOR_WAIT);
     }
 }
 
