@@ -8,10 +8,10 @@
  * chain is what a thread does at a seat, and what its writer does there. A glance at a split page shows a last like,
  * but its count need not fit. At rest, the counts and the last likes must be those that the order leaves.
  *
- * It must find faults, too: each history is searched again with a wrong number in place of one that was shown, and with
- * the counts of all glances. Some of these must have no order. Short ones are compared with trying all orders, and no
- * order shows another last like of a seat's user, or another count at rest. If something is wrong, it prints a line and
- * exits with status 1. After 60 seconds, and those asked for, a signal ends it. */
+ * It must find faults, too: each history is searched again with a wrong number in place of one that was shown, and some
+ * of these must have no order. Short ones are compared with trying all orders; no order shows another last like of a
+ * seat's user, or another count at rest; and none shows the counts of two glances that cross. If something is wrong, it
+ * prints a line and exits with status 1. After 60 seconds, and those asked for, a signal ends it. */
 #include "order.h"
 
 enum { MOST_THREADS = 4, MOST_SEATS = 4, MOST_STEPS = 8, MOST_MOMENTS = 4, MOMENTS = CHAINS - 1 };
@@ -117,29 +117,36 @@ static void note_shown(uint32_t number, uint64_t phase, uint32_t user, uint32_t 
         glances[number][made - seen.chains[number].deeds] = (count + 1) * PAGES + page;
 }
 
-static void like_or_look(player *by) {
+static uint32_t try_once(player *by, uint32_t op, uint32_t user, uint32_t page, likes_answer *answer) {
     likes_seat *seat = &seats[by->number];
-    uint32_t user = by->number + now.seats * (uint32_t)below(&by->random, (USERS - 1 - by->number) / now.seats + 1);
-    uint32_t page = (uint32_t)below(&by->random, PAGES), op = (uint32_t)below(&by->random, 4), status;
+    if (op == LIKES_LIKE)
+        return likes_seat_like(seat, user, page);
+    if (op == LIKES_LOOK)
+        return likes_seat_look(seat, user, page, 0, answer);
+    return likes_seat_glance(seat, user, page, answer);
+}
+
+/* Makes a request at the thread's seat, and notes it. A look that waits is noted where it is found. */
+static void ask(player *by, uint32_t op, uint32_t user, uint32_t page) {
     likes_answer answer = {.count = 0};
     unsigned tries = 0;
-    for (;;) {
-        if (op <= 1)
-            status = likes_seat_like(seat, user, page);
-        else
-            status = op == 2 ? likes_seat_look(seat, user, page, 0, &answer)
-                             : likes_seat_glance(seat, user, page, &answer);
-        if (status != LIKES_BETWEEN)
-            break;
+    uint32_t status;
+    while ((status = try_once(by, op, user, page, &answer)) == LIKES_BETWEEN)
         wait_for_phase(by, &tries);
-    }
     uint64_t phase = phase_at(by);
-    hold(status == (op <= 1 ? LIKES_LIKED : op == 2 && is_split(phase, page) ? LIKES_WAITS : LIKES_SEEN),
-         "a seat gave a wrong answer");
-    if (op <= 1)
+    bool waits = op == LIKES_LOOK && is_split(phase, page);
+    IS(status, op == LIKES_LIKE ? LIKES_LIKED : waits ? LIKES_WAITS : LIKES_SEEN);
+    if (op == LIKES_LIKE)
         add_like(&seen, by->number, 2 * phase, user, page);
-    else if (status == LIKES_SEEN)
+    else if (!waits)
         note_shown(by->number, phase, user, page, !is_split(phase, page), answer.count, answer.last);
+}
+
+static void like_or_look(player *by) {
+    static const uint32_t ops[] = {LIKES_LIKE, LIKES_LIKE, LIKES_LOOK, LIKES_GLANCE};
+    uint32_t own = (USERS - 1 - by->number) / now.seats + 1;
+    uint32_t user = by->number + now.seats * (uint32_t)below(&by->random, own);
+    ask(by, ops[below(&by->random, 4)], user, (uint32_t)below(&by->random, PAGES));
 }
 
 /* A seat leaves, and comes back. */
@@ -463,6 +470,27 @@ static void play_game(uint64_t seed, uint64_t end) {
     service = NULL;
 }
 
+/* Two seats like a page each in a split phase, and then glance at the other's: both counts lack a like, and no order
+ * shows that. */
+static void cross(void) {
+    static const uint32_t marks[] = {0, 1};
+    static const uint64_t counts[PAGES];
+    static history other;
+    now = (game){.threads = 2, .seats = 2, .marks = 3};
+    open_seats((likes_options){.seats = 2, .users = USERS, .room = ROOM}, counts, marks, 2);
+    memset(&seen, 0, sizeof seen);
+    for (uint32_t i = 0; i < 2; i++)
+        players[i] = (player){.number = i};
+    go_to(1);
+    for (uint32_t i = 0; i < 2; i++)
+        ask(&players[i], LIKES_LIKE, i, i);
+    for (uint32_t i = 0; i < 2; i++)
+        ask(&players[i], LIKES_GLANCE, i, 1 - i);
+    hold(has_order(&seen), "no order explains glances at split pages");
+    hold(with_glances(&other) && !has_order(&other), "an order explains counts of glances that cross");
+    free_seats();
+}
+
 int main(int count, char **words) {
     if (count != 3) {
         fputs("usage: order SEED SECONDS\n", stderr);
@@ -471,10 +499,10 @@ int main(int count, char **words) {
     uint64_t seed = strtoull(words[1], NULL, 10), seconds = strtoull(words[2], NULL, 10);
     alarm((unsigned)(60 + seconds));
     uint64_t end = clock_now() + seconds * UINT64_C(1000000000);
+    cross();
     for (uint64_t round = 0; clock_now() < end; round++)
         play_game(1000 * seed + round, end);
-    hold(changed == 0 || refused > 0, "no wrong number was found");
-    hold(loose < 1000 || unexplained > 0, "the counts of all glances fit");
+    hold(changed < 50 || refused > 0, "no wrong number was found");
     printf("%llu histories of %llu deeds have an order; of %llu with a wrong number %llu have none, "
            "and of %llu with the counts of glances %llu\n",
            (unsigned long long)histories, (unsigned long long)deeds, (unsigned long long)changed,

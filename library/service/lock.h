@@ -13,19 +13,6 @@ typedef struct likes_lock {
     bool is_missed;   /* somebody tried it in vain; atomic */
 } likes_lock;
 
-/* How often a thread tries a lock again before it sleeps. Mostly another thread has it for a call or a row, which takes
- * less than these tries, and much less than a sleep. */
-#define LIKES_TRIES 32u
-
-/* Tells the processor that the thread tries something again and again. */
-static inline void likes_relax(void) {
-#if defined(__x86_64__) || defined(__i386__)
-    __builtin_ia32_pause();
-#elif defined(__aarch64__)
-    __asm__ volatile("yield");
-#endif
-}
-
 /* Orders a mark that is set before a lock that is tried, and a lock that is given back before a mark that is read. On
  * x86 they are in that order anyway. */
 static inline void likes_order_marks(void) {
@@ -65,11 +52,8 @@ static inline bool likes_lock_wait(likes_lock *lock, uint64_t until) {
 
 /* Takes a lock. False: it is too late. */
 static inline bool likes_lock_take(likes_lock *lock, uint64_t until) {
-    for (unsigned tries = 0; tries < LIKES_TRIES; tries++) {
-        if (pthread_mutex_trylock(&lock->mutex) == 0)
-            return true;
-        likes_relax();
-    }
+    if (pthread_mutex_trylock(&lock->mutex) == 0)
+        return true;
     __atomic_fetch_add(&lock->waiting, 1, __ATOMIC_SEQ_CST);
     bool is_taken = likes_lock_wait(lock, until);
     __atomic_fetch_sub(&lock->waiting, 1, __ATOMIC_SEQ_CST);

@@ -14,23 +14,23 @@ enum { ROW = 64 };
 #define NO_PULSE UINT64_MAX
 
 /* A like that is kept. */
-typedef struct kept {
+typedef struct kept_like {
     uint32_t user, page;
-} kept;
+} kept_like;
 
 struct likes_writer {
     likes_service *service;
-    uint32_t open_users;   /* below it, a user's like is kept without more tests: all users, or 0 where a row is full */
+    uint32_t open_users; /* below it, a user's like is kept without more tests: all users, or 0 where a row is full */
     uint32_t pages, users;
     uint64_t pulse;          /* at the last call */
     uint64_t seats, inverse; /* for likes_remainder */
-    uint64_t since;        /* without a pulse: when the first like that is kept came */
-    uint64_t begun, older; /* the seats whose rows were begun since the last pulse, and before. A bit for each */
-    uint64_t full;         /* the seats whose rows are full */
-    uint32_t handed;       /* how many full rows were handed over */
-    kept (*rows)[ROW];           /* one for each seat. Their addresses are multiples of their size */
-    kept *ends[LIKES_MAX_SEATS]; /* of each row: where the next like goes */
-    likes_request requests[ROW]; /* of a row that is handed over */
+    uint64_t since;          /* without a pulse: when the first like that is kept came */
+    uint64_t begun, older;   /* the seats whose rows were begun since the last pulse, and before. A bit for each */
+    uint64_t full;           /* the seats whose rows are full */
+    uint32_t handed;         /* how many full rows were handed over */
+    kept_like (*rows)[ROW];  /* one for each seat. Their addresses are multiples of their size */
+    kept_like *ends[LIKES_MAX_SEATS]; /* of each row: where the next like goes */
+    likes_request requests[ROW];      /* of a row that is handed over */
     likes_answer answers[ROW];
 };
 
@@ -42,7 +42,7 @@ static inline uint32_t length_of(const likes_writer *writer, size_t seat) {
 static void take_off(likes_writer *writer, size_t seat, uint32_t done) {
     uint32_t left = length_of(writer, seat) - done;
     uint64_t bit = UINT64_C(1) << seat;
-    kept *row = writer->rows[seat];
+    kept_like *row = writer->rows[seat];
     writer->ends[seat] = row + left;
     if (left > 0)
         memmove(row, row + done, left * sizeof *row);
@@ -56,7 +56,7 @@ static void take_off(likes_writer *writer, size_t seat, uint32_t done) {
 }
 
 /* Asks for the likes of a row. All that is the same in each request stands there. */
-static inline void ask_for(likes_writer *writer, const kept *row, uint32_t length) {
+static inline void ask_for(likes_writer *writer, const kept_like *row, uint32_t length) {
 #pragma GCC unroll 8
     for (uint32_t i = 0; i < length; i++) {
         writer->requests[i].user = row[i].user;
@@ -142,12 +142,12 @@ uint32_t likes_writer_open(likes_service *service, likes_writer **writer) {
         return fault;
     if (*writer != NULL)
         return LIKES_IN_USE;
-    const size_t row = ROW * sizeof(kept);
+    const size_t row = ROW * sizeof(kept_like);
     likes_writer *made = (likes_writer *)calloc(1, sizeof *made + (service->seats + 1) * row);
     if (made == NULL)
         return LIKES_NO_MEMORY;
     made->service = service;
-    made->rows = (kept(*)[ROW])(((uintptr_t)(made + 1) + row - 1) / row * row);
+    made->rows = (kept_like(*)[ROW])(((uintptr_t)(made + 1) + row - 1) / row * row);
     made->open_users = made->users = service->users;
     made->seats = service->seats;
     made->pages = (uint32_t)service->pages;
@@ -175,7 +175,7 @@ LIKES_SELDOM static uint32_t note_row(likes_writer *writer, size_t seat) {
 
 /* Keeps a like in a row that has room. */
 static inline uint32_t keep(likes_writer *writer, size_t seat, uint32_t user, uint32_t page) {
-    kept *at = writer->ends[seat];
+    kept_like *at = writer->ends[seat];
     at->user = user;
     at->page = page;
     writer->ends[seat] = ++at;
