@@ -7,5 +7,6 @@ pub mod Outcome
 pub mod Plans
 pub mod Replay
 pub mod Run
+pub mod Source
 pub mod StandardInput
 pub mod Tries

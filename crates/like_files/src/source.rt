@@ -9,6 +9,10 @@ pub enum Source<F, I> {
 }
 
 impl<F: Read, I: Read> Read for Source<F, I> {
+    ghost use Rattle.like_files.specs.Source.{left_in};
+
+    ghost remaining = { λ s. left_in F.remaining I.remaining s };
+
     fn read(&mut self, buf: &mut [u8]) -> io::Result<usize> {
         match self {
             Source::File(file) => file.read(buf),
