@@ -14,3 +14,4 @@ pub mod Fresh
 pub mod AllSeats
 pub mod Lending
 pub mod LentPosts
+pub mod OwnClosing

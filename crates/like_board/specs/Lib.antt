@@ -8,3 +8,4 @@ pub mod NewViews
 pub mod Own
 pub mod Lent
 pub mod OwnPosts
+pub mod OwnClosed

@@ -13,6 +13,7 @@ mod layout;
 mod new_seats;
 mod own_answer;
 mod own_board;
+mod own_close;
 mod own_coord_seat;
 mod own_post;
 mod own_seats;

@@ -52,6 +52,14 @@ impl<V, K, P: TableRule<(), V, K>> OwnTable<V, K, P> {
         self.standing.tell();
     }
 
+    /// A word, read by no seat.
+    pub fn word(&self, word: usize) -> u64
+        requires { word < length (words_of self.now) }
+        ensures { result ≡ slice_index (words_of self.now) word }
+    {
+        self.words[word]
+    }
+
     /// A word, read by a seat.
     #[inline(always)]
     pub fn load<M: Play<(), V>>(&mut self, seat: &mut OwnSeat<V>, word: usize) -> u64
