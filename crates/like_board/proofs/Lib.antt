@@ -10,3 +10,8 @@ pub mod Written
 pub mod Opens
 pub mod Allowed
 pub mod FirstPages
+pub mod Fresh
+pub mod AllSeats
+pub mod Lending
+pub mod LentPosts
+pub mod OwnClosing

@@ -4,3 +4,8 @@ pub mod Rule
 pub mod Plays
 pub mod Seats
 pub mod Closed
+pub mod NewViews
+pub mod Own
+pub mod Lent
+pub mod OwnPosts
+pub mod OwnClosed

@@ -1,0 +1,16 @@
+-- The views of all seats of a new board that one thread owns.
+use Rattle.std.specs.Prelude.{ℕ, zero, suc, List, [], ◌∷◌, ◌++◌}
+use Rattle.like_core.specs.declared.opening.Opening.{Opening}
+use Rattle.like_core.specs.declared.view.View.{View}
+use Rattle.like_core.specs.declared.view.View.TheVariants.{Coord, Worker}
+use Rattle.like_core.specs.views.Views.{fresh}
+use Rattle.like_board.specs.Rule.{opened_coord}
+
+-- those of this many workers, in order
+unfoldable pub new_workers : Opening → ℕ → List View
+new_workers z zero = []
+new_workers z (suc workers) = new_workers z workers ++ Worker (fresh z workers) ∷ []
+
+-- the coordinator's, and those of all workers
+abbrev pub new_views : Opening → List View
+new_views z = Coord (opened_coord z) ∷ new_workers z z.workers

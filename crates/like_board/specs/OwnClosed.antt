@@ -1,0 +1,42 @@
+-- How a board that one thread owns ends.
+use Rattle.std.specs.Prelude.{◌≡◌, ℕ, List, [], ◌∷◌, length, map}
+use Rattle.atomic_table.specs.declared.shared.Seat.{Seat}
+use Rattle.like_core.specs.declared.view.View.{View}
+use Rattle.like_core.specs.declared.view.View.TheVariants.{Coord, Worker}
+use Rattle.like_core.specs.declared.view.CoordSeatView.{CoordSeatView}
+use Rattle.like_core.specs.views.Layout.{word_of}
+use Rattle.like_board.specs.declared.own_worker_seat.OwnWorkerSeat.{OwnWorkerSeat}
+use Rattle.like_board.specs.declared.worker_seat.WorkerSeat.{WorkerSeat}
+use Rattle.like_board.specs.Own.{own_view}
+
+-- a seat that knows the same, at a board that threads share
+abbrev pub as_shared : OwnWorkerSeat → WorkerSeat
+as_shared s = record {
+  seat = record {
+    marker = record {};
+    table_id = record {
+      words = word_of (length (own_view s).opening.marks);
+      slots = 0;
+      views_name = 0;
+      atom = 0;
+      block = 0;
+      offset = 0;
+      slot_names = [];
+    };
+    id = s.seat.id;
+    me = s.seat.me;
+  };
+  number = s.number;
+  form = s.form;
+  turn = s.turn;
+  is_worker = s.is_worker;
+  numbered = s.numbered;
+  formed = s.formed;
+  few = s.few;
+  turned = s.turned;
+  sized = λ m. word_of (length (own_view s).opening.marks);
+}
+
+-- the views of all seats of a board: the coordinator's and those of these workers' seats
+abbrev pub all_views : CoordSeatView → List OwnWorkerSeat → List View
+all_views c seats = Coord c ∷ map (λ s. Worker (own_view s)) seats

@@ -1,0 +1,37 @@
+//! How an answer goes into the phase word of a board that one thread owns.
+ghost use Rattle.std.specs.Prelude.{◌≡◌, length, slice_set};
+ghost use mathlib.Core.Option.{none, some};
+ghost use lib.ListN.{get_elem?};
+ghost use Rattle.atomic_table.specs.Table.{Allows, step};
+ghost use Rattle.own_table.specs.Table.{key_of, views_of};
+ghost use Rattle.like_core.specs.word.Forms.{form_of};
+ghost use Rattle.like_core.specs.views.Layout.{phase_place};
+ghost use Rattle.like_board.specs.Rule.{IsShowing};
+
+use crate::layout::PHASE_WORD;
+use crate::own_board::OwnBoard;
+use atomic_table::Play;
+use like_core::{Form, View};
+use own_table::OwnSeat;
+
+/// Puts an answer or a retirement into the phase word, by the word's form. Gives the word found.
+pub(crate) fn put_own_answer<P: Play<(), View>>(
+    seat: &mut OwnSeat<View>,
+    board: &mut OwnBoard,
+    form: Form,
+    answer: u64,
+) -> u64
+    requires here { get_elem? (views_of board.old.table) seat.old.id ≡ some seat.old.me.0 }
+    requires allowed { Allows (IsShowing (key_of board.old.table)) 0 seat.old.id seat.old.me phase_place
+        (λ word. (form_of form).put word answer) (P.then (step 0 phase_place answer 0 none) seat.old.me) }
+    ensures id { seat.new.id ≡ seat.old.id }
+    ensures key { key_of board.new.table ≡ key_of board.old.table }
+    ensures views { views_of board.new.table
+        ≡ slice_set (views_of board.old.table) seat.old.id seat.new.me.0 }
+    ensures told { P.then (step 0 phase_place answer 0 none) seat.old.me result seat.new.me }
+{
+    match form {
+        Form::Bits => board.table.fetch_or::<P>(seat, PHASE_WORD, answer),
+        Form::Counts => board.table.fetch_add::<P>(seat, PHASE_WORD, answer),
+    }
+}
