@@ -2,6 +2,7 @@ ghost use Rattle.std.specs.Prelude.{◌≡◌, ◌≢◌, ◌+◌, ◌<◌, ◌�
 ghost use Rattle.like_core.specs.declared.view.View.TheVariants.{Worker};
 ghost use Rattle.like_core.specs.OpeningLimits.{has_slots, most_seats};
 ghost use Rattle.like_core.specs.WorkerState.{turn_of};
+ghost use Rattle.like_core.specs.PageSteps.{additions_among};
 ghost use Rattle.like_board.specs.Known.{worker_view_of};
 
 use crate::layout::{MASK_WORD, PHASE_WORD, word_of};
@@ -106,7 +107,7 @@ impl OwnWorkerSeat {
         requires may { MayAdd (own_meaning self.old) page n }
         ensures place { own_place self.new ≡ own_place self.old }
         ensures view { own_view self.new ≡ added_view (own_view self.old) page result n }
-        ensures own { added_to page (own_view self.old).additions ≤ result }
+        ensures own { added_to page (additions_among (own_view self.old).did) ≤ result }
         ensures event { Adds (own_view self.old) page n result (own_view self.new) }
         ensures board { Steps board.old board.new (own_place self.old) (Worker (own_view self.new)) }
         ensures present { IsPresentCount board.old page result }
@@ -123,7 +124,7 @@ impl OwnWorkerSeat {
         requires may { MayRead (own_meaning self.old) page }
         ensures place { own_place self.new ≡ own_place self.old }
         ensures view { own_view self.new ≡ read_view (own_view self.old) page result }
-        ensures own { added_to page (own_view self.old).additions ≤ result }
+        ensures own { added_to page (additions_among (own_view self.old).did) ≤ result }
         ensures event { Reads (own_view self.old) page result (own_view self.new) }
         ensures board { Steps board.old board.new (own_place self.old) (Worker (own_view self.new)) }
         ensures present { IsPresentCount board.old page result }
