@@ -45,7 +45,7 @@ returns-in_err-text-clause-run g c =
 pub returns-in_err-write_in_parallel-clause-run : goal.returns-in_err-write_in_parallel-clause-run
 returns-in_err-write_in_parallel-clause-run g c =
     let p = err_from_is_err_and c.from_residual-in_err-write_in_parallel.result
-            c.from_residual-in_err-write_in_parallel.ensures.1 in
+    c.from_residual-in_err-write_in_parallel.ensures.1 in
     rw (p.1, p.2) (record {
       done = tt;
       fault = run-unwritten c.args.setup.now
@@ -71,7 +71,7 @@ returns-clause-run g c = record {
 pub returns-in_err-write_in_parallel-clause-begun : goal.returns-in_err-write_in_parallel-clause-begun
 returns-in_err-write_in_parallel-clause-begun g c =
     let p = err_from_is_err_and c.from_residual-in_err-write_in_parallel.result
-            c.from_residual-in_err-write_in_parallel.ensures.1 in
+    c.from_residual-in_err-write_in_parallel.ensures.1 in
     rw p.1
     (inr (record {
       report = c.in_ok-report.report;
