@@ -10,17 +10,11 @@ package likes
 /*
 #cgo pkg-config: likes
 #include <likes_service.h>
+#include "opening.h"
 
-// Opens a service. C may not be given pointers in memory of Go, so arrays are told apart from the numbers.
 static uint32_t open_service(const likes_options *numbers, const uint64_t *counts, size_t pages, const uint32_t *marks,
                              size_t marks_len, const uint32_t *lasts, size_t lasts_len, likes_service **service) {
-	likes_options options = *numbers;
-	options.counts = counts;
-	options.pages = pages;
-	options.marks = marks;
-	options.marks_len = marks_len;
-	options.lasts = lasts;
-	options.lasts_len = lasts_len;
+	likes_options options = with_arrays(numbers, counts, pages, marks, marks_len, lasts, lasts_len);
 	return likes_service_open(&options, service);
 }
 */

@@ -1,27 +1,10 @@
 // Each call of likes::Driver, its seats and its phase. It ends with status 1 and a line where something is wrong.
 #include "likes_core.hpp"
+#include "tests.hpp"
 
-#include <cstdlib>
 #include <functional>
 #include <iostream>
 #include <thread>
-
-static void hold(bool is_right, const char *text) {
-    if (!is_right) {
-        std::cout << "wrong: " << text << "\n";
-        std::exit(1);
-    }
-}
-
-// The status that a call throws, or LIKES_OK.
-template <typename Call> static std::uint32_t thrown(Call call) {
-    try {
-        call();
-    } catch (const likes::Error &error) {
-        return error.status;
-    }
-    return LIKES_OK;
-}
 
 static likes::Options with(std::uint32_t users, std::uint32_t seats) {
     likes::Options options;

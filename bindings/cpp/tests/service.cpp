@@ -3,6 +3,7 @@
 //
 // It ends with status 1 and a line where something else happens.
 #include "likes.hpp"
+#include "tests.hpp"
 
 #include <cstdlib>
 #include <cstring>
@@ -11,23 +12,6 @@
 #include <thread>
 
 using namespace std::chrono_literals;
-
-static void hold(bool is_right, const char *text) {
-    if (!is_right) {
-        std::cout << "wrong: " << text << "\n";
-        std::exit(1);
-    }
-}
-
-// The status that a call throws, or LIKES_OK.
-template <typename Call> static std::uint32_t thrown(Call call) {
-    try {
-        call();
-    } catch (const likes::Error &error) {
-        return error.status;
-    }
-    return LIKES_OK;
-}
 
 // Two seats and little room.
 static likes::Options two_seats(std::uint32_t users) {
