@@ -23,6 +23,13 @@ static inline struct timespec likes_timespec(uint64_t nanoseconds) {
     return made;
 }
 
+/* Passes some cycles, for a thread that looks at a number again and again. */
+static inline void likes_pause(void) {
+#if defined(__x86_64__) || defined(__i386__)
+    __builtin_ia32_pause();
+#endif
+}
+
 static inline void likes_sleep(uint64_t nanoseconds) {
     struct timespec length = likes_timespec(nanoseconds);
     nanosleep(&length, NULL);

@@ -32,7 +32,7 @@ uint32_t likes_service_lasts(likes_service *service, uint32_t *lasts, size_t use
 static void end_for_all(likes_service *service) {
     for (uint32_t number = 0; number < service->seats; number++) {
         likes_place *place = &service->places[number];
-        if (pthread_mutex_trylock(&place->lock.mutex) != 0)
+        if (!likes_lock_take_free(&place->lock))
             continue;
         bool is_gone = likes_seat_turn(&place->seat) == LIKES_GONE;
         if (is_gone && likes_seat_come_back(&place->seat) == LIKES_RUNS) {

@@ -14,7 +14,6 @@ static likes_service *made(uint32_t seats) {
     service->places = (likes_place *)(service + 1);
     service->seats = seats;
     service->inverse = UINT64_MAX / seats + 1;
-    pthread_mutex_init(&service->driving.mutex, NULL);
     pthread_mutex_init(&service->changing, NULL);
     pthread_mutex_init(&service->napping, NULL);
     likes_condition_init(&service->changed);
@@ -32,7 +31,6 @@ void likes_service_end(likes_service *service) {
         likes_place_free(&service->places[i]);
     likes_phase_free(&service->phase);
     likes_driver_free(&service->driver);
-    pthread_mutex_destroy(&service->driving.mutex);
     pthread_mutex_destroy(&service->changing);
     pthread_mutex_destroy(&service->napping);
     pthread_cond_destroy(&service->changed);

@@ -13,9 +13,7 @@ void likes_condition_init(pthread_cond_t *condition) {
 }
 
 void likes_place_init(likes_place *place) {
-    pthread_mutex_init(&place->lock.mutex, NULL);
     pthread_mutex_init(&place->asleep, NULL);
-    likes_condition_init(&place->back);
     likes_condition_init(&place->found);
     place->last = &place->first;
 }
@@ -24,9 +22,7 @@ void likes_place_free(likes_place *place) {
     likes_seat_free(&place->seat);
     free(place->others.at);
     free(place->waits);
-    pthread_mutex_destroy(&place->lock.mutex);
     pthread_mutex_destroy(&place->asleep);
-    pthread_cond_destroy(&place->back);
     pthread_cond_destroy(&place->found);
 }
 
@@ -97,8 +93,10 @@ void likes_place_hand_out(likes_place *place) {
 LIKES_SELDOM void likes_place_wake(likes_place *place, uint8_t wakes) {
     if (wakes & LIKES_FOUND)
         pthread_cond_broadcast(&place->found);
-    if (wakes & LIKES_BACK)
-        pthread_cond_broadcast(&place->back);
+    if (wakes & LIKES_BACK) {
+        __atomic_fetch_add(&place->backs, 1, __ATOMIC_SEQ_CST);
+        likes_futex_wake(&place->backs, INT_MAX);
+    }
 }
 
 bool likes_place_take_found(likes_place *place, likes_found *found) {
@@ -129,8 +127,13 @@ bool likes_place_turn(likes_place *place) {
 
 /* Waits until a seat isn't lent, with the place's lock held. False: it is too late. */
 static bool await_back(likes_place *place, uint64_t until) {
-    while (place->is_lent && !likes_is_over(until))
-        likes_wait_until(&place->back, &place->lock.mutex, until);
+    while (place->is_lent && !likes_is_over(until)) {
+        uint32_t backs = __atomic_load_n(&place->backs, __ATOMIC_SEQ_CST);
+        if (likes_place_unlock(place))
+            likes_place_turn(place);
+        likes_futex_wait(&place->backs, backs, until);
+        likes_lock_take(&place->lock, UINT64_MAX);
+    }
     return !place->is_lent;
 }
 

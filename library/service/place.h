@@ -42,7 +42,7 @@ typedef struct likes_place {
     likes_seat seat;
     likes_tally tally;
     likes_wait **last;   /* where the next look that waits is put */
-    pthread_cond_t back; /* the seat isn't lent any more */
+    uint32_t backs;      /* how often the seat was lent and came back; a futex */
     likes_wait *unused, *waits;
     likes_ring others;
     pthread_mutex_t asleep; /* for those that wait for looks. It may be taken with `lock` held */
@@ -118,7 +118,7 @@ bool likes_place_wait(likes_place *place, bool has_lock, uint64_t until);
 
 /* Takes a place's lock for a call, but not one that is lent. False: it is too late. */
 static inline bool likes_place_take(likes_place *place, uint64_t until) {
-    bool has_lock = pthread_mutex_trylock(&place->lock.mutex) == 0;
+    bool has_lock = likes_lock_take_free(&place->lock);
     if (__builtin_expect(!has_lock || place->is_lent, false))
         return likes_place_wait(place, has_lock, until);
     likes_add(&place->tally.calls, 1);

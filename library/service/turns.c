@@ -41,7 +41,7 @@ static void begin_rest(likes_service *service) {
     bool is_quiet = true;
     likes_service_rest(service);
     for (uint32_t i = 0; i < service->seats && is_quiet; i++) {
-        is_quiet = pthread_mutex_trylock(&service->places[i].lock.mutex) == 0;
+        is_quiet = likes_lock_take_free(&service->places[i].lock);
         if (is_quiet && likes_place_unlock(&service->places[i]))
             likes_place_turn(&service->places[i]);
     }
