@@ -18,7 +18,7 @@ impl<P: SlotPost + Glances> LiveSeat<P> {
         ensures same { IsSameSeat self.old self.new }
     {
         // Opens the seat: an empty batch leaves it live, too.
-        let _ = &self.seat;
+        let _ = &self.station;
         for (done, call) in calls.iter().enumerate() {
             match self.answer(*call) {
                 Some(answer) => answers[done] = answer,
