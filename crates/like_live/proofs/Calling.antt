@@ -19,11 +19,13 @@ use Rattle.like_tables.specs.Waiting.{Waiting}
 use Rattle.like_live.specs.declared.answer.GlanceAnswer.{GlanceAnswer}
 use Rattle.like_live.specs.declared.answer.LikeAnswer.{LikeAnswer}
 use Rattle.like_live.specs.declared.answer.LookAnswer.{LookAnswer}
+use Rattle.like_live.specs.declared.answer.TurnAnswer.{TurnAnswer}
 use Rattle.like_live.specs.declared.asked.Asked.{Asked}
 use Rattle.like_live.specs.LiveView.{IsSameSeat, KeepsTallies, LiveView, tally, with_station}
 use Rattle.like_live.specs.Calls as calls
 use Rattle.like_live.specs.Calls.{GlancesNow, LikesNow, LooksNow, TalliesLike, asked_now, full, last_after, liked, refused, told_of, verdict_at}
-use Rattle.like_live.proofs.Moving.{IsSized, same_seat}
+use Rattle.like_live.specs.Moves.{Moves}
+use Rattle.like_live.proofs.Moving.{IsSized, Leaves-moves, same_seat}
 
 -- a request that is accepted has passed the last test
 last_test : (a b c : Bool)
@@ -144,6 +146,15 @@ pub record LeavesLikes (v after : LiveView) : Type 0 where
   pub same : IsSameSeat v after
   pub tallies : KeepsTallies v after
   pub last : after.station.last ≡ v.station.last
+
+-- a turn leaves them
+pub Moves-leaves : (v after : LiveView) (answer : TurnAnswer)
+    → IsSized v
+    → Moves v answer after
+    → LeavesLikes v after
+Moves-leaves v after answer sized moves =
+    let left = Leaves-moves v after answer sized moves in
+    record { same = left.same; tallies = left.tallies; last = left.last }
 
 -- so reads, glances and looks that wait leave them, after a turn that does
 still-leaves : (u v : LiveView) (did : List PageStep) (held : Waiting Asked)

@@ -109,21 +109,7 @@ impl<P: SlotPost> LiveSeat<P> {
         ensures tallies { KeepsTallies self.old self.new }
         ensures last { self.new.station.last ≡ self.old.station.last }
     {
-        self.turn_in().0
-    }
-
-    // The same, with the phase that it then runs or has answered.
-    #[inline(always)]
-    fn turn_in(&mut self) -> (TurnAnswer, u64)
-        ensures case { Moves self.old result.0 self.new }
-        ensures keeps { IsLive self.new }
-        ensures runs { result.0 ≡ TurnAnswer.Runs → IsRunning self.new.station.post.state }
-        ensures same { IsSameSeat self.old self.new }
-        ensures tallies { KeepsTallies self.old self.new }
-        ensures last { self.new.station.last ≡ self.old.station.last }
-        ensures phase { result.1 ≡ phase_at self.new.station }
-    {
-        self.advance()
+        self.advance().0
     }
 
     /// Counts a user's like of a page, which is then the user's last.
@@ -151,7 +137,7 @@ impl<P: SlotPost> LiveSeat<P> {
         ensures tallies { KeepsTallies self.old self.new }
         ensures last { self.new.station.last ≡ self.old.station.last }
     {
-        let (answer, phase) = self.turn_in();
+        let (answer, phase) = self.advance();
         match answer {
             TurnAnswer::Runs => self.look_now(user, page, tag, phase),
             TurnAnswer::Between => LookAnswer::Between,
