@@ -331,7 +331,7 @@ pub extern "C" fn likes_seat_run_nonnull(
         }
         return 0;
     };
-    rows::run(&mut boxed.live, requests, answers)
+    boxed.live.run(requests, answers)
 }
 
 #[unsafe(no_mangle)]
