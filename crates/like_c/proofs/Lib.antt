@@ -1,2 +1,1 @@
-pub mod Answering
 pub mod Handle

@@ -1,5 +1,5 @@
 -- A call of what a handle holds, and what likes.h tells of it.
-use Rattle.std.specs.Prelude.{◌≡◌, ◌≢◌, ◌⊎◌, ℕ, ◌+◌, ◌≤◌, ◌<◌, ◌==◌, if◌then◌else◌, Bool, true, false, drop, length, min, replicate, slice_get, take, List, [], ◌∷◌, ◌++◌, Option, Some, None, Result, Ok, Err}
+use Rattle.std.specs.Prelude.{◌≡◌, ◌≢◌, ℕ, ◌+◌, ◌≤◌, ◌==◌, if◌then◌else◌, Bool, true, false, drop, length, replicate, slice_get, take, List, [], ◌∷◌, ◌++◌, Option, Some, None, Result, Ok, Err}
 use Rattle.std.specs.Global.{Global}
 use Rattle.std_alloc.specs.declared.boxed.Box.{Box}
 use Rattle.like_choice.specs.Slots.{pages_in_use}
@@ -13,6 +13,7 @@ use Rattle.like_live.specs.declared.asked.Found.{Found}
 use Rattle.like_live.specs.declared.driver_answer.DriverAnswer.{DriverAnswer}
 use Rattle.like_live.specs.declared.driver_end.End.{End}
 use Rattle.like_live.specs.declared.driver_end.End.TheVariants.{No, IfItServes, Always}
+use Rattle.like_live.specs.Batch.{RunCase}
 use Rattle.like_live.specs.Calls.{ComeBackCase, GlanceCase, LikeCase, LookCase, RetireCase, TakesFound}
 use Rattle.like_live.specs.Driver.{DriverTurns, TakesLast, TakesSnapshot}
 use Rattle.like_live.specs.Lasts.{AreLastsAt, TellsLast, users_of}
@@ -27,7 +28,7 @@ use Rattle.like_c.specs.declared.rows.AnswerRow.{AnswerRow}
 use Rattle.like_c.specs.declared.rows.FoundRow.{FoundRow}
 use Rattle.like_c.specs.declared.rows.Options.{Options}
 use Rattle.like_c.specs.declared.rows.RequestRow.{RequestRow}
-use Rattle.like_c.specs.Rows.{found_row, glance_op, glance_row, like_op, look_op, look_row, status_row}
+use Rattle.like_c.specs.Rows.{call_of, found_row, glance_row, look_row, row_of, status_row}
 use Rattle.like_live.specs.declared.open_error.OpenError.{OpenError}
 use Rattle.like_live.specs.Opening.{IsRefusedFor}
 use Rattle.like_c.specs.Opened.{IsOpenedAs, asked_of}
@@ -42,36 +43,36 @@ pub data At {A : Type 0} (empty : Type 0) (does : A → A → Type 0) (at after 
 abbrev pub LikesAt : ℕ → ℕ → Option BoxedSeat → ℕ → Option BoxedSeat → Type 0
 LikesAt user page at result after =
     At (result ≡ status.empty) (λ s t. (answer : LikeAnswer)
-    × LikeCase s.seat user page answer t.seat × (result ≡ like_status answer)) at after
+    × LikeCase s.live user page answer t.live × (result ≡ like_status answer)) at after
 
 abbrev pub LooksAt : ℕ → ℕ → ℕ → Option BoxedSeat → AnswerRow → Option BoxedSeat → Type 0
 LooksAt user page tag at row after =
     At (row ≡ status_row status.empty) (λ s t. (answer : LookAnswer)
-    × LookCase s.seat user page tag answer t.seat × (row ≡ look_row answer)) at after
+    × LookCase s.live user page tag answer t.live × (row ≡ look_row answer)) at after
 
 abbrev pub GlancesAt : ℕ → ℕ → Option BoxedSeat → AnswerRow → Option BoxedSeat → Type 0
 GlancesAt user page at row after =
     At (row ≡ status_row status.empty) (λ s t. (answer : GlanceAnswer)
-    × GlanceCase s.seat user page answer t.seat × (row ≡ glance_row answer)) at after
+    × GlanceCase s.live user page answer t.live × (row ≡ glance_row answer)) at after
 
 abbrev pub TurnsAt : Option BoxedSeat → ℕ → Option BoxedSeat → Type 0
 TurnsAt at result after =
     At (result ≡ status.empty) (λ s t. (answer : TurnAnswer)
-    × Moves s.seat answer t.seat × (result ≡ turn_status answer)) at after
+    × Moves s.live answer t.live × (result ≡ turn_status answer)) at after
 
 abbrev pub RetiresAt : Option BoxedSeat → ℕ → Option BoxedSeat → Type 0
 RetiresAt at result after =
     At (result ≡ status.empty) (λ s t. (answer : TurnAnswer)
-    × RetireCase s.seat answer t.seat × (result ≡ turn_status answer)) at after
+    × RetireCase s.live answer t.live × (result ≡ turn_status answer)) at after
 
 abbrev pub ComesBackAt : Option BoxedSeat → ℕ → Option BoxedSeat → Type 0
 ComesBackAt at result after =
     At (result ≡ status.empty) (λ s t. (answer : TurnAnswer)
-    × ComeBackCase s.seat answer t.seat × (result ≡ turn_status answer)) at after
+    × ComeBackCase s.live answer t.live × (result ≡ turn_status answer)) at after
 
 -- a phase is asked for, and nothing changes
 abbrev pub PhaseAt : Option BoxedSeat → ℕ → Option BoxedSeat → Type 0
-PhaseAt at phase after = At (phase ≡ 0) (λ s t. (phase ≡ phase_at s.seat.seat) × (t ≡ s)) at after
+PhaseAt at phase after = At (phase ≡ 0) (λ s t. (phase ≡ phase_at s.live.station) × (t ≡ s)) at after
 
 abbrev pub DriverPhaseAt : Option Opened → ℕ → Option Opened → Type 0
 DriverPhaseAt at phase after = At (phase ≡ 0) (λ o p. (phase ≡ o.driver.lead.seat.phase) × (p ≡ o)) at after
@@ -99,8 +100,8 @@ ProposesAt pages at result after =
 -- a found look is taken, and its row is written: it ran in the phase after the one in which it was asked. If there is
 -- none, the row stays as it was
 pub data WritesFound (old : FoundRow) (is_found : Bool) (row : FoundRow) (s t : BoxedSeat) : Type 0 where
-  none_found : TakesFound s.seat None t.seat → is_found ≡ false → row ≡ old → WritesFound old is_found row s t
-  found : (it : Found) → TakesFound s.seat (Some it) t.seat → RanNext it → is_found ≡ true → row ≡ found_row it
+  none_found : TakesFound s.live None t.live → is_found ≡ false → row ≡ old → WritesFound old is_found row s t
+  found : (it : Found) → TakesFound s.live (Some it) t.live → RanNext it → is_found ≡ true → row ≡ found_row it
       → WritesFound old is_found row s t
 
 abbrev pub TakesFoundAt : Option BoxedSeat → FoundRow → Bool → FoundRow → Option BoxedSeat → Type 0
@@ -116,7 +117,7 @@ GivesLast (Err verdict) old result page = (result ≡ verdict_status verdict) ×
 abbrev pub LastLikeAt : ℕ → Option BoxedSeat → (old result page : ℕ) → Option BoxedSeat → Type 0
 LastLikeAt user at old result page after =
     At ((result ≡ status.empty) × (page ≡ old)) (λ s t. (t ≡ s) × ((answer : Result (Option ℕ) Verdict)
-    × TellsLast s.seat user answer × GivesLast answer old result page)) at after
+    × TellsLast s.live user answer × GivesLast answer old result page)) at after
 
 -- the last likes of a seat's users from a place on are written, if it has that many users
 pub data GivesLasts (v : LiveView) (from : ℕ) (old : List ℕ) (result : ℕ) (pages : List ℕ) : Type 0 where
@@ -128,40 +129,7 @@ pub data GivesLasts (v : LiveView) (from : ℕ) (old : List ℕ) (result : ℕ) 
 -- the last likes of a range of users are asked for, and the seat stays as it is
 abbrev pub LastLikesAt : ℕ → Option BoxedSeat → List ℕ → ℕ → List ℕ → Option BoxedSeat → Type 0
 LastLikesAt from at old result pages after =
-    At ((result ≡ status.empty) × (pages ≡ old)) (λ s t. (t ≡ s) × GivesLasts s.seat from old result pages) at after
-
--- one request of a row is answered so
-pub data AnswersRow (v : LiveView) (request : RequestRow) (row : AnswerRow) (after : LiveView) : Type 0 where
-  row_like : (answer : LikeAnswer) → request.op ≡ like_op → LikeCase v request.user request.page answer after
-      → row ≡ status_row (like_status answer) → AnswersRow v request row after
-  row_look : (answer : LookAnswer) → request.op ≡ look_op
-      → LookCase v request.user request.page request.tag answer after
-      → row ≡ look_row answer → AnswersRow v request row after
-  row_glance : (answer : GlanceAnswer) → request.op ≡ glance_op → GlanceCase v request.user request.page answer after
-      → row ≡ glance_row answer → AnswersRow v request row after
-  row_unknown : glance_op < request.op → row ≡ status_row status.unknown_op → after ≡ v → AnswersRow v request row after
-
--- a row that tells its request that it must wait
-abbrev pub IsToWait : AnswerRow → Type 0
-IsToWait row = (row.status ≡ status.between) ⊎ (row.status ≡ status.no_room)
-
--- these requests are answered one by one, each in its row, and none must wait
-abbrev pub RowsAnswered : LiveView → List RequestRow → List AnswerRow → LiveView → Type 0
-RowsAnswered v [] [] after = after ≡ v
-RowsAnswered v (request ∷ requests) (row ∷ rows) after =
-    (now : LiveView) × (AnswersRow v request row now × (¬ IsToWait row) × RowsAnswered now requests rows after)
-RowsAnswered v requests rows after = ⊥
-
--- rows are run: all, up to the end of the shorter list; or all up to one that must wait, whose row tells so and is not
--- counted
-pub data RunsRows (v : LiveView) (requests : List RequestRow) (rows : List AnswerRow) (done : ℕ) (after : LiveView)
-    : Type 0 where
-  all_rows : done ≡ min (length requests) (length rows) → RowsAnswered v (take done requests) (take done rows) after
-      → RunsRows v requests rows done after
-  stops_at : (now : LiveView) (request : RequestRow) (row : AnswerRow)
-      → RowsAnswered v (take done requests) (take done rows) now
-      → slice_get requests done ≡ Some request → slice_get rows done ≡ Some row
-      → AnswersRow now request row after → IsToWait row → RunsRows v requests rows done after
+    At ((result ≡ status.empty) × (pages ≡ old)) (λ s t. (t ≡ s) × GivesLasts s.live from old result pages) at after
 
 -- the first answer, if there is one, tells that the handle is empty
 abbrev pub with_empty : List AnswerRow → List AnswerRow
@@ -177,7 +145,7 @@ abbrev pub RunsAt :
     Option BoxedSeat → List RequestRow → List AnswerRow → List AnswerRow → ℕ → Option BoxedSeat → Type 0
 RunsAt at requests old rows done after =
     At ((done ≡ 0) × (rows ≡ with_empty old))
-    (λ s t. RunsRows s.seat requests rows done t.seat × KeepsUnasked requests old rows) at after
+    (λ s t. RunCase call_of row_of s.live requests rows done t.live × KeepsUnasked requests old rows) at after
 
 -- nothing but the driver has changed
 abbrev pub KeepsRest : Opened → Opened → Type 0

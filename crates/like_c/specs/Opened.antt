@@ -28,7 +28,7 @@ asked_of options counts marks lasts = record {
 
 -- the seat in a box
 abbrev pub seat_in : Box BoxedSeat Global → LiveView
-seat_in b = b.value.seat
+seat_in b = b.value.live
 
 -- a service was opened as is asked for, and these are its driver, its seats, the first one last, and its
 -- phase

@@ -1,5 +1,5 @@
 -- The rows that cross to C.
-use Rattle.std.specs.Prelude.{ℕ}
+use Rattle.std.specs.Prelude.{ℕ, ◌==◌, if◌then◌else◌, Result, Ok, Err}
 use Rattle.like_tables.specs.LastLike.{page_or_none}
 use Rattle.like_seat.specs.declared.seen.Seen.{Seen}
 use Rattle.like_live.specs.declared.answer.GlanceAnswer.{GlanceAnswer}
@@ -7,9 +7,14 @@ use Rattle.like_live.specs.declared.answer.GlanceAnswer.TheVariants as glance
 use Rattle.like_live.specs.declared.answer.LookAnswer.{LookAnswer}
 use Rattle.like_live.specs.declared.answer.LookAnswer.TheVariants as look
 use Rattle.like_live.specs.declared.asked.Found.{Found}
+use Rattle.like_live.specs.declared.call.Answer.{Answer}
+use Rattle.like_live.specs.declared.call.Answer.TheVariants as answer
+use Rattle.like_live.specs.declared.call.Call.{Call}
+use Rattle.like_live.specs.declared.call.Call.TheVariants as call
 use Rattle.like_c.specs.declared.rows.AnswerRow.{AnswerRow}
 use Rattle.like_c.specs.declared.rows.FoundRow.{FoundRow}
-use Rattle.like_c.specs.Status.{verdict_status}
+use Rattle.like_c.specs.declared.rows.RequestRow.{RequestRow}
+use Rattle.like_c.specs.Status.{like_status, verdict_status}
 use Rattle.like_c.specs.Status as status
 
 -- what is asked for in a request
@@ -43,6 +48,20 @@ glance_row (glance.Seen seen) = seen_row seen
 glance_row glance.Between = status_row status.between
 glance_row (glance.Refused verdict) = status_row (verdict_status verdict)
 glance_row glance.Gone = status_row status.gone
+
+-- the row of an answer
+abbrev pub row_of : Answer → AnswerRow
+row_of (answer.Like a) = status_row (like_status a)
+row_of (answer.Look a) = look_row a
+row_of (answer.Glance a) = glance_row a
+
+-- the call that a request asks for; one with an unknown operation asks for none, and is told so
+abbrev pub call_of : RequestRow → Result Call AnswerRow
+call_of r =
+    if r.op == like_op then Ok (call.Like r.user r.page)
+    else (if r.op == look_op then Ok (call.Look r.user r.page r.tag)
+    else (if r.op == glance_op then Ok (call.Glance r.user r.page)
+    else Err (status_row status.unknown_op)))
 
 abbrev pub found_row : Found → FoundRow
 found_row found = record {

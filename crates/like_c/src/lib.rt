@@ -220,7 +220,7 @@ pub extern "C" fn likes_seat_like(seat: &mut SeatHandle, user: u32, page: u32) -
     let Some(boxed) = seat.get() else {
         return status::EMPTY;
     };
-    status::of_like(boxed.seat.like(user, page))
+    status::of_like(boxed.live.like(user, page))
 }
 
 #[unsafe(no_mangle)]
@@ -238,7 +238,7 @@ pub extern "C" fn likes_seat_look(
         *answer = AnswerRow::of(status::EMPTY);
         return status::EMPTY;
     };
-    *answer = AnswerRow::of_look(boxed.seat.look(user, page, tag));
+    *answer = AnswerRow::of_look(boxed.live.look(user, page, tag));
     answer.status
 }
 
@@ -256,7 +256,7 @@ pub extern "C" fn likes_seat_glance(
         *answer = AnswerRow::of(status::EMPTY);
         return status::EMPTY;
     };
-    *answer = AnswerRow::of_glance(boxed.seat.glance(user, page));
+    *answer = AnswerRow::of_glance(boxed.live.glance(user, page));
     answer.status
 }
 
@@ -268,7 +268,7 @@ pub extern "C" fn likes_seat_last(seat: &mut SeatHandle, user: u32, page: &mut u
     let Some(boxed) = seat.get() else {
         return status::EMPTY;
     };
-    match boxed.seat.last(user) {
+    match boxed.live.last(user) {
         Ok(last) => {
             *page = page_or_none(last);
             status::OK
@@ -289,10 +289,10 @@ pub extern "C" fn likes_seat_lasts_nonnull(
     let Some(boxed) = seat.get() else {
         return status::EMPTY;
     };
-    if !boxed.seat.has_users(from, pages.len()) {
+    if !boxed.live.has_users(from, pages.len()) {
         return status::WRONG_RANGE;
     }
-    boxed.seat.lasts(from, pages);
+    boxed.live.lasts(from, pages);
     status::OK
 }
 
@@ -303,7 +303,7 @@ pub extern "C" fn likes_seat_take_found(seat: &mut SeatHandle, found: &mut Found
     let Some(boxed) = seat.get() else {
         return false;
     };
-    match boxed.seat.take_found() {
+    match boxed.live.take_found() {
         Some(it) => {
             *found = FoundRow::of(it);
             true
@@ -331,7 +331,7 @@ pub extern "C" fn likes_seat_run_nonnull(
         }
         return 0;
     };
-    rows::run(&mut boxed.seat, requests, answers)
+    boxed.live.run(requests, answers)
 }
 
 #[unsafe(no_mangle)]
@@ -341,7 +341,7 @@ pub extern "C" fn likes_seat_turn(seat: &mut SeatHandle) -> u32
     let Some(boxed) = seat.get() else {
         return status::EMPTY;
     };
-    status::of_turn(boxed.seat.turn())
+    status::of_turn(boxed.live.turn())
 }
 
 #[unsafe(no_mangle)]
@@ -351,7 +351,7 @@ pub extern "C" fn likes_seat_retire(seat: &mut SeatHandle) -> u32
     let Some(boxed) = seat.get() else {
         return status::EMPTY;
     };
-    status::of_turn(boxed.seat.retire())
+    status::of_turn(boxed.live.retire())
 }
 
 #[unsafe(no_mangle)]
@@ -361,7 +361,7 @@ pub extern "C" fn likes_seat_come_back(seat: &mut SeatHandle) -> u32
     let Some(boxed) = seat.get() else {
         return status::EMPTY;
     };
-    status::of_turn(boxed.seat.come_back())
+    status::of_turn(boxed.live.come_back())
 }
 
 #[unsafe(no_mangle)]
@@ -369,7 +369,7 @@ pub extern "C" fn likes_seat_phase(seat: &mut SeatHandle) -> u64
     ensures { PhaseAt seat.old.home result seat.new.home }
 {
     match seat.get() {
-        Some(boxed) => boxed.seat.phase(),
+        Some(boxed) => boxed.live.phase(),
         None => 0,
     }
 }

@@ -18,7 +18,7 @@ const APART: Apart = [0; 16];
 #[derive(Drop)]
 #[repr(C)]
 pub struct BoxedSeat {
-    pub(crate) seat: LiveSeat<SharedPost>,
+    pub(crate) live: LiveSeat<SharedPost>,
     apart: Apart,
 }
 
@@ -112,8 +112,8 @@ fn boxed(
         Ok(boxed) => boxed,
         Err(_) => return Err(OpenError::Memory),
     };
-    while let Some(seat) = seats.pop() {
-        boxed.push_reserved(in_box(alloc, BoxedSeat { seat, apart: APART })?);
+    while let Some(live) = seats.pop() {
+        boxed.push_reserved(in_box(alloc, BoxedSeat { live, apart: APART })?);
     }
     Ok(boxed)
 }

@@ -1,13 +1,12 @@
 //! The rows that cross between C and Rattle.
-ghost use Rattle.std.specs.Prelude.{◌≡◌, ◌<◌, ◌≤◌, ◌≢◌, ◌↔◌, ℕ, IsTrue, length, slice_get};
-ghost use Rattle.like_c.specs.Held.{AnswersRow, IsToWait, IsUnreserved, KeepsUnasked, RunsRows};
+ghost use Rattle.std.specs.Prelude.{◌≡◌, ◌↔◌, IsTrue};
+ghost use Rattle.like_c.specs.Held.{IsUnreserved};
 ghost use Rattle.like_c.specs.Layout.{AreLaidOut};
-ghost use Rattle.like_c.specs.Rows.{found_row, glance_op, glance_row, like_op, look_op, look_row, seen_row, status_row};
+ghost use Rattle.like_c.specs.Rows.{found_row, glance_row, look_row, seen_row, status_row};
 ghost use Rattle.like_tables.specs.LastLike.{page_or_none};
 
 use crate::status;
-use like_board::SharedPost;
-use like_live::{Found, GlanceAnswer, LikeAnswer, LiveSeat, LookAnswer};
+use like_live::{Answer, Call, Found, GlanceAnswer, LookAnswer, Row};
 use like_seat::Seen;
 use like_tables::NO_PAGE;
 
@@ -141,14 +140,6 @@ impl AnswerRow {
             GlanceAnswer::Gone => AnswerRow::of(status::GONE),
         }
     }
-
-    // Whether its request must wait, and be made again.
-    #[inline(always)]
-    fn is_to_wait(&self) -> bool
-        ensures { IsTrue result ↔ IsToWait self.now }
-    {
-        self.status == status::BETWEEN || self.status == status::NO_ROOM
-    }
 }
 
 impl FoundRow {
@@ -168,106 +159,43 @@ impl FoundRow {
     }
 }
 
-// Answers a look, and says whether it must wait. Most answers are known not to, and need no test.
-#[inline(always)]
-fn answer_look(seat: &mut LiveSeat<SharedPost>, request: &RequestRow, row: &mut AnswerRow) -> bool
-    requires { request.now.op ≡ look_op }
-    ensures row { AnswersRow seat.old request.now row.new seat.new }
-    ensures waits { IsTrue result ↔ IsToWait row.new }
-{
-    match seat.look(request.user, request.page, request.tag) {
-        LookAnswer::Waits => {
-            *row = AnswerRow::of(status::WAITS);
-            false
-        }
-        LookAnswer::Seen(seen) => {
-            *row = AnswerRow::of_seen(seen);
-            false
-        }
-        told => {
-            *row = AnswerRow::of_look(told);
-            row.is_to_wait()
-        }
-    }
-}
+impl Row for RequestRow {
+    ghost use Rattle.like_c.specs.Rows.{call_of, row_of};
 
-// Answers a glance, and says whether it must wait.
-#[inline(always)]
-fn answer_glance(seat: &mut LiveSeat<SharedPost>, request: &RequestRow, row: &mut AnswerRow) -> bool
-    requires { request.now.op ≡ glance_op }
-    ensures row { AnswersRow seat.old request.now row.new seat.new }
-    ensures waits { IsTrue result ↔ IsToWait row.new }
-{
-    match seat.glance(request.user, request.page) {
-        GlanceAnswer::Seen(seen) => {
-            *row = AnswerRow::of_seen(seen);
-            false
-        }
-        told => {
-            *row = AnswerRow::of_glance(told);
-            row.is_to_wait()
-        }
-    }
-}
+    type Told = AnswerRow;
 
-// Answers a row that asks for no like, and says whether it must wait. An unknown operation is answered `UNKNOWN_OP`.
-#[inline(always)]
-fn answer_other(seat: &mut LiveSeat<SharedPost>, request: &RequestRow, row: &mut AnswerRow) -> bool
-    requires { request.now.op ≢ like_op }
-    ensures row { AnswersRow seat.old request.now row.new seat.new }
-    ensures waits { IsTrue result ↔ IsToWait row.new }
-{
-    match request.op {
-        LOOK => answer_look(seat, request, row),
-        GLANCE => answer_glance(seat, request, row),
-        _ => {
-            *row = AnswerRow::of(status::UNKNOWN_OP);
-            false
-        }
-    }
-}
+    ghost asks = { call_of };
 
-// Answers one row, and says whether it must wait.
-#[inline(always)]
-fn answer(seat: &mut LiveSeat<SharedPost>, request: &RequestRow, row: &mut AnswerRow) -> bool
-    ensures row { AnswersRow seat.old request.now row.new seat.new }
-    ensures waits { IsTrue result ↔ IsToWait row.new }
-{
-    if request.op != LIKE {
-        return answer_other(seat, request, row);
-    }
-    match seat.like(request.user, request.page) {
-        LikeAnswer::Liked => {
-            *row = AnswerRow::of(status::LIKED);
-            false
-        }
-        told => {
-            *row = AnswerRow::of(status::of_like(told));
-            row.is_to_wait()
-        }
-    }
-}
+    ghost tells = { row_of };
 
-/// Answers requests up to the first that is `BETWEEN` or `NO_ROOM`, or to the end of the shorter array. Says how many
-/// were done.
-#[inline(never)]
-pub(crate) fn run(
-    seat: &mut LiveSeat<SharedPost>,
-    requests: &[RequestRow],
-    answers: &mut [AnswerRow],
-) -> usize
-    ensures rows { RunsRows seat.old requests.now answers.new result seat.new }
-    ensures requests { result ≤ length requests.now }
-    ensures answers { result ≤ length answers.old }
-    ensures rest { (i : ℕ) → result < i → slice_get answers.new i ≡ slice_get answers.old i }
-    ensures unasked { KeepsUnasked requests.now answers.old answers.new }
-    ensures len { length answers.new ≡ length answers.old }
-{
-    let rows = requests.len().min(answers.len());
-    for done in 0..rows {
-        if answer(seat, &requests[done], &mut answers[done]) {
-            return done;
+    #[inline(always)]
+    fn call(&self) -> Result<Call, AnswerRow> {
+        if self.op == LIKE {
+            return Ok(Call::Like {
+                user: self.user,
+                page: self.page,
+            });
+        }
+        match self.op {
+            LOOK => Ok(Call::Look {
+                user: self.user,
+                page: self.page,
+                tag: self.tag,
+            }),
+            GLANCE => Ok(Call::Glance {
+                user: self.user,
+                page: self.page,
+            }),
+            _ => Err(AnswerRow::of(status::UNKNOWN_OP)),
         }
     }
-    rows
+
+    #[inline(always)]
+    fn tell(answer: Answer) -> AnswerRow {
+        match answer {
+            Answer::Like(answer) => AnswerRow::of(status::of_like(answer)),
+            Answer::Look(answer) => AnswerRow::of_look(answer),
+            Answer::Glance(answer) => AnswerRow::of_glance(answer),
+        }
+    }
 }

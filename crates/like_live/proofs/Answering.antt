@@ -33,7 +33,7 @@ still now after s keeps h = record {
       record {
         after = g.from;
         board = g.board;
-        sliced = get_or now.seat.slice s.page 0;
+        sliced = get_or now.station.slice s.page 0;
         there = keeps.glances _ g.there;
         sliced_is = refl;
         count_is = g.count_is;

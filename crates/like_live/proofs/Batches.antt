@@ -1,57 +1,91 @@
--- How a batch is run, call by call.
-use Rattle.std.proofs.Common.{◌≡◌, ℕ, zero, suc, ◌+◌, ◌<◌, List, [], ◌∷◌, ◌++◌, length, set, take, Some, refl, sym, subst, arith}
+-- How a batch is run, row by row.
+use Rattle.std.proofs.Common.{◌≡◌, ℕ, zero, suc, ◌+◌, ◌<◌, Bool, true, false, List, [], ◌∷◌, length, get_or, set, take, Result, Some, refl, ap, sym, ◌∙◌, subst, arith}
+use Rattle.std.proofs.lemmas.Option.{slice_get-get_or}
 use Rattle.std.specs.List.{slice_get}
 use Rattle.like_live.specs.declared.call.Answer.{Answer}
 use Rattle.like_live.specs.declared.call.Call.{Call}
 use Rattle.like_live.specs.LiveView.{LiveView}
-use Rattle.like_live.specs.Batch.{HasRun, IsDone, WasTold, WereTold}
-use Rattle.like_live.specs.History.{Does, HasDone, Told}
+use Rattle.like_live.specs.Batch.{AnswersRow, AnswersRows, RunCase, stops_at}
 
--- one call more
-HasDone-push : (told : List Told) (v now after : LiveView) (t : Told)
-    → HasDone v told now
-    → Does now t after
-    → HasDone v (told ++ t ∷ []) after
-HasDone-push [] v now after t is d = (after, (subst (λ u. Does u t after) is d, refl))
-HasDone-push (x ∷ told) v now after t done d = (done.0, (done.1.0, HasDone-push told done.0 now after t done.1.1 d))
+-- one row more
+rows-push : {R T : Type 0} (asks : R → Result Call T) (tells : Answer → T) (i : ℕ) (rows : List R) (answers : List T)
+    (v now after : LiveView) (row : R) (told : T)
+    → slice_get rows i ≡ Some row
+    → i < length answers
+    → AnswersRows asks tells v (take i rows) (take i answers) now
+    → AnswersRow asks tells now row told false after
+    → AnswersRows asks tells v (take (suc i) rows) (take (suc i) (set answers i told)) after
+rows-push asks tells i [] answers v now after row told at there done d = cc
+rows-push asks tells i (x ∷ rows) [] v now after row told at there done d = absurd (omega arith)
+rows-push asks tells zero (x ∷ rows) (y ∷ answers) v now after row told at there done d =
+    let is : x ≡ row = cc in (
+      after,
+      (
+        subst (λ k. AnswersRow asks tells v k told false after) (sym is)
+            (subst (λ u. AnswersRow asks tells u row told false after) done d),
+        refl,
+      ),
+    )
+rows-push asks tells (suc i) (x ∷ rows) (y ∷ answers) v now after row told at there done d =
+    (done.0, (done.1.0, rows-push asks tells i rows answers done.0 now after row told at (omega arith) done.1.1 d))
 
--- and its answer
-WereTold-push : (i : ℕ) (calls : List Call) (answers : List Answer) (told : List Told) (c : Call) (a : Answer)
-    (t : Told)
-    → slice_get calls i ≡ Some c → i < length answers → WereTold (take i calls) (take i answers) told → WasTold c a t
-    → WereTold (take (suc i) calls) (take (suc i) (set answers i a)) (told ++ t ∷ [])
-WereTold-push i [] answers told c a t at there were was = cc
-WereTold-push i (x ∷ calls) [] told c a t at there were was = absurd (omega arith)
-WereTold-push zero (x ∷ calls) (y ∷ answers) [] c a t at there were was = let is : x ≡ c = cc in
-    (subst (λ k. WasTold k a t) (sym is) was, tt)
-WereTold-push zero (x ∷ calls) (y ∷ answers) (z ∷ told) c a t at there were was = absurd were
-WereTold-push (suc i) (x ∷ calls) (y ∷ answers) [] c a t at there were was = absurd were
-WereTold-push (suc i) (x ∷ calls) (y ∷ answers) (z ∷ told) c a t at there were was =
-    (were.0, WereTold-push i calls answers told c a t at (omega arith) were.1 was)
+-- an element that was written is there
+set-there : {T : Type 0} → (xs : List T) (i : ℕ) (x : T) → i < length xs → slice_get (set xs i x) i ≡ Some x
+set-there [] i x there = absurd (omega arith)
+set-there (y ∷ xs) zero x there = refl
+set-there (y ∷ xs) (suc i) x there = set-there xs i x (omega arith)
 
--- to set an element leaves those behind it
-pub slice_get-set_other : {A : Type 0}
-    → (xs : List A) (i k : ℕ) (x : A)
+-- those before it stay
+take-before : {T : Type 0} → (xs : List T) (i : ℕ) (x : T) → take i (set xs i x) ≡ take i xs
+take-before [] i x = refl
+take-before (y ∷ xs) zero x = refl
+take-before (y ∷ xs) (suc i) x = ap (λ ys. y ∷ ys) (take-before xs i x)
+
+-- and so do those behind it
+pub set-behind : {T : Type 0}
+    → (xs : List T) (i k : ℕ) (x : T)
     → i < k
     → slice_get (set xs i x) k ≡ slice_get xs k
-slice_get-set_other [] i k x below = refl
-slice_get-set_other (y ∷ xs) zero zero x below = absurd (omega arith)
-slice_get-set_other (y ∷ xs) (suc i) zero x below = absurd (omega arith)
-slice_get-set_other (y ∷ xs) zero (suc k) x below = refl
-slice_get-set_other (y ∷ xs) (suc i) (suc k) x below = slice_get-set_other xs i k x (omega arith)
+set-behind [] i k x below = refl
+set-behind (y ∷ xs) zero zero x below = absurd (omega arith)
+set-behind (y ∷ xs) (suc i) zero x below = absurd (omega arith)
+set-behind (y ∷ xs) zero (suc k) x below = refl
+set-behind (y ∷ xs) (suc i) (suc k) x below = set-behind xs i k x (omega arith)
 
--- one call more of a batch
-pub HasRun-more : (v now after : LiveView) (calls : List Call) (answers : List Answer) (i : ℕ) (c : Call) (a : Answer)
-    → HasRun v calls answers i now
-    → slice_get calls i ≡ Some c
+-- a row that is read by its number is there
+row-there : {R : Type 0} (rows : List R) (i : ℕ) (row : R) → row ≡ get_or rows i row → i < length rows
+    → slice_get rows i ≡ Some row
+row-there rows i row is there = slice_get-get_or rows i row there ∙ ap Some (sym is)
+
+-- a batch goes on past a row whose call was made
+pub batch-more : {R T : Type 0} (asks : R → Result Call T) (tells : Answer → T) (v now after : LiveView) (rows : List R)
+    (answers : List T) (i : ℕ) (row : R) (told : T) (put_off : Bool)
+    → row ≡ get_or rows i row
+    → i < length rows
     → i < length answers
-    → IsDone now c a after
-    → HasRun v calls (set answers i a) (i + 1) after
-HasRun-more v now after calls answers i c a r at there answered = record {
-  told = r.told ++ answered.0 ∷ [];
-  history = HasDone-push r.told v now after answered.0 r.history answered.1.1;
-  were =
-      let next : suc i ≡ i + 1 = omega arith in
-      subst (λ n. WereTold (take n calls) (take n (set answers i a)) (r.told ++ answered.0 ∷ [])) next
-      (WereTold-push i calls answers r.told c a answered.0 at there r.were answered.1.0);
-}
+    → AnswersRows asks tells v (take i rows) (take i answers) now
+    → AnswersRow asks tells now row told put_off after
+    → put_off ≡ false
+    → AnswersRows asks tells v (take (i + 1) rows) (take (i + 1) (set answers i told)) after
+batch-more asks tells v now after rows answers i row told put_off is row_there there done d no_more =
+    let next : suc i ≡ i + 1 = omega arith in
+    subst (λ n. AnswersRows asks tells v (take n rows) (take n (set answers i told)) after) next
+    (rows-push asks tells i rows answers v now after row told (row-there rows i row is row_there) there done
+    (subst (λ b. AnswersRow asks tells now row told b after) no_more d))
+
+-- and stops at one whose call must be made again
+pub batch-stops : {R T : Type 0} (asks : R → Result Call T) (tells : Answer → T) (v now after : LiveView) (rows : List R)
+    (answers : List T) (i : ℕ) (row : R) (told : T) (put_off : Bool)
+    → row ≡ get_or rows i row
+    → i < length rows
+    → i < length answers
+    → AnswersRows asks tells v (take i rows) (take i answers) now
+    → AnswersRow asks tells now row told put_off after
+    → put_off ≡ true
+    → RunCase asks tells v rows (set answers i told) i after
+batch-stops asks tells v now after rows answers i row told put_off is row_there there done d again =
+    stops_at now row told
+    (subst (λ xs. AnswersRows asks tells v (take i rows) xs now) (sym (take-before answers i told)) done)
+    (row-there rows i row is row_there)
+    (set-there answers i told there)
+    (subst (λ b. AnswersRow asks tells now row told b after) again d)

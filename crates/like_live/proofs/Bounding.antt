@@ -20,7 +20,7 @@ use Rattle.like_live.proofs.Showing.{IfShown-map}
 use Rattle.like_live.proofs.Answering.{answers_are_reads}
 
 abbrev post_at : LiveView → PostView
-post_at v = v.seat.post
+post_at v = v.station.post
 
 -- each of a list of reads is within its bounds
 is_between : (counts : List ℕ) (before : ℕ → ℕ → ℕ) (last : ℕ) (own : List Addition) (reads : List PageRead)
@@ -33,9 +33,9 @@ is_between counts before last own reads r all there =
 
 -- a glance's count is one or the other
 either : (now after : LiveView) (s : Shown) → IsReadOrGlanced now after s → IsRead after s ⊎ IsGlanced now after s
-either now after s h = by_test (slices now.seat.post s.page) refl
+either now after s h = by_test (slices now.station.post s.page) refl
   where
-    by_test : (b : Bool) → slices now.seat.post s.page ≡ b → IsRead after s ⊎ IsGlanced now after s
+    by_test : (b : Bool) → slices now.station.post s.page ≡ b → IsRead after s ⊎ IsGlanced now after s
     by_test true is = inr (h.split is)
     by_test false is = inl (h.plain is)
 
@@ -62,7 +62,7 @@ module _ (driver : DriverView) (seats : List LiveView) (back : List WorkerSeat) 
   -- a count that was read is within its bounds
   read-bounded : (s : Shown) → Fit (λ p. (reads_among p.did)) (post_at after) → IsRead after s → IsWithinAdded driver seats s
   read-bounded s all r =
-      let is = is_between first (seats_before back) driver.lead.seat.phase (additions_among after.seat.post.did) (reads_among after.seat.post.did)
+      let is = is_between first (seats_before back) driver.lead.seat.phase (additions_among after.station.post.did) (reads_among after.station.post.did)
       (page_read s.phase s.page s.count r.0) all r.1 in
       let own = r.2 in
       let least = is.least in
@@ -73,12 +73,12 @@ module _ (driver : DriverView) (seats : List LiveView) (back : List WorkerSeat) 
 
   -- so is one that was glanced at, with the seat's own likes, which it has added if it is gone
   glance-bounded : (now : LiveView) (s : Shown)
-      → after.seat.post.state ≡ Gone
+      → after.station.post.state ≡ Gone
       → Fit (λ p. (glances_among p.did)) (post_at after)
       → IsGlanced now after s
       → IsWithinAdded driver seats s
   glance-bounded now s gone all g =
-      let is = is_between first (seats_before back) driver.lead.seat.phase (additions_among after.seat.post.did) (glances_among after.seat.post.did)
+      let is = is_between first (seats_before back) driver.lead.seat.phase (additions_among after.station.post.did) (glances_among after.station.post.did)
       (page_read s.phase s.page g.board g.after) all g.there in
       let own = g.own in
       let least = is.least in
@@ -95,8 +95,8 @@ pub answers_are_bounded : AnswersAreBounded
 answers_are_bounded driver seats counts v now after t closed gone there unused call =
     let back = closed.back in
     let same = closed.posts in
-    let here : after.seat.post.state ≡ Gone =
-    All-contains (λ (s : LiveView). s.seat.post.state ≡ Gone) seats after gone there in
+    let here : after.station.post.state ≡ Gone =
+    All-contains (λ (s : LiveView). s.station.post.state ≡ Gone) seats after gone there in
     let reads = fit driver seats back same after there (λ p. (reads_among p.did)) closed.reads in
     let glances = fit driver seats back same after there (λ p. (glances_among p.did)) closed.glances in
     let bound : Shown → Type 0 = IsWithinAdded driver seats in

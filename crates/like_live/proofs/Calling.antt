@@ -19,11 +19,13 @@ use Rattle.like_tables.specs.Waiting.{Waiting}
 use Rattle.like_live.specs.declared.answer.GlanceAnswer.{GlanceAnswer}
 use Rattle.like_live.specs.declared.answer.LikeAnswer.{LikeAnswer}
 use Rattle.like_live.specs.declared.answer.LookAnswer.{LookAnswer}
+use Rattle.like_live.specs.declared.answer.TurnAnswer.{TurnAnswer}
 use Rattle.like_live.specs.declared.asked.Asked.{Asked}
-use Rattle.like_live.specs.LiveView.{IsSameSeat, KeepsTallies, LiveView, tally, with_seat}
+use Rattle.like_live.specs.LiveView.{IsSameSeat, KeepsTallies, LiveView, tally, with_station}
 use Rattle.like_live.specs.Calls as calls
 use Rattle.like_live.specs.Calls.{GlancesNow, LikesNow, LooksNow, TalliesLike, asked_now, full, last_after, liked, refused, told_of, verdict_at}
-use Rattle.like_live.proofs.Moving.{IsSized, same_seat}
+use Rattle.like_live.specs.Moves.{Moves}
+use Rattle.like_live.proofs.Moving.{IsSized, Leaves-moves, same_seat}
 
 -- a request that is accepted has passed the last test
 last_test : (a b c : Bool)
@@ -94,21 +96,21 @@ LikesNow-tallies v after user page answer sized (full accepted most a is) other 
     let none = ap (told_of page other) a in
     omega arith
 LikesNow-tallies v after user page answer sized (liked old s accepted few a counts is) other =
-    let more = counts-tally v.seat s user page old other
-    (subst (λ (n : ℕ). page < n) (sym sized) (page_there v.seat user page accepted)) counts in
+    let more = counts-tally v.station s user page old other
+    (subst (λ (n : ℕ). page < n) (sym sized) (page_there v.station user page accepted)) counts in
     let same = ap (λ (w : LiveView). tally w other) is in
     let one = ap (told_of page other) a in
     omega arith
 
 -- a like that is counted leaves the seat the same
 counts-same : (v : LiveView) (s : StationView Asked) (user page : ℕ) (old : Option ℕ)
-    → CountsLike v.seat user page old s
-    → IsSameSeat v (with_seat v s)
+    → CountsLike v.station user page old s
+    → IsSameSeat v (with_station v s)
 counts-same v s user page None c =
-    subst (λ (t : StationView Asked). IsSameSeat v (with_seat v t)) (sym c.1)
+    subst (λ (t : StationView Asked). IsSameSeat v (with_station v t)) (sym c.1)
     (record { board = refl; worker = refl; marks = refl; share = refl })
 counts-same v s user page (Some count) c =
-    subst (λ (t : StationView Asked). IsSameSeat v (with_seat v t)) (sym c.1)
+    subst (λ (t : StationView Asked). IsSameSeat v (with_station v t)) (sym c.1)
     (record { board = refl; worker = refl; marks = refl; share = refl })
 
 -- so does any like
@@ -130,34 +132,43 @@ counts-last s after user page (Some count) c = ap (λ (t : StationView Asked). t
 -- what is the last like then is as the answer tells
 pub LikesNow-last : (v after : LiveView) (user page : ℕ) (answer : LikeAnswer)
     → LikesNow v user page answer after
-    → after.seat.last ≡ last_after v.seat.last user page answer
+    → after.station.last ≡ last_after v.station.last user page answer
 LikesNow-last v after user page answer (refused fails a is) =
-    ap (λ (w : LiveView). w.seat.last) is ∙ ap (last_after v.seat.last user page) (sym a)
+    ap (λ (w : LiveView). w.station.last) is ∙ ap (last_after v.station.last user page) (sym a)
 LikesNow-last v after user page answer (full accepted most a is) =
-    ap (λ (w : LiveView). w.seat.last) is ∙ ap (last_after v.seat.last user page) (sym a)
+    ap (λ (w : LiveView). w.station.last) is ∙ ap (last_after v.station.last user page) (sym a)
 LikesNow-last v after user page answer (liked old s accepted few a counts is) =
-    ap (λ (w : LiveView). w.seat.last) is ∙ counts-last v.seat s user page old counts
-    ∙ ap (last_after v.seat.last user page) (sym a)
+    ap (λ (w : LiveView). w.station.last) is ∙ counts-last v.station s user page old counts
+    ∙ ap (last_after v.station.last user page) (sym a)
 
 -- what no look or glance changes: the seat, its tallies and its users' last likes
 pub record LeavesLikes (v after : LiveView) : Type 0 where
   pub same : IsSameSeat v after
   pub tallies : KeepsTallies v after
-  pub last : after.seat.last ≡ v.seat.last
+  pub last : after.station.last ≡ v.station.last
+
+-- a turn leaves them
+pub Moves-leaves : (v after : LiveView) (answer : TurnAnswer)
+    → IsSized v
+    → Moves v answer after
+    → LeavesLikes v after
+Moves-leaves v after answer sized moves =
+    let left = Leaves-moves v after answer sized moves in
+    record { same = left.same; tallies = left.tallies; last = left.last }
 
 -- so reads, glances and looks that wait leave them, after a turn that does
 still-leaves : (u v : LiveView) (did : List PageStep) (held : Waiting Asked)
-    → additions_among did ≡ additions_among v.seat.post.did
+    → additions_among did ≡ additions_among v.station.post.did
     → LeavesLikes u v
-    → LeavesLikes u (with_seat v (record v.seat {
-      post = record v.seat.post { did = did };
+    → LeavesLikes u (with_station v (record v.station {
+      post = record v.station.post { did = did };
       held = held;
     }))
 still-leaves u v did held same_adds turn =
     let same = turn.same in
     record {
       same = record { board = same.board; worker = same.worker; marks = same.marks; share = same.share };
-      tallies = λ page. ap (λ xs. added_to page xs + get_or v.seat.slice page 0) same_adds ∙ turn.tallies page;
+      tallies = λ page. ap (λ xs. added_to page xs + get_or v.station.slice page 0) same_adds ∙ turn.tallies page;
       last = turn.last;
     }
 
@@ -168,13 +179,13 @@ pub LooksNow-leaves : (u v after : LiveView) (user page tag : ℕ) (answer : Loo
     → LeavesLikes u after
 LooksNow-leaves u v after user page tag answer turn (calls.refused fails a is) = subst (LeavesLikes u) (sym is) turn
 LooksNow-leaves u v after user page tag answer turn (calls.seen shown s accepted plain a read is) =
-    subst (LeavesLikes u) (sym (is ∙ ap (with_seat v) read.read))
-    (still-leaves u v (has_read v.seat.post page shown.count).did v.seat.held refl turn)
+    subst (LeavesLikes u) (sym (is ∙ ap (with_station v) read.read))
+    (still-leaves u v (has_read v.station.post page shown.count).did v.station.held refl turn)
 LooksNow-leaves u v after user page tag answer turn (calls.no_room accepted split most a is) =
     subst (LeavesLikes u) (sym is) turn
 LooksNow-leaves u v after user page tag answer turn (calls.waits accepted split room a is) =
     subst (LeavesLikes u) (sym is)
-    (still-leaves u v v.seat.post.did (holding v.seat (asked_now v user page tag)).held refl turn)
+    (still-leaves u v v.station.post.did (holding v.station (asked_now v user page tag)).held refl turn)
 
 -- so does a glance
 pub GlancesNow-leaves : (u v after : LiveView) (user page : ℕ) (answer : GlanceAnswer)
@@ -183,8 +194,8 @@ pub GlancesNow-leaves : (u v after : LiveView) (user page : ℕ) (answer : Glanc
     → LeavesLikes u after
 GlancesNow-leaves u v after user page answer turn (calls.refused fails a is) = subst (LeavesLikes u) (sym is) turn
 GlancesNow-leaves u v after user page answer turn (calls.plain shown s accepted plain a read is) =
-    subst (LeavesLikes u) (sym (is ∙ ap (with_seat v) read.read))
-    (still-leaves u v (has_read v.seat.post page shown.count).did v.seat.held refl turn)
+    subst (LeavesLikes u) (sym (is ∙ ap (with_station v) read.read))
+    (still-leaves u v (has_read v.station.post page shown.count).did v.station.held refl turn)
 GlancesNow-leaves u v after user page answer turn (calls.split shown s accepted split a glance is) =
-    subst (LeavesLikes u) (sym (is ∙ ap (with_seat v) glance.glanced))
-    (still-leaves u v (has_glanced v.seat.post page glance.count).did v.seat.held refl turn)
+    subst (LeavesLikes u) (sym (is ∙ ap (with_station v) glance.glanced))
+    (still-leaves u v (has_glanced v.station.post page glance.count).did v.station.held refl turn)

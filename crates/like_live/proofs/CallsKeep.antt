@@ -10,7 +10,7 @@ use Rattle.like_live.specs.declared.answer.LikeAnswer.{LikeAnswer}
 use Rattle.like_live.specs.declared.answer.LookAnswer.{LookAnswer}
 use Rattle.like_live.specs.declared.answer.TurnAnswer.{TurnAnswer}
 use Rattle.like_live.specs.declared.asked.Found.{Found}
-use Rattle.like_live.specs.LiveView.{LiveView, with_seat}
+use Rattle.like_live.specs.LiveView.{LiveView, with_station}
 use Rattle.like_live.specs.Answers.{IsRead, found_count}
 use Rattle.like_live.specs.Calls as calls
 use Rattle.like_live.specs.Calls.{ComeBackCase, GlanceCase, GlancesNow, LikeCase, LikesNow, LookCase, LooksNow, RetireCase, RetireWorks, TakesFound}
@@ -36,7 +36,7 @@ Keeps-likes v after user page answer sized (calls.full accepted most a is) = sub
 Keeps-likes v after user page answer sized (calls.liked old s accepted few a counts is) =
     subst (Keeps v) (sym is)
     (Keeps-counts v s user page old
-    (subst (λ (n : ℕ). page < n) (sym sized) (page_there v.seat user page accepted)) counts)
+    (subst (λ (n : ℕ). page < n) (sym sized) (page_there v.station user page accepted)) counts)
 
 Keeps-looks : (v after : LiveView) (user page tag : ℕ) (answer : LookAnswer)
     → LooksNow v user page tag answer after
@@ -45,13 +45,13 @@ Keeps-looks v after user page tag answer (calls.refused fails a is) = subst (Kee
 Keeps-looks v after user page tag answer (calls.no_room accepted split none a is) =
     subst (Keeps v) (sym is) (Keeps-all v)
 Keeps-looks v after user page tag answer (calls.seen shown s accepted plain a reads is) =
-    subst (Keeps v) (sym (is ∙ ap (with_seat v) reads.read)) (Keeps-read v page shown.count)
+    subst (Keeps v) (sym (is ∙ ap (with_station v) reads.read)) (Keeps-read v page shown.count)
 Keeps-looks v after user page tag answer (calls.waits accepted split room a is) =
     subst (Keeps v) (sym is) (record {
       reads = λ r there. there;
       glances = λ r there. there;
       more = [];
-      additions = sym (append-nil (additions_among v.seat.post.did));
+      additions = sym (append-nil (additions_among v.station.post.did));
       held = λ phase other from n h. record { within = h.within; split = h.split; kept = h.kept };
       found = λ all. all;
     })
@@ -61,16 +61,16 @@ Keeps-glances : (v after : LiveView) (user page : ℕ) (answer : GlanceAnswer)
     → Keeps v after
 Keeps-glances v after user page answer (calls.refused fails a is) = subst (Keeps v) (sym is) (Keeps-all v)
 Keeps-glances v after user page answer (calls.plain shown s accepted plain a reads is) =
-    subst (Keeps v) (sym (is ∙ ap (with_seat v) reads.read)) (Keeps-read v page shown.count)
+    subst (Keeps v) (sym (is ∙ ap (with_station v) reads.read)) (Keeps-read v page shown.count)
 Keeps-glances v after user page answer (calls.split shown s accepted split a glances is) =
-    subst (Keeps v) (sym (is ∙ ap (with_seat v) glances.glanced)) (Keeps-glanced v page glances.count)
+    subst (Keeps v) (sym (is ∙ ap (with_station v) glances.glanced)) (Keeps-glanced v page glances.count)
 
 Keeps-takes : (v after : LiveView) (taken : Option Found) → TakesFound v taken after → Keeps v after
 Keeps-takes v after taken takes = subst (Keeps v) (sym takes.1) (record {
   reads = λ r there. there;
   glances = λ r there. there;
   more = [];
-  additions = sym (append-nil (additions_among v.seat.post.did));
+  additions = sym (append-nil (additions_among v.station.post.did));
   held = λ phase other from n h. record { within = h.within; split = h.split; kept = h.kept };
   found = λ all. All-drop (λ f. IsRead v (found_count f)) 1 v.found all;
 })
@@ -82,7 +82,7 @@ Keeps-retire_works : (v after : LiveView) (ending : Bool) (answer : TurnAnswer)
 Keeps-retire_works v after ending answer sized (calls.retires now joined a found is) =
     subst (Keeps v) (sym is)
     (Keeps-both v now _ (Keeps-finds v now found)
-    (Keeps-stopped now _ (subst (λ (w : LiveView). RunsJoined w.seat.post.state) (sym found.rest) joined)))
+    (Keeps-stopped now _ (subst (λ (w : LiveView). RunsJoined w.station.post.state) (sym found.rest) joined)))
 Keeps-retire_works v after ending answer sized (calls.stays split works) =
     Keeps-works v after ending answer sized works
 
@@ -90,13 +90,13 @@ Keeps-retires : (v after : LiveView) (answer : TurnAnswer) → IsSized v → Ret
 Keeps-retires v after answer sized m = Keeps-by RetireWorks Keeps-retire_works v after answer sized m
 
 -- a seat that was gone had no like in its slice
-Keeps-came_back : (v : LiveView) (phase mask : ℕ) → v.seat.post.state ≡ Gone
-    → Keeps v (with_seat v (came_back v.seat phase mask))
+Keeps-came_back : (v : LiveView) (phase mask : ℕ) → v.station.post.state ≡ Gone
+    → Keeps v (with_station v (came_back v.station phase mask))
 Keeps-came_back v phase mask gone = record {
   reads = λ r there. there;
   glances = λ r there. there;
   more = [];
-  additions = sym (append-nil (additions_among v.seat.post.did));
+  additions = sym (append-nil (additions_among v.station.post.did));
   held = λ phase other from n h. record {
     within = h.within;
     split = h.split;
@@ -111,7 +111,7 @@ Keeps-came_back v phase mask gone = record {
 
 Keeps-come_back : (v after : LiveView) (answer : TurnAnswer) → IsSized v → ComeBackCase v answer after → Keeps v after
 Keeps-come_back v after answer sized (calls.runs s gone a back is) =
-    subst (Keeps v) (sym (is ∙ ap (with_seat v) back.1.1)) (Keeps-came_back v back.0 back.1.0 gone)
+    subst (Keeps v) (sym (is ∙ ap (with_station v) back.1.1)) (Keeps-came_back v back.0 back.1.0 gone)
 Keeps-come_back v after answer sized (calls.between gone a is) = subst (Keeps v) (sym is) (Keeps-all v)
 Keeps-come_back v after answer sized (calls.there here m) = Keeps-moves v after answer sized m
 

@@ -52,7 +52,7 @@ all-alike P p q xs ys same all = λ k d below.
     (subst (All P) (sym same) (All-map P q ys all) k (p d) (subst (λ n. k < n) (sym (length-map xs p)) below))
 
 abbrev pub post_at : LiveView → PostView
-post_at s = s.seat.post
+post_at s = s.station.post
 
 -- the seats that were given back are those of the driver's board
 pub back-here : (v : DriverView) (seats : List LiveView) (back : List WorkerSeat)
@@ -82,5 +82,5 @@ pub last-total : (v : DriverView) (seats : List LiveView) (back : List WorkerSea
 last-total v seats back page same merged gone =
     ap (λ n. slice_index v.lead.seat.opening.counts page + n)
     (sum-alike (λ (post : PostView). additions_of post page) seat_meaning post_at back seats same
-    ∙ sym (sum-equal (λ s. tally s page) (λ (s : LiveView). additions_of s.seat.post page) seats
+    ∙ sym (sum-equal (λ s. tally s page) (λ (s : LiveView). additions_of s.station.post page) seats
     (λ k d below. merged k d below (gone k d below) page)))

@@ -44,28 +44,28 @@ pages_found user (f ∷ found) = pages_found user found
 module _ (first : LiveView) where
   -- a deed shows the last like of its user after those before it
   abbrev Shows : List Deed → Deed → Type 0
-  Shows before d = ShowsLast (last_or (last_of first.seat.last d.user) (pages_counted d.user before)) d.act
+  Shows before d = ShowsLast (last_or (last_of first.station.last d.user) (pages_counted d.user before)) d.act
 
   -- the seat's users have the last likes that its deeds say, and each deed shows them
   record HasLasts (v : LiveView) (ds : List Deed) : Type 0 where
-    table : (user : ℕ) → last_of v.seat.last user ≡ last_or (last_of first.seat.last user) (pages_counted user ds)
+    table : (user : ℕ) → last_of v.station.last user ≡ last_or (last_of first.station.last user) (pages_counted user ds)
     shows : AllAfter Shows [] ds
 
   -- a step that is no deed leaves them
-  no_deed : (v w : LiveView) (ds : List Deed) → w.seat.last ≡ v.seat.last → HasLasts v ds → HasLasts w (ds ++ [])
+  no_deed : (v w : LiveView) (ds : List Deed) → w.station.last ≡ v.station.last → HasLasts v ds → HasLasts w (ds ++ [])
   no_deed v w ds same k = subst (HasLasts w) (sym (append-nil ds)) (record {
     table = λ user. ap (λ t. last_of t user) same ∙ k.table user;
     shows = k.shows;
   })
 
   -- a deed that counts no like leaves them, and shows its user's
-  look_deed : (v w : LiveView) (ds : List Deed) (d : Deed) → w.seat.last ≡ v.seat.last
-      → ((user : ℕ) → pages_counted user (d ∷ []) ≡ []) → (ShowsLast (last_of v.seat.last d.user) d.act)
+  look_deed : (v w : LiveView) (ds : List Deed) (d : Deed) → w.station.last ≡ v.station.last
+      → ((user : ℕ) → pages_counted user (d ∷ []) ≡ []) → (ShowsLast (last_of v.station.last d.user) d.act)
       → HasLasts v ds → HasLasts w (ds ++ d ∷ [])
   look_deed v w ds d same none shows k = record {
     table = λ user.
         ap (λ t. last_of t user) same ∙ k.table user
-        ∙ ap (last_or (last_of first.seat.last user))
+        ∙ ap (last_or (last_of first.station.last user))
         (sym (filter_map-append (λ (e : Deed). page_counted user e.user e.page e.act) ds (d ∷ [])
         ∙ ap (λ zs. pages_counted user ds ++ zs) (none user) ∙ append-nil (pages_counted user ds)));
     shows = all_after-append Shows [] ds (d ∷ []) k.shows
@@ -73,23 +73,23 @@ module _ (first : LiveView) where
   }
 
   -- found looks show those of their users, one after the other
-  found_deeds : (v : LiveView) (found : List Found) → All (IsFoundAt v.seat) found → (ds : List Deed) → HasLasts v ds
+  found_deeds : (v : LiveView) (found : List Found) → All (IsFoundAt v.station) found → (ds : List Deed) → HasLasts v ds
       → HasLasts v (ds ++ map deed_found found)
   found_deeds v [] shown ds k = no_deed v v ds refl k
   found_deeds v (f ∷ found) shown ds k =
       subst (HasLasts v) (append_assoc ds (deed_found f ∷ []) (map deed_found found))
-      (found_deeds v found (All-tail (IsFoundAt v.seat) f found shown) (ds ++ deed_found f ∷ [])
+      (found_deeds v found (All-tail (IsFoundAt v.station) f found shown) (ds ++ deed_found f ∷ [])
       (look_deed v v ds (deed_found f) refl (λ user. refl) (shown 0 f (omega arith)).last k))
 
   -- a like is its user's last
-  like_deed : (v w : LiveView) (ds : List Deed) (phase user page : ℕ) → user < length v.seat.last.last
-      → ((other : ℕ) → last_of w.seat.last other ≡ last_or (last_of v.seat.last other) (cond (eqb user other) (page ∷ []) []))
+  like_deed : (v w : LiveView) (ds : List Deed) (phase user page : ℕ) → user < length v.station.last.last
+      → ((other : ℕ) → last_of w.station.last other ≡ last_or (last_of v.station.last other) (cond (eqb user other) (page ∷ []) []))
       → HasLasts v ds → HasLasts w (ds ++ deed phase user page counted ∷ [])
   like_deed v w ds phase user page there more k = record {
     table = λ other.
         more other ∙ ap (λ o. last_or o (cond (eqb user other) (page ∷ []) [])) (k.table other)
-        ∙ sym (last_or-append (last_of first.seat.last other) (pages_counted other ds) (cond (eqb user other) (page ∷ []) []))
-        ∙ ap (last_or (last_of first.seat.last other))
+        ∙ sym (last_or-append (last_of first.station.last other) (pages_counted other ds) (cond (eqb user other) (page ∷ []) []))
+        ∙ ap (last_or (last_of first.station.last other))
         (ap (λ zs. pages_counted other ds ++ zs) (one (eqb user other))
         ∙ sym (filter_map-append (λ (e : Deed). page_counted other e.user e.page e.act) ds (deed phase user page counted ∷ [])));
     shows = all_after-append Shows [] ds (deed phase user page counted ∷ []) k.shows (tt, tt);
@@ -110,11 +110,11 @@ module _ (first : LiveView) where
   lasts_next v (returns phase mask gone) ds is k = no_deed v _ ds refl k
   lasts_next v takes ds is k = no_deed v _ ds refl k
   lasts_next v (slices_like user page req) ds is k =
-      let there = subst (λ n. user < n) (sym is.table) (user_there v.seat user page req.accepted) in
-      like_deed v _ ds _ user page there (λ other. last-more v.seat.last user page other there) k
+      let there = subst (λ n. user < n) (sym is.table) (user_there v.station user page req.accepted) in
+      like_deed v _ ds _ user page there (λ other. last-more v.station.last user page other there) k
   lasts_next v (adds_like user page old req) ds is k =
-      let there = subst (λ n. user < n) (sym is.table) (user_there v.seat user page req.accepted) in
-      like_deed v _ ds _ user page there (λ other. last-more v.seat.last user page other there) k
+      let there = subst (λ n. user < n) (sym is.table) (user_there v.station user page req.accepted) in
+      like_deed v _ ds _ user page there (λ other. last-more v.station.last user page other there) k
   lasts_next v (reads user page shown req last) ds is k =
       look_deed v _ ds _ refl (λ other. refl) last k
   lasts_next v (glances user page count shown req last) ds is k =

@@ -22,7 +22,7 @@ module _ (first : LiveView) where
       subst (λ (s : Share). (user < s.users) × (home s.submitters user ≡ s.worker)) k.share is
 
   one_his : (v : LiveView) (ds : List Deed) (d : Deed) (page : ℕ) → Stands first v
-      → verdict_at v.seat d.user page ≡ Accepted → AreHis v ds → AreHis v (ds ++ d ∷ [])
+      → verdict_at v.station d.user page ≡ Accepted → AreHis v ds → AreHis v (ds ++ d ∷ [])
   one_his v ds d page k accepted all =
       all_append (λ e. IsHis first e.user) ds (d ∷ []) all (same_his v d.user k (is_his v d.user page accepted), tt)
 

@@ -28,8 +28,8 @@ phase_of_step s = s.phase
 
 -- a number is no less than the phases of the seat's steps, and of the likes in its slice
 pub record IsPast (k : ℕ) (v : LiveView) : Type 0 where
-  pub steps : AllByRecursion (λ s. phase_of_step s ≤ k) (earliest_first v.seat.post.did)
-  pub slice : (page : ℕ) → get_or v.seat.slice page 0 ≢ 0 → phase_at v.seat ≤ k
+  pub steps : AllByRecursion (λ s. phase_of_step s ≤ k) (earliest_first v.station.post.did)
+  pub slice : (page : ℕ) → get_or v.station.slice page 0 ≢ 0 → phase_at v.station ≤ k
 
 -- phases never fall along the deeds so far, and none is later than the seat's steps and the likes in its slice
 pub record HasRisen (v : LiveView) (ds : List Deed) : Type 0 where
@@ -46,39 +46,39 @@ module _ (first : LiveView) (masks : ℕ → ℕ) where
 
   -- deeds of the seat's phase, when none of its steps is later
   deeds_now : (v w : LiveView) (ds es : List Deed)
-      → AllByRecursion (λ d. phase_of_deed d ≡ phase_at v.seat) es
-      → AllByRecursion (λ s. phase_of_step s ≤ phase_at v.seat) (earliest_first v.seat.post.did)
-      → ((k : ℕ) → IsPast k w → IsPast k v × (phase_at v.seat ≤ k))
+      → AllByRecursion (λ d. phase_of_deed d ≡ phase_at v.station) es
+      → AllByRecursion (λ s. phase_of_step s ≤ phase_at v.station) (earliest_first v.station.post.did)
+      → ((k : ℕ) → IsPast k w → IsPast k v × (phase_at v.station ≤ k))
       → HasRisen v ds → HasRisen w (ds ++ es)
   deeds_now v w ds es now least past h =
-      let most = h.within (phase_at v.seat) (record { steps = least; slice = λ page has. omega arith }) in
+      let most = h.within (phase_at v.station) (record { steps = least; slice = λ page has. omega arith }) in
       record {
-        rises = rises-append phase_of_deed (phase_at v.seat) ds es h.rises
-            (rises-same phase_of_deed (phase_at v.seat) es now) most
-            (all_then (λ d. phase_of_deed d ≡ phase_at v.seat) (λ d. phase_at v.seat ≤ phase_of_deed d) es
+        rises = rises-append phase_of_deed (phase_at v.station) ds es h.rises
+            (rises-same phase_of_deed (phase_at v.station) es now) most
+            (all_then (λ d. phase_of_deed d ≡ phase_at v.station) (λ d. phase_at v.station ≤ phase_of_deed d) es
             (λ d is. omega (arith, is)) now);
         within = λ k is.
             let p = past k is in
             let top = p.1 in
             all_append (λ d. phase_of_deed d ≤ k) ds es (h.within k p.0)
-            (all_then (λ d. phase_of_deed d ≡ phase_at v.seat) (λ d. phase_of_deed d ≤ k) es
+            (all_then (λ d. phase_of_deed d ≡ phase_at v.station) (λ d. phase_of_deed d ≤ k) es
             (λ d is. omega (arith, is, top)) now);
       }
 
   -- one deed that is a step
-  one_step : (v w : LiveView) (ds : List Deed) (d : Deed) (s : PageStep) → d.phase ≡ phase_at v.seat
-      → s.phase ≡ phase_at v.seat → earliest_first w.seat.post.did ≡ earliest_first v.seat.post.did ++ s ∷ []
-      → w.seat.slice ≡ v.seat.slice → phase_at w.seat ≡ phase_at v.seat → IsOrdered masks w
+  one_step : (v w : LiveView) (ds : List Deed) (d : Deed) (s : PageStep) → d.phase ≡ phase_at v.station
+      → s.phase ≡ phase_at v.station → earliest_first w.station.post.did ≡ earliest_first v.station.post.did ++ s ∷ []
+      → w.station.slice ≡ v.station.slice → phase_at w.station ≡ phase_at v.station → IsOrdered masks w
       → HasRisen v ds → HasRisen w (ds ++ d ∷ [])
   one_step v w ds d s d_is s_is did slice same o h =
       deeds_now v w ds (d ∷ []) (d_is, tt)
-      (subst (λ n. AllByRecursion (λ t. phase_of_step t ≤ n) (earliest_first v.seat.post.did)) s_is
-      (rises_to phase_of_step (earliest_first v.seat.post.did) s [] (subst (Rises phase_of_step) did o.rises)))
+      (subst (λ n. AllByRecursion (λ t. phase_of_step t ≤ n) (earliest_first v.station.post.did)) s_is
+      (rises_to phase_of_step (earliest_first v.station.post.did) s [] (subst (Rises phase_of_step) did o.rises)))
       (λ k is.
       let all = subst (AllByRecursion (λ t. phase_of_step t ≤ k)) did is.steps in
-      let last = (all_rest (λ t. phase_of_step t ≤ k) (earliest_first v.seat.post.did) (s ∷ []) all).0 in (
+      let last = (all_rest (λ t. phase_of_step t ≤ k) (earliest_first v.station.post.did) (s ∷ []) all).0 in (
         record {
-          steps = all_front (λ t. phase_of_step t ≤ k) (earliest_first v.seat.post.did) (s ∷ []) all;
+          steps = all_front (λ t. phase_of_step t ≤ k) (earliest_first v.station.post.did) (s ∷ []) all;
           slice = λ page has. subst (λ n. n ≤ k) same
               (is.slice page (subst (λ xs. get_or xs page 0 ≢ 0) (sym slice) has));
         },
@@ -95,29 +95,29 @@ module _ (first : LiveView) (masks : ℕ → ℕ) where
     phases_found phase found (All-tail (λ (g : Found). g.phase ≡ phase) f found all),
   )
 
-  finds_risen : (v w : LiveView) (found : List Found) (ds : List Deed) → All (λ f. f.phase ≡ phase_at v.seat) found
-      → ((page : ℕ) → get_or v.seat.slice page 0 ≢ 0 → ⊥)
-      → earliest_first w.seat.post.did ≡ earliest_first v.seat.post.did ++ map (step_for v.seat.post.worker) found
+  finds_risen : (v w : LiveView) (found : List Found) (ds : List Deed) → All (λ f. f.phase ≡ phase_at v.station) found
+      → ((page : ℕ) → get_or v.station.slice page 0 ≢ 0 → ⊥)
+      → earliest_first w.station.post.did ≡ earliest_first v.station.post.did ++ map (step_for v.station.post.worker) found
       → IsOrdered masks w → HasRisen v ds → HasRisen w (ds ++ map deed_found found)
   finds_risen v w [] ds all none did o h =
       no_deed v w ds
       (λ k is. record {
-        steps = subst (AllByRecursion (λ t. phase_of_step t ≤ k)) (did ∙ append-nil (earliest_first v.seat.post.did)) is.steps;
+        steps = subst (AllByRecursion (λ t. phase_of_step t ≤ k)) (did ∙ append-nil (earliest_first v.station.post.did)) is.steps;
         slice = λ page has. absurd (none page has);
       })
       h
   finds_risen v w (f ∷ found) ds all none did o h =
-      let here = All-head (λ (g : Found). g.phase ≡ phase_at v.seat) f found all in
-      let steps = map (step_for v.seat.post.worker) (f ∷ found) in
-      deeds_now v w ds (map deed_found (f ∷ found)) (phases_found (phase_at v.seat) (f ∷ found) all)
-      (subst (λ n. AllByRecursion (λ t. phase_of_step t ≤ n) (earliest_first v.seat.post.did)) here
-      (rises_to phase_of_step (earliest_first v.seat.post.did) (step_for v.seat.post.worker f) (map (step_for v.seat.post.worker) found)
+      let here = All-head (λ (g : Found). g.phase ≡ phase_at v.station) f found all in
+      let steps = map (step_for v.station.post.worker) (f ∷ found) in
+      deeds_now v w ds (map deed_found (f ∷ found)) (phases_found (phase_at v.station) (f ∷ found) all)
+      (subst (λ n. AllByRecursion (λ t. phase_of_step t ≤ n) (earliest_first v.station.post.did)) here
+      (rises_to phase_of_step (earliest_first v.station.post.did) (step_for v.station.post.worker f) (map (step_for v.station.post.worker) found)
       (subst (Rises phase_of_step) did o.rises)))
       (λ k is.
       let each = subst (AllByRecursion (λ t. phase_of_step t ≤ k)) did is.steps in
-      let top = (all_rest (λ t. phase_of_step t ≤ k) (earliest_first v.seat.post.did) steps each).0 in (
+      let top = (all_rest (λ t. phase_of_step t ≤ k) (earliest_first v.station.post.did) steps each).0 in (
         record {
-          steps = all_front (λ t. phase_of_step t ≤ k) (earliest_first v.seat.post.did) steps each;
+          steps = all_front (λ t. phase_of_step t ≤ k) (earliest_first v.station.post.did) steps each;
           slice = λ page has. absurd (none page has);
         },
         omega (arith, top, here),
@@ -129,41 +129,41 @@ module _ (first : LiveView) (masks : ℕ → ℕ) where
   risen_next v (looks sight mask can) ds st o h =
       no_deed v _ ds (λ k is. record {
         steps = is.steps;
-        slice = λ page has. subst (λ n. n ≤ k) (looked_phase v.seat.post.state sight (st.split page has).0) (is.slice page has);
+        slice = λ page has. subst (λ n. n ≤ k) (looked_phase v.station.post.state sight (st.split page has).0) (is.slice page has);
       }) h
   risen_next v (finds found joined order shown) ds st o h =
       finds_risen v _ found ds (λ i d below. (shown i d below).phase)
-      (λ page has. unsplit v.seat.post.state joined (st.split page has).0)
-      (then-earliest v.seat.post.did (map (step_for v.seat.post.worker) found)) o h
+      (λ page has. unsplit v.station.post.state joined (st.split page has).0)
+      (then-earliest v.station.post.did (map (step_for v.station.post.worker) found)) o h
   risen_next v (acknowledges joined) ds st o h =
       no_deed v _ ds (λ k is. record {
         steps = is.steps;
-        slice = λ page has. absurd (unsplit v.seat.post.state joined (st.split page has).0);
+        slice = λ page has. absurd (unsplit v.station.post.state joined (st.split page has).0);
       }) h
   risen_next v (reports adds runs merges) ds st o h =
       no_deed v _ ds (λ k is. record {
-        steps = all_front (λ t. phase_of_step t ≤ k) (earliest_first v.seat.post.did) (map (step_adding v.seat.post.worker) adds) (now k is);
+        steps = all_front (λ t. phase_of_step t ≤ k) (earliest_first v.station.post.did) (map (step_adding v.station.post.worker) adds) (now k is);
         slice = λ page has.
             let a = first_add adds page (λ none. has (sym (merges.sums page) ∙ none)) in
-            let phase : a.0.phase ≡ phase_at v.seat =
-            subst (All (λ (x : Addition). x.phase ≡ phase_at v.seat)) a.1.1 merges.phase_is 0 a.0 (omega arith) in
+            let phase : a.0.phase ≡ phase_at v.station =
+            subst (All (λ (x : Addition). x.phase ≡ phase_at v.station)) a.1.1 merges.phase_is 0 a.0 (omega arith) in
             let all = subst
-            (λ (xs : List Addition). AllByRecursion (λ t. phase_of_step t ≤ k) (map (step_adding v.seat.post.worker) xs))
+            (λ (xs : List Addition). AllByRecursion (λ t. phase_of_step t ≤ k) (map (step_adding v.station.post.worker) xs))
             a.1.1
-            (all_rest (λ t. phase_of_step t ≤ k) (earliest_first v.seat.post.did) (map (step_adding v.seat.post.worker) adds) (now k is)) in
+            (all_rest (λ t. phase_of_step t ≤ k) (earliest_first v.station.post.did) (map (step_adding v.station.post.worker) adds) (now k is)) in
             let top = all.0 in
             omega (arith, phase, top);
       }) h
     where
       now : (k : ℕ) → IsPast k (reported v adds)
           → AllByRecursion (λ t. phase_of_step t ≤ k)
-          (earliest_first v.seat.post.did ++ map (step_adding v.seat.post.worker) adds)
+          (earliest_first v.station.post.did ++ map (step_adding v.station.post.worker) adds)
       now k is = subst (AllByRecursion (λ t. phase_of_step t ≤ k))
-          (then-earliest v.seat.post.did (map (step_adding v.seat.post.worker) adds)) is.steps
+          (then-earliest v.station.post.did (map (step_adding v.station.post.worker) adds)) is.steps
   risen_next v (retires joined) ds st o h =
       no_deed v _ ds (λ k is. record {
         steps = is.steps;
-        slice = λ page has. absurd (unsplit v.seat.post.state joined (st.split page has).0);
+        slice = λ page has. absurd (unsplit v.station.post.state joined (st.split page has).0);
       }) h
   risen_next v (returns phase mask gone) ds st o h =
       no_deed v _ ds (λ k is. record {
@@ -172,21 +172,21 @@ module _ (first : LiveView) (masks : ℕ → ℕ) where
       }) h
   risen_next v takes ds st o h = no_deed v _ ds (λ k is. record { steps = is.steps; slice = is.slice }) h
   risen_next v (slices_like user page req) ds st o h =
-      deeds_now v _ ds (deed (phase_at v.seat) user page counted ∷ []) (refl, tt)
-      (o.none_later page (one_has v page (page_there v.seat user page req.accepted) st))
+      deeds_now v _ ds (deed (phase_at v.station) user page counted ∷ []) (refl, tt)
+      (o.none_later page (one_has v page (page_there v.station user page req.accepted) st))
       (λ k is.
-      let now = is.slice page (one_has v page (page_there v.seat user page req.accepted) st) in (
+      let now = is.slice page (one_has v page (page_there v.station user page req.accepted) st) in (
         record { steps = is.steps; slice = λ other has. now },
         now,
       ))
       h
     where
-      one_has : (v : LiveView) (page : ℕ) → page < pages_of v.seat.post → Stands first v
-          → get_or (set v.seat.slice page (get_or v.seat.slice page 0 + 1)) page 0 ≢ 0
+      one_has : (v : LiveView) (page : ℕ) → page < pages_of v.station.post → Stands first v
+          → get_or (set v.station.slice page (get_or v.station.slice page 0 + 1)) page 0 ≢ 0
       one_has v page there st none = absurd (omega (
         arith,
         none,
-        slice-more v.seat.slice page page (subst (λ n. page < n) (sym st.sized) there),
+        slice-more v.station.slice page page (subst (λ n. page < n) (sym st.sized) there),
         ap {B = ℕ} (λ b. cond b 1 0) (eq-eqb page page refl),
       ))
   risen_next v (adds_like user page old req) ds st o h = one_step v _ ds _ _ refl refl refl refl refl o h

@@ -44,7 +44,7 @@ module _ (first : LiveView) (masks : ℕ → ℕ) where
 
   -- the deeds so far tell the seat's steps at such pages, in their order
   pub record HasSteps (v : LiveView) (ds : List Deed) : Type 0 where
-    pub steps : filter_map (step_of split) ds ≡ map step_told (filter (is_plain split) (earliest_first v.seat.post.did))
+    pub steps : filter_map (step_of split) ds ≡ map step_told (filter (is_plain split) (earliest_first v.station.post.did))
 
   told-append : (xs ys : List PageStep)
       → map step_told (filter (is_plain split) (xs ++ ys))
@@ -55,18 +55,18 @@ module _ (first : LiveView) (masks : ℕ → ℕ) where
 
   -- deeds more that tell steps more
   more_steps : (v w : LiveView) (ds es : List Deed) (more : List PageStep)
-      → earliest_first w.seat.post.did ≡ earliest_first v.seat.post.did ++ more
+      → earliest_first w.station.post.did ≡ earliest_first v.station.post.did ++ more
       → filter_map (step_of split) es ≡ map step_told (filter (is_plain split) more)
       → HasSteps v ds → HasSteps w (ds ++ es)
   more_steps v w ds es more did same k = record {
     steps =
         filter_map-append (step_of split) ds es ∙ ap₂ (λ a b. a ++ b) k.steps same
-        ∙ sym (told-append (earliest_first v.seat.post.did) more) ∙ sym (ap (λ xs. map step_told (filter (is_plain split) xs)) did);
+        ∙ sym (told-append (earliest_first v.station.post.did) more) ∙ sym (ap (λ xs. map step_told (filter (is_plain split) xs)) did);
   }
 
   -- no deed, and no step
-  no_steps : (v w : LiveView) (ds : List Deed) → earliest_first w.seat.post.did ≡ (earliest_first v.seat.post.did) → HasSteps v ds → HasSteps w (ds ++ [])
-  no_steps v w ds did k = more_steps v w ds [] [] (did ∙ sym (append-nil (earliest_first v.seat.post.did))) refl k
+  no_steps : (v w : LiveView) (ds : List Deed) → earliest_first w.station.post.did ≡ (earliest_first v.station.post.did) → HasSteps v ds → HasSteps w (ds ++ [])
+  no_steps v w ds did k = more_steps v w ds [] [] (did ∙ sym (append-nil (earliest_first v.station.post.did))) refl k
 
   -- one step, told or not
   plain_step : (s : PageStep) → split s.phase s.page ≡ false
@@ -98,21 +98,21 @@ module _ (first : LiveView) (masks : ℕ → ℕ) where
       (filter (is_plain split) (map (step_adding worker) adds)))) all.0)
 
   -- a merge's additions are all of split pages
-  merges_split : (v : LiveView) → Stands first v → IsOrdered masks v → RunsSplit v.seat.post.state
+  merges_split : (v : LiveView) → Stands first v → IsOrdered masks v → RunsSplit v.station.post.state
       → (adds : List Addition)
-      → All (λ a. a.likes ≡ get_or v.seat.slice a.page 0) adds → All (λ a. a.phase ≡ phase_at v.seat) adds
-      → AllByRecursion (λ s. AddsSome s.call) (map (step_adding v.seat.post.worker) adds)
+      → All (λ a. a.likes ≡ get_or v.station.slice a.page 0) adds → All (λ a. a.phase ≡ phase_at v.station) adds
+      → AllByRecursion (λ s. AddsSome s.call) (map (step_adding v.station.post.worker) adds)
       → AllByRecursion (λ a. split a.phase a.page ≡ true) adds
   merges_split v k o runs [] likes phases some = tt
   merges_split v k o runs (a ∷ adds) likes phases some =
-      let many = All-head (λ (b : Addition). b.likes ≡ get_or v.seat.slice b.page 0) a adds likes in
+      let many = All-head (λ (b : Addition). b.likes ≡ get_or v.station.slice b.page 0) a adds likes in
       let least = some.0 in
       let here = k.split a.page (λ none. absurd (omega (arith, none, many, least))) in (
-        ap (λ n. split n a.page) (All-head (λ (b : Addition). b.phase ≡ phase_at v.seat) a adds phases)
-            ∙ sym (slices_split first masks v a.page k o (split_runs v.seat.post.state runs))
+        ap (λ n. split n a.page) (All-head (λ (b : Addition). b.phase ≡ phase_at v.station) a adds phases)
+            ∙ sym (slices_split first masks v a.page k o (split_runs v.station.post.state runs))
             ∙ here.1,
-        merges_split v k o runs adds (All-tail (λ (b : Addition). b.likes ≡ get_or v.seat.slice b.page 0) a adds likes)
-            (All-tail (λ (b : Addition). b.phase ≡ phase_at v.seat) a adds phases) some.1,
+        merges_split v k o runs adds (All-tail (λ (b : Addition). b.likes ≡ get_or v.station.slice b.page 0) a adds likes)
+            (All-tail (λ (b : Addition). b.phase ≡ phase_at v.station) a adds phases) some.1,
       )
 
   pub steps_next : (v : LiveView) (s : Step v) (ds : List Deed) → Stands first v → IsOrdered masks (next v s)
@@ -120,24 +120,24 @@ module _ (first : LiveView) (masks : ℕ → ℕ) where
   steps_next v (looks sight mask can) ds k o h = no_steps v _ ds refl h
   steps_next v (finds found joined order shown) ds k o h =
       let before = ordered_back first masks v (finds found joined order shown) k o in
-      more_steps v _ ds (map deed_found found) (map (step_for v.seat.post.worker) found)
-      (then-earliest v.seat.post.did (map (step_for v.seat.post.worker) found))
-      (steps_found v.seat.post.worker (phase_at v.seat) found
+      more_steps v _ ds (map deed_found found) (map (step_for v.station.post.worker) found)
+      (then-earliest v.station.post.did (map (step_for v.station.post.worker) found))
+      (steps_found v.station.post.worker (phase_at v.station) found
       (λ i d below. let f = get_or found i d in
       ap (λ n. split n f.asked.page) (shown i d below).phase
-      ∙ sym (slices_split first masks v f.asked.page k before (running v.seat.post.state joined))
-      ∙ plain v.seat.post f.asked.page joined))
+      ∙ sym (slices_split first masks v f.asked.page k before (running v.station.post.state joined))
+      ∙ plain v.station.post f.asked.page joined))
       h
   steps_next v (acknowledges joined) ds k o h = no_steps v _ ds refl h
   steps_next v (reports adds runs merges) ds k o h =
       let before = ordered_back first masks v (reports adds runs merges) k o in
-      more_steps v _ ds [] (map (step_adding v.seat.post.worker) adds)
-      (then-earliest v.seat.post.did (map (step_adding v.seat.post.worker) adds))
-      (steps_merged v.seat.post.worker adds
+      more_steps v _ ds [] (map (step_adding v.station.post.worker) adds)
+      (then-earliest v.station.post.did (map (step_adding v.station.post.worker) adds))
+      (steps_merged v.station.post.worker adds
       (merges_split v k before runs adds merges.likes_are merges.phase_is
-      (all_rest (λ (t : PageStep). AddsSome t.call) (earliest_first v.seat.post.did) (map (step_adding v.seat.post.worker) adds)
+      (all_rest (λ (t : PageStep). AddsSome t.call) (earliest_first v.station.post.did) (map (step_adding v.station.post.worker) adds)
       (subst (AllByRecursion (λ (t : PageStep). AddsSome t.call))
-      (then-earliest v.seat.post.did (map (step_adding v.seat.post.worker) adds)) o.some))))
+      (then-earliest v.station.post.did (map (step_adding v.station.post.worker) adds)) o.some))))
       h
   steps_next v (retires joined) ds k o h = no_steps v _ ds refl h
   steps_next v (returns phase mask gone) ds k o h = no_steps v _ ds refl h
@@ -145,28 +145,28 @@ module _ (first : LiveView) (masks : ℕ → ℕ) where
   steps_next v (slices_like user page is) ds k o h =
       let before = ordered_back first masks v (slices_like user page is) k o in
       let there = sym (slices_split first masks v page k before is.runs) ∙ is.at in
-      more_steps v _ ds (deed (phase_at v.seat) user page counted ∷ []) []
-      (sym (append-nil (earliest_first v.seat.post.did)))
-      (ap (λ b. cons_option (step_by b (phase_at v.seat) page counted) []) there) h
+      more_steps v _ ds (deed (phase_at v.station) user page counted ∷ []) []
+      (sym (append-nil (earliest_first v.station.post.did)))
+      (ap (λ b. cons_option (step_by b (phase_at v.station) page counted) []) there) h
   steps_next v (adds_like user page old is) ds k o h =
       let before = ordered_back first masks v (adds_like user page old is) k o in
       let there = sym (slices_split first masks v page k before is.runs) ∙ is.at in
-      more_steps v _ ds (deed (phase_at v.seat) user page counted ∷ [])
-      (page_step v.seat.post.worker (phase_at v.seat) page old (Add 1) ∷ []) refl
-      (ap (λ b. cons_option (step_by b (phase_at v.seat) page counted) []) there
-      ∙ plain_step (page_step v.seat.post.worker (phase_at v.seat) page old (Add 1)) there) h
+      more_steps v _ ds (deed (phase_at v.station) user page counted ∷ [])
+      (page_step v.station.post.worker (phase_at v.station) page old (Add 1) ∷ []) refl
+      (ap (λ b. cons_option (step_by b (phase_at v.station) page counted) []) there
+      ∙ plain_step (page_step v.station.post.worker (phase_at v.station) page old (Add 1)) there) h
   steps_next v (reads user page shown is last) ds k o h =
       let before = ordered_back first masks v (reads user page shown is last) k o in
       let there = sym (slices_split first masks v page k before is.runs) ∙ is.at in
-      more_steps v _ ds (deed (phase_at v.seat) user page (showed shown) ∷ [])
-      (page_step v.seat.post.worker (phase_at v.seat) page shown.count Read ∷ []) refl
-      (plain_step (page_step v.seat.post.worker (phase_at v.seat) page shown.count Read) there) h
+      more_steps v _ ds (deed (phase_at v.station) user page (showed shown) ∷ [])
+      (page_step v.station.post.worker (phase_at v.station) page shown.count Read ∷ []) refl
+      (plain_step (page_step v.station.post.worker (phase_at v.station) page shown.count Read) there) h
   steps_next v (glances user page count shown is last) ds k o h =
       let before = ordered_back first masks v (glances user page count shown is last) k o in
       let there = sym (slices_split first masks v page k before is.runs) ∙ is.at in
-      more_steps v _ ds (deed (phase_at v.seat) user page (glimpsed shown) ∷ [])
-      (page_step v.seat.post.worker (phase_at v.seat) page count Glance ∷ []) refl
-      (split_step (page_step v.seat.post.worker (phase_at v.seat) page count Glance) there) h
+      more_steps v _ ds (deed (phase_at v.station) user page (glimpsed shown) ∷ [])
+      (page_step v.station.post.worker (phase_at v.station) page count Glance ∷ []) refl
+      (split_step (page_step v.station.post.worker (phase_at v.station) page count Glance) there) h
   steps_next v (holds user page tag is) ds k o h = no_steps v _ ds refl h
 
   pub steps_kept : IsKept first (IsOrdered masks) HasSteps

@@ -38,12 +38,12 @@ step_in phase page s = only (s.phase == phase) (adds_to page s)
 
 -- how many likes of a page are in the slice, if this is the seat's phase
 abbrev sliced_in : ℕ → ℕ → LiveView → ℕ
-sliced_in phase page v = only (phase_at v.seat == phase) (get_or v.seat.slice page 0)
+sliced_in phase page v = only (phase_at v.station == phase) (get_or v.station.slice page 0)
 
 -- the deeds so far count, phase by phase, what the seat added and what it has in its slice
 pub record HasTotals (v : LiveView) (ds : List Deed) : Type 0 where
   pub total : (phase page : ℕ)
-      → weigh (deed_in phase page) ds ≡ weigh (step_in phase page) (earliest_first v.seat.post.did) + sliced_in phase page v
+      → weigh (deed_in phase page) ds ≡ weigh (step_in phase page) (earliest_first v.station.post.did) + sliced_in phase page v
 
 -- a slice that cannot have a like has none
 pub is_none : (n : ℕ) → (n ≢ 0 → ⊥) → n ≡ 0
@@ -52,7 +52,7 @@ is_none (suc n) not = absurd (not (λ e. absurd (cc e)))
 
 module _ (first : LiveView) where
   -- deeds more, steps more, and another slice
-  more : (v w : LiveView) (ds es : List Deed) (steps : List PageStep) → earliest_first w.seat.post.did ≡ earliest_first v.seat.post.did ++ steps
+  more : (v w : LiveView) (ds es : List Deed) (steps : List PageStep) → earliest_first w.station.post.did ≡ earliest_first v.station.post.did ++ steps
       → ((phase page : ℕ)
       → weigh (deed_in phase page) es + sliced_in phase page v
       ≡ weigh (step_in phase page) steps + sliced_in phase page w)
@@ -64,16 +64,16 @@ module _ (first : LiveView) where
       h.total phase page,
       same phase page,
       ap (weigh (step_in phase page)) did,
-      weigh-append (step_in phase page) (earliest_first v.seat.post.did) steps,
+      weigh-append (step_in phase page) (earliest_first v.station.post.did) steps,
     );
   }
 
   -- no deed and no step, with the same in the slice
-  none : (v w : LiveView) (ds : List Deed) → earliest_first w.seat.post.did ≡ earliest_first v.seat.post.did
+  none : (v w : LiveView) (ds : List Deed) → earliest_first w.station.post.did ≡ earliest_first v.station.post.did
       → ((phase page : ℕ) → sliced_in phase page v ≡ sliced_in phase page w)
       → HasTotals v ds → HasTotals w (ds ++ [])
   none v w ds did same h =
-      more v w ds [] [] (did ∙ sym (append-nil (earliest_first v.seat.post.did))) (λ phase page. ap (λ n. 0 + n) (same phase page)) h
+      more v w ds [] [] (did ∙ sym (append-nil (earliest_first v.station.post.did))) (λ phase page. ap (λ n. 0 + n) (same phase page)) h
 
   -- an empty slice counts nothing in whichever phase
   empty : (a b : Bool) (n m : ℕ) → n ≡ 0 → m ≡ 0 → only a n ≡ only b m
@@ -133,61 +133,61 @@ module _ (first : LiveView) where
       → HasTotals v ds → HasTotals (next v s) (ds ++ done_by v s)
   totals_next v (looks sight mask can) ds k h =
       none v _ ds refl
-      (λ phase page. looked_same (phase_at v.seat) (phase_of (seen v.seat.post.state sight)) (get_or v.seat.slice page 0)
-      phase (λ has. looked_phase v.seat.post.state sight (k.split page has).0)) h
+      (λ phase page. looked_same (phase_at v.station) (phase_of (seen v.station.post.state sight)) (get_or v.station.slice page 0)
+      phase (λ has. looked_phase v.station.post.state sight (k.split page has).0)) h
   totals_next v (finds found joined order shown) ds k h =
-      more v _ ds (map deed_found found) (map (step_for v.seat.post.worker) found)
-      (then-earliest v.seat.post.did (map (step_for v.seat.post.worker) found))
+      more v _ ds (map deed_found found) (map (step_for v.station.post.worker) found)
+      (then-earliest v.station.post.did (map (step_for v.station.post.worker) found))
       (λ phase page.
       let a = found_none phase page found in
-      let b = reads_none phase page v.seat.post.worker found in omega arith) h
+      let b = reads_none phase page v.station.post.worker found in omega arith) h
   totals_next v (acknowledges joined) ds k h = none v _ ds refl (λ phase page. refl) h
   totals_next v (reports adds runs merges) ds k h =
-      more v _ ds [] (map (step_adding v.seat.post.worker) adds)
-      (then-earliest v.seat.post.did (map (step_adding v.seat.post.worker) adds))
+      more v _ ds [] (map (step_adding v.station.post.worker) adds)
+      (then-earliest v.station.post.did (map (step_adding v.station.post.worker) adds))
       (λ phase page.
-      let added : weigh (step_in phase page) (map (step_adding v.seat.post.worker) adds)
-      ≡ only (phase_at v.seat == phase) (get_or v.seat.slice page 0) =
-      adds_in phase page v.seat.post.worker adds
-      ∙ added_in-phase (phase_at v.seat) page phase adds merges.phase_is
-      ∙ ap (only (phase_at v.seat == phase)) (merges.sums page) in
-      let left : only (phase_at v.seat == phase) (get_or (replicate (pages_of v.seat.post) 0) page 0) ≡ 0 =
-      ap (only (phase_at v.seat == phase)) (same_everywhere (pages_of v.seat.post) page 0)
-      ∙ only-none (phase_at v.seat == phase) in
+      let added : weigh (step_in phase page) (map (step_adding v.station.post.worker) adds)
+      ≡ only (phase_at v.station == phase) (get_or v.station.slice page 0) =
+      adds_in phase page v.station.post.worker adds
+      ∙ added_in-phase (phase_at v.station) page phase adds merges.phase_is
+      ∙ ap (only (phase_at v.station == phase)) (merges.sums page) in
+      let left : only (phase_at v.station == phase) (get_or (replicate (pages_of v.station.post) 0) page 0) ≡ 0 =
+      ap (only (phase_at v.station == phase)) (same_everywhere (pages_of v.station.post) page 0)
+      ∙ only-none (phase_at v.station == phase) in
       omega arith) h
   totals_next v (retires joined) ds k h =
       none v _ ds refl
       (λ phase page.
-      let zero_is = is_none (get_or v.seat.slice page 0)
-      (λ has. unsplit v.seat.post.state joined (k.split page has).0) in
-      empty (phase_at v.seat == phase) (0 == phase) _ _ zero_is zero_is) h
+      let zero_is = is_none (get_or v.station.slice page 0)
+      (λ has. unsplit v.station.post.state joined (k.split page has).0) in
+      empty (phase_at v.station == phase) (0 == phase) _ _ zero_is zero_is) h
   totals_next v (returns to mask gone) ds k h =
       none v _ ds refl
       (λ phase page.
-      let zero_is = is_none (get_or v.seat.slice page 0) (λ has. subst RunsSplit gone (k.split page has).0) in
-      empty (phase_at v.seat == phase) (to == phase) _ _ zero_is zero_is) h
+      let zero_is = is_none (get_or v.station.slice page 0) (λ has. subst RunsSplit gone (k.split page has).0) in
+      empty (phase_at v.station == phase) (to == phase) _ _ zero_is zero_is) h
   totals_next v takes ds k h = none v _ ds refl (λ phase page. refl) h
   totals_next v (slices_like user page is) ds k h =
-      more v _ ds (deed (phase_at v.seat) user page counted ∷ []) [] (sym (append-nil (earliest_first v.seat.post.did)))
+      more v _ ds (deed (phase_at v.station) user page counted ∷ []) [] (sym (append-nil (earliest_first v.station.post.did)))
       (λ phase other.
-      let there = subst (λ n. page < n) (sym k.sized) (page_there v.seat user page is.accepted) in
-      like_one (phase_at v.seat == phase) (page == other) _ _ (slice-more v.seat.slice page other there)) h
+      let there = subst (λ n. page < n) (sym k.sized) (page_there v.station user page is.accepted) in
+      like_one (phase_at v.station == phase) (page == other) _ _ (slice-more v.station.slice page other there)) h
   totals_next v (adds_like user page old is) ds k h =
-      more v _ ds (deed (phase_at v.seat) user page counted ∷ [])
-      (page_step v.seat.post.worker (phase_at v.seat) page old (Add 1) ∷ []) refl (λ phase other. refl) h
+      more v _ ds (deed (phase_at v.station) user page counted ∷ [])
+      (page_step v.station.post.worker (phase_at v.station) page old (Add 1) ∷ []) refl (λ phase other. refl) h
   totals_next v (reads user page shown is last) ds k h =
-      more v _ ds (deed (phase_at v.seat) user page (showed shown) ∷ [])
-      (page_step v.seat.post.worker (phase_at v.seat) page shown.count Read ∷ []) refl
+      more v _ ds (deed (phase_at v.station) user page (showed shown) ∷ [])
+      (page_step v.station.post.worker (phase_at v.station) page shown.count Read ∷ []) refl
       (λ phase other.
-      let a = only-none (phase_at v.seat == phase) in
-      let b = read_none phase other v.seat.post.worker (phase_at v.seat) page shown.count Read (inl refl) in
+      let a = only-none (phase_at v.station == phase) in
+      let b = read_none phase other v.station.post.worker (phase_at v.station) page shown.count Read (inl refl) in
       omega arith) h
   totals_next v (glances user page count shown is last) ds k h =
-      more v _ ds (deed (phase_at v.seat) user page (glimpsed shown) ∷ [])
-      (page_step v.seat.post.worker (phase_at v.seat) page count Glance ∷ []) refl
+      more v _ ds (deed (phase_at v.station) user page (glimpsed shown) ∷ [])
+      (page_step v.station.post.worker (phase_at v.station) page count Glance ∷ []) refl
       (λ phase other.
-      let a = only-none (phase_at v.seat == phase) in
-      let b = read_none phase other v.seat.post.worker (phase_at v.seat) page count Glance (inr refl) in
+      let a = only-none (phase_at v.station == phase) in
+      let b = read_none phase other v.station.post.worker (phase_at v.station) page count Glance (inr refl) in
       omega arith) h
   totals_next v (holds user page tag is) ds k h = none v _ ds refl (λ phase page. refl) h
 

@@ -80,13 +80,13 @@ all_asked P fs all = λ k d below.
 pub record Finding (v now : LiveView) : Type 0 where
   pub found : List Found
   pub order : map (λ f. f.asked) found ++ waiting now ≡ waiting v
-  pub shown : All (IsFoundAt v.seat) found
-  pub post : now.seat.post
-      ≡ record v.seat.post { did = then_steps v.seat.post.did (map (step_for v.seat.post.worker) found) }
-  pub capacity : now.seat.held.capacity ≡ v.seat.held.capacity
-  pub slice : now.seat.slice ≡ v.seat.slice
-  pub sliced : now.seat.sliced ≡ v.seat.sliced
-  pub last : now.seat.last ≡ v.seat.last
+  pub shown : All (IsFoundAt v.station) found
+  pub post : now.station.post
+      ≡ record v.station.post { did = then_steps v.station.post.did (map (step_for v.station.post.worker) found) }
+  pub capacity : now.station.held.capacity ≡ v.station.held.capacity
+  pub slice : now.station.slice ≡ v.station.slice
+  pub sliced : now.station.sliced ≡ v.station.sliced
+  pub last : now.station.last ≡ v.station.last
   pub found_is : now.found ≡ v.found ++ found
 
 -- none is found at first
@@ -94,7 +94,7 @@ pub Finding-start : (v : LiveView) → Finding v v
 Finding-start v = record {
   found = [];
   order = refl;
-  shown = All-nil (IsFoundAt v.seat);
+  shown = All-nil (IsFoundAt v.station);
   post = refl;
   capacity = refl;
   slice = refl;
@@ -111,7 +111,7 @@ Finding-end v now f none = record {
       ∙ ap (λ ws. map (λ (x : Found). x.asked) f.found ++ ws) (sym none) ∙ f.order;
   shown = f.shown;
   rest = λ m. record {
-    seat = record {
+    station = record {
       post = f.post m;
       held = record { held = none m; capacity = f.capacity m };
       slice = f.slice m;
@@ -123,11 +123,11 @@ Finding-end v now f none = record {
 }
 
 -- the looks that wait still are the seat's
-pub Finding-own : (v now : LiveView) → Finding v now → All (IsOwn v.seat) (waiting v) → All (IsOwn v.seat) (waiting now)
+pub Finding-own : (v now : LiveView) → Finding v now → All (IsOwn v.station) (waiting v) → All (IsOwn v.station) (waiting now)
 Finding-own v now f own =
-    subst (All (IsOwn v.seat)) (drop_front (map (λ (x : Found). x.asked) f.found) (waiting now))
-    (All-drop (IsOwn v.seat) (length (map (λ (x : Found). x.asked) f.found))
-    (map (λ (x : Found). x.asked) f.found ++ waiting now) (subst (All (IsOwn v.seat)) (sym f.order) own))
+    subst (All (IsOwn v.station)) (drop_front (map (λ (x : Found). x.asked) f.found) (waiting now))
+    (All-drop (IsOwn v.station) (length (map (λ (x : Found). x.asked) f.found))
+    (map (λ (x : Found). x.asked) f.found ++ waiting now) (subst (All (IsOwn v.station)) (sym f.order) own))
   where
     drop_front : {X : Type 0} (xs ys : List X) → drop (length xs) (xs ++ ys) ≡ ys
     drop_front [] ys = refl
@@ -141,11 +141,11 @@ front P xs ys all =
 -- looks that were asked in the phase before and are found ran in the next phase
 pub Finding-ran : (v now : LiveView)
     → Finding v now
-    → All (λ a. phase_at v.seat ≡ a.phase + 1) (waiting v)
+    → All (λ a. phase_at v.station ≡ a.phase + 1) (waiting v)
     → All RanNext v.found
     → All RanNext now.found
 Finding-ran v now f before next =
-    let Before : Asked → Type 0 = λ a. phase_at v.seat ≡ a.phase + 1 in
+    let Before : Asked → Type 0 = λ a. phase_at v.station ≡ a.phase + 1 in
     let asked = all_asked Before f.found
     (front Before (map (λ (x : Found). x.asked) f.found) (waiting now) (subst (All Before) (sym f.order) before)) in
     subst (All RanNext) (sym f.found_is)
@@ -153,13 +153,13 @@ Finding-ran v now f before next =
 
 -- one look more is found, which was the first that waited still
 pub Finding-more : (v now next : LiveView) (a : Asked) (f : Found) → Finding v now
-    → waiting now ≡ a ∷ waiting next → f.asked ≡ a → IsFoundAt v.seat f
-    → next.seat.post
-    ≡ record now.seat.post { did = step_for v.seat.post.worker f ∷ now.seat.post.did }
-    → next.seat.held.capacity ≡ now.seat.held.capacity
-    → next.seat.slice ≡ now.seat.slice
-    → next.seat.sliced ≡ now.seat.sliced
-    → next.seat.last ≡ now.seat.last
+    → waiting now ≡ a ∷ waiting next → f.asked ≡ a → IsFoundAt v.station f
+    → next.station.post
+    ≡ record now.station.post { did = step_for v.station.post.worker f ∷ now.station.post.did }
+    → next.station.held.capacity ≡ now.station.held.capacity
+    → next.station.slice ≡ now.station.slice
+    → next.station.sliced ≡ now.station.sliced
+    → next.station.last ≡ now.station.last
     → next.found ≡ now.found ++ f ∷ [] → Finding v next
 Finding-more v now next a f d first is shown post capacity slice sliced last found = record {
   found = d.found ++ f ∷ [];
@@ -169,12 +169,12 @@ Finding-more v now next a f d first is shown post capacity slice sliced last fou
       ∙ ap (λ (x : Asked). map (λ (x : Found). x.asked) d.found ++ x ∷ waiting next) is
       ∙ ap (λ ws. map (λ (x : Found). x.asked) d.found ++ ws) (sym first)
       ∙ d.order;
-  shown = All-push (IsFoundAt v.seat) d.found f d.shown shown;
+  shown = All-push (IsFoundAt v.station) d.found f d.shown shown;
   post =
       post
       ∙ ap
-      (λ (p : PostView). record p { did = step_for v.seat.post.worker f ∷ p.did }) d.post
-      ∙ (λ m. record v.seat.post { did = did m });
+      (λ (p : PostView). record p { did = step_for v.station.post.worker f ∷ p.did }) d.post
+      ∙ (λ m. record v.station.post { did = did m });
   capacity = capacity ∙ d.capacity;
   slice = slice ∙ d.slice;
   sliced = sliced ∙ d.sliced;
@@ -182,11 +182,11 @@ Finding-more v now next a f d first is shown post capacity slice sliced last fou
   found_is = found ∙ ap (λ xs. xs ++ f ∷ []) d.found_is ∙ append_assoc v.found d.found (f ∷ []);
 }
   where
-    did : step_for v.seat.post.worker f ∷ then_steps v.seat.post.did (map (step_for v.seat.post.worker) d.found)
-        ≡ then_steps v.seat.post.did (map (step_for v.seat.post.worker) (d.found ++ f ∷ []))
+    did : step_for v.station.post.worker f ∷ then_steps v.station.post.did (map (step_for v.station.post.worker) d.found)
+        ≡ then_steps v.station.post.did (map (step_for v.station.post.worker) (d.found ++ f ∷ []))
     did =
-        sym (then-push v.seat.post.did (map (step_for v.seat.post.worker) d.found) (step_for v.seat.post.worker f))
-        ∙ ap (then_steps v.seat.post.did) (sym (map-append (step_for v.seat.post.worker) d.found (f ∷ [])))
+        sym (then-push v.station.post.did (map (step_for v.station.post.worker) d.found) (step_for v.station.post.worker f))
+        ∙ ap (then_steps v.station.post.did) (sym (map-append (step_for v.station.post.worker) d.found (f ∷ [])))
 
 -- they are no more than there is room for
 pub Finding-room : (v now : LiveView) → Finding v now
@@ -204,20 +204,20 @@ Finding-room v now f =
 
 -- the seat runs its joined phase still, once the first that waits is taken out
 pub Finding-joined : (v now : LiveView) (s : StationView Asked) → Finding v now
-    → RunsJoined v.seat.post.state → s ≡ without_first now.seat → RunsJoined s.post.state
+    → RunsJoined v.station.post.state → s ≡ without_first now.station → RunsJoined s.post.state
 Finding-joined v now s f joined is =
     subst (λ (p : PostView). RunsJoined p.state) (sym (ap (λ (t : StationView Asked). t.post) is ∙ f.post)) joined
 
 -- the first that waits still is the seat's, once it is taken out
-pub Finding-first : (v now : LiveView) (s : StationView Asked) (a : Asked) → Finding v now → All (IsOwn v.seat) (waiting v)
-    → slice_get (waiting now) 0 ≡ Some a → s ≡ without_first now.seat → IsOwn s a
+pub Finding-first : (v now : LiveView) (s : StationView Asked) (a : Asked) → Finding v now → All (IsOwn v.station) (waiting v)
+    → slice_get (waiting now) 0 ≡ Some a → s ≡ without_first now.station → IsOwn s a
 Finding-first v now s a d own first is =
-    let mine : IsOwn v.seat a =
-    All-head (IsOwn v.seat) a (drop 1 (waiting now))
-    (subst (All (IsOwn v.seat)) (first_of (waiting now) a first) (Finding-own v now d own)) in
-    let marks : s.post.marks ≡ v.seat.post.marks =
+    let mine : IsOwn v.station a =
+    All-head (IsOwn v.station) a (drop 1 (waiting now))
+    (subst (All (IsOwn v.station)) (first_of (waiting now) a first) (Finding-own v now d own)) in
+    let marks : s.post.marks ≡ v.station.post.marks =
     ap (λ (t : StationView Asked). t.post.marks) is ∙ ap (λ (p : PostView). p.marks) d.post in
-    let last : s.last ≡ v.seat.last = ap (λ (t : StationView Asked). t.last) is ∙ d.last in
+    let last : s.last ≡ v.station.last = ap (λ (t : StationView Asked). t.last) is ∙ d.last in
     record {
       there = subst (λ (m : List Bool). a.page < length m) (sym marks) mine.there;
       owned = subst (λ (t : UserTable). IsTrue (owns t.share a.user)) (sym last) mine.owned;
@@ -228,23 +228,23 @@ pub Finding-next : (v now : LiveView) (s after : StationView Asked) (found : Lis
     (phase : ℕ)
     → Finding v now
     → slice_get (waiting now) 0 ≡ Some a
-    → s ≡ without_first now.seat
+    → s ≡ without_first now.station
     → Reads s a.user a.page seen after
-    → phase ≡ phase_at v.seat
+    → phase ≡ phase_at v.station
     → found ≡ now.found ++ record { asked = a; last = seen.last; count = seen.count; phase = phase } ∷ []
-    → Finding v (record { seat = after; found = found })
+    → Finding v (record { station = after; found = found })
 Finding-next v now s after found a seen phase d first is reads phase_is found_is =
-    let last : s.last ≡ v.seat.last = ap (λ (t : StationView Asked). t.last) is ∙ d.last in
-    let post : s.post ≡ now.seat.post = ap (λ (t : StationView Asked). t.post) is in
-    let additions : additions_among s.post.did ≡ additions_among v.seat.post.did =
+    let last : s.last ≡ v.station.last = ap (λ (t : StationView Asked). t.last) is ∙ d.last in
+    let post : s.post ≡ now.station.post = ap (λ (t : StationView Asked). t.post) is in
+    let additions : additions_among s.post.did ≡ additions_among v.station.post.did =
     ap (λ (p : PostView). additions_among p.did) (post ∙ d.post)
-    ∙ found-additions v.seat.post.worker v.seat.post.did d.found in
-    let state : phase_of now.seat.post.state ≡ phase = ap (λ (p : PostView). phase_of p.state) d.post ∙ sym phase_is in
-    let worker : now.seat.post.worker ≡ v.seat.post.worker = ap (λ (p : PostView). p.worker) d.post in
-    let e : after ≡ record (without_first now.seat) { post = has_read now.seat.post a.page seen.count } =
+    ∙ found-additions v.station.post.worker v.station.post.did d.found in
+    let state : phase_of now.station.post.state ≡ phase = ap (λ (p : PostView). phase_of p.state) d.post ∙ sym phase_is in
+    let worker : now.station.post.worker ≡ v.station.post.worker = ap (λ (p : PostView). p.worker) d.post in
+    let e : after ≡ record (without_first now.station) { post = has_read now.station.post a.page seen.count } =
     reads.read ∙ ap (λ (t : StationView Asked). record t { post = has_read t.post a.page seen.count }) is in
     let f : Found = record { asked = a; last = seen.last; count = seen.count; phase = phase } in
-    Finding-more v now (record { seat = after; found = found }) a f d
+    Finding-more v now (record { station = after; found = found }) a f d
     (first_of (waiting now) a first
     ∙ ap (λ (xs : List Asked). a ∷ xs) (sym (ap (λ (t : StationView Asked). t.held.held) e)))
     refl
@@ -254,8 +254,8 @@ Finding-next v now s after found a seen phase d first is reads phase_is found_is
       phase = phase_is;
     })
     (ap (λ (t : StationView Asked). t.post) e
-    ∙ (λ m. record now.seat.post {
-      did = page_step (worker m) (state m) a.page seen.count Read ∷ now.seat.post.did;
+    ∙ (λ m. record now.station.post {
+      did = page_step (worker m) (state m) a.page seen.count Read ∷ now.station.post.did;
     }))
     (ap (λ (t : StationView Asked). t.held.capacity) e)
     (ap (λ (t : StationView Asked). t.slice) e)
@@ -271,12 +271,12 @@ parity state.Gone h = absurd h
 
 -- a seat that runs a phase which goes on has nothing to do, if nothing waits in a joined one
 pub goes_on : (v : LiveView)
-    → IsRunning v.seat.post.state
-    → (IsJoined (phase_at v.seat) → waiting v ≡ [])
+    → IsRunning v.station.post.state
+    → (IsJoined (phase_at v.station) → waiting v ≡ [])
     → Works v false turn.Runs v
-goes_on v runs none = elim (parity v.seat.post.state runs) [
+goes_on v runs none = elim (parity v.station.post.state runs) [
   | inl joined ↦
       runs_joined joined refl refl
-      (Finding-end v v (Finding-start v) (none (joined_phase v.seat.post.state joined)))
+      (Finding-end v v (Finding-start v) (none (joined_phase v.station.post.state joined)))
   | inr split ↦ runs_split split refl refl refl
 ]

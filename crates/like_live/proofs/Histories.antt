@@ -18,7 +18,7 @@ use Rattle.like_live.specs.declared.answer.LookAnswer.{LookAnswer}
 use Rattle.like_live.specs.declared.answer.LookAnswer.TheVariants.{Waits}
 use Rattle.like_live.specs.declared.asked.Asked.{Asked}
 use Rattle.like_live.specs.declared.asked.Found.{Found}
-use Rattle.like_live.specs.LiveView.{LiveView, tally, waiting, with_seat}
+use Rattle.like_live.specs.LiveView.{LiveView, tally, waiting, with_station}
 use Rattle.like_live.specs.Calls as calls
 use Rattle.like_live.specs.Calls.{GlanceCase, GlancesNow, LikeCase, LikesNow, LookCase, LooksNow, TakesFound, asked_now}
 use Rattle.like_live.specs.History.{Ask, Does, HasDone, HistoriesAreCounted, IsUnused, NoneWaitsOnceGone, Told, ask_of, ask_taken, ask_told, ask_waiting, asks_left, asks_taken, asks_told, come_back, glance, like, like_told, likes_told, look, page_liked, pages_liked, retire, take_found, turn}
@@ -39,21 +39,21 @@ told-like v after user page answer whole (calls.full accepted most a is) =
     (subst (λ x. TellsNothing (like user page x)) (sym a)
     (record { likes = λ p. refl; pages = λ u. refl; taken = refl; told = refl }))
 told-like v after user page answer whole (calls.liked old s accepted few a counts is) =
-    let c = is_counted v.seat s user page old counts in
-    let there = subst (λ n. user < n) (sym whole.table) (user_there v.seat user page accepted) in
+    let c = is_counted v.station s user page old counts in
+    let there = subst (λ n. user < n) (sym whole.table) (user_there v.station user page accepted) in
     let done : LikesNow v user page answer after = calls.liked old s accepted few a counts is in
     record {
       whole = subst IsWhole (sym is) (record {
         sized = c.sized ∙ whole.sized ∙ ap length (sym c.marks);
-        table = ap (λ (t : UserTable). length t.last) c.last ∙ length-set v.seat.last.last user (Some page)
+        table = ap (λ (t : UserTable). length t.last) c.last ∙ length-set v.station.last.last user (Some page)
             ∙ whole.table ∙ ap (λ (t : UserTable). t.share.users) (sym c.last);
         empty = λ gone. ap (λ (w : Waiting Asked). w.held) c.held ∙ whole.empty (sym c.is_in ∙ gone);
       });
       tallies = LikesNow-tallies v after user page answer whole.sized done;
       last = λ other.
-          ap (λ (w : LiveView). last_of w.seat.last other) is ∙ ap (λ (t : UserTable). last_of t other) c.last
-          ∙ last-more v.seat.last user page other there
-          ∙ sym (ap (λ x. last_or (last_of v.seat.last other) (page_liked other (like user page x))) a);
+          ap (λ (w : LiveView). last_of w.station.last other) is ∙ ap (λ (t : UserTable). last_of t other) c.last
+          ∙ last-more v.station.last user page other there
+          ∙ sym (ap (λ x. last_or (last_of v.station.last other) (page_liked other (like user page x))) a);
       asks = ap asks_left is ∙ merged-asks v s c.held ∙ sym (append-nil (asks_left v));
     }
 
@@ -72,7 +72,7 @@ told-look v after user page tag answer whole (calls.no_room accepted split none 
     (record { likes = λ p. refl; pages = λ u. refl; taken = refl; told = refl }))
 told-look v after user page tag answer whole (calls.seen shown s accepted plain a reads is) =
     IsTold-quiet v after (look user page tag answer)
-    (subst (IsQuiet v) (sym (is ∙ ap (with_seat v) reads.read)) (record {
+    (subst (IsQuiet v) (sym (is ∙ ap (with_station v) reads.read)) (record {
       whole = record { sized = whole.sized; table = whole.table; empty = whole.empty };
       tallies = λ p. refl;
       last = refl;
@@ -87,7 +87,7 @@ told-look v after user page tag answer whole (calls.waits accepted split room a 
         sized =
             whole.sized;
         table = whole.table;
-        empty = λ gone. absurd (gone-plain v.seat.post page gone split);
+        empty = λ gone. absurd (gone-plain v.station.post page gone split);
       };
       tallies = λ p. omega arith;
       last = λ u. refl;
@@ -111,14 +111,14 @@ quiet-glance : (v after : LiveView) (user page : ℕ) (answer : GlanceAnswer)
 quiet-glance v after user page answer whole (calls.refused fails a is) =
     subst (IsQuiet v) (sym is) (IsQuiet-same v whole)
 quiet-glance v after user page answer whole (calls.plain shown s accepted plain a reads is) =
-    subst (IsQuiet v) (sym (is ∙ ap (with_seat v) reads.read)) (record {
+    subst (IsQuiet v) (sym (is ∙ ap (with_station v) reads.read)) (record {
       whole = record { sized = whole.sized; table = whole.table; empty = whole.empty };
       tallies = λ p. refl;
       last = refl;
       asks = refl;
     })
 quiet-glance v after user page answer whole (calls.split shown s accepted split a glances is) =
-    subst (IsQuiet v) (sym (is ∙ ap (with_seat v) glances.glanced)) (record {
+    subst (IsQuiet v) (sym (is ∙ ap (with_station v) glances.glanced)) (record {
       whole = record { sized = whole.sized; table = whole.table; empty = whole.empty };
       tallies = λ p. refl;
       last = refl;
@@ -202,7 +202,7 @@ told-does (come_back answer) v after whole d =
 record AreTold (v after : LiveView) (told : List Told) : Type 0 where
   whole : IsWhole after
   tallies : (page : ℕ) → tally after page ≡ tally v page + likes_told page told
-  last : (user : ℕ) → last_of after.seat.last user ≡ last_or (last_of v.seat.last user) (pages_liked user told)
+  last : (user : ℕ) → last_of after.station.last user ≡ last_or (last_of v.station.last user) (pages_liked user told)
   asks : asks_taken told ++ asks_left after ≡ asks_left v ++ asks_told told
 
 pub last_or-append : (o : Option ℕ) (xs ys : List ℕ) → last_or o (xs ++ ys) ≡ last_or (last_or o xs) ys
@@ -226,7 +226,7 @@ are_told (t ∷ told) v after whole d =
           let b = rest.tallies page in omega (arith, sum_by-cons (like_told page) t told);
       last = λ user.
           rest.last user ∙ ap (λ (o : Option ℕ). last_or o (pages_liked user told)) (first.last user)
-          ∙ sym (last_or-append (last_of v.seat.last user) (page_liked user t) (pages_liked user told));
+          ∙ sym (last_or-append (last_of v.station.last user) (page_liked user t) (pages_liked user told));
       asks =
           append_assoc (ask_taken t) (asks_taken told) (asks_left after)
           ∙ ap (λ xs. ask_taken t ++ xs) rest.asks
@@ -258,10 +258,10 @@ histories_are_counted v after told unused done =
     let nothing : asks_left v ≡ [] = λ m. map ask_of (new.found m) ++ map ask_waiting ((new.held m).held) in
     record {
       tallies = λ page.
-          let added : added_to page (additions_among v.seat.post.did) ≡ 0 =
+          let added : added_to page (additions_among v.station.post.did) ≡ 0 =
           ap (λ (p : PostView). added_to page (additions_among p.did)) new.at_post
           ∙ ap (λ ds. added_to page (additions_among ds)) unused.fresh.did_nothing in
-          let slice : get_or v.seat.slice page 0 ≡ 0 =
+          let slice : get_or v.station.slice page 0 ≡ 0 =
           ap (λ (xs : List ℕ). get_or xs page 0) new.slice ∙ same_everywhere _ page 0 in
           let all = t.tallies page in
           omega arith;

@@ -22,7 +22,7 @@ use Rattle.like_seat.specs.Steps.{CountsLike}
 use Rattle.like_seat.proofs.MergedLikes.{added_in-phase}
 use Rattle.like_live.specs.declared.answer.TurnAnswer.{TurnAnswer}
 use Rattle.like_live.specs.declared.asked.Asked.{Asked}
-use Rattle.like_live.specs.LiveView.{LiveView, with_seat}
+use Rattle.like_live.specs.LiveView.{LiveView, with_station}
 use Rattle.like_live.specs.Answers.{AreKept, IsRead, Shown, found_count}
 use Rattle.like_live.specs.Moves.{FindsAll, Moves, MovesBy, Works, acknowledges, is_gone, looked, reports, runs_joined, runs_split, waits, with_found, works}
 use Rattle.like_live.proofs.FoundSteps.{found-additions, found-glances, found-reads, read_for}
@@ -32,7 +32,7 @@ use Rattle.like_core.specs.Additions.{page_read}
 
 -- n likes of a page, which the seat had in its slice in a split phase, are kept
 pub record AreHeld (v : LiveView) (phase page from n : ℕ) : Type 0 where
-  pub within : from ≤ length (additions_among v.seat.post.did)
+  pub within : from ≤ length (additions_among v.station.post.did)
   pub split : IsSplit phase
   pub kept : AreKept v phase page from n
 
@@ -42,10 +42,10 @@ AreFound v = All (λ f. IsRead v (found_count f)) v.found
 
 -- what was read and glanced at stays so, what was added stands first, and what is kept stays kept
 pub record Keeps (v after : LiveView) : Type 0 where
-  pub reads : (r : PageRead) → Contains (reads_among v.seat.post.did) r → Contains (reads_among after.seat.post.did) r
-  pub glances : (r : PageRead) → Contains (glances_among v.seat.post.did) r → Contains (glances_among after.seat.post.did) r
+  pub reads : (r : PageRead) → Contains (reads_among v.station.post.did) r → Contains (reads_among after.station.post.did) r
+  pub glances : (r : PageRead) → Contains (glances_among v.station.post.did) r → Contains (glances_among after.station.post.did) r
   pub more : List Addition
-  pub additions : (additions_among after.seat.post.did) ≡ additions_among v.seat.post.did ++ more
+  pub additions : (additions_among after.station.post.did) ≡ additions_among v.station.post.did ++ more
   pub held : (phase page from n : ℕ) → AreHeld v phase page from n → AreHeld after phase page from n
   pub found : AreFound v → AreFound after
 
@@ -54,7 +54,7 @@ Keeps-all v = record {
   reads = λ r there. there;
   glances = λ r there. there;
   more = [];
-  additions = sym (append-nil (additions_among v.seat.post.did));
+  additions = sym (append-nil (additions_among v.station.post.did));
   held = λ phase page from n h. h;
   found = λ all. all;
 }
@@ -65,7 +65,7 @@ Keeps-both v now after a b = record {
   glances = λ r there. b.glances r (a.glances r there);
   more = a.more ++ b.more;
   additions =
-      b.additions ∙ ap (λ xs. xs ++ b.more) a.additions ∙ append_assoc (additions_among v.seat.post.did) a.more b.more;
+      b.additions ∙ ap (λ xs. xs ++ b.more) a.additions ∙ append_assoc (additions_among v.station.post.did) a.more b.more;
   held = λ phase page from n h. b.held phase page from n (a.held phase page from n h);
   found = λ all. b.found (a.found all);
 }
@@ -81,11 +81,11 @@ take-more f (suc n) (x ∷ xs) ys =
 -- own likes are among the same first additions, once there are more
 pub own-later : (v after : LiveView) (phase page from own slice : ℕ)
     → Keeps v after
-    → own ≤ added_in phase page (take from (additions_among v.seat.post.did)) + slice
-    → own ≤ added_in phase page (take from (additions_among after.seat.post.did)) + slice
+    → own ≤ added_in phase page (take from (additions_among v.station.post.did)) + slice
+    → own ≤ added_in phase page (take from (additions_among after.station.post.did)) + slice
 own-later v after phase page from own slice keeps few =
     let f : Addition → ℕ = λ a. cond ((a.phase == phase) && (a.page == page)) a.likes 0 in
-    let some = take-more f from (additions_among v.seat.post.did) keeps.more in
+    let some = take-more f from (additions_among v.station.post.did) keeps.more in
     subst (λ xs. own ≤ added_in phase page (take from xs) + slice) (sym keeps.additions) (omega arith)
 
 -- a count that was read is
@@ -100,7 +100,7 @@ Keeps-looked v sight mask = record {
   reads = λ r there. there;
   glances = λ r there. there;
   more = [];
-  additions = sym (append-nil (additions_among v.seat.post.did));
+  additions = sym (append-nil (additions_among v.station.post.did));
   held = λ phase page from n h. record {
     within = h.within;
     split = h.split;
@@ -115,15 +115,15 @@ Keeps-looked v sight mask = record {
 
 -- the seat in another state
 abbrev stopped : LiveView → WorkerState → LiveView
-stopped v s = with_seat v (record v.seat { post = record v.seat.post { state = s } })
+stopped v s = with_station v (record v.station { post = record v.station.post { state = s } })
 
 -- the end of a joined phase, for the seat
-pub Keeps-stopped : (v : LiveView) (s : WorkerState) → RunsJoined v.seat.post.state → Keeps v (stopped v s)
+pub Keeps-stopped : (v : LiveView) (s : WorkerState) → RunsJoined v.station.post.state → Keeps v (stopped v s)
 Keeps-stopped v s joined = record {
   reads = λ r there. there;
   glances = λ r there. there;
   more = [];
-  additions = sym (append-nil (additions_among v.seat.post.did));
+  additions = sym (append-nil (additions_among v.station.post.did));
   held = λ phase page from n h. record {
     within = h.within;
     split = h.split;
@@ -148,10 +148,10 @@ mapped f xs k d below = (k, omega (arith, length-map xs f), get_or-map f xs k d 
 -- looks that are found
 pub Keeps-finds : (v after : LiveView) → FindsAll v after → Keeps v after
 Keeps-finds v after f = subst (Keeps v) (sym f.rest) (record {
-  reads = λ r there. was_read r (Contains-append_left (reads_among v.seat.post.did) _ r there);
-  glances = λ r there. subst (λ xs. Contains xs r) (sym (found-glances worker v.seat.post.did f.found)) there;
+  reads = λ r there. was_read r (Contains-append_left (reads_among v.station.post.did) _ r there);
+  glances = λ r there. subst (λ xs. Contains xs r) (sym (found-glances worker v.station.post.did f.found)) there;
   more = [];
-  additions = same ∙ sym (append-nil (additions_among v.seat.post.did));
+  additions = same ∙ sym (append-nil (additions_among v.station.post.did));
   held = λ phase page from n h. record {
     within = subst (λ xs. from ≤ length xs) (sym same) h.within;
     split = h.split;
@@ -161,33 +161,33 @@ Keeps-finds v after f = subst (Keeps v) (sym f.rest) (record {
     ];
   };
   found = λ all.
-      let additions = length (additions_among v.seat.post.did) in
+      let additions = length (additions_among v.station.post.did) in
       All-append (λ x. IsRead (with_found v f.found) (found_count x)) v.found f.found
       (λ k d below.
       let r = all k d below in (
         r.0,
-        was_read _ (Contains-append_left (reads_among v.seat.post.did) _ _ r.1),
+        was_read _ (Contains-append_left (reads_among v.station.post.did) _ _ r.1),
         subst (λ xs. (found_count (get_or v.found k d)).own
             ≤ added_in (found_count (get_or v.found k d)).phase (found_count (get_or v.found k d)).page (take r.0 xs))
             (sym same) r.2,
       ))
       (λ k d below. (
         additions,
-        was_read _ (Contains-append_right (reads_among v.seat.post.did) _ _ (mapped (read_for additions) f.found k d below)),
+        was_read _ (Contains-append_right (reads_among v.station.post.did) _ _ (mapped (read_for additions) f.found k d below)),
         omega arith,
       ));
 })
   where
     worker : ℕ
-    worker = v.seat.post.worker
+    worker = v.station.post.worker
 
-    same : additions_among (with_found v f.found).seat.post.did ≡ additions_among v.seat.post.did
-    same = found-additions worker v.seat.post.did f.found
+    same : additions_among (with_found v f.found).station.post.did ≡ additions_among v.station.post.did
+    same = found-additions worker v.station.post.did f.found
 
     was_read : (r : PageRead)
-        → Contains (reads_among v.seat.post.did ++ map (read_for (length (additions_among v.seat.post.did))) f.found) r
-        → Contains (reads_among (with_found v f.found).seat.post.did) r
-    was_read r there = subst (λ xs. Contains xs r) (sym (found-reads worker v.seat.post.did f.found)) there
+        → Contains (reads_among v.station.post.did ++ map (read_for (length (additions_among v.station.post.did))) f.found) r
+        → Contains (reads_among (with_found v f.found).station.post.did) r
+    was_read r there = subst (λ xs. Contains xs r) (sym (found-reads worker v.station.post.did f.found)) there
 
 -- how much later additions have in a phase, once there are more
 more_added : (phase page from : ℕ) (xs ys : List Addition) → from ≤ length xs
@@ -196,16 +196,16 @@ more_added phase page from xs ys within =
     ap (added_in phase page) (drop-append-le from xs ys within) ∙ sum_by-append _ (drop from xs) ys
 
 -- a merge and a report
-Keeps-merged : (v : LiveView) (s : StationView Asked) → IsSized v → MergesAndReports v.seat s → Keeps v (with_seat v s)
+Keeps-merged : (v : LiveView) (s : StationView Asked) → IsSized v → MergesAndReports v.station s → Keeps v (with_station v s)
 Keeps-merged v s sized m =
     let adds = m.1.0.0 in
-    let old = additions_among v.seat.post.did in
-    let now_is = then-additions v.seat.post.worker v.seat.post.did adds in
-    let is : s ≡ record (merged v.seat adds) { post = answered (merged v.seat adds).post } =
+    let old = additions_among v.station.post.did in
+    let now_is = then-additions v.station.post.worker v.station.post.did adds in
+    let is : s ≡ record (merged v.station adds) { post = answered (merged v.station adds).post } =
     m.1.1 ∙ ap (λ (t : StationView Asked). record t { post = answered t.post }) m.1.0.1.1 in
-    subst (λ (t : StationView Asked). Keeps v (with_seat v t)) (sym is) (record {
-      reads = λ r there. subst (λ xs. Contains xs r) (sym (then-reads v.seat.post.worker v.seat.post.did adds)) there;
-      glances = λ r there. subst (λ xs. Contains xs r) (sym (then-glances v.seat.post.worker v.seat.post.did adds)) there;
+    subst (λ (t : StationView Asked). Keeps v (with_station v t)) (sym is) (record {
+      reads = λ r there. subst (λ xs. Contains xs r) (sym (then-reads v.station.post.worker v.station.post.did adds)) there;
+      glances = λ r there. subst (λ xs. Contains xs r) (sym (then-glances v.station.post.worker v.station.post.did adds)) there;
       more = adds;
       additions = now_is;
       held = λ phase page from n h.
@@ -218,12 +218,12 @@ Keeps-merged v s sized m =
                 elim h.kept [
                   | inl added ↦ inl (omega arith)
                   | inr still ↦
-                      let here : phase_at v.seat ≡ phase = ap phase_of still.0 in
-                      let all : added_in phase page adds ≡ get_or v.seat.slice page 0 =
-                      added_in-phase (phase_at v.seat) page phase adds m.1.0.1.0.phase_is
+                      let here : phase_at v.station ≡ phase = ap phase_of still.0 in
+                      let all : added_in phase page adds ≡ get_or v.station.slice page 0 =
+                      added_in-phase (phase_at v.station) page phase adds m.1.0.1.0.phase_is
                       ∙ ap (λ (b : Bool). cond b (added_to page adds) 0) (eq-eqb _ _ here)
                       ∙ m.1.0.1.0.sums page in
-                      let few : n ≤ get_or v.seat.slice page 0 = still.1 in
+                      let few : n ≤ get_or v.station.slice page 0 = still.1 in
                       inl (omega arith)
                 ];
           };
@@ -231,21 +231,21 @@ Keeps-merged v s sized m =
           let r = all k d below in (
             r.0,
             subst (λ xs. Contains xs (page_read (get_or v.found k d).phase (get_or v.found k d).asked.page
-                (get_or v.found k d).count r.0)) (sym (then-reads v.seat.post.worker v.seat.post.did adds)) r.1,
+                (get_or v.found k d).count r.0)) (sym (then-reads v.station.post.worker v.station.post.did adds)) r.1,
             omega arith,
           );
     })
 
 -- a like that is counted
 pub Keeps-counts : (v : LiveView) (s : StationView Asked) (user page : ℕ) (old : Option ℕ)
-    → page < length v.seat.slice
-    → CountsLike v.seat user page old s
-    → Keeps v (with_seat v s)
-Keeps-counts v s user page None there c = subst (λ (t : StationView Asked). Keeps v (with_seat v t)) (sym c.1) (record {
+    → page < length v.station.slice
+    → CountsLike v.station user page old s
+    → Keeps v (with_station v s)
+Keeps-counts v s user page None there c = subst (λ (t : StationView Asked). Keeps v (with_station v t)) (sym c.1) (record {
   reads = λ r there. there;
   glances = λ r there. there;
   more = [];
-  additions = sym (append-nil (additions_among v.seat.post.did));
+  additions = sym (append-nil (additions_among v.station.post.did));
   held = λ phase other from n h. record {
     within = h.within;
     split = h.split;
@@ -253,17 +253,17 @@ Keeps-counts v s user page None there c = subst (λ (t : StationView Asked). Kee
         elim h.kept [
           | inl added ↦ inl added
           | inr still ↦
-              let few : n ≤ get_or v.seat.slice other 0 = still.1 in
-              let more = slice-more v.seat.slice page other there in
+              let few : n ≤ get_or v.station.slice other 0 = still.1 in
+              let more = slice-more v.station.slice page other there in
               inr (still.0, omega arith)
         ];
   };
   found = λ all. all;
 })
 Keeps-counts v s user page (Some count) there c =
-    let old = additions_among v.seat.post.did in
-    let new = addition (phase_at v.seat) page count 1 ∷ [] in
-    subst (λ (t : StationView Asked). Keeps v (with_seat v t)) (sym c.1) (record {
+    let old = additions_among v.station.post.did in
+    let new = addition (phase_at v.station) page count 1 ∷ [] in
+    subst (λ (t : StationView Asked). Keeps v (with_station v t)) (sym c.1) (record {
       reads = λ r there. there;
       glances = λ r there. there;
       more = new;
@@ -283,26 +283,26 @@ Keeps-counts v s user page (Some count) there c =
 
 -- a read
 pub Keeps-read : (v : LiveView) (page count : ℕ)
-    → Keeps v (with_seat v (record v.seat { post = has_read v.seat.post page count }))
+    → Keeps v (with_station v (record v.station { post = has_read v.station.post page count }))
 Keeps-read v page count = record {
-  reads = λ r there. Contains-append_left (reads_among v.seat.post.did) _ r there;
+  reads = λ r there. Contains-append_left (reads_among v.station.post.did) _ r there;
   glances = λ r there. there;
   more = [];
-  additions = sym (append-nil (additions_among v.seat.post.did));
+  additions = sym (append-nil (additions_among v.station.post.did));
   held = λ phase page from n h. record { within = h.within; split = h.split; kept = h.kept };
   found = λ all k d below.
       let r = all k d below in
-      (r.0, Contains-append_left (reads_among v.seat.post.did) _ _ r.1, r.2);
+      (r.0, Contains-append_left (reads_among v.station.post.did) _ _ r.1, r.2);
 }
 
 -- a glance
 pub Keeps-glanced : (v : LiveView) (page count : ℕ)
-    → Keeps v (with_seat v (record v.seat { post = has_glanced v.seat.post page count }))
+    → Keeps v (with_station v (record v.station { post = has_glanced v.station.post page count }))
 Keeps-glanced v page count = record {
   reads = λ r there. there;
-  glances = λ r there. Contains-append_left (glances_among v.seat.post.did) _ r there;
+  glances = λ r there. Contains-append_left (glances_among v.station.post.did) _ r there;
   more = [];
-  additions = sym (append-nil (additions_among v.seat.post.did));
+  additions = sym (append-nil (additions_among v.station.post.did));
   held = λ phase page from n h. record { within = h.within; split = h.split; kept = h.kept };
   found = λ all. all;
 }
@@ -316,7 +316,7 @@ Keeps-works v after ending answer sized (runs_joined joined e a found) = Keeps-f
 Keeps-works v after ending answer sized (acknowledges now joined e a found is) =
     subst (Keeps v) (sym is)
     (Keeps-both v now _ (Keeps-finds v now found)
-    (Keeps-stopped now _ (subst (λ (w : LiveView). RunsJoined w.seat.post.state) (sym found.rest) joined)))
+    (Keeps-stopped now _ (subst (λ (w : LiveView). RunsJoined w.station.post.state) (sym found.rest) joined)))
 Keeps-works v after ending answer sized (runs_split split e a is) = subst (Keeps v) (sym is) (Keeps-all v)
 Keeps-works v after ending answer sized (reports s split e a merges is) =
     subst (Keeps v) (sym is) (Keeps-merged v s sized merges)

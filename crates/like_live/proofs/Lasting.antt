@@ -20,14 +20,14 @@ at-place t place lawful home less =
 
 -- what a table writes are last likes of the seat's users
 pub lasts-at : (v : LiveView) (from : ℕ) (row : List ℕ)
-    → IsUserTable v.seat.last
-    → v.seat.last.share.submitters ≡ v.seat.last.share.workers
+    → IsUserTable v.station.last
+    → v.station.last.share.submitters ≡ v.station.last.share.workers
     → from + length row ≤ users_of v
-    → AreLastsFrom v.seat.last from row
+    → AreLastsFrom v.station.last from row
     → AreLastsAt v from row
 lasts-at v from row lawful home room lasts = record {
-  users = λ i less. (at-place v.seat.last (from + i) lawful home (omega (arith, room, less))).0;
+  users = λ i less. (at-place v.station.last (from + i) lawful home (omega (arith, room, less))).0;
   lasts = λ i less.
-      let here = at-place v.seat.last (from + i) lawful home (omega (arith, room, less)) in
+      let here = at-place v.station.last (from + i) lawful home (omega (arith, room, less)) in
       lasts (user_at v (from + i)) i here.0 here.1 less;
 }

@@ -18,7 +18,7 @@ use Rattle.like_tables.specs.Waiting.{Waiting}
 use Rattle.like_live.specs.declared.asked.Asked.{Asked}
 use Rattle.like_live.specs.declared.asked.Found.{Found}
 use Rattle.like_live.specs.Kept.{AreLiveSeatParts, HasLooked}
-use Rattle.like_live.specs.LiveView.{IsLive, IsOwn, LiveView, RanNext, live_of, room_of, waiting, with_seat}
+use Rattle.like_live.specs.LiveView.{IsLive, IsOwn, LiveView, RanNext, live_of, room_of, waiting, with_station}
 use Rattle.like_live.specs.LookRoom.{RoomView}
 use Rattle.like_live.specs.Moves.{FindsAll}
 use Rattle.like_live.proofs.Moving.{Leaves, Leaves-both, Leaves-looked, after-leaves}
@@ -55,7 +55,7 @@ after-looked s u found home pages room half sight parts looks same =
     ap (λ (x : StationView Asked). phase_at x) (sym is) ∙ same in
     subst (λ x. AreLiveSeatParts x found home pages room half) (sym is) (record {
       live = record {
-        seat = subst (λ x. IsStation x) is looks.seat;
+        station = subst (λ x. IsStation x) is looks.seat;
         limits = live.limits;
         home = live.home;
         split = λ joined. live.split (subst IsJoined phase joined);
@@ -92,7 +92,7 @@ has-looked s u found home pages room half sight parts looks on =
     let phase = phase_of (seen s.post.state sight) in
     let at = on-phase s.post.state sight looks.sight on in
     subst (λ x. HasLooked x found) (sym is) (record {
-      seat = subst (λ x. IsStation x) is looks.seat;
+      station = subst (λ x. IsStation x) is looks.seat;
       runs = subst (λ (x : StationView Asked). IsRunning x.post.state) is (looks.runs on);
       limits = live.limits;
       home = live.home;
@@ -117,7 +117,7 @@ pub looked-live : (s : StationView Asked) (found : Waiting Found)
     → IsSplit (phase_at s)
     → IsLive (live_of s found)
 looked-live s found looked odd = record {
-  seat = looked.seat;
+  station = looked.station;
   limits = looked.limits;
   home = looked.home;
   split = λ even. absurd (omega (arith, odd, even));
@@ -139,7 +139,7 @@ merged-live s t found looked odd m kept =
     let is : t ≡ record (merged s adds) { post = answered (merged s adds).post } =
     m.1.1 ∙ ap (λ (x : StationView Asked). record x { post = answered x.post }) m.1.0.1.1 in
     subst (λ (x : StationView Asked). IsLive (live_of x found)) (sym is) (record {
-      seat = subst (λ (x : StationView Asked). IsStation x) is kept;
+      station = subst (λ (x : StationView Asked). IsStation x) is kept;
       limits = live.limits;
       home = live.home;
       split = λ even. absurd (omega (arith, odd, even));
@@ -162,9 +162,9 @@ found-live s t found now looked finds next kept =
     let more : now.held ≡ found.held ++ finds.found = ap (λ (v : LiveView). v.found) is in
     let asked : Found → Asked = λ f. f.asked in
     record {
-      seat = kept;
-      limits = ap (λ (v : LiveView). v.seat.post.limits) is ∙ looked.limits;
-      home = subst (λ (x : Share). x.submitters ≡ x.workers) (sym (ap (λ (v : LiveView). v.seat.last.share) is)) looked.home;
+      station = kept;
+      limits = ap (λ (v : LiveView). v.station.post.limits) is ∙ looked.limits;
+      home = subst (λ (x : Share). x.submitters ≡ x.workers) (sym (ap (λ (v : LiveView). v.station.last.share) is)) looked.home;
       split = λ joined. none;
       own = all-none (IsOwn t) t.held.held none;
       asked = all-none (λ (a : Asked). a.phase ≡ phase_at t) t.held.held none;
@@ -186,18 +186,18 @@ found-live s t found now looked finds next kept =
 pub stopped-live : (v : LiveView) (post : PostView)
     → IsLive v
     → waiting v ≡ []
-    → post.limits ≡ v.seat.post.limits
-    → IsStation (record v.seat { post = post })
-    → IsLive (with_seat v (record v.seat { post = post }))
+    → post.limits ≡ v.station.post.limits
+    → IsStation (record v.station { post = post })
+    → IsLive (with_station v (record v.station { post = post }))
 stopped-live v post live none same kept =
-    let s : StationView Asked = record v.seat { post = post } in
+    let s : StationView Asked = record v.station { post = post } in
     record {
-      seat = kept;
+      station = kept;
       limits = same ∙ live.limits;
       home = live.home;
       split = λ joined. none;
-      own = all-none (IsOwn s) v.seat.held.held none;
-      asked = all-none (λ (a : Asked). a.phase ≡ phase_at s) v.seat.held.held none;
+      own = all-none (IsOwn s) v.station.held.held none;
+      asked = all-none (λ (a : Asked). a.phase ≡ phase_at s) v.station.held.held none;
       next = live.next;
       room = live.room;
     }
@@ -228,7 +228,7 @@ after-back s u found home pages room half parts gone back kept =
     let none = live.split (subst (λ (w : WorkerState). IsJoined (phase_of w)) (sym gone) refl) in
     subst (λ x. AreLiveSeatParts x found home pages room half) (sym is) (record {
       live = record {
-        seat = subst (λ x. IsStation x) is kept;
+        station = subst (λ x. IsStation x) is kept;
         limits = live.limits;
         home = live.home;
         split = λ joined. none;

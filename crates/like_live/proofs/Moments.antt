@@ -52,15 +52,15 @@ split-now z s i state.Gone p is runs = absurd runs
 
 -- a seat's state is the one that the board's rule has of its worker
 pub state-at : (z : Opening) (m : Moment z) (s : LiveView) (at : IsSeatAt z m s)
-    → m.state.state at.view.worker ≡ s.seat.post.state
+    → m.state.state at.view.worker ≡ s.station.post.state
 state-at z m s at =
     let fits : FitsWorker z m.state at.view = m.shows.seats.each at.place (Worker at.view) at.there in
     fits.state ∙ sym (ap (λ (p : PostView). p.state) at.post)
 
 -- who runs no split phase has no like in its slice
-none-held : (s : LiveView) → IsStation s.seat → ¬ RunsSplit s.seat.post.state → HoldsNone s
+none-held : (s : LiveView) → IsStation s.station → ¬ RunsSplit s.station.post.state → HoldsNone s
 none-held s live apart page =
-    elim (cases_eq (slice_index s.seat.slice page) 0) [
+    elim (cases_eq (slice_index s.station.slice page) 0) [
       | inl none ↦ none
       | inr held ↦ absurd (apart (live.split page held).0)
     ]
@@ -69,13 +69,13 @@ pub seats_are_exclusive : SeatsAreExclusive
 seats_are_exclusive z m a b at_a at_b live joined =
     let p = (reached_is_exclusive z m.state m.reachable).1 in
     let even : IsJoined m.state.phase = joined-now z m.state at_a.view.worker _ p (state-at z m a at_a) joined in
-    let apart : ¬ RunsSplit b.seat.post.state = λ split.
+    let apart : ¬ RunsSplit b.station.post.state = λ split.
     (let odd : IsSplit m.state.phase = split-now z m.state at_b.view.worker _ p (state-at z m b at_b) split in
     omega arith) in
     (apart, none-held b live apart)
 
 -- a seat that is gone has added all its likes
-merged-once-gone : (s : LiveView) → IsStation s.seat → HasMergedOnceGone s
+merged-once-gone : (s : LiveView) → IsStation s.station → HasMergedOnceGone s
 merged-once-gone s live gone page =
     let none = none-held s live (λ split. subst RunsSplit gone split) page in
     omega arith
@@ -117,9 +117,9 @@ last_counts_are_tallies z m seats at live gone page =
     (λ place v there.
     let fits : FitsWorker z m.state v = m.shows.seats.each place (Worker v) there in
     sym fits.state ∙ gone v.worker fits.there) in
-    let are_gone : All (λ s. s.seat.post.state ≡ state.Gone) seats =
+    let are_gone : All (λ s. s.station.post.state ≡ state.Gone) seats =
     all-alike (λ (p : PostView). p.state ≡ state.Gone) post_in post_of seats views same all_gone in
-    let merged = sum-equal (λ s. tally s page) (λ (s : LiveView). additions_of s.seat.post page) seats
+    let merged = sum-equal (λ s. tally s page) (λ (s : LiveView). additions_of s.station.post page) seats
     (λ k d below. merged-once-gone (get_or seats k d) (live k d below) (are_gone k d below) page) in
     let added = added-by page m.views
     (λ place c there.

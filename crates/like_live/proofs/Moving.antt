@@ -10,7 +10,7 @@ use Rattle.like_live.specs.declared.answer.TurnAnswer.{TurnAnswer}
 use Rattle.like_live.specs.declared.asked.Asked.{Asked}
 use Rattle.like_live.specs.declared.asked.Found.{Found}
 use Rattle.like_live.specs.Kept.{AreLiveSeatParts}
-use Rattle.like_live.specs.LiveView.{IsLive, IsSameSeat, KeepsTallies, LiveView, live_of, room_of, waiting, with_seat}
+use Rattle.like_live.specs.LiveView.{IsLive, IsSameSeat, KeepsTallies, LiveView, live_of, room_of, waiting, with_station}
 use Rattle.like_live.specs.LookRoom.{RoomView}
 use Rattle.like_tables.specs.Home.{Home, IsHomeOf}
 use Rattle.like_tables.specs.Waiting.{Waiting}
@@ -23,14 +23,14 @@ use Rattle.like_live.proofs.FoundSteps.{found-additions}
 
 -- the slice has a number for each page
 abbrev pub IsSized : LiveView → Type 0
-IsSized v = length v.seat.slice ≡ pages_of v.seat.post
+IsSized v = length v.station.slice ≡ pages_of v.station.post
 
 -- it is the same seat, with the same tallies, the same last likes, and as much room for looks; and no more looks wait
 pub record Leaves (v after : LiveView) : Type 0 where
   pub same : IsSameSeat v after
   pub tallies : KeepsTallies v after
-  pub last : after.seat.last ≡ v.seat.last
-  pub sized : length after.seat.slice ≡ length v.seat.slice
+  pub last : after.station.last ≡ v.station.last
+  pub sized : length after.station.slice ≡ length v.station.slice
   pub room : room_of after ≡ room_of v
   pub looks : length (waiting after) + length after.found ≡ length (waiting v) + length v.found
   pub fewer : length (waiting after) ≤ length (waiting v)
@@ -93,8 +93,8 @@ Leaves-acknowledged v = record {
 Leaves-found : (v after : LiveView) → FindsAll v after → Leaves v after
 Leaves-found v after f = subst (Leaves v) (sym f.rest) (record {
   same = record { board = refl; worker = refl; marks = refl; share = refl };
-  tallies = λ page. ap (λ xs. added_to page xs + get_or v.seat.slice page 0)
-      (found-additions v.seat.post.worker v.seat.post.did f.found);
+  tallies = λ page. ap (λ xs. added_to page xs + get_or v.station.slice page 0)
+      (found-additions v.station.post.worker v.station.post.did f.found);
   last = refl;
   sized = refl;
   room = refl;
@@ -105,16 +105,16 @@ Leaves-found v after f = subst (Leaves v) (sym f.rest) (record {
 })
 
 -- to merge a slice and report leaves each page's tally
-Leaves-merged : (v : LiveView) (s : StationView Asked) → IsSized v → MergesAndReports v.seat s → Leaves v (with_seat v s)
+Leaves-merged : (v : LiveView) (s : StationView Asked) → IsSized v → MergesAndReports v.station s → Leaves v (with_station v s)
 Leaves-merged v s sized m =
     let adds = m.1.0.0 in
-    let is : s ≡ record (merged v.seat adds) { post = answered (merged v.seat adds).post } =
+    let is : s ≡ record (merged v.station adds) { post = answered (merged v.station adds).post } =
     m.1.1 ∙ ap (λ (t : StationView Asked). record t { post = answered t.post }) m.1.0.1.1 in
-    subst (λ (t : StationView Asked). Leaves v (with_seat v t)) (sym is) (record {
+    subst (λ (t : StationView Asked). Leaves v (with_station v t)) (sym is) (record {
       same = record { board = refl; worker = refl; marks = refl; share = refl };
-      tallies = merged-tally v.seat adds m.1.0.1.0;
+      tallies = merged-tally v.station adds m.1.0.1.0;
       last = refl;
-      sized = length-replicate {A = ℕ} (pages_of v.seat.post) 0 ∙ sym sized;
+      sized = length-replicate {A = ℕ} (pages_of v.station.post) 0 ∙ sym sized;
       room = refl;
       looks = refl;
       fewer = omega arith;
@@ -174,7 +174,7 @@ Leaves-retire_works v after ending answer sized (stays split does) = Leaves-work
 pub Leaves-retires : (v after : LiveView) (answer : TurnAnswer) → IsSized v → RetireCase v answer after → Leaves v after
 Leaves-retires = Leaves-by RetireWorks Leaves-retire_works
 
-Leaves-came_back : (v : LiveView) (phase mask : ℕ) → Leaves v (with_seat v (came_back v.seat phase mask))
+Leaves-came_back : (v : LiveView) (phase mask : ℕ) → Leaves v (with_station v (came_back v.station phase mask))
 Leaves-came_back v phase mask = record {
   same = record { board = refl; worker = refl; marks = refl; share = refl };
   tallies = λ page. refl;
@@ -190,7 +190,7 @@ pub Leaves-come_back : (v after : LiveView) (answer : TurnAnswer)
     → ComeBackCase v answer after
     → Leaves v after
 Leaves-come_back v after answer sized (calls.runs s gone a back is) =
-    subst (Leaves v) (sym (is ∙ ap (with_seat v) back.1.1)) (Leaves-came_back v back.0 back.1.0)
+    subst (Leaves v) (sym (is ∙ ap (with_station v) back.1.1)) (Leaves-came_back v back.0 back.1.0)
 Leaves-come_back v after answer sized (calls.between gone a is) = subst (Leaves v) (sym is) (Leaves-all v)
 Leaves-come_back v after answer sized (calls.there here m) = Leaves-moves v after answer sized m
 

@@ -29,17 +29,17 @@ std-element (y ∷ ys) (suc i) x at = std-element ys i x at
 -- seats that stand in order of their numbers have each number once
 pub once-in-order : (seats : List LiveView) (n : ℕ)
     → length seats ≡ n
-    → ((k : ℕ) (s : LiveView) → slice_get seats k ≡ Some s → s.seat.post.worker ≡ k)
-    → (i : ℕ) → i < n → count_by (λ s. s.seat.post.worker == i) seats ≡ 1
+    → ((k : ℕ) (s : LiveView) → slice_get seats k ≡ Some s → s.station.post.worker ≡ k)
+    → (i : ℕ) → i < n → count_by (λ s. s.station.post.worker == i) seats ≡ 1
 once-in-order seats n sized each i below =
     let here = element seats i (omega arith) in
-    let f : LiveView → ℕ = λ s. cond (s.seat.post.worker == i) 1 0 in
-    let own : here.0.seat.post.worker ≡ i = each i here.0 (std-element seats i here.0 here.1) in
-    let one : f here.0 ≡ 1 = cond-true (here.0.seat.post.worker == i) 1 0 (eq-eqb here.0.seat.post.worker i own) in
+    let f : LiveView → ℕ = λ s. cond (s.station.post.worker == i) 1 0 in
+    let own : here.0.station.post.worker ≡ i = each i here.0 (std-element seats i here.0 here.1) in
+    let one : f here.0 ≡ 1 = cond-true (here.0.station.post.worker == i) 1 0 (eq-eqb here.0.station.post.worker i own) in
     sum_lone f seats i here.0 here.1
     (λ j s other at.
-    cond-false (s.seat.post.worker == i) 1 0
-    (ne_eqb s.seat.post.worker i (λ same. other (sym (each j s (std-element seats j s at)) ∙ same)))) ∙
+    cond-false (s.station.post.worker == i) 1 0
+    (ne_eqb s.station.post.worker i (λ same. other (sym (each j s (std-element seats j s at)) ∙ same)))) ∙
     one
 
 -- a driver and seats that were opened are all of one service
@@ -76,11 +76,11 @@ zip-length R (x ∷ xs) (y ∷ ys) all = ap (λ n. suc n) (zip-length R xs ys al
 -- the seats stay the driver's, whatever calls are made of them
 pub calls-keep-whole : CallsKeepSeats
 calls-keep-whole v w seats after its driver same =
-    let board_at : LiveView → List ℕ = λ s. s.seat.post.board in
-    let worker_at : LiveView → ℕ = λ s. s.seat.post.worker in
+    let board_at : LiveView → List ℕ = λ s. s.station.post.board in
+    let worker_at : LiveView → ℕ = λ s. s.station.post.worker in
     record {
       len = zip-length IsSameSeat seats after same ∙ its.len ∙ sym (ap (λ (z : CoreOpening). z.workers) driver.opening);
-      here = subst (λ (b : BoardId). All (λ s. s.seat.post.board ≡ board_numbers b) after) (sym driver.board)
+      here = subst (λ (b : BoardId). All (λ s. s.station.post.board ≡ board_numbers b) after) (sym driver.board)
           (all-alike (λ (b : List ℕ). b ≡ board_numbers v.lead.board) board_at board_at after seats
           (zip-map IsSameSeat board_at seats after (λ x y s. s.board) same) its.here);
       all = λ i below.

@@ -60,8 +60,8 @@ use Rattle.like_live.proofs.Standing.{IsHis, Stands, kept_by_calls, stands_by_ca
 -- one order of all that these seats did at pages, the latest step first
 pub record AreInOrder (counts : ℕ → ℕ) (phase : ℕ) (seats : List LiveView) (steps : List PageStep) : Type 0 where
   pub in_turn : AreInTurn counts phase steps
-  pub each : All (λ s. steps_by s.seat.post.worker steps ≡ s.seat.post.did) seats
-  pub others : (i : ℕ) → count_by (λ s. s.seat.post.worker == i) seats ≡ 0 → steps_by i steps ≡ []
+  pub each : All (λ s. steps_by s.station.post.worker steps ≡ s.station.post.did) seats
+  pub others : (i : ℕ) → count_by (λ s. s.station.post.worker == i) seats ≡ 0 → steps_by i steps ≡ []
 
 -- what is true of all that a list stands for is true of what its element at a place does
 at_all : {A B : Type 0} (P : B → Type 0) (f : A → B) (xs : List A) (i : ℕ) (x : A) → All P (map f xs)
@@ -105,17 +105,17 @@ deeds_past (g ∷ hs) (suc i) past = deeds_past hs i (omega (arith, past))
 
 -- none of the seats has a number past them all
 none_past : (hs : List SeatHistory) (from i : ℕ)
-    → ((k : ℕ) (h : SeatHistory) → slice_get hs k ≡ Some h → h.last.seat.post.worker ≡ from + k)
+    → ((k : ℕ) (h : SeatHistory) → slice_get hs k ≡ Some h → h.last.station.post.worker ≡ from + k)
     → from + length hs ≤ i
-    → count_by (λ (s : LiveView). s.seat.post.worker == i) (map (λ (h : SeatHistory). h.last) hs) ≡ 0
+    → count_by (λ (s : LiveView). s.station.post.worker == i) (map (λ (h : SeatHistory). h.last) hs) ≡ 0
 none_past [] from i each past = refl
 none_past (h ∷ hs) from i each past =
     let here = each 0 h refl in
     let rest = none_past hs (suc from) i
     (λ k g at. let e = each (suc k) g at in omega (arith, e)) (omega (arith, past)) in
-    let first : cond {A = ℕ} (h.last.seat.post.worker == i) 1 0 ≡ 0 =
-    ap (λ b. cond b 1 0) (ne_eqb h.last.seat.post.worker i (λ e. absurd (omega (arith, e, here, past)))) in
-    sum_by-cons (λ (s : LiveView). cond (s.seat.post.worker == i) 1 0) h.last (map (λ (g : SeatHistory). g.last) hs)
+    let first : cond {A = ℕ} (h.last.station.post.worker == i) 1 0 ≡ 0 =
+    ap (λ b. cond b 1 0) (ne_eqb h.last.station.post.worker i (λ e. absurd (omega (arith, e, here, past)))) in
+    sum_by-cons (λ (s : LiveView). cond (s.station.post.worker == i) 1 0) h.last (map (λ (g : SeatHistory). g.last) hs)
     ∙ omega (arith, first, rest)
 
 -- what is true of all steps in turn, and of a worker's
@@ -165,8 +165,8 @@ turn_rises first last (s ∷ steps) turn =
 module _ (o : Opening) (factor : ℕ) (board : BoardId) (hs : List SeatHistory) (masks : ℕ → ℕ) (last : ℕ)
     (steps : List PageStep)
     (opened : AreOpenedSeats o factor board (map (λ (h : SeatHistory). h.first) hs))
-    (gone : All (λ (s : LiveView). s.seat.post.state ≡ Gone) (map (λ (h : SeatHistory). h.last) hs))
-    (right : All (λ (s : LiveView). AreMasksOf masks s.seat.post.masks) (map (λ (h : SeatHistory). h.last) hs))
+    (gone : All (λ (s : LiveView). s.station.post.state ≡ Gone) (map (λ (h : SeatHistory). h.last) hs))
+    (right : All (λ (s : LiveView). AreMasksOf masks s.station.post.masks) (map (λ (h : SeatHistory). h.last) hs))
     (order : AreInOrder (λ page. get_or o.counts.items page 0) last (map (λ (h : SeatHistory). h.last) hs) steps) where
   -- whether a page is split in a phase
   abbrev split : ℕ → ℕ → Bool
@@ -196,7 +196,7 @@ module _ (o : Opening) (factor : ℕ) (board : BoardId) (hs : List SeatHistory) 
 
     unused : IsUnused h.first
     unused = record {
-      post = h.first.seat.post;
+      post = h.first.station.post;
       share = share_of o.users o.seats o.seats i;
       lasts = o.lasts.items;
       room = o.room;
@@ -208,22 +208,22 @@ module _ (o : Opening) (factor : ℕ) (board : BoardId) (hs : List SeatHistory) 
     stands =
         stands_by_calls h.first (λ w. Unit {0}) (AreHis h.first) (his_kept h.first) h.told h.last h.done unused
 
-    worker_is : h.last.seat.post.worker ≡ i
+    worker_is : h.last.station.post.worker ≡ i
     worker_is = stands.worker ∙ seat.worker
 
-    is_gone : h.last.seat.post.state ≡ Gone
-    is_gone = at_all (λ (s : LiveView). s.seat.post.state ≡ Gone) (λ (g : SeatHistory). g.last) hs i h gone at
+    is_gone : h.last.station.post.state ≡ Gone
+    is_gone = at_all (λ (s : LiveView). s.station.post.state ≡ Gone) (λ (g : SeatHistory). g.last) hs i h gone at
 
-    empty : (page : ℕ) → get_or h.last.seat.slice page 0 ≢ 0 → ⊥
+    empty : (page : ℕ) → get_or h.last.station.slice page 0 ≢ 0 → ⊥
     empty page has = subst RunsSplit is_gone (stands.split page has).0
 
-    done : steps_by i steps ≡ h.last.seat.post.did
+    done : steps_by i steps ≡ h.last.station.post.did
     done =
         ap (λ n. steps_by n steps) (sym worker_is)
-        ∙ at_all (λ (s : LiveView). steps_by s.seat.post.worker steps ≡ s.seat.post.did) (λ (g : SeatHistory). g.last) hs i
+        ∙ at_all (λ (s : LiveView). steps_by s.station.post.worker steps ≡ s.station.post.did) (λ (g : SeatHistory). g.last) hs i
         h order.each at
 
-    did : own_steps i steps ≡ earliest_first h.last.seat.post.did
+    did : own_steps i steps ≡ earliest_first h.last.station.post.did
     did = sym (by-earliest i steps) ∙ ap earliest_first done
 
     ordered : IsOrdered masks h.last
@@ -231,7 +231,7 @@ module _ (o : Opening) (factor : ℕ) (board : BoardId) (hs : List SeatHistory) 
       some = subst (AllByRecursion (λ (s : PageStep). AddsSome s.call)) did
           (filter_all (λ (s : PageStep). AddsSome s.call) (λ s. s.worker == i) (reverse steps)
           (reverse_all (λ (s : PageStep). AddsSome s.call) steps (turn_some _ last steps order.in_turn)));
-      right = at_all (λ (s : LiveView). AreMasksOf masks s.seat.post.masks) (λ (g : SeatHistory). g.last) hs i h right at;
+      right = at_all (λ (s : LiveView). AreMasksOf masks s.station.post.masks) (λ (g : SeatHistory). g.last) hs i h right at;
       rises = subst (Rises phase_of_step) did
           (filter_rises phase_of_step (λ s. s.worker == i) (reverse steps) (turn_rises _ last steps order.in_turn));
       none_later = λ page has. absurd (empty page has);
@@ -241,7 +241,7 @@ module _ (o : Opening) (factor : ℕ) (board : BoardId) (hs : List SeatHistory) 
     split_is : split_in h.first masks ≡ split
     split_is = λ m phase page. split_by (seat.limits m).hot (is_marked (seat.marks m)) masks phase page
 
-    nothing_done : earliest_first h.first.seat.post.did ≡ []
+    nothing_done : earliest_first h.first.station.post.did ≡ []
     nothing_done = ap earliest_first seat.fresh.did_nothing
 
     has_steps : filter_map (step_of split) (deeds_in h) ≡ map step_told (filter (is_plain split) (own_steps i steps))
@@ -265,21 +265,21 @@ module _ (o : Opening) (factor : ℕ) (board : BoardId) (hs : List SeatHistory) 
               ∙ sym (at_first k p);
         }) in
         k.total phase page ∙ omega (arith, only-empty, ap (weigh (step_in phase page)) did) where
-          only-empty : only (phase_at h.last.seat == phase) (get_or h.last.seat.slice page 0) ≡ 0
-          only-empty = ap (only (phase_at h.last.seat == phase)) (is_none _ (empty page)) ∙ only-none _
+          only-empty : only (phase_at h.last.station == phase) (get_or h.last.station.slice page 0) ≡ 0
+          only-empty = ap (only (phase_at h.last.station == phase)) (is_none _ (empty page)) ∙ only-none _
 
           at_first : (k p : ℕ)
-              → weigh (step_in k p) (earliest_first h.first.seat.post.did) + only (phase_at h.first.seat == k) (get_or h.first.seat.slice p 0)
-              ≡ weigh (step_in k p) (earliest_first h.first.seat.post.did) + only (0 == k) 0
+              → weigh (step_in k p) (earliest_first h.first.station.post.did) + only (phase_at h.first.station == k) (get_or h.first.station.slice p 0)
+              ≡ weigh (step_in k p) (earliest_first h.first.station.post.did) + only (0 == k) 0
           at_first k p =
-              ap (λ n. weigh (step_in k p) (earliest_first h.first.seat.post.did) + n)
-              (ap (only (phase_at h.first.seat == k))
+              ap (λ n. weigh (step_in k p) (earliest_first h.first.station.post.did) + n)
+              (ap (only (phase_at h.first.station == k))
               (ap (λ (xs : List ℕ). get_or xs p 0) seat.new.slice ∙ same_everywhere _ p 0)
-              ∙ only-none (phase_at h.first.seat == k) ∙ sym (only-none (0 == k)))
+              ∙ only-none (phase_at h.first.station == k) ∙ sym (only-none (0 == k)))
 
     -- what it added before a phase is what its deeds count
     has_before : (n page : ℕ)
-        → added_before n page (additions_among h.last.seat.post.did)
+        → added_before n page (additions_among h.last.station.post.did)
         ≡ weigh (λ d. only (nat_lt d.phase n) (likes_of_deed page d)) (deeds_in h)
     has_before n page =
         let early : PageStep → ℕ = λ s. only (nat_lt s.phase n) (adds_to page s) in
@@ -295,7 +295,7 @@ module _ (o : Opening) (factor : ℕ) (board : BoardId) (hs : List SeatHistory) 
         (kept_by_calls h.first (IsOrdered masks) HasRisen (risen_kept h.first masks) h.told h.last h.done unused ordered
         (record { rises = tt; within = λ k past. tt })).rises
 
-    share_is : h.first.seat.last.share ≡ share_of o.users o.seats o.seats i
+    share_is : h.first.station.last.share ≡ share_of o.users o.seats o.seats i
     share_is = ap (λ (t : UserTable). t.share) seat.new.last
 
     has_owners : AllByRecursion (λ d. (d.user < o.users) × (home o.seats d.user ≡ i)) (deeds_in h)
@@ -306,7 +306,7 @@ module _ (o : Opening) (factor : ℕ) (board : BoardId) (hs : List SeatHistory) 
         (kept_by_calls h.first (λ w. Unit {0}) (AreHis h.first) (his_kept h.first) h.told h.last h.done unused tt tt)
 
     -- a user's last like at the opening
-    opened_last : (user : ℕ) → user < o.users → home o.seats user ≡ i → last_of h.first.seat.last user ≡ last_in o.lasts.items user
+    opened_last : (user : ℕ) → user < o.users → home o.seats user ≡ i → last_of h.first.station.last user ≡ last_in o.lasts.items user
     opened_last user there mine =
         let s = share_of o.users o.seats o.seats i in
         ap (λ (t : UserTable). last_of t user) seat.new.last
@@ -465,14 +465,14 @@ module _ (o : Opening) (factor : ℕ) (board : BoardId) (hs : List SeatHistory) 
 
     -- what the seats added before a phase is what the deeds before it count
     all_before : (n page : ℕ)
-        → sum_by (λ (s : LiveView). added_before n page (additions_among s.seat.post.did)) (map (λ (h : SeatHistory). h.last) hs)
+        → sum_by (λ (s : LiveView). added_before n page (additions_among s.station.post.did)) (map (λ (h : SeatHistory). h.last) hs)
         ≡ likes_among page (take (count_by (λ d. nat_lt (phase_of_deed d) n) serial) serial)
     all_before n page =
         let G : Deed → ℕ = λ d. only (nat_lt (phase_of_deed d) n) (likes_of_deed page d) in
-        let number : SeatHistory → ℕ = λ h. h.last.seat.post.worker in
-        sum-weigh (λ (s : LiveView). added_before n page (additions_among s.seat.post.did)) (map (λ (h : SeatHistory). h.last) hs)
-        ∙ weigh-map (λ (s : LiveView). added_before n page (additions_among s.seat.post.did)) (λ (h : SeatHistory). h.last) hs
-        ∙ alike_at (λ (h : SeatHistory). added_before n page (additions_among h.last.seat.post.did)) (λ h. weigh G (deeds_in h)) hs
+        let number : SeatHistory → ℕ = λ h. h.last.station.post.worker in
+        sum-weigh (λ (s : LiveView). added_before n page (additions_among s.station.post.did)) (map (λ (h : SeatHistory). h.last) hs)
+        ∙ weigh-map (λ (s : LiveView). added_before n page (additions_among s.station.post.did)) (λ (h : SeatHistory). h.last) hs
+        ∙ alike_at (λ (h : SeatHistory). added_before n page (additions_among h.last.station.post.did)) (λ h. weigh G (deeds_in h)) hs
         (λ k h at. has_before k h at n page)
         ∙ sym (same_in_all user_home G number (λ (h : SeatHistory). weigh G (deeds_in h)) serial hs
         (λ k. sym (weigh-filter (λ (d : Deed). user_home d == k) G serial) ∙ ap (weigh G) (m.own k)
@@ -498,7 +498,7 @@ module _ (o : Opening) (factor : ℕ) (board : BoardId) (hs : List SeatHistory) 
   Serial serial =
       IsSerialService o (map deeds_in hs) serial
       × ((n page : ℕ)
-      → sum_by (λ (s : LiveView). added_before n page (additions_among s.seat.post.did)) (map (λ (h : SeatHistory). h.last) hs)
+      → sum_by (λ (s : LiveView). added_before n page (additions_among s.station.post.did)) (map (λ (h : SeatHistory). h.last) hs)
       ≡ likes_among page (take (count_by (λ d. nat_lt (phase_of_deed d) n) serial) serial))
 
   pub one_thread : (serial : List Deed) × Serial serial

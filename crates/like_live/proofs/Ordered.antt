@@ -29,16 +29,16 @@ use Rattle.like_live.specs.Moves.{step_for}
 
 -- whether a page is split in a phase of a service, where these are the masks of all phases, by its seats' marks and limits
 abbrev pub split_in : LiveView → (ℕ → ℕ) → ℕ → ℕ → Bool
-split_in v masks phase page = split_by v.seat.post.limits.hot (is_marked v.seat.post.marks) masks phase page
+split_in v masks phase page = split_by v.station.post.limits.hot (is_marked v.station.post.marks) masks phase page
 
 -- each addition of the seat is of some likes; it read the right masks; phases never fall along its steps; and while it
 -- has likes in its slice, none is later than its phase
 pub record IsOrdered (masks : ℕ → ℕ) (v : LiveView) : Type 0 where
-  pub some : AllByRecursion (λ s. AddsSome s.call) (earliest_first v.seat.post.did)
-  pub right : AreMasksOf masks v.seat.post.masks
-  pub rises : Rises (λ (s : PageStep). s.phase) (earliest_first v.seat.post.did)
-  pub none_later : (page : ℕ) → get_or v.seat.slice page 0 ≢ 0
-      → AllByRecursion (λ s. s.phase ≤ phase_at v.seat) (earliest_first v.seat.post.did)
+  pub some : AllByRecursion (λ s. AddsSome s.call) (earliest_first v.station.post.did)
+  pub right : AreMasksOf masks v.station.post.masks
+  pub rises : Rises (λ (s : PageStep). s.phase) (earliest_first v.station.post.did)
+  pub none_later : (page : ℕ) → get_or v.station.slice page 0 ≢ 0
+      → AllByRecursion (λ s. s.phase ≤ phase_at v.station) (earliest_first v.station.post.did)
 
 -- the front of a list along which phases never fall, and that it comes before the rest
 pub rises_front : {X : Type 0} (phase : X → ℕ) (xs ys : List X) → Rises phase (xs ++ ys) → Rises phase xs
@@ -74,29 +74,29 @@ first_add (a ∷ rest) page some = (a, (rest, refl))
 
 module _ (first : LiveView) (masks : ℕ → ℕ) where
   -- one step more of a phase
-  one_back : (v w : LiveView) (s : PageStep) → earliest_first w.seat.post.did ≡ earliest_first v.seat.post.did ++ s ∷ []
-      → w.seat.post.masks ≡ v.seat.post.masks → s.phase ≡ phase_at v.seat → IsOrdered masks w → IsOrdered masks v
+  one_back : (v w : LiveView) (s : PageStep) → earliest_first w.station.post.did ≡ earliest_first v.station.post.did ++ s ∷ []
+      → w.station.post.masks ≡ v.station.post.masks → s.phase ≡ phase_at v.station → IsOrdered masks w → IsOrdered masks v
   one_back v w s did same phase o =
       let rises = subst (Rises (λ (t : PageStep). t.phase)) did o.rises in
       record {
-        some = all_front (λ t. AddsSome t.call) (earliest_first v.seat.post.did) (s ∷ [])
+        some = all_front (λ t. AddsSome t.call) (earliest_first v.station.post.did) (s ∷ [])
             (subst (AllByRecursion (λ (t : PageStep). AddsSome t.call)) did o.some);
         right = subst (AreMasksOf masks) same o.right;
-        rises = rises_front (λ (t : PageStep). t.phase) (earliest_first v.seat.post.did) (s ∷ []) rises;
-        none_later = λ page has. subst (λ k. AllByRecursion (λ (t : PageStep). t.phase ≤ k) (earliest_first v.seat.post.did)) phase
-            (rises_to (λ (t : PageStep). t.phase) (earliest_first v.seat.post.did) s [] rises);
+        rises = rises_front (λ (t : PageStep). t.phase) (earliest_first v.station.post.did) (s ∷ []) rises;
+        none_later = λ page has. subst (λ k. AllByRecursion (λ (t : PageStep). t.phase ≤ k) (earliest_first v.station.post.did)) phase
+            (rises_to (λ (t : PageStep). t.phase) (earliest_first v.station.post.did) s [] rises);
       }
 
   -- steps more
-  some_back : (v w : LiveView) (more : List PageStep) → earliest_first w.seat.post.did ≡ earliest_first v.seat.post.did ++ more
-      → w.seat.post.masks ≡ v.seat.post.masks
-      → ((page : ℕ) → get_or v.seat.slice page 0 ≢ 0 → AllByRecursion (λ s. s.phase ≤ phase_at v.seat) (earliest_first v.seat.post.did))
+  some_back : (v w : LiveView) (more : List PageStep) → earliest_first w.station.post.did ≡ earliest_first v.station.post.did ++ more
+      → w.station.post.masks ≡ v.station.post.masks
+      → ((page : ℕ) → get_or v.station.slice page 0 ≢ 0 → AllByRecursion (λ s. s.phase ≤ phase_at v.station) (earliest_first v.station.post.did))
       → IsOrdered masks w → IsOrdered masks v
   some_back v w more did same later o = record {
-    some = all_front (λ t. AddsSome t.call) (earliest_first v.seat.post.did) more
+    some = all_front (λ t. AddsSome t.call) (earliest_first v.station.post.did) more
         (subst (AllByRecursion (λ (t : PageStep). AddsSome t.call)) did o.some);
     right = subst (AreMasksOf masks) same o.right;
-    rises = rises_front (λ (t : PageStep). t.phase) (earliest_first v.seat.post.did) more
+    rises = rises_front (λ (t : PageStep). t.phase) (earliest_first v.station.post.did) more
         (subst (Rises (λ (t : PageStep). t.phase)) did o.rises);
     none_later = later;
   }
@@ -104,54 +104,54 @@ module _ (first : LiveView) (masks : ℕ → ℕ) where
   pub ordered_back : (v : LiveView) (s : Step v) → Stands first v → IsOrdered masks (next v s) → IsOrdered masks v
   ordered_back v (looks sight mask can) k o = record {
     some = o.some;
-    right = masks-before masks v.seat.post.masks (saw_at v.seat.post sight mask).masks
-        (saw_keeps (phase_of (seen v.seat.post.state sight) == phase_of v.seat.post.state) v.seat.post.masks _
-        (entered_keeps (phase_of (seen v.seat.post.state sight) % 2 == 1) _ v.seat.post.masks))
+    right = masks-before masks v.station.post.masks (saw_at v.station.post sight mask).masks
+        (saw_keeps (phase_of (seen v.station.post.state sight) == phase_of v.station.post.state) v.station.post.masks _
+        (entered_keeps (phase_of (seen v.station.post.state sight) % 2 == 1) _ v.station.post.masks))
         o.right;
     rises = o.rises;
     none_later = λ page has.
-        subst (λ n. AllByRecursion (λ (t : PageStep). t.phase ≤ n) (earliest_first v.seat.post.did))
-        (looked_phase v.seat.post.state sight (k.split page has).0) (o.none_later page has);
+        subst (λ n. AllByRecursion (λ (t : PageStep). t.phase ≤ n) (earliest_first v.station.post.did))
+        (looked_phase v.station.post.state sight (k.split page has).0) (o.none_later page has);
   }
   ordered_back v (finds found joined order shown) k o =
-      some_back v _ _ (then-earliest v.seat.post.did (map (step_for v.seat.post.worker) found)) refl (λ page has. absurd (unsplit v.seat.post.state joined (k.split page has).0)) o
+      some_back v _ _ (then-earliest v.station.post.did (map (step_for v.station.post.worker) found)) refl (λ page has. absurd (unsplit v.station.post.state joined (k.split page has).0)) o
   ordered_back v (acknowledges joined) k o = record {
     some = o.some;
     right = o.right;
     rises = o.rises;
-    none_later = λ page has. absurd (unsplit v.seat.post.state joined (k.split page has).0);
+    none_later = λ page has. absurd (unsplit v.station.post.state joined (k.split page has).0);
   }
   ordered_back v (reports adds split merges) k o =
-      some_back v (reported v adds) (map (step_adding v.seat.post.worker) adds) are refl later o
+      some_back v (reported v adds) (map (step_adding v.station.post.worker) adds) are refl later o
     where
-      are : earliest_first (reported v adds).seat.post.did
-          ≡ earliest_first v.seat.post.did ++ map (step_adding v.seat.post.worker) adds
-      are = then-earliest v.seat.post.did (map (step_adding v.seat.post.worker) adds)
+      are : earliest_first (reported v adds).station.post.did
+          ≡ earliest_first v.station.post.did ++ map (step_adding v.station.post.worker) adds
+      are = then-earliest v.station.post.did (map (step_adding v.station.post.worker) adds)
 
-      later : (page : ℕ) → get_or v.seat.slice page 0 ≢ 0
-          → AllByRecursion (λ s. s.phase ≤ phase_at v.seat) (earliest_first v.seat.post.did)
+      later : (page : ℕ) → get_or v.station.slice page 0 ≢ 0
+          → AllByRecursion (λ s. s.phase ≤ phase_at v.station) (earliest_first v.station.post.did)
       later page has =
           let a = first_add adds page (λ none. has (sym (merges.sums page) ∙ none)) in
           let is = a.1.1 in
-          let phase : a.0.phase ≡ phase_at v.seat =
-          subst (All (λ (x : Addition). x.phase ≡ phase_at v.seat)) is merges.phase_is 0 a.0 (omega arith) in
+          let phase : a.0.phase ≡ phase_at v.station =
+          subst (All (λ (x : Addition). x.phase ≡ phase_at v.station)) is merges.phase_is 0 a.0 (omega arith) in
           let rises = subst
           (λ (xs : List Addition). Rises (λ (t : PageStep). t.phase)
-          (earliest_first v.seat.post.did ++ map (step_adding v.seat.post.worker) xs)) is
+          (earliest_first v.station.post.did ++ map (step_adding v.station.post.worker) xs)) is
           (subst (Rises (λ (t : PageStep). t.phase)) are o.rises) in
-          subst (λ n. AllByRecursion (λ (t : PageStep). t.phase ≤ n) (earliest_first v.seat.post.did)) phase
-          (rises_to (λ (t : PageStep). t.phase) (earliest_first v.seat.post.did) (step_adding v.seat.post.worker a.0)
-          (map (step_adding v.seat.post.worker) a.1.0) rises)
+          subst (λ n. AllByRecursion (λ (t : PageStep). t.phase ≤ n) (earliest_first v.station.post.did)) phase
+          (rises_to (λ (t : PageStep). t.phase) (earliest_first v.station.post.did) (step_adding v.station.post.worker a.0)
+          (map (step_adding v.station.post.worker) a.1.0) rises)
   ordered_back v (retires joined) k o = record {
     some = o.some;
     right = o.right;
     rises = o.rises;
-    none_later = λ page has. absurd (unsplit v.seat.post.state joined (k.split page has).0);
+    none_later = λ page has. absurd (unsplit v.station.post.state joined (k.split page has).0);
   }
   ordered_back v (returns phase mask gone) k o = record {
     some = o.some;
-    right = masks-before masks v.seat.post.masks (masks_entered v.seat.post.masks phase mask)
-        (entered_keeps (phase % 2 == 1) _ v.seat.post.masks) o.right;
+    right = masks-before masks v.station.post.masks (masks_entered v.station.post.masks phase mask)
+        (entered_keeps (phase % 2 == 1) _ v.station.post.masks) o.right;
     rises = o.rises;
     none_later = λ page has. absurd (subst RunsSplit gone (k.split page has).0);
   }
@@ -167,14 +167,14 @@ module _ (first : LiveView) (masks : ℕ → ℕ) where
               λ none. absurd (omega (
                 arith,
                 none,
-                ap (λ n. get_or (set v.seat.slice page (get_or v.seat.slice page 0 + 1)) n 0) (sym same),
-                slice-more v.seat.slice page page
-                    (subst (λ n. page < n) (sym k.sized) (page_there v.seat user page is.accepted)),
+                ap (λ n. get_or (set v.station.slice page (get_or v.station.slice page 0 + 1)) n 0) (sym same),
+                slice-more v.station.slice page page
+                    (subst (λ n. page < n) (sym k.sized) (page_there v.station user page is.accepted)),
                 ap {B = ℕ} (λ b. cond b 1 0) (eq-eqb page page refl),
               ))
           | inr apart ↦
               λ none. has
-              (sym (get_or-set_other v.seat.slice page other _ 0 (λ e. apart (sym e))) ∙ none)
+              (sym (get_or-set_other v.station.slice page other _ 0 (λ e. apart (sym e))) ∙ none)
         ]);
   }
   ordered_back v (adds_like user page old is) k o = one_back v _ _ refl refl refl o
@@ -184,12 +184,12 @@ module _ (first : LiveView) (masks : ℕ → ℕ) where
       record { some = o.some; right = o.right; rises = o.rises; none_later = o.none_later }
 
   -- whether a seat slices a page in the phase that it runs is whether the page is split in that phase
-  pub slices_split : (v : LiveView) (page : ℕ) → Stands first v → IsOrdered masks v → IsRunning v.seat.post.state
-      → slices v.seat.post page ≡ split_in first masks (phase_at v.seat) page
+  pub slices_split : (v : LiveView) (page : ℕ) → Stands first v → IsOrdered masks v → IsRunning v.station.post.state
+      → slices v.station.post page ≡ split_in first masks (phase_at v.station) page
   slices_split v page k o runs =
-      sym (split-known v.seat.post.limits.hot (is_marked v.seat.post.marks) masks v.seat.post.masks (phase_at v.seat) page
-      o.right (λ odd plain hot. k.masked (runs_odd v.seat.post.state runs odd)))
-      ∙ (λ m. split_by (k.limits m).hot (is_marked (k.marks m)) masks (phase_at v.seat) page) where
+      sym (split-known v.station.post.limits.hot (is_marked v.station.post.marks) masks v.station.post.masks (phase_at v.station) page
+      o.right (λ odd plain hot. k.masked (runs_odd v.station.post.state runs odd)))
+      ∙ (λ m. split_by (k.limits m).hot (is_marked (k.marks m)) masks (phase_at v.station) page) where
         runs_odd : (s : WorkerState) → IsRunning s → IsSplit (phase_of s) → RunsSplit s
         runs_odd (state.Runs k) runs odd = odd
         runs_odd (state.Answered k) runs odd = absurd runs

@@ -73,11 +73,11 @@ likes-most s limits =
 -- a request that a live seat accepts is accepted at its worker's seat, as one of the user with the place
 pub accepted_in : (v : LiveView) (s t : StationView Asked) (found : Waiting Found) (user page : ℕ) (placed : Placed)
     → live_of s found ≡ v → t ≡ s
-    → IsAccepted v.seat user page placed
+    → IsAccepted v.station user page placed
     → IsAccepted t placed.user page placed
 accepted_in v s t found user page placed is same a =
-    subst (λ x. IsAccepted x placed.user page placed) (sym (same ∙ ap (λ (w : LiveView). w.seat) is))
-    (subst (λ u. IsAccepted v.seat u page placed) (sym a.user_is) a)
+    subst (λ x. IsAccepted x placed.user page placed) (sym (same ∙ ap (λ (w : LiveView). w.station) is))
+    (subst (λ u. IsAccepted v.station u page placed) (sym a.user_is) a)
 
 -- the seat with these additions, slice, likes that went into it, and last likes
 abbrev liked_in : StationView Asked → List PageStep → List ℕ → List SlicedLike → List (Option ℕ) → StationView Asked
@@ -98,7 +98,7 @@ after-like s found home pages room half did slice likes lasts parts kept =
     let live = parts.live in
     record {
       live = record {
-        seat = kept;
+        station = kept;
         limits = live.limits;
         home = live.home;
         split = live.split;
@@ -146,7 +146,7 @@ after-shown s t found home pages room half did parts is kept =
     let live = parts.live in
     subst (λ x. AreLiveSeatParts x found home pages room half) (sym is) (record {
       live = record {
-        seat = subst (λ x. IsStation x) is kept;
+        station = subst (λ x. IsStation x) is kept;
         limits = live.limits;
         home = live.home;
         split = live.split;
@@ -202,7 +202,7 @@ after-held s t found home pages room left half a parts split own asked one early
     let more = length_push s.held.held a in
     subst (λ x. AreLiveSeatParts x found home pages left half) (sym is) (record {
       live = record {
-        seat = subst (λ x. IsStation x) is kept;
+        station = subst (λ x. IsStation x) is kept;
         limits = live.limits;
         home = live.home;
         split = λ joined. absurd (not-joined s.post.state split joined);
@@ -242,7 +242,7 @@ after-taken s found now home pages room left half parts is more free =
     let live = parts.live in
     subst (λ x. AreLiveSeatParts s x home pages left half) (sym is) (record {
       live = record {
-        seat = live.seat;
+        station = live.station;
         limits = live.limits;
         home = live.home;
         split = live.split;

@@ -20,7 +20,7 @@ use Rattle.like_live.specs.declared.answer.LookAnswer.TheVariants as looked
 use Rattle.like_live.specs.declared.answer.TurnAnswer.{TurnAnswer}
 use Rattle.like_live.specs.declared.answer.TurnAnswer.TheVariants as turned
 use Rattle.like_live.specs.declared.asked.Found.{Found}
-use Rattle.like_live.specs.LiveView.{LiveView, with_seat}
+use Rattle.like_live.specs.LiveView.{LiveView, with_station}
 use Rattle.like_live.specs.Answers.{IfShown, IsRead, Shown, counted_now, found_count}
 use Rattle.like_live.specs.Calls as calls
 use Rattle.like_live.specs.Calls.{GlanceCase, GlancesNow, LikeCase, LikesNow, LookCase, LooksNow, RetireCase, TakesFound}
@@ -41,12 +41,12 @@ IfShown-map P Q R S p q now (take_found (Some f)) h = p _ h
 IfShown-map P Q R S p q now t h = tt
 
 -- who is told that it runs a phase runs one
-runs-works : (v now : LiveView) (ending : Bool) → Works v ending turned.Runs now → IsRunning now.seat.post.state
+runs-works : (v now : LiveView) (ending : Bool) → Works v ending turned.Runs now → IsRunning now.station.post.state
 runs-works v now ending (moves.runs_joined joined e a found) =
-    subst (λ (w : LiveView). IsRunning w.seat.post.state) (sym found.rest) (running v.seat.post.state joined)
+    subst (λ (w : LiveView). IsRunning w.station.post.state) (sym found.rest) (running v.station.post.state joined)
 runs-works v now ending (moves.acknowledges then joined e a found is) = absurd (cc a)
 runs-works v now ending (moves.runs_split split e a is) =
-    subst (λ (w : LiveView). IsRunning w.seat.post.state) (sym is) (some v.seat.post.state split)
+    subst (λ (w : LiveView). IsRunning w.station.post.state) (sym is) (some v.station.post.state split)
   where
     some : (s : WorkerState) → RunsSplit s → IsRunning s
     some (state.Runs k) h = tt
@@ -56,11 +56,11 @@ runs-works v now ending (moves.reports s split e a merges is) = absurd (cc a)
 
 -- so does one that is given that answer
 pub runs-after : (v now : LiveView) (ending : Bool) (answer : TurnAnswer) → Works v ending answer now
-    → answer ≡ turned.Runs → IsRunning now.seat.post.state
+    → answer ≡ turned.Runs → IsRunning now.station.post.state
 runs-after v now ending answer does is =
     runs-works v now ending (subst (λ (a : TurnAnswer). Works v ending a now) is does)
 
-runs-moves : (v now : LiveView) → Moves v turned.Runs now → IsRunning now.seat.post.state
+runs-moves : (v now : LiveView) → Moves v turned.Runs now → IsRunning now.station.post.state
 runs-moves v now (moves.is_gone gone a is) = absurd (cc a)
 runs-moves v now (moves.waits sight mask can w a is) = absurd (cc a)
 runs-moves v now (moves.works sight mask can w does) = runs-works (moves.looked v sight mask) now sight.ending does
@@ -79,26 +79,26 @@ split_phase post page split = eqb-true _ _ ((and_parts _ _ split).0)
 pub record IsJustGlanced (now : LiveView) (s : Shown) : Type 0 where
   pub from : ℕ
   pub board : ℕ
-  pub there : Contains (glances_among now.seat.post.did) (page_read s.phase s.page board from)
-  pub count_is : s.count ≡ board + get_or now.seat.slice s.page 0
-  pub own : s.own ≤ added_in s.phase s.page (take from (additions_among now.seat.post.did)) + get_or now.seat.slice s.page 0
-  pub held : AreHeld now s.phase s.page from (get_or now.seat.slice s.page 0)
+  pub there : Contains (glances_among now.station.post.did) (page_read s.phase s.page board from)
+  pub count_is : s.count ≡ board + get_or now.station.slice s.page 0
+  pub own : s.own ≤ added_in s.phase s.page (take from (additions_among now.station.post.did)) + get_or now.station.slice s.page 0
+  pub held : AreHeld now s.phase s.page from (get_or now.station.slice s.page 0)
 
 -- right after a glance
 pub record IsJustRead (now : LiveView) (s : Shown) : Type 0 where
-  pub plain : slices now.seat.post s.page ≡ false → IsRead now s
-  pub split : slices now.seat.post s.page ≡ true → IsJustGlanced now s
+  pub plain : slices now.station.post s.page ≡ false → IsRead now s
+  pub split : slices now.station.post s.page ≡ true → IsJustGlanced now s
 
 -- what a seat has counted in its phase, by whether the page is split
 counted-is : (v : LiveView) (page : ℕ) (split : Bool)
-    → slices v.seat.post page ≡ split
+    → slices v.station.post page ≡ split
     → counted_now v page
-    ≡ added_in (phase_at v.seat) page (take (length (additions_among v.seat.post.did)) (additions_among v.seat.post.did))
-    + cond split (get_or v.seat.slice page 0) 0
+    ≡ added_in (phase_at v.station) page (take (length (additions_among v.station.post.did)) (additions_among v.station.post.did))
+    + cond split (get_or v.station.slice page 0) 0
 counted-is v page split is =
-    let all : List Addition = additions_among v.seat.post.did in
-    ap (λ (b : Bool). added_in (phase_at v.seat) page all + cond b (get_or v.seat.slice page 0) 0) is
-    ∙ ap (λ xs. added_in (phase_at v.seat) page xs + cond split (get_or v.seat.slice page 0) 0) (sym (take-length all))
+    let all : List Addition = additions_among v.station.post.did in
+    ap (λ (b : Bool). added_in (phase_at v.station) page all + cond b (get_or v.station.slice page 0) 0) is
+    ∙ ap (λ xs. added_in (phase_at v.station) page xs + cond split (get_or v.station.slice page 0) 0) (sym (take-length all))
 
 -- right after the call: what a look was told
 shows-look : (v after : LiveView) (user page tag : ℕ) (answer : LookAnswer)
@@ -116,9 +116,9 @@ shows-look v after user page tag answer d = by_case d
     now_case now (calls.seen shown s accepted plain a reads is) =
         subst P (sym a)
         (subst (λ w. IfShown (IsRead w) (IsJustRead w) w (look user page tag (looked.Seen shown)))
-        (sym (is ∙ ap (with_seat now) reads.read))
+        (sym (is ∙ ap (with_station now) reads.read))
         (let own = counted-is now page false plain in
-        (length (additions_among now.seat.post.did), Contains-push (reads_among now.seat.post.did) _, omega arith)))
+        (length (additions_among now.station.post.did), Contains-push (reads_among now.station.post.did) _, omega arith)))
 
     by_case : LookCase v user page tag answer after → P answer
     by_case (calls.gone m a) = subst P (sym a) tt
@@ -134,34 +134,34 @@ shows-glance v after user page answer d = by_case d
     P : GlanceAnswer → Type 0
     P x = IfShown (IsRead after) (IsJustRead after) after (glance user page x)
 
-    now_case : (now : LiveView) → IsRunning now.seat.post.state → GlancesNow now user page answer after → P answer
+    now_case : (now : LiveView) → IsRunning now.station.post.state → GlancesNow now user page answer after → P answer
     now_case now runs (calls.refused fails a is) = subst P (sym a) tt
     now_case now runs (calls.plain shown s accepted plain a reads is) =
         subst P (sym a)
         (subst (λ w. IfShown (IsRead w) (IsJustRead w) w (glance user page (glanced.Seen shown)))
-        (sym (is ∙ ap (with_seat now) reads.read))
+        (sym (is ∙ ap (with_station now) reads.read))
         (record {
           plain = λ _.
               let own = counted-is now page false plain in
-              (length (additions_among now.seat.post.did), Contains-push (reads_among now.seat.post.did) _, omega arith);
+              (length (additions_among now.station.post.did), Contains-push (reads_among now.station.post.did) _, omega arith);
           split = λ split. absurd (cc (sym plain ∙ split));
         }))
     now_case now runs (calls.split shown s accepted split a glances is) =
         subst P (sym a)
         (subst (λ w. IfShown (IsRead w) (IsJustRead w) w (glance user page (glanced.Seen shown)))
-        (sym (is ∙ ap (with_seat now) glances.glanced))
+        (sym (is ∙ ap (with_station now) glances.glanced))
         (record {
           plain = λ plain. absurd (cc (sym plain ∙ split));
           split = λ _. record {
-            from = length (additions_among now.seat.post.did);
+            from = length (additions_among now.station.post.did);
             board = glances.count;
-            there = Contains-push (glances_among now.seat.post.did) _;
+            there = Contains-push (glances_among now.station.post.did) _;
             count_is = glances.counts;
             own = let own = counted-is now page true split in omega arith;
             held = record {
               within = omega arith;
-              split = split_phase now.seat.post page split;
-              kept = inr (runs_this now.seat.post.state runs, omega arith);
+              split = split_phase now.station.post page split;
+              kept = inr (runs_this now.station.post.state runs, omega arith);
             };
           };
         }))

@@ -82,7 +82,7 @@ slices_are_slots z m v s driver service at station split page there =
     let runs : RunsSplit seat.state = subst (λ (q : PostView). RunsSplit q.state) at.post split in
     let masked : HasPhaseMask seat = subst HasPhaseMask at.post station.masked in
     let knows : KnowsSlices seat page = λ _ _ _. masked runs in
-    let same : slices s.seat.post page ≡ has_bit (slots_mask v.splits.slots) page =
+    let same : slices s.station.post page ≡ has_bit (slots_mask v.splits.slots) page =
     ap (λ (q : PostView). slices q page) at.post
     ∙ slices_are_split z m at.place at.view page at.there (running seat.state runs) knows
     ∙ ap (λ (marks : List Bool). split_by z.limits.hot (is_marked marks) m.state.hot m.state.phase page) plain

@@ -35,20 +35,20 @@ use Rattle.like_live.proofs.Telling.{user_there}
 -- the user is one of the seat's
 abbrev pub IsHis : LiveView → ℕ → Type 0
 IsHis v user =
-    (user < v.seat.last.share.users) × (home v.seat.last.share.submitters user ≡ v.seat.last.share.worker)
+    (user < v.station.last.share.users) × (home v.station.last.share.submitters user ≡ v.station.last.share.worker)
 
 -- what is true of a seat between any two steps: whose it is; that it has a number for each page and an entry for each
 -- user; that it has read the mask of a split phase that it runs; that its slice has likes of pages alone that are split
 -- then; and that the looks that wait are of its users
 pub record Stands (first v : LiveView) : Type 0 where
-  pub worker : v.seat.post.worker ≡ first.seat.post.worker
-  pub marks : v.seat.post.marks ≡ first.seat.post.marks
-  pub limits : v.seat.post.limits ≡ first.seat.post.limits
-  pub share : v.seat.last.share ≡ first.seat.last.share
-  pub sized : length v.seat.slice ≡ pages_of v.seat.post
-  pub table : length v.seat.last.last ≡ v.seat.last.share.users
-  pub masked : HasPhaseMask v.seat.post
-  pub split : IsSliceInSplit v.seat.post v.seat.slice
+  pub worker : v.station.post.worker ≡ first.station.post.worker
+  pub marks : v.station.post.marks ≡ first.station.post.marks
+  pub limits : v.station.post.limits ≡ first.station.post.limits
+  pub share : v.station.last.share ≡ first.station.last.share
+  pub sized : length v.station.slice ≡ pages_of v.station.post
+  pub table : length v.station.last.last ≡ v.station.last.share.users
+  pub masked : HasPhaseMask v.station.post
+  pub split : IsSliceInSplit v.station.post v.station.slice
   pub own : AllByRecursion (λ a. IsHis v a.user) (waiting v)
 
 -- an accepted request is of one of the seat's users
@@ -59,10 +59,10 @@ home_test false b k e = cc
 home_test true false k e = cc
 home_test true true k e = refl
 
-pub is_his : (v : LiveView) (user page : ℕ) → verdict_at v.seat user page ≡ Accepted → IsHis v user
+pub is_his : (v : LiveView) (user page : ℕ) → verdict_at v.station user page ≡ Accepted → IsHis v user
 is_his v user page is = (
-  user_there v.seat user page is,
-  eqb-true (home v.seat.last.share.submitters user) v.seat.last.share.worker (home_test _ _ _ is),
+  user_there v.station user page is,
+  eqb-true (home v.station.last.share.submitters user) v.station.last.share.worker (home_test _ _ _ is),
 )
 
 -- who runs a joined phase runs no split one
@@ -111,8 +111,8 @@ stands_next first v (looks sight mask can) k = record {
   share = k.share;
   sized = k.sized;
   table = k.table;
-  masked = has-after v.seat.post sight mask k.masked;
-  split = splits-after v.seat.post v.seat.slice sight mask k.split;
+  masked = has-after v.station.post sight mask k.masked;
+  split = splits-after v.station.post v.station.slice sight mask k.split;
   own = k.own;
 }
 stands_next first v (finds found joined order shown) k = record {
@@ -134,7 +134,7 @@ stands_next first v (acknowledges joined) k = record {
   sized = k.sized;
   table = k.table;
   masked = λ split. absurd split;
-  split = λ page some. absurd (unsplit v.seat.post.state joined (k.split page some).0);
+  split = λ page some. absurd (unsplit v.station.post.state joined (k.split page some).0);
   own = k.own;
 }
 stands_next first v (reports adds split merges) k = record {
@@ -142,10 +142,10 @@ stands_next first v (reports adds split merges) k = record {
   marks = k.marks;
   limits = k.limits;
   share = k.share;
-  sized = length-replicate {A = ℕ} (pages_of v.seat.post) 0;
+  sized = length-replicate {A = ℕ} (pages_of v.station.post) 0;
   table = k.table;
   masked = λ split. absurd split;
-  split = λ page some. absurd (some (same_everywhere (pages_of v.seat.post) page 0));
+  split = λ page some. absurd (some (same_everywhere (pages_of v.station.post) page 0));
   own = k.own;
 }
 stands_next first v (retires joined) k = record {
@@ -156,7 +156,7 @@ stands_next first v (retires joined) k = record {
   sized = k.sized;
   table = k.table;
   masked = λ split. absurd split;
-  split = λ page some. absurd (unsplit v.seat.post.state joined (k.split page some).0);
+  split = λ page some. absurd (unsplit v.station.post.state joined (k.split page some).0);
   own = k.own;
 }
 stands_next first v (returns phase mask gone) k = record {
@@ -166,7 +166,7 @@ stands_next first v (returns phase mask gone) k = record {
   share = k.share;
   sized = k.sized;
   table = k.table;
-  masked = λ odd. entered_mask v.seat.post.masks phase mask odd;
+  masked = λ odd. entered_mask v.station.post.masks phase mask odd;
   split = λ page some. absurd (subst RunsSplit gone (k.split page some).0);
   own = k.own;
 }
@@ -186,10 +186,10 @@ stands_next first v (slices_like user page is) k = record {
   marks = k.marks;
   limits = k.limits;
   share = k.share;
-  sized = length-set v.seat.slice page _ ∙ k.sized;
-  table = length-set v.seat.last.last user (Some page) ∙ k.table;
+  sized = length-set v.station.slice page _ ∙ k.sized;
+  table = length-set v.station.last.last user (Some page) ∙ k.table;
   masked = k.masked;
-  split = one_more v.seat.post v.seat.slice page _ k.split (runs_split v.seat.post page is.runs is.at) is.at;
+  split = one_more v.station.post v.station.slice page _ k.split (runs_split v.station.post page is.runs is.at) is.at;
   own = k.own;
 }
 stands_next first v (adds_like user page old is) k = record {
@@ -198,7 +198,7 @@ stands_next first v (adds_like user page old is) k = record {
   limits = k.limits;
   share = k.share;
   sized = k.sized;
-  table = length-set v.seat.last.last user (Some page) ∙ k.table;
+  table = length-set v.station.last.last user (Some page) ∙ k.table;
   masked = k.masked;
   split = k.split;
   own = k.own;
@@ -251,7 +251,7 @@ stands_at_first v unused =
       table = ap (λ (t : UserTable). length t.last) new.last
           ∙ length-map-range_with_len (λ user. cond (owns unused.share user) (last_in unused.lasts user) None) 0 unused.share.users
           ∙ ap (λ (t : UserTable). t.share.users) (sym new.last);
-      masked = λ split. absurd (joined_first v.seat.post.state
+      masked = λ split. absurd (joined_first v.station.post.state
           (ap (λ (p : PostView). p.state) new.at_post ∙ unused.fresh.runs) split);
       split = λ page some. absurd (some (ap (λ (xs : List ℕ). get_or xs page 0) new.slice ∙ same_everywhere _ page 0));
       own = subst (AllByRecursion (λ a. IsHis v a.user))

@@ -23,7 +23,7 @@ use Rattle.like_live.specs.declared.answer.TurnAnswer.{TurnAnswer}
 use Rattle.like_live.specs.declared.answer.TurnAnswer.TheVariants as answer
 use Rattle.like_live.specs.declared.asked.Asked.{Asked}
 use Rattle.like_live.specs.declared.asked.Found.{Found}
-use Rattle.like_live.specs.LiveView.{LiveView, waiting, with_seat}
+use Rattle.like_live.specs.LiveView.{LiveView, waiting, with_station}
 use Rattle.like_live.specs.Moves as moves
 use Rattle.like_live.specs.Moves.{CanSee, FindsAll, IsFoundAt, Moves, MovesBy, Works, acknowledged, looked, with_found}
 use Rattle.like_live.specs.Calls as calls
@@ -39,47 +39,47 @@ split_runs (Answered k) h = absurd h
 split_runs Gone h = absurd h
 
 -- a seat whose turn says that it runs a phase does so
-moves_run : (v after : LiveView) → Moves v answer.Runs after → IsRunning after.seat.post.state
+moves_run : (v after : LiveView) → Moves v answer.Runs after → IsRunning after.station.post.state
 moves_run v after (moves.is_gone gone a is) = absurd (cc a)
 moves_run v after (moves.waits sight mask can w a is) = absurd (cc a)
 moves_run v after (moves.works sight mask can w does) = by_works does where
-  by_works : Works (looked v sight mask) sight.ending answer.Runs after → IsRunning after.seat.post.state
+  by_works : Works (looked v sight mask) sight.ending answer.Runs after → IsRunning after.station.post.state
   by_works (moves.runs_joined joined e a found) =
-      subst (λ (w : LiveView). IsRunning w.seat.post.state) (sym found.rest)
-      (running (looked v sight mask).seat.post.state joined)
+      subst (λ (w : LiveView). IsRunning w.station.post.state) (sym found.rest)
+      (running (looked v sight mask).station.post.state joined)
   by_works (moves.acknowledges now joined e a found is) = absurd (cc a)
   by_works (moves.runs_split split e a is) =
-      subst (λ (w : LiveView). IsRunning w.seat.post.state) (sym is)
-      (split_runs (looked v sight mask).seat.post.state split)
+      subst (λ (w : LiveView). IsRunning w.station.post.state) (sym is)
+      (split_runs (looked v sight mask).station.post.state split)
   by_works (moves.reports s split e a merges is) = absurd (cc a)
 
 -- the seat after a merge and its report
 abbrev pub reported : LiveView → List Addition → LiveView
 reported v adds =
-    let m = merged v.seat adds in
-    with_seat v (record m { post = answered m.post })
+    let m = merged v.station adds in
+    with_station v (record m { post = answered m.post })
 
 -- a request is accepted at a seat that runs a phase, for a page that is split there or not
 pub record IsRequest (v : LiveView) (user page : ℕ) (split : Bool) : Type 0 where
-  pub runs : IsRunning v.seat.post.state
-  pub accepted : verdict_at v.seat user page ≡ Accepted
-  pub at : slices v.seat.post page ≡ split
+  pub runs : IsRunning v.station.post.state
+  pub accepted : verdict_at v.station user page ≡ Accepted
+  pub at : slices v.station.post page ≡ split
 
 -- a step of a seat: what it does, and what is known then
 pub data Step (v : LiveView) : Type 0 where
   looks : (sight : Sight) (mask : ℕ) → CanSee v sight → Step v
-  finds : (found : List Found) → RunsJoined v.seat.post.state → map (λ f. f.asked) found ≡ waiting v
-      → All (IsFoundAt v.seat) found → Step v
-  acknowledges : RunsJoined v.seat.post.state → Step v
-  reports : (adds : List Addition) → RunsSplit v.seat.post.state
-      → MergesAll v.seat.post.factor (phase_at v.seat) v.seat.slice adds → Step v
-  retires : RunsJoined v.seat.post.state → Step v
-  returns : (phase mask : ℕ) → v.seat.post.state ≡ Gone → Step v
+  finds : (found : List Found) → RunsJoined v.station.post.state → map (λ f. f.asked) found ≡ waiting v
+      → All (IsFoundAt v.station) found → Step v
+  acknowledges : RunsJoined v.station.post.state → Step v
+  reports : (adds : List Addition) → RunsSplit v.station.post.state
+      → MergesAll v.station.post.factor (phase_at v.station) v.station.slice adds → Step v
+  retires : RunsJoined v.station.post.state → Step v
+  returns : (phase mask : ℕ) → v.station.post.state ≡ Gone → Step v
   takes : Step v
   slices_like : (user page : ℕ) → IsRequest v user page true → Step v
   adds_like : (user page old : ℕ) → IsRequest v user page false → Step v
-  reads : (user page : ℕ) (shown : Seen) → IsRequest v user page false → shown.last ≡ last_of v.seat.last user → Step v
-  glances : (user page count : ℕ) (shown : Seen) → IsRequest v user page true → shown.last ≡ last_of v.seat.last user
+  reads : (user page : ℕ) (shown : Seen) → IsRequest v user page false → shown.last ≡ last_of v.station.last user → Step v
+  glances : (user page count : ℕ) (shown : Seen) → IsRequest v user page true → shown.last ≡ last_of v.station.last user
       → Step v
   holds : (user page tag : ℕ) → IsRequest v user page true → Step v
 
@@ -90,25 +90,25 @@ next v (finds found joined order shown) = with_found v found
 next v (acknowledges joined) = acknowledged v
 next v (reports adds split merges) = reported v adds
 next v (retires joined) = retired_seat v
-next v (returns phase mask gone) = with_seat v (came_back v.seat phase mask)
+next v (returns phase mask gone) = with_station v (came_back v.station phase mask)
 next v takes = record v { found = drop 1 v.found }
-next v (slices_like user page is) = with_seat v (liked_last (sliced v.seat page) user page)
+next v (slices_like user page is) = with_station v (liked_last (sliced v.station page) user page)
 next v (adds_like user page old is) =
-    with_seat v (liked_last (with_addition v.seat page old 1) user page)
+    with_station v (liked_last (with_addition v.station page old 1) user page)
 next v (reads user page shown is last) =
-    with_seat v (record v.seat { post = has_read v.seat.post page shown.count })
+    with_station v (record v.station { post = has_read v.station.post page shown.count })
 next v (glances user page count shown is last) =
-    with_seat v (record v.seat { post = has_glanced v.seat.post page count })
-next v (holds user page tag is) = with_seat v (holding v.seat (asked_now v user page tag))
+    with_station v (record v.station { post = has_glanced v.station.post page count })
+next v (holds user page tag is) = with_station v (holding v.station (asked_now v user page tag))
 
 -- the deeds that it is
 abbrev pub done_by : (v : LiveView) → Step v → List Deed
 done_by v (finds found joined order shown) = map deed_found found
-done_by v (slices_like user page is) = deed (phase_at v.seat) user page counted ∷ []
-done_by v (adds_like user page old is) = deed (phase_at v.seat) user page counted ∷ []
-done_by v (reads user page shown is last) = deed (phase_at v.seat) user page (showed shown) ∷ []
+done_by v (slices_like user page is) = deed (phase_at v.station) user page counted ∷ []
+done_by v (adds_like user page old is) = deed (phase_at v.station) user page counted ∷ []
+done_by v (reads user page shown is last) = deed (phase_at v.station) user page (showed shown) ∷ []
 done_by v (glances user page count shown is last) =
-    deed (phase_at v.seat) user page (glimpsed shown) ∷ []
+    deed (phase_at v.station) user page (glimpsed shown) ∷ []
 done_by v other = []
 
 -- a relation of a seat, deeds and the seat after them, which holds of each step and of steps one after the other
@@ -124,7 +124,7 @@ module _ (R : LiveView → List Deed → LiveView → Type 0) (f : FollowsSteps 
   still v now same r =
       subst (λ fs. R v (map deed_found fs) now) (sym (ap (drop (length v.found)) same ∙ drop-length v.found)) r
 
-  all_found : (v after : LiveView) → RunsJoined v.seat.post.state → FindsAll v after
+  all_found : (v after : LiveView) → RunsJoined v.station.post.state → FindsAll v after
       → R v (map deed_found (found_by v after)) after
   all_found v after joined all =
       subst (λ w. R v (map deed_found (found_by v w)) w) (sym all.rest)
@@ -139,8 +139,8 @@ module _ (R : LiveView → List Deed → LiveView → Type 0) (f : FollowsSteps 
       (subst (λ ds. R v ds after) (append-nil (map deed_found (found_by v now)))
       (f.both v now after (map deed_found (found_by v now)) [] r s))
 
-  joined_still : (v now : LiveView) → FindsAll v now → RunsJoined v.seat.post.state → RunsJoined now.seat.post.state
-  joined_still v now all joined = subst (λ (w : LiveView). RunsJoined w.seat.post.state) (sym all.rest) joined
+  joined_still : (v now : LiveView) → FindsAll v now → RunsJoined v.station.post.state → RunsJoined now.station.post.state
+  joined_still v now all joined = subst (λ (w : LiveView). RunsJoined w.station.post.state) (sym all.rest) joined
 
   by_works : (v after : LiveView) (ending : Bool) (answer : TurnAnswer) → Works v ending answer after
       → R v (map deed_found (found_by v after)) after
@@ -152,10 +152,10 @@ module _ (R : LiveView → List Deed → LiveView → Type 0) (f : FollowsSteps 
       still v after (ap (λ (w : LiveView). w.found) is) (subst (R v []) (sym is) (f.none v))
   by_works v after ending answer (moves.reports s split e a merges is) =
       let adds = merges.1.0.0 in
-      let same : s ≡ record (merged v.seat adds) { post = answered (merged v.seat adds).post } =
+      let same : s ≡ record (merged v.station adds) { post = answered (merged v.station adds).post } =
       merges.1.1 ∙ ap (λ (t : StationView Asked). record t { post = answered t.post }) merges.1.0.1.1 in
       still v after (ap (λ (w : LiveView). w.found) is)
-      (subst (R v []) (sym (is ∙ ap (with_seat v) same)) (f.one v (reports adds split merges.1.0.1.0)))
+      (subst (R v []) (sym (is ∙ ap (with_station v) same)) (f.one v (reports adds split merges.1.0.1.0)))
 
   by_retire_works : (v after : LiveView) (ending : Bool) (answer : TurnAnswer) → RetireWorks v ending answer after
       → R v (map deed_found (found_by v after)) after
@@ -202,41 +202,41 @@ module _ (R : LiveView → List Deed → LiveView → Type 0) (f : FollowsSteps 
     own = subst (λ ds. R v ds after) (sym none) (subst (R v []) (sym is) (f.none v));
   }
 
-  by_likes : (v after : LiveView) (user page : ℕ) (answer : LikeAnswer) → IsRunning v.seat.post.state
+  by_likes : (v after : LiveView) (user page : ℕ) (answer : LikeAnswer) → IsRunning v.station.post.state
       → LikesNow v user page answer after → Own v after (like user page answer)
   by_likes v after user page answer runs (calls.refused fails a is) =
       nothing v after (like user page answer) is (ap (λ x. own_deed after (like user page x)) a)
   by_likes v after user page answer runs (calls.full accepted most a is) =
       nothing v after (like user page answer) is (ap (λ x. own_deed after (like user page x)) a)
   by_likes v after user page answer runs (calls.liked None s accepted few a c is) =
-      let e = is ∙ ap (with_seat v) c.1 in
+      let e = is ∙ ap (with_station v) c.1 in
       record {
         same = ap (λ (w : LiveView). w.found) is;
         own = subst (λ x. R v (own_deed after (like user page x)) after) (sym a)
-            (subst (λ w. R v (deed (phase_at w.seat) user page counted ∷ []) w) (sym e)
+            (subst (λ w. R v (deed (phase_at w.station) user page counted ∷ []) w) (sym e)
             (f.one v (slices_like user page (record { runs = runs; accepted = accepted; at = c.0 }))));
       }
   by_likes v after user page answer runs (calls.liked (Some old) s accepted few a c is) =
-      let e = is ∙ ap (with_seat v) c.1 in
+      let e = is ∙ ap (with_station v) c.1 in
       record {
         same = ap (λ (w : LiveView). w.found) is;
         own = subst (λ x. R v (own_deed after (like user page x)) after) (sym a)
-            (subst (λ w. R v (deed (phase_at w.seat) user page counted ∷ []) w) (sym e)
+            (subst (λ w. R v (deed (phase_at w.station) user page counted ∷ []) w) (sym e)
             (f.one v (adds_like user page old (record { runs = runs; accepted = accepted; at = c.0 }))));
       }
 
-  by_looks : (v after : LiveView) (user page tag : ℕ) (answer : LookAnswer) → IsRunning v.seat.post.state
+  by_looks : (v after : LiveView) (user page tag : ℕ) (answer : LookAnswer) → IsRunning v.station.post.state
       → LooksNow v user page tag answer after → Own v after (look user page tag answer)
   by_looks v after user page tag answer runs (calls.refused fails a is) =
       nothing v after (look user page tag answer) is (ap (λ x. own_deed after (look user page tag x)) a)
   by_looks v after user page tag answer runs (calls.no_room accepted split most a is) =
       nothing v after (look user page tag answer) is (ap (λ x. own_deed after (look user page tag x)) a)
   by_looks v after user page tag answer runs (calls.seen shown s accepted plain a read is) =
-      let e = is ∙ ap (with_seat v) read.read in
+      let e = is ∙ ap (with_station v) read.read in
       record {
         same = ap (λ (w : LiveView). w.found) is;
         own = subst (λ x. R v (own_deed after (look user page tag x)) after) (sym a)
-            (subst (λ w. R v (deed (phase_at w.seat) user page (showed shown) ∷ []) w) (sym e)
+            (subst (λ w. R v (deed (phase_at w.station) user page (showed shown) ∷ []) w) (sym e)
             (f.one v (reads user page shown (record { runs = runs; accepted = accepted; at = plain }) read.last)));
       }
   by_looks v after user page tag answer runs (calls.waits accepted split room a is) =
@@ -246,28 +246,28 @@ module _ (R : LiveView → List Deed → LiveView → Type 0) (f : FollowsSteps 
             (subst (R v []) (sym is) (f.one v (holds user page tag (record { runs = runs; accepted = accepted; at = split }))));
       }
 
-  by_glances : (v after : LiveView) (user page : ℕ) (answer : GlanceAnswer) → IsRunning v.seat.post.state
+  by_glances : (v after : LiveView) (user page : ℕ) (answer : GlanceAnswer) → IsRunning v.station.post.state
       → GlancesNow v user page answer after → Own v after (glance user page answer)
   by_glances v after user page answer runs (calls.refused fails a is) =
       nothing v after (glance user page answer) is (ap (λ x. own_deed after (glance user page x)) a)
   by_glances v after user page answer runs (calls.plain shown s accepted plain a read is) =
-      let e = is ∙ ap (with_seat v) read.read in
+      let e = is ∙ ap (with_station v) read.read in
       record {
         same = ap (λ (w : LiveView). w.found) is;
         own = subst (λ x. R v (own_deed after (glance user page x)) after) (sym a)
             (subst (λ w. R v (own_deed w (glance user page (glanced.Seen shown))) w) (sym e)
-            (subst (λ b. R v (deed (phase_at v.seat) user page (cond b (glimpsed shown) (showed shown)) ∷ [])
-            (with_seat v (record v.seat { post = has_read v.seat.post page shown.count }))) (sym plain)
+            (subst (λ b. R v (deed (phase_at v.station) user page (cond b (glimpsed shown) (showed shown)) ∷ [])
+            (with_station v (record v.station { post = has_read v.station.post page shown.count }))) (sym plain)
             (f.one v (reads user page shown (record { runs = runs; accepted = accepted; at = plain }) read.last))));
       }
   by_glances v after user page answer runs (calls.split shown s accepted split a g is) =
-      let e = is ∙ ap (with_seat v) g.glanced in
+      let e = is ∙ ap (with_station v) g.glanced in
       record {
         same = ap (λ (w : LiveView). w.found) is;
         own = subst (λ x. R v (own_deed after (glance user page x)) after) (sym a)
             (subst (λ w. R v (own_deed w (glance user page (glanced.Seen shown))) w) (sym e)
-            (subst (λ b. R v (deed (phase_at v.seat) user page (cond b (glimpsed shown) (showed shown)) ∷ [])
-            (with_seat v (record v.seat { post = has_glanced v.seat.post page g.count }))) (sym split)
+            (subst (λ b. R v (deed (phase_at v.station) user page (cond b (glimpsed shown) (showed shown)) ∷ [])
+            (with_station v (record v.station { post = has_glanced v.station.post page g.count }))) (sym split)
             (f.one v (glances user page g.count shown (record { runs = runs; accepted = accepted; at = split }) g.last))));
       }
 
@@ -278,7 +278,7 @@ module _ (R : LiveView → List Deed → LiveView → Type 0) (f : FollowsSteps 
   by_return : (v after : LiveView) (answer : TurnAnswer) → ComeBackCase v answer after
       → R v (map deed_found (found_by v after)) after
   by_return v after answer (calls.runs s gone a back is) =
-      let e = is ∙ ap (with_seat v) back.1.1 in
+      let e = is ∙ ap (with_station v) back.1.1 in
       still v after (ap (λ (w : LiveView). w.found) is)
       (subst (R v []) (sym e) (f.one v (returns back.0 back.1.0 gone)))
   by_return v after answer (calls.between gone a is) =

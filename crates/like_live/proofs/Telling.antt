@@ -15,7 +15,7 @@ use Rattle.like_tables.specs.UserTable.{UserTable, last_of, with_last}
 use Rattle.like_live.specs.declared.answer.TurnAnswer.{TurnAnswer}
 use Rattle.like_live.specs.declared.asked.Asked.{Asked}
 use Rattle.like_live.specs.declared.asked.Found.{Found}
-use Rattle.like_live.specs.LiveView.{KeepsTallies, LiveView, tally, waiting, with_seat}
+use Rattle.like_live.specs.LiveView.{KeepsTallies, LiveView, tally, waiting, with_station}
 use Rattle.like_live.specs.Moves as moves
 use Rattle.like_live.specs.Moves.{FindsAll, Moves, MovesBy, Works, looked}
 use Rattle.like_live.specs.Calls as calls
@@ -26,21 +26,21 @@ use Rattle.like_live.proofs.Moving.{IsSized, Leaves, Leaves-come_back, Leaves-mo
 -- a seat with a number for each page and an entry for each user, at which nothing waits once it is gone
 pub record IsWhole (v : LiveView) : Type 0 where
   pub sized : IsSized v
-  pub table : length v.seat.last.last ≡ v.seat.last.share.users
-  pub empty : v.seat.post.state ≡ state.Gone → waiting v ≡ []
+  pub table : length v.station.last.last ≡ v.station.last.share.users
+  pub empty : v.station.post.state ≡ state.Gone → waiting v ≡ []
 
 -- nothing that a history counts changes
 pub record IsQuiet (v after : LiveView) : Type 0 where
   pub whole : IsWhole after
   pub tallies : KeepsTallies v after
-  pub last : after.seat.last ≡ v.seat.last
+  pub last : after.station.last ≡ v.station.last
   pub asks : asks_left after ≡ asks_left v
 
 -- what a call tells is what it does
 pub record IsTold (v after : LiveView) (t : Told) : Type 0 where
   pub whole : IsWhole after
   pub tallies : (page : ℕ) → tally after page ≡ tally v page + like_told page t
-  pub last : (user : ℕ) → last_of after.seat.last user ≡ last_or (last_of v.seat.last user) (page_liked user t)
+  pub last : (user : ℕ) → last_of after.station.last user ≡ last_or (last_of v.station.last user) (page_liked user t)
   pub asks : ask_taken t ++ asks_left after ≡ asks_left v ++ ask_told t
 
 -- it tells of nothing that a history counts
@@ -55,7 +55,7 @@ IsTold-quiet v after t q none = record {
   whole = q.whole;
   tallies = λ page. let a = q.tallies page in let b = none.likes page in omega arith;
   last = λ user. ap (λ (x : UserTable). last_of x user) q.last
-      ∙ sym (ap (last_or (last_of v.seat.last user)) (none.pages user));
+      ∙ sym (ap (last_or (last_of v.station.last user)) (none.pages user));
   asks = ap (λ xs. xs ++ asks_left after) none.taken ∙ q.asks ∙ sym (append-nil (asks_left v))
       ∙ ap (λ xs. asks_left v ++ xs) (sym none.told);
 }
@@ -97,14 +97,14 @@ split-there state.Gone split = absurd split
 
 -- nothing waits at a seat that is gone
 abbrev IsEmpty : LiveView → Type 0
-IsEmpty v = v.seat.post.state ≡ state.Gone → waiting v ≡ []
+IsEmpty v = v.station.post.state ≡ state.Gone → waiting v ≡ []
 
 empty-works : (v after : LiveView) (ending : Bool) (answer : TurnAnswer) → Works v ending answer after → IsEmpty after
 empty-works v after ending answer (moves.runs_joined joined e a found) = λ gone. ap waiting found.rest
 empty-works v after ending answer (moves.acknowledges now joined e a found is) =
     λ gone. ap waiting is ∙ ap waiting found.rest
 empty-works v after ending answer (moves.runs_split split e a is) =
-    subst IsEmpty (sym is) (λ gone. absurd (split-there v.seat.post.state split gone))
+    subst IsEmpty (sym is) (λ gone. absurd (split-there v.station.post.state split gone))
 empty-works v after ending answer (moves.reports s split e a merges is) =
     subst IsEmpty (sym is) (λ gone. absurd (cc (sym (ap (λ (t : StationView Asked). t.post.state) merges.1.1) ∙ gone)))
 
@@ -127,7 +127,7 @@ finds-asks v after f =
     ∙ map-append ask_of v.found f.found
     ∙ ap (λ xs. map ask_of v.found ++ xs) (asks-found f.found ∙ ap (map ask_waiting) f.order)
 
-pub merged-asks : (v : LiveView) (s : StationView Asked) → s.held ≡ v.seat.held → asks_left (with_seat v s) ≡ asks_left v
+pub merged-asks : (v : LiveView) (s : StationView Asked) → s.held ≡ v.station.held → asks_left (with_station v s) ≡ asks_left v
 merged-asks v s held = ap (λ h. map ask_of v.found ++ map ask_waiting h.held) held
 
 works-asks : (v after : LiveView) (ending : Bool) (answer : TurnAnswer)
@@ -164,7 +164,7 @@ empty-by : (Runs : LiveView → Bool → TurnAnswer → LiveView → Type 0)
     → IsEmpty after
 empty-by Runs does v after answer empty (moves.is_gone gone a is) = subst IsEmpty (sym is) empty
 empty-by Runs does v after answer empty (moves.waits sight mask can w a is) =
-    subst IsEmpty (sym is) (λ gone. absurd (seen-there v.seat.post.state sight can gone))
+    subst IsEmpty (sym is) (λ gone. absurd (seen-there v.station.post.state sight can gone))
 empty-by Runs does v after answer empty (moves.works sight mask can w work) =
     does.empty (looked v sight mask) after sight.ending answer work
 
@@ -220,7 +220,7 @@ pub IsQuiet-come_back : (v after : LiveView) (answer : TurnAnswer)
     → IsQuiet v after
 IsQuiet-come_back v after answer whole (calls.runs s gone a back is) =
     let l = Leaves-come_back v after answer whole.sized (calls.runs s gone a back is) in
-    let held = is ∙ ap (with_seat v) back.1.1 in
+    let held = is ∙ ap (with_station v) back.1.1 in
     record {
       whole = record {
         sized = l.sized ∙ whole.sized ∙ ap length (sym l.same.marks);

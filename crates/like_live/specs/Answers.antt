@@ -26,13 +26,13 @@ pub record Shown : Type 0 where
 -- in its slice
 abbrev pub counted_now : LiveView → ℕ → ℕ
 counted_now v page =
-    additions_in v.seat.post (phase_at v.seat) page
-    + (if slices v.seat.post page then slice_index v.seat.slice page else 0)
+    additions_in v.station.post (phase_at v.station) page
+    + (if slices v.station.post page then slice_index v.station.slice page else 0)
 
 -- a count of a page that a call was told, if this is the seat right after the call
 abbrev pub shown_now : LiveView → (page count : ℕ) → Shown
 shown_now v page count =
-    record { phase = phase_at v.seat; page = page; own = counted_now v page; count = count }
+    record { phase = phase_at v.station; page = page; own = counted_now v page; count = count }
 
 -- the count that a found look was shown: it ran before the seat counted a like in its phase
 abbrev pub found_count : Found → Shown
@@ -49,15 +49,15 @@ IfShown P Q now told = Unit {0}
 -- the seat read this count of this page in this phase, after it had added its own likes
 abbrev pub IsRead : LiveView → Shown → Type 0
 IsRead v s =
-    (after : ℕ) × Contains (reads_among v.seat.post.did) (page_read s.phase s.page s.count after)
-    × (s.own ≤ added_in s.phase s.page (take after (additions_among v.seat.post.did)))
+    (after : ℕ) × Contains (reads_among v.station.post.did) (page_read s.phase s.page s.count after)
+    × (s.own ≤ added_in s.phase s.page (take after (additions_among v.station.post.did)))
 
 -- n likes of a page that the seat had in its slice in a phase, after this many additions: it has added them in that
 -- phase, or it runs that phase and has them in its slice still
 abbrev pub AreKept : LiveView → (phase page after n : ℕ) → Type 0
 AreKept v phase page after n =
-    (n ≤ added_in phase page (drop after (additions_among v.seat.post.did)))
-    ⊎ ((v.seat.post.state ≡ Runs phase) × (n ≤ slice_index v.seat.slice page))
+    (n ≤ added_in phase page (drop after (additions_among v.station.post.did)))
+    ⊎ ((v.station.post.state ≡ Runs phase) × (n ≤ slice_index v.station.slice page))
 
 -- the seat glanced at this page in this phase. The count is the board's at that glance plus the likes of the page in
 -- the seat's slice, which are kept. The seat's own likes were added before the glance, or are in that slice
@@ -65,17 +65,17 @@ pub record IsGlanced (now v : LiveView) (s : Shown) : Type 0 where
   pub after : ℕ
   pub board : ℕ
   pub sliced : ℕ
-  pub there : Contains (glances_among v.seat.post.did) (page_read s.phase s.page board after)
-  pub sliced_is : sliced ≡ slice_index now.seat.slice s.page
+  pub there : Contains (glances_among v.station.post.did) (page_read s.phase s.page board after)
+  pub sliced_is : sliced ≡ slice_index now.station.slice s.page
   pub count_is : s.count ≡ board + sliced
-  pub own : s.own ≤ added_in s.phase s.page (take after (additions_among v.seat.post.did)) + sliced
+  pub own : s.own ≤ added_in s.phase s.page (take after (additions_among v.station.post.did)) + sliced
   pub kept : AreKept v s.phase s.page after sliced
 
 -- the count that a glance was told. If the page isn't split then, the seat read it; otherwise the seat glanced at the
 -- page, and its own likes are added
 pub record IsReadOrGlanced (now v : LiveView) (s : Shown) : Type 0 where
-  pub plain : slices now.seat.post s.page ≡ false → IsRead v s
-  pub split : slices now.seat.post s.page ≡ true → IsGlanced now v s
+  pub plain : slices now.station.post s.page ≡ false → IsRead v s
+  pub split : slices now.station.post s.page ≡ true → IsGlanced now v s
 
 -- a call in a seat's history: some calls were made before it, and some after it
 pub record IsCallOf (v now after : LiveView) (t : Told) : Type 0 where
@@ -96,7 +96,7 @@ AnswersAreReads =
 
 -- how much these seats have added to a page in the phases before one
 abbrev pub seats_added_before : List LiveView → ℕ → ℕ → ℕ
-seats_added_before seats phase page = sum_by (λ v. added_before phase page (additions_among v.seat.post.did)) seats
+seats_added_before seats phase page = sum_by (λ v. added_before phase page (additions_among v.station.post.did)) seats
 
 -- the count has the page's first count, all that these seats added in earlier phases, and the seat's own likes of the
 -- phase before; and nothing of a later phase

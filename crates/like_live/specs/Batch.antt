@@ -1,5 +1,5 @@
--- A batch of calls.
-use Rattle.std.specs.Prelude.{◌≡◌, ◌≢◌, ◌⊎◌, ℕ, List, [], ◌∷◌, length, slice_get, take, Option, Some, MatchOption}
+-- A batch of rows, each of which asks for a call and has a place for its answer.
+use Rattle.std.specs.Prelude.{◌≡◌, ◌⊎◌, ◌↔◌, ℕ, Bool, false, true, IsTrue, List, [], ◌∷◌, length, min, slice_get, take, Result, Ok, Err, Some}
 use Rattle.like_live.specs.declared.answer.GlanceAnswer.TheVariants as glanced
 use Rattle.like_live.specs.declared.answer.LikeAnswer.TheVariants as liked
 use Rattle.like_live.specs.declared.answer.LookAnswer.TheVariants as looked
@@ -8,48 +8,45 @@ use Rattle.like_live.specs.declared.call.Answer.TheVariants as answer
 use Rattle.like_live.specs.declared.call.Call.{Call}
 use Rattle.like_live.specs.declared.call.Call.TheVariants as call
 use Rattle.like_live.specs.LiveView.{LiveView}
-use Rattle.like_live.specs.Calls.{GlanceCase, LikeCase, LookCase}
-use Rattle.like_live.specs.History.{Does, HasDone, Told, glance, like, look}
+use Rattle.like_live.specs.History.{Does, glance, like, look}
 
--- the call was told this, and not that it must wait
-abbrev pub WasTold : Call → Answer → Told → Type 0
-WasTold (call.Like user page) (answer.Like a) told = (a ≢ liked.Between) × (told ≡ like user page a)
-WasTold (call.Look user page tag) (answer.Look a) told =
-    (a ≢ looked.Between) × (a ≢ looked.NoRoom) × (told ≡ look user page tag a)
-WasTold (call.Glance user page) (answer.Glance a) told = (a ≢ glanced.Between) × (told ≡ glance user page a)
-WasTold c a told = ⊥
+-- a call is made, as one of a history, and this is its answer
+abbrev pub Makes : LiveView → Call → Answer → LiveView → Type 0
+Makes v (call.Like user page) (answer.Like a) after = Does v (like user page a) after
+Makes v (call.Look user page tag) (answer.Look a) after = Does v (look user page tag a) after
+Makes v (call.Glance user page) (answer.Glance a) after = Does v (glance user page a) after
+Makes v c a after = ⊥
 
--- the calls were told this, one by one
-abbrev pub WereTold : List Call → List Answer → List Told → Type 0
-WereTold [] [] [] = Unit {0}
-WereTold (c ∷ calls) (a ∷ answers) (t ∷ told) = WasTold c a t × WereTold calls answers told
-WereTold calls answers told = ⊥
+-- the answer says that the call must be made again
+abbrev pub IsPutOff : Answer → Type 0
+IsPutOff (answer.Like a) = a ≡ liked.Between
+IsPutOff (answer.Look a) = (a ≡ looked.Between) ⊎ (a ≡ looked.NoRoom)
+IsPutOff (answer.Glance a) = a ≡ glanced.Between
 
--- the call is told `Between` or `NoRoom`: it must be made again
-abbrev pub IsPutOff : LiveView → Call → LiveView → Type 0
-IsPutOff v (call.Like user page) after = LikeCase v user page liked.Between after
-IsPutOff v (call.Look user page tag) after =
-    LookCase v user page tag looked.Between after ⊎ LookCase v user page tag looked.NoRoom after
-IsPutOff v (call.Glance user page) after = GlanceCase v user page glanced.Between after
+-- a row is answered: the call that it asks for is made, and its answer is written; or it asks for none, and is told so;
+-- and whether the call must be made again
+pub data AnswersRow {R T : Type 0} (asks : R → Result Call T) (tells : Answer → T) (v : LiveView) (row : R) (told : T)
+    (put_off : Bool) (after : LiveView) : Type 0 where
+  makes_call : (c : Call) (a : Answer) → asks row ≡ Ok c → Makes v c a after → told ≡ tells a
+      → (IsTrue put_off ↔ IsPutOff a) → AnswersRow asks tells v row told put_off after
+  has_no_call : asks row ≡ Err told → put_off ≡ false → after ≡ v → AnswersRow asks tells v row told put_off after
 
--- the first `done` calls of a batch are made, and have these answers
-pub record HasRun (v : LiveView) (calls : List Call) (answers : List Answer) (done : ℕ) (after : LiveView)
-    : Type 0 where
-  pub told : List Told
-  pub history : HasDone v told after
-  pub were : WereTold (take done calls) (take done answers) told
+-- rows are answered one by one, and no call must be made again
+abbrev pub AnswersRows :
+    {R T : Type 0} → (R → Result Call T) → (Answer → T) → LiveView → List R → List T → LiveView → Type 0
+AnswersRows asks tells v [] [] after = after ≡ v
+AnswersRows asks tells v (row ∷ rows) (told ∷ answers) after =
+    (now : LiveView) × (AnswersRow asks tells v row told false now × AnswersRows asks tells now rows answers after)
+AnswersRows asks tells v rows answers after = ⊥
 
--- a batch is run: all its calls are made, or all up to the first that must wait
-pub data RunCase (v : LiveView) (calls : List Call) (answers : List Answer) (done : ℕ) (after : LiveView) : Type 0 where
-  all : done ≡ length calls → HasRun v calls answers done after → RunCase v calls answers done after
-  stops : (now : LiveView) (next : Call) → slice_get calls done ≡ Some next
-      → HasRun v calls answers done now → IsPutOff now next after → RunCase v calls answers done after
-
--- one call of a batch is made, and has this answer
-abbrev pub IsDone : LiveView → Call → Answer → LiveView → Type 0
-IsDone v call answer after = (told : Told) × (WasTold call answer told × Does v told after)
-
--- one call of a batch has this answer, or must wait
-abbrev pub AnswersCall : LiveView → Call → Option Answer → LiveView → Type 0
-AnswersCall v call answer after =
-    MatchOption answer (IsPutOff v call after) (λ given. IsDone v call given after)
+-- a batch is run: all rows are answered, up to the end of the shorter list; or all up to one whose call must be made
+-- again, which is told so and not counted
+pub data RunCase {R T : Type 0} (asks : R → Result Call T) (tells : Answer → T) (v : LiveView) (rows : List R)
+    (answers : List T) (done : ℕ) (after : LiveView) : Type 0 where
+  all_rows : done ≡ min (length rows) (length answers)
+      → AnswersRows asks tells v (take done rows) (take done answers) after
+      → RunCase asks tells v rows answers done after
+  stops_at : (now : LiveView) (row : R) (told : T)
+      → AnswersRows asks tells v (take done rows) (take done answers) now
+      → slice_get rows done ≡ Some row → slice_get answers done ≡ Some told
+      → AnswersRow asks tells now row told true after → RunCase asks tells v rows answers done after

@@ -25,7 +25,7 @@ use Rattle.like_live.specs.declared.answer.TurnAnswer.{TurnAnswer}
 use Rattle.like_live.specs.declared.answer.TurnAnswer.TheVariants as turn
 use Rattle.like_live.specs.declared.asked.Asked.{Asked}
 use Rattle.like_live.specs.declared.asked.Found.{Found}
-use Rattle.like_live.specs.LiveView.{LiveView, room_of, tally, waiting, with_seat}
+use Rattle.like_live.specs.LiveView.{LiveView, room_of, tally, waiting, with_station}
 use Rattle.like_live.specs.Moves.{FindsAll, Moves, MovesBy, Works}
 
 -- a page by its number, where there are this many pages
@@ -48,13 +48,13 @@ pub record IsAccepted (s : StationView Asked) (user page : ℕ) (placed : Placed
 
 -- what a like does at a seat that runs a phase
 pub data LikesNow (v : LiveView) (user page : ℕ) (answer : LikeAnswer) (after : LiveView) : Type 0 where
-  refused : verdict_at v.seat user page ≢ Accepted
-      → answer ≡ like.Refused (verdict_at v.seat user page) → after ≡ v → LikesNow v user page answer after
-  full : verdict_at v.seat user page ≡ Accepted → likes_of v.seat ≡ v.seat.post.limits.likes
+  refused : verdict_at v.station user page ≢ Accepted
+      → answer ≡ like.Refused (verdict_at v.station user page) → after ≡ v → LikesNow v user page answer after
+  full : verdict_at v.station user page ≡ Accepted → likes_of v.station ≡ v.station.post.limits.likes
       → answer ≡ like.Full → after ≡ v → LikesNow v user page answer after
   liked : (old : Option ℕ) (s : StationView Asked)
-      → verdict_at v.seat user page ≡ Accepted → likes_of v.seat < v.seat.post.limits.likes
-      → answer ≡ like.Liked → CountsLike v.seat user page old s → after ≡ with_seat v s
+      → verdict_at v.station user page ≡ Accepted → likes_of v.station < v.station.post.limits.likes
+      → answer ≡ like.Liked → CountsLike v.station user page old s → after ≡ with_station v s
       → LikesNow v user page answer after
 
 -- like case: the answer to a like, and the seat after; the phase work comes first
@@ -70,27 +70,27 @@ asked_in phase user page tag = record { tag = tag; user = user; page = page; pha
 
 -- a look that is asked now
 abbrev pub asked_now : LiveView → ℕ → ℕ → ℕ → Asked
-asked_now v user page tag = asked_in (phase_at v.seat) user page tag
+asked_now v user page tag = asked_in (phase_at v.station) user page tag
 
 -- a look is put by: there was room for one more, and it waits behind all others
 pub record PutsBy (v : LiveView) (asked : Asked) (after : LiveView) : Type 0 where
   pub room : length (waiting v) + length v.found < room_of v
-  pub is : after ≡ with_seat v (holding v.seat asked)
+  pub is : after ≡ with_station v (holding v.station asked)
 
 -- what a look does at a seat that runs a phase
 pub data LooksNow (v : LiveView) (user page tag : ℕ) (answer : LookAnswer) (after : LiveView) : Type 0 where
-  refused : verdict_at v.seat user page ≢ Accepted
-      → answer ≡ look.Refused (verdict_at v.seat user page) → after ≡ v → LooksNow v user page tag answer after
+  refused : verdict_at v.station user page ≢ Accepted
+      → answer ≡ look.Refused (verdict_at v.station user page) → after ≡ v → LooksNow v user page tag answer after
   seen : (shown : Seen) (s : StationView Asked)
-      → verdict_at v.seat user page ≡ Accepted → slices v.seat.post page ≡ false
-      → answer ≡ look.Seen shown → Reads v.seat user page shown s → after ≡ with_seat v s
+      → verdict_at v.station user page ≡ Accepted → slices v.station.post page ≡ false
+      → answer ≡ look.Seen shown → Reads v.station user page shown s → after ≡ with_station v s
       → LooksNow v user page tag answer after
-  no_room : verdict_at v.seat user page ≡ Accepted → slices v.seat.post page ≡ true
+  no_room : verdict_at v.station user page ≡ Accepted → slices v.station.post page ≡ true
       → length (waiting v) + length v.found ≡ room_of v
       → answer ≡ look.NoRoom → after ≡ v → LooksNow v user page tag answer after
-  waits : verdict_at v.seat user page ≡ Accepted → slices v.seat.post page ≡ true
+  waits : verdict_at v.station user page ≡ Accepted → slices v.station.post page ≡ true
       → length (waiting v) + length v.found < room_of v
-      → answer ≡ look.Waits → after ≡ with_seat v (holding v.seat (asked_now v user page tag))
+      → answer ≡ look.Waits → after ≡ with_station v (holding v.station (asked_now v user page tag))
       → LooksNow v user page tag answer after
 
 -- look case: the answer to a look, and the seat after; the phase work comes first
@@ -103,15 +103,15 @@ pub data LookCase (v : LiveView) (user page tag : ℕ) (answer : LookAnswer) (af
 -- what a glance does at a seat that runs a phase. A page that is not split is read. Of a split page, the count is the
 -- board's plus the seat's own slice
 pub data GlancesNow (v : LiveView) (user page : ℕ) (answer : GlanceAnswer) (after : LiveView) : Type 0 where
-  refused : verdict_at v.seat user page ≢ Accepted
-      → answer ≡ glance.Refused (verdict_at v.seat user page) → after ≡ v → GlancesNow v user page answer after
+  refused : verdict_at v.station user page ≢ Accepted
+      → answer ≡ glance.Refused (verdict_at v.station user page) → after ≡ v → GlancesNow v user page answer after
   plain : (shown : Seen) (s : StationView Asked)
-      → verdict_at v.seat user page ≡ Accepted → slices v.seat.post page ≡ false
-      → answer ≡ glance.Seen shown → Reads v.seat user page shown s → after ≡ with_seat v s
+      → verdict_at v.station user page ≡ Accepted → slices v.station.post page ≡ false
+      → answer ≡ glance.Seen shown → Reads v.station user page shown s → after ≡ with_station v s
       → GlancesNow v user page answer after
   split : (shown : Seen) (s : StationView Asked)
-      → verdict_at v.seat user page ≡ Accepted → slices v.seat.post page ≡ true
-      → answer ≡ glance.Seen shown → Glances v.seat user page shown s → after ≡ with_seat v s
+      → verdict_at v.station user page ≡ Accepted → slices v.station.post page ≡ true
+      → answer ≡ glance.Seen shown → Glances v.station user page shown s → after ≡ with_station v s
       → GlancesNow v user page answer after
 
 -- glance case: the answer to a glance, and the seat after; the phase work comes first
@@ -123,14 +123,14 @@ pub data GlanceCase (v : LiveView) (user page : ℕ) (answer : GlanceAnswer) (af
 
 -- the seat after it retired
 abbrev pub retired_seat : LiveView → LiveView
-retired_seat v = record v { seat = record v.seat { post = retired v.seat.post } }
+retired_seat v = record v { station = record v.station { post = retired v.station.post } }
 
 -- what a seat that is to retire does after its look, if it runs a phase. In a joined phase, ending or not, it finds all
 -- looks that wait, and is gone. In a split phase it does what a turn does
 pub data RetireWorks (v : LiveView) (ending : Bool) (answer : TurnAnswer) (after : LiveView) : Type 0 where
-  retires : (now : LiveView) → RunsJoined v.seat.post.state → answer ≡ turn.Gone
+  retires : (now : LiveView) → RunsJoined v.station.post.state → answer ≡ turn.Gone
       → FindsAll v now → after ≡ retired_seat now → RetireWorks v ending answer after
-  stays : RunsSplit v.seat.post.state → Works v ending answer after → RetireWorks v ending answer after
+  stays : RunsSplit v.station.post.state → Works v ending answer after → RetireWorks v ending answer after
 
 -- retire case: the answer, and the seat after
 abbrev pub RetireCase : LiveView → TurnAnswer → LiveView → Type 0
@@ -140,10 +140,10 @@ RetireCase = MovesBy RetireWorks
 -- of it is done, where that phase is ending or other seats changed the phase word meanwhile. Of any other seat this is a
 -- turn
 pub data ComeBackCase (v : LiveView) (answer : TurnAnswer) (after : LiveView) : Type 0 where
-  runs : (s : StationView Asked) → v.seat.post.state ≡ state.Gone → answer ≡ turn.Runs
-      → ComesBack v.seat s → after ≡ with_seat v s → ComeBackCase v answer after
-  between : v.seat.post.state ≡ state.Gone → answer ≡ turn.Between → after ≡ v → ComeBackCase v answer after
-  there : v.seat.post.state ≢ state.Gone → Moves v answer after → ComeBackCase v answer after
+  runs : (s : StationView Asked) → v.station.post.state ≡ state.Gone → answer ≡ turn.Runs
+      → ComesBack v.station s → after ≡ with_station v s → ComeBackCase v answer after
+  between : v.station.post.state ≡ state.Gone → answer ≡ turn.Between → after ≡ v → ComeBackCase v answer after
+  there : v.station.post.state ≢ state.Gone → Moves v answer after → ComeBackCase v answer after
 
 -- the first of the found looks is taken, if there is one
 abbrev pub TakesFound : LiveView → Option Found → LiveView → Type 0

@@ -40,10 +40,10 @@ found_by v now = drop (length v.found) now.found
 -- the deed that a call itself is, if it is one, and if this is the seat after it: a like that was counted; a look or a
 -- glance that was shown something at once
 abbrev pub own_deed : LiveView → Told → List Deed
-own_deed now (like user page Liked) = deed (phase_at now.seat) user page counted ∷ []
-own_deed now (look user page tag (looked.Seen shown)) = deed (phase_at now.seat) user page (showed shown) ∷ []
+own_deed now (like user page Liked) = deed (phase_at now.station) user page counted ∷ []
+own_deed now (look user page tag (looked.Seen shown)) = deed (phase_at now.station) user page (showed shown) ∷ []
 own_deed now (glance user page (glanced.Seen shown)) =
-    deed (phase_at now.seat) user page (if slices now.seat.post page then glimpsed shown else showed shown) ∷ []
+    deed (phase_at now.station) user page (if slices now.station.post page then glimpsed shown else showed shown) ∷ []
 own_deed now told = []
 
 -- the deeds of a call: the looks that it found, and then its own
@@ -91,7 +91,7 @@ abbrev pub DeedsShowLasts : Type 0
 DeedsShowLasts =
     (v after : LiveView) (told : List Told) (done : HasDone v told after) → IsUnused v
     → (i : ℕ) (d : Deed) → slice_get (deeds_of told v after done) i ≡ Some d
-    → ShowsLast (last_or (last_of v.seat.last d.user) (pages_counted d.user (take i (deeds_of told v after done)))) d.act
+    → ShowsLast (last_or (last_of v.station.last d.user) (pages_counted d.user (take i (deeds_of told v after done)))) d.act
 
 -- a found look that was taken, if that was the call
 abbrev pub found_taken : Told → List Found

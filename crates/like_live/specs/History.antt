@@ -110,7 +110,7 @@ pub record IsUnused (v : LiveView) : Type 0 where
 -- `Waits` are the found looks that were taken, then those that are left, each once and in order
 pub record HistoryIsCounted (v : LiveView) (told : List Told) (after : LiveView) : Type 0 where
   pub tallies : (page : ℕ) → tally after page ≡ likes_told page told
-  pub last : (user : ℕ) → last_of after.seat.last user ≡ last_or (last_of v.seat.last user) (pages_liked user told)
+  pub last : (user : ℕ) → last_of after.station.last user ≡ last_or (last_of v.station.last user) (pages_liked user told)
   pub taken : asks_taken told ++ asks_left after ≡ asks_told told
 
 -- the law of histories: whatever calls a fresh seat is asked, they are counted. At a seat that is gone none waits, so
@@ -123,4 +123,4 @@ HistoriesAreCounted =
 abbrev pub NoneWaitsOnceGone : Type 0
 NoneWaitsOnceGone =
     (v after : LiveView) (told : List Told) → IsUnused v → HasDone v told after
-    → after.seat.post.state ≡ Gone → waiting after ≡ []
+    → after.station.post.state ≡ Gone → waiting after ≡ []

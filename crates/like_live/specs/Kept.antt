@@ -28,7 +28,7 @@ pub record AreLiveSeatParts (s : StationView Asked) (found : Waiting Found) (hom
 -- a live seat's parts after a look at the phase word that showed a phase that it runs: what waits was asked in that
 -- phase if it is split, and otherwise in the one before
 pub record HasLooked (s : StationView Asked) (found : Waiting Found) : Type 0 where
-  pub seat : IsStation s
+  pub station : IsStation s
   pub runs : IsRunning s.post.state
   pub limits : s.post.limits ≡ service_limits
   pub home : s.last.share.submitters ≡ s.last.share.workers

@@ -14,26 +14,26 @@ use Rattle.like_live.specs.LiveView.{LiveView}
 -- user is this seat's
 abbrev pub verdict_on : LiveView → ℕ → Verdict
 verdict_on v user =
-    verdict_of v.seat.last.share.users v.seat.last.share.submitters v.seat.last.share.worker
+    verdict_of v.station.last.share.users v.station.last.share.submitters v.station.last.share.worker
     (record { op = Look; user = user; page = Known 0 })
 
 -- a user's last like is told: its page, if there is one; or why the user is refused
 abbrev pub TellsLast : LiveView → ℕ → Result (Option ℕ) Verdict → Type 0
 TellsLast v user answer =
     MatchResult answer
-    (λ page. (verdict_on v user ≡ Accepted) × (page ≡ last_of v.seat.last user))
+    (λ page. (verdict_on v user ≡ Accepted) × (page ≡ last_of v.station.last user))
     (λ verdict. (verdict ≢ Accepted) × (verdict ≡ verdict_on v user))
 
 -- how many users a seat has
 abbrev pub users_of : LiveView → ℕ
-users_of v = v.seat.last.room
+users_of v = v.station.last.room
 
 -- the user at a place of a seat: user i * seats + s at place i of seat s
 abbrev pub user_at : LiveView → ℕ → ℕ
-user_at v place = place * v.seat.last.share.workers + v.seat.last.share.worker
+user_at v place = place * v.station.last.share.workers + v.station.last.share.worker
 
 -- a row has the last likes of a seat's users, from a place on: of each the page, or `no_page`
 pub record AreLastsAt (v : LiveView) (from : ℕ) (row : List ℕ) : Type 0 where
-  pub users : (i : ℕ) → i < length row → owns v.seat.last.share (user_at v (from + i)) ≡ true
+  pub users : (i : ℕ) → i < length row → owns v.station.last.share (user_at v (from + i)) ≡ true
   pub lasts : (i : ℕ) → i < length row
-      → slice_index row i ≡ page_or_none (last_of v.seat.last (user_at v (from + i)))
+      → slice_index row i ≡ page_or_none (last_of v.station.last (user_at v (from + i)))

@@ -12,28 +12,28 @@ use Rattle.like_live.specs.declared.asked.Found.{Found}
 
 -- a worker's seat, which holds the looks that wait; and the looks that were found and not taken yet
 pub record LiveView : Type 0 where
-  pub seat : StationView Asked
+  pub station : StationView Asked
   pub found : List Found
 
 -- the live seat of a worker's seat and a stash of found looks
 abbrev pub live_of : StationView Asked → Waiting Found → LiveView
-live_of s found = record { seat = s; found = found.held }
+live_of s found = record { station = s; found = found.held }
 
 -- with this worker's seat
-abbrev pub with_seat : LiveView → StationView Asked → LiveView
-with_seat v s = record v { seat = s }
+abbrev pub with_station : LiveView → StationView Asked → LiveView
+with_station v s = record v { station = s }
 
 -- the looks that wait, in the order of asking
 abbrev pub waiting : LiveView → List Asked
-waiting v = v.seat.held.held
+waiting v = v.station.held.held
 
 -- how many looks may wait, found ones included
 abbrev pub room_of : LiveView → ℕ
-room_of v = v.seat.held.capacity
+room_of v = v.station.held.capacity
 
 -- a page's tally: how many likes of it the seat has added to its count, and how many are in its slice
 abbrev pub tally : LiveView → ℕ → ℕ
-tally v page = tally_of v.seat page
+tally v page = tally_of v.station page
 
 -- no page's tally changes
 abbrev pub KeepsTallies : LiveView → LiveView → Type 0
@@ -41,10 +41,10 @@ KeepsTallies v after = (page : ℕ) → tally after page ≡ tally v page
 
 -- it is the same seat: of the same board, the same worker, with the same users
 pub record IsSameSeat (v after : LiveView) : Type 0 where
-  pub board : after.seat.post.board ≡ v.seat.post.board
-  pub worker : after.seat.post.worker ≡ v.seat.post.worker
-  pub marks : after.seat.post.marks ≡ v.seat.post.marks
-  pub share : after.seat.last.share ≡ v.seat.last.share
+  pub board : after.station.post.board ≡ v.station.post.board
+  pub worker : after.station.post.worker ≡ v.station.post.worker
+  pub marks : after.station.post.marks ≡ v.station.post.marks
+  pub share : after.station.last.share ≡ v.station.last.share
 
 -- the look is one that the seat can answer: its page exists, and its user is the seat's
 pub record IsOwn (s : StationView Asked) (a : Asked) : Type 0 where
@@ -59,20 +59,20 @@ RanNext f = f.phase ≡ f.asked.phase + 1
 -- seats is its own; nothing waits unless it runs or has answered a split phase, and what waits was asked in that phase;
 -- what was found ran in the next phase; and no more looks wait or were found than there is room for
 pub record IsLive (v : LiveView) : Type 0 where
-  pub seat : IsStation v.seat
-  pub limits : v.seat.post.limits ≡ service_limits
-  pub home : v.seat.last.share.submitters ≡ v.seat.last.share.workers
-  pub split : IsJoined (phase_at v.seat) → waiting v ≡ []
-  pub own : All (IsOwn v.seat) (waiting v)
-  pub asked : All (λ a. a.phase ≡ phase_at v.seat) (waiting v)
+  pub station : IsStation v.station
+  pub limits : v.station.post.limits ≡ service_limits
+  pub home : v.station.last.share.submitters ≡ v.station.last.share.workers
+  pub split : IsJoined (phase_at v.station) → waiting v ≡ []
+  pub own : All (IsOwn v.station) (waiting v)
+  pub asked : All (λ a. a.phase ≡ phase_at v.station) (waiting v)
   pub next : All RanNext v.found
   pub room : length (waiting v) + length v.found ≤ room_of v
 
 -- a live seat that has done nothing yet
 pub record IsNewLive (post : PostView) (room : ℕ) (users : UserTable) (v : LiveView) : Type 0 where
-  pub at_post : v.seat.post ≡ post
-  pub held : v.seat.held ≡ record { held = []; capacity = room }
-  pub slice : v.seat.slice ≡ replicate (pages_of post) 0
-  pub sliced : v.seat.sliced ≡ []
-  pub last : v.seat.last ≡ users
+  pub at_post : v.station.post ≡ post
+  pub held : v.station.held ≡ record { held = []; capacity = room }
+  pub slice : v.station.slice ≡ replicate (pages_of post) 0
+  pub sliced : v.station.sliced ≡ []
+  pub last : v.station.last ≡ users
   pub found : v.found ≡ []

@@ -22,7 +22,7 @@ use Rattle.like_live.specs.Splits.{IsSlotted}
 
 -- a seat's post, the board aside
 abbrev pub post_in : LiveView → PostView
-post_in s = record s.seat.post { board = [] }
+post_in s = record s.station.post { board = [] }
 
 -- a seat at a moment: its post is what the view of a worker's seat means
 pub record IsSeatAt (z : Opening) (m : Moment z) (s : LiveView) : Type 0 where
@@ -33,14 +33,14 @@ pub record IsSeatAt (z : Opening) (m : Moment z) (s : LiveView) : Type 0 where
 
 -- no like is in its slice
 abbrev pub HoldsNone : LiveView → Type 0
-HoldsNone s = (page : ℕ) → slice_index s.seat.slice page ≡ 0
+HoldsNone s = (page : ℕ) → slice_index s.station.slice page ≡ 0
 
 -- exclusion: at any moment, while one seat runs a joined phase, no seat runs a split one, and none has a like in its
 -- slice
 abbrev pub SeatsAreExclusive : Type 0
 SeatsAreExclusive =
-    (z : Opening) (m : Moment z) (a b : LiveView) → IsSeatAt z m a → IsSeatAt z m b → IsStation b.seat
-    → RunsJoined a.seat.post.state → ¬ RunsSplit b.seat.post.state × HoldsNone b
+    (z : Opening) (m : Moment z) (a b : LiveView) → IsSeatAt z m a → IsSeatAt z m b → IsStation b.station
+    → RunsJoined a.station.post.state → ¬ RunsSplit b.station.post.state × HoldsNone b
 
 -- a view, if it is that of a worker's seat
 abbrev pub worker_in : View → List WorkerSeatView
@@ -60,7 +60,7 @@ pub record AreSeatsAt (z : Opening) (m : Moment z) (seats : List LiveView) : Typ
 -- tallies of all seats
 abbrev pub LastCountsAreTallies : Type 0
 LastCountsAreTallies =
-    (z : Opening) (m : Moment z) (seats : List LiveView) → AreSeatsAt z m seats → All (λ s. IsStation s.seat) seats
+    (z : Opening) (m : Moment z) (seats : List LiveView) → AreSeatsAt z m seats → All (λ s. IsStation s.station) seats
     → AllGone (numbers z m.state)
     → (page : ℕ) → count_after z.counts m.views page ≡ slice_index z.counts page + sum_by (λ s. tally s page) seats
 
@@ -72,9 +72,9 @@ IsDriverAt z m v = get_elem? m.views 0 ≡ some (Coord v.lead.seat)
 abbrev pub SlicesAreSlots : Type 0
 SlicesAreSlots =
     (z : Opening) (m : Moment z) (v : DriverView) (s : LiveView) → IsDriverAt z m v → IsService v
-    → IsSeatAt z m s → IsStation s.seat → RunsSplit s.seat.post.state
+    → IsSeatAt z m s → IsStation s.station → RunsSplit s.station.post.state
     → (page : ℕ) → page < length z.counts
-    → (slices s.seat.post page ≡ true) ↔ IsSlotted v.splits.slots page
+    → (slices s.station.post page ≡ true) ↔ IsSlotted v.splits.slots page
 
 -- marked pages keep slots: whatever calls a driver was asked, each marked page is in a slot in use
 abbrev pub MarkedKeepSlots : Type 0

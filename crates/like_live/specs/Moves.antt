@@ -15,15 +15,15 @@ use Rattle.like_live.specs.declared.answer.TurnAnswer.{TurnAnswer}
 use Rattle.like_live.specs.declared.answer.TurnAnswer.TheVariants as turn
 use Rattle.like_live.specs.declared.asked.Asked.{Asked}
 use Rattle.like_live.specs.declared.asked.Found.{Found}
-use Rattle.like_live.specs.LiveView.{LiveView, waiting, with_seat}
+use Rattle.like_live.specs.LiveView.{LiveView, waiting, with_station}
 
 -- the seat after a look at the phase word; if it enters a split phase, it has also read that phase's mask
 abbrev pub looked : LiveView → Sight → ℕ → LiveView
-looked v sight mask = with_seat v (saw v.seat sight mask)
+looked v sight mask = with_station v (saw v.station sight mask)
 
 -- the seat after it acknowledged its phase
 abbrev pub acknowledged : LiveView → LiveView
-acknowledged v = with_seat v (record v.seat { post = answered v.seat.post })
+acknowledged v = with_station v (record v.station { post = answered v.station.post })
 
 -- the look is shown its user's last like, and a count of its page that has all that the seat added, in the phase that
 -- the seat runs
@@ -39,9 +39,9 @@ step_for worker f = page_step worker f.phase f.asked.page f.count Read
 -- the seat after these looks were found, each with one read, and no other waits
 abbrev pub with_found : LiveView → List Found → LiveView
 with_found v found = record {
-  seat = record v.seat {
-    post = record v.seat.post { did = then_steps v.seat.post.did (map (step_for v.seat.post.worker) found) };
-    held = record v.seat.held { held = [] };
+  station = record v.station {
+    post = record v.station.post { did = then_steps v.station.post.did (map (step_for v.station.post.worker) found) };
+    held = record v.station.held { held = [] };
   };
   found = v.found ++ found;
 }
@@ -50,33 +50,33 @@ with_found v found = record {
 pub record FindsAll (v after : LiveView) : Type 0 where
   pub found : List Found
   pub order : map (λ f. f.asked) found ≡ waiting v
-  pub shown : All (IsFoundAt v.seat) found
+  pub shown : All (IsFoundAt v.station) found
   pub rest : after ≡ with_found v found
 
 -- what a seat does that has looked and runs a phase. In a joined phase, it first finds all looks that wait. If the
 -- phase is ending, it then stops: at the end of a joined phase it acknowledges; at the end of a split phase it adds its
 -- slice to the pages' counts, empties it, and reports
 pub data Works (v : LiveView) (ending : Bool) (answer : TurnAnswer) (after : LiveView) : Type 0 where
-  runs_joined : RunsJoined v.seat.post.state → ending ≡ false
+  runs_joined : RunsJoined v.station.post.state → ending ≡ false
       → answer ≡ turn.Runs → FindsAll v after → Works v ending answer after
-  acknowledges : (now : LiveView) → RunsJoined v.seat.post.state → ending ≡ true
+  acknowledges : (now : LiveView) → RunsJoined v.station.post.state → ending ≡ true
       → answer ≡ turn.Between → FindsAll v now → after ≡ acknowledged now → Works v ending answer after
-  runs_split : RunsSplit v.seat.post.state → ending ≡ false
+  runs_split : RunsSplit v.station.post.state → ending ≡ false
       → answer ≡ turn.Runs → after ≡ v → Works v ending answer after
-  reports : (s : StationView Asked) → RunsSplit v.seat.post.state → ending ≡ true
-      → answer ≡ turn.Between → MergesAndReports v.seat s → after ≡ with_seat v s → Works v ending answer after
+  reports : (s : StationView Asked) → RunsSplit v.station.post.state → ending ≡ true
+      → answer ≡ turn.Between → MergesAndReports v.station s → after ≡ with_station v s → Works v ending answer after
 
 -- what a seat can see by a look at the phase word: the phase that it runs; or the one that it has answered, and then it
 -- waits; or the next one. A seat that is gone sees nothing
 abbrev pub CanSee : LiveView → Sight → Type 0
-CanSee v sight = IsSightOf v.seat.post.state sight
+CanSee v sight = IsSightOf v.station.post.state sight
 
 -- a seat looks at the phase word, and acts on it: it is gone, and does not look; or it has answered a phase and waits,
 -- since the next is not released yet; or it runs the phase that it looked at, which it enters by that look if it is the
 -- next one, and then does this
 pub data MovesBy (Runs : LiveView → Bool → TurnAnswer → LiveView → Type 0) (v : LiveView) (answer : TurnAnswer)
     (after : LiveView) : Type 0 where
-  is_gone : v.seat.post.state ≡ Gone → answer ≡ turn.Gone → after ≡ v → MovesBy Runs v answer after
+  is_gone : v.station.post.state ≡ Gone → answer ≡ turn.Gone → after ≡ v → MovesBy Runs v answer after
   waits : (sight : Sight) (mask : ℕ) → CanSee v sight → sight.waits ≡ true
       → answer ≡ turn.Between → after ≡ looked v sight mask → MovesBy Runs v answer after
   works : (sight : Sight) (mask : ℕ) → CanSee v sight → sight.waits ≡ false

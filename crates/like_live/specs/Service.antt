@@ -18,13 +18,13 @@ use Rattle.like_live.specs.Opening.{IsWithinLimits, board_opening}
 -- a seat of an opened service, by its number: it is new, at this board; its users are those with this number modulo the
 -- number of seats; and they have the opening's last likes
 pub record IsOpenedSeat (o : Opening) (factor : ℕ) (board : BoardId) (number : ℕ) (s : LiveView) : Type 0 where
-  pub here : s.seat.post.board ≡ board_numbers board
-  pub worker : s.seat.post.worker ≡ number
-  pub fresh : IsFresh s.seat.post
-  pub marks : s.seat.post.marks ≡ (board_opening o factor).marks
-  pub factor_is : s.seat.post.factor ≡ factor
-  pub limits : s.seat.post.limits ≡ service_limits
-  pub new : IsNewLive s.seat.post o.room (table_with_lasts (share_of o.users o.seats o.seats number) o.lasts.items) s
+  pub here : s.station.post.board ≡ board_numbers board
+  pub worker : s.station.post.worker ≡ number
+  pub fresh : IsFresh s.station.post
+  pub marks : s.station.post.marks ≡ (board_opening o factor).marks
+  pub factor_is : s.station.post.factor ≡ factor
+  pub limits : s.station.post.limits ≡ service_limits
+  pub new : IsNewLive s.station.post o.room (table_with_lasts (share_of o.users o.seats o.seats number) o.lasts.items) s
 
 -- the seats of an opened service, in order
 pub record AreOpenedSeats (o : Opening) (factor : ℕ) (board : BoardId) (seats : List LiveView) : Type 0 where
@@ -42,8 +42,8 @@ pub record AreOpened (o : Opening) (driver : DriverView) (seats : List LiveView)
 -- the seats are those of the driver's board, each of them once
 pub record AreItsSeats (v : DriverView) (seats : List LiveView) : Type 0 where
   pub len : length seats ≡ v.lead.seat.opening.workers
-  pub here : All (λ s. s.seat.post.board ≡ board_numbers v.lead.board) seats
-  pub all : (i : ℕ) → i < v.lead.seat.opening.workers → count_by (λ s. s.seat.post.worker == i) seats ≡ 1
+  pub here : All (λ s. s.station.post.board ≡ board_numbers v.lead.board) seats
+  pub all : (i : ℕ) → i < v.lead.seat.opening.workers → count_by (λ s. s.station.post.worker == i) seats ≡ 1
 
 -- calls of the driver and of its seats keep them so
 abbrev pub CallsKeepSeats : Type 0
@@ -53,15 +53,15 @@ CallsKeepSeats =
 
 -- all seats are gone
 abbrev pub AreGone : List LiveView → Type 0
-AreGone seats = All (λ s. s.seat.post.state ≡ Gone) seats
+AreGone seats = All (λ s. s.station.post.state ≡ Gone) seats
 
 -- once it is gone, all its likes are added
 abbrev pub HasMergedOnceGone : LiveView → Type 0
-HasMergedOnceGone s = s.seat.post.state ≡ Gone → (page : ℕ) → tally s page ≡ additions_of s.seat.post page
+HasMergedOnceGone s = s.station.post.state ≡ Gone → (page : ℕ) → tally s page ≡ additions_of s.station.post page
 
 -- the workers' seats that were given back by these seats
 abbrev pub AreBackFrom : List LiveView → List WorkerSeat → Type 0
-AreBackFrom seats back = map seat_meaning back ≡ map (λ s. s.seat.post) seats
+AreBackFrom seats back = map seat_meaning back ≡ map (λ s. s.station.post) seats
 
 -- a page's first count, and the tallies of all seats
 abbrev pub total_of : DriverView → List LiveView → ℕ → ℕ

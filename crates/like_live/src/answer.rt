@@ -1,3 +1,5 @@
+ghost use Rattle.std.specs.Prelude.{◌≡◌, ◌⊎◌, ◌↔◌, IsTrue};
+
 use like_requests::Verdict;
 use like_seat::Seen;
 
@@ -56,4 +58,34 @@ pub enum GlanceAnswer {
     Refused(Verdict),
     /// The seat has retired.
     Gone,
+}
+
+impl LikeAnswer {
+    /// Whether the like must be made again.
+    #[inline(always)]
+    pub fn is_put_off(&self) -> bool
+        ensures { IsTrue result ↔ (self.now ≡ LikeAnswer.Between) }
+    {
+        matches!(self, LikeAnswer::Between)
+    }
+}
+
+impl LookAnswer {
+    /// Whether the look must be made again.
+    #[inline(always)]
+    pub fn is_put_off(&self) -> bool
+        ensures { IsTrue result ↔ ((self.now ≡ LookAnswer.Between) ⊎ (self.now ≡ LookAnswer.NoRoom)) }
+    {
+        matches!(self, LookAnswer::Between | LookAnswer::NoRoom)
+    }
+}
+
+impl GlanceAnswer {
+    /// Whether the glance must be made again.
+    #[inline(always)]
+    pub fn is_put_off(&self) -> bool
+        ensures { IsTrue result ↔ (self.now ≡ GlanceAnswer.Between) }
+    {
+        matches!(self, GlanceAnswer::Between)
+    }
 }

@@ -1,3 +1,6 @@
+ghost use Rattle.std.specs.Prelude.{◌↔◌, IsTrue};
+ghost use Rattle.like_live.specs.Batch.{IsPutOff};
+
 use crate::answer::{GlanceAnswer, LikeAnswer, LookAnswer};
 
 /// A call of a seat, as a batch has it.
@@ -14,4 +17,18 @@ pub enum Answer {
     Like(LikeAnswer),
     Look(LookAnswer),
     Glance(GlanceAnswer),
+}
+
+impl Answer {
+    /// Whether the call must be made again.
+    #[inline(always)]
+    pub fn is_put_off(&self) -> bool
+        ensures { IsTrue result ↔ IsPutOff self.now }
+    {
+        match self {
+            Answer::Like(answer) => answer.is_put_off(),
+            Answer::Look(answer) => answer.is_put_off(),
+            Answer::Glance(answer) => answer.is_put_off(),
+        }
+    }
 }

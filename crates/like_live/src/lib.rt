@@ -17,6 +17,7 @@ mod look_room;
 mod open_error;
 mod opening;
 mod phase_now;
+mod row;
 mod service;
 mod signals;
 
@@ -37,5 +38,6 @@ pub use live_seat::LiveSeat;
 pub use open_error::OpenError;
 pub use opening::{MAX_MARKS, Opening};
 pub use phase_now::PhaseNow;
+pub use row::Row;
 pub use service::{NotAllGone, Service, calls_keep_seats};
 pub use signals::MAX_LIKES;

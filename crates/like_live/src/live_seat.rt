@@ -31,7 +31,7 @@ use std::marker::Model;
 #[derive(Drop)]
 pub struct LiveSeat<P: Post> {
     /// What waits is in its stash.
-    seat: ServiceStation<P, Asked>,
+    station: ServiceStation<P, Asked>,
     found: Stash<Found>,
     /// Where its users have their places.
     home: Home,
@@ -51,9 +51,9 @@ impl<P: Post> Model for LiveSeat<P> {
 
     ghost use Rattle.like_live.specs.Kept.{AreLiveSeatParts};
 
-    ghost view = { λ s. live_of s.seat s.found };
+    ghost view = { λ s. live_of s.station s.found };
 
-    ghost invariant = { λ s. AreLiveSeatParts s.seat s.found s.home s.pages s.room s.half };
+    ghost invariant = { λ s. AreLiveSeatParts s.station s.found s.home s.pages s.room s.half };
 }
 
 impl<P: Post + Drop> LiveSeat<P> {
@@ -84,8 +84,8 @@ impl<P: Post + Drop> LiveSeat<P> {
         let found = Stash::new(alloc, room)?;
         let home = last.home();
         match ServiceStation::of_service(alloc, post, factor, room, last) {
-            Ok(seat) => Ok(LiveSeat {
-                seat,
+            Ok(station) => Ok(LiveSeat {
+                station,
                 found,
                 home,
                 pages,
@@ -104,26 +104,12 @@ impl<P: SlotPost> LiveSeat<P> {
     pub fn turn(&mut self) -> TurnAnswer
         ensures case { Moves self.old result self.new }
         ensures keeps { IsLive self.new }
-        ensures runs { result ≡ TurnAnswer.Runs → IsRunning self.new.seat.post.state }
+        ensures runs { result ≡ TurnAnswer.Runs → IsRunning self.new.station.post.state }
         ensures same { IsSameSeat self.old self.new }
         ensures tallies { KeepsTallies self.old self.new }
-        ensures last { self.new.seat.last ≡ self.old.seat.last }
+        ensures last { self.new.station.last ≡ self.old.station.last }
     {
-        self.turn_in().0
-    }
-
-    // The same, with the phase that it then runs or has answered.
-    #[inline(always)]
-    fn turn_in(&mut self) -> (TurnAnswer, u64)
-        ensures case { Moves self.old result.0 self.new }
-        ensures keeps { IsLive self.new }
-        ensures runs { result.0 ≡ TurnAnswer.Runs → IsRunning self.new.seat.post.state }
-        ensures same { IsSameSeat self.old self.new }
-        ensures tallies { KeepsTallies self.old self.new }
-        ensures last { self.new.seat.last ≡ self.old.seat.last }
-        ensures phase { result.1 ≡ phase_at self.new.seat }
-    {
-        self.advance()
+        self.advance().0
     }
 
     /// Counts a user's like of a page, which is then the user's last.
@@ -133,7 +119,7 @@ impl<P: SlotPost> LiveSeat<P> {
         ensures keeps { IsLive self.new }
         ensures same { IsSameSeat self.old self.new }
         ensures tallies { TalliesLike self.old page result self.new }
-        ensures last { self.new.seat.last ≡ last_after self.old.seat.last user page result }
+        ensures last { self.new.station.last ≡ last_after self.old.station.last user page result }
     {
         match self.turn() {
             TurnAnswer::Runs => self.like_now(user, page),
@@ -149,9 +135,9 @@ impl<P: SlotPost> LiveSeat<P> {
         ensures keeps { IsLive self.new }
         ensures same { IsSameSeat self.old self.new }
         ensures tallies { KeepsTallies self.old self.new }
-        ensures last { self.new.seat.last ≡ self.old.seat.last }
+        ensures last { self.new.station.last ≡ self.old.station.last }
     {
-        let (answer, phase) = self.turn_in();
+        let (answer, phase) = self.advance();
         match answer {
             TurnAnswer::Runs => self.look_now(user, page, tag, phase),
             TurnAnswer::Between => LookAnswer::Between,
@@ -169,7 +155,7 @@ impl<P: SlotPost + Glances> LiveSeat<P> {
         ensures keeps { IsLive self.new }
         ensures same { IsSameSeat self.old self.new }
         ensures tallies { KeepsTallies self.old self.new }
-        ensures last { self.new.seat.last ≡ self.old.seat.last }
+        ensures last { self.new.station.last ≡ self.old.station.last }
     {
         match self.turn() {
             TurnAnswer::Runs => self.glance_now(user, page),
@@ -187,16 +173,16 @@ impl<P: SlotPost> LiveSeat<P> {
         ensures keeps { IsLive self.new }
         ensures same { IsSameSeat self.old self.new }
         ensures tallies { KeepsTallies self.old self.new }
-        ensures last { self.new.seat.last ≡ self.old.seat.last }
+        ensures last { self.new.station.last ≡ self.old.station.last }
     {
-        if self.seat.is_gone() {
+        if self.station.is_gone() {
             return TurnAnswer::Gone;
         }
-        let sight = self.seat.look_with_slots();
+        let sight = self.station.look_with_slots();
         if sight.waits {
             return TurnAnswer::Between;
         }
-        work_or_retire(&mut self.seat, &mut self.found, sight.ending)
+        work_or_retire(&mut self.station, &mut self.found, sight.ending)
     }
 
     /// Takes out the first found look, if there is one. It makes no look at the phase word.
@@ -213,33 +199,33 @@ impl<P: SlotPost> LiveSeat<P> {
 
     /// Whether it has retired.
     pub fn is_gone(&self) -> bool
-        ensures { IsTrue result ↔ (self.now.seat.post.state ≡ Gone) }
+        ensures { IsTrue result ↔ (self.now.station.post.state ≡ Gone) }
     {
-        self.seat.is_gone()
+        self.station.is_gone()
     }
 
     /// The phase that it runs or has answered last, and 0 once it is gone.
     pub fn phase(&self) -> u64
-        ensures { result ≡ phase_at self.now.seat }
+        ensures { result ≡ phase_at self.now.station }
     {
-        self.seat.phase()
+        self.station.phase()
     }
 
     /// Its users, with their last likes.
     pub fn users(&self) -> &Users
-        ensures { result.now ≡ self.now.seat.last }
+        ensures { result.now ≡ self.now.station.last }
     {
-        self.seat.users()
+        self.station.users()
     }
 
     /// Gives its post back, whatever is left to do. A seat that is gone leaves nothing in its slice.
     pub fn leave(self) -> P
-        ensures post { P.view result ≡ self.seat.post }
+        ensures post { P.view result ≡ self.station.post }
         ensures live { IsLive self }
-        ensures slice { self.seat.post.state ≡ Gone → (page : ℕ)
-            → tally self page ≡ additions_of self.seat.post page }
+        ensures slice { self.station.post.state ≡ Gone → (page : ℕ)
+            → tally self page ≡ additions_of self.station.post page }
     {
-        self.seat.leave()
+        self.station.leave()
     }
 }
 
@@ -252,12 +238,12 @@ impl<P: SlotPost + Returns> LiveSeat<P> {
         ensures keeps { IsLive self.new }
         ensures same { IsSameSeat self.old self.new }
         ensures tallies { KeepsTallies self.old self.new }
-        ensures last { self.new.seat.last ≡ self.old.seat.last }
+        ensures last { self.new.station.last ≡ self.old.station.last }
     {
-        if !self.seat.is_gone() {
+        if !self.station.is_gone() {
             return self.turn();
         }
-        if self.seat.come_back() {
+        if self.station.come_back() {
             return TurnAnswer::Runs;
         }
         TurnAnswer::Between

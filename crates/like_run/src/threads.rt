@@ -10,6 +10,7 @@ ghost use Rattle.like_promises.specs.RunFault.{IsRunFault};
 
 use crate::threads::coordinator::{coordinate, join_all};
 use crate::threads::room::Room;
+use crate::threads::shared::Shared;
 use crate::threads::submitters::start_submitters;
 use crate::threads::worker::{Owes, Served};
 use crate::threads::workers::start_workers;
@@ -28,6 +29,7 @@ use std::thread::{JoinHandle, PromisedHandle, Scope, Threads};
 mod coordinator;
 mod pace;
 mod room;
+mod shared;
 mod submitters;
 mod worker;
 mod workers;
@@ -162,6 +164,12 @@ fn on_threads<R: Threads + Wait + Sync, G: Gate>(
     };
     let parkers = &parkers;
     let start = &OnceLock::new();
+    let shared = &Shared {
+        rt,
+        gate,
+        start,
+        parkers,
+    };
     thread::scope(
         thread::scope_env(),
         rt,
@@ -169,20 +177,17 @@ fn on_threads<R: Threads + Wait + Sync, G: Gate>(
             requires { AreNewEnds ends.items }
             ensures ended { IfOk result (HasEndedOn starts crew.entry ends.entry.items) }
             ensures fault { IfErr result IsRunFaultUnderWay }
-        { in_scope(scope, rt, alloc, start, parkers, crew, ends, gate, starts) },
+        { in_scope(scope, alloc, shared, crew, ends, starts) },
     )
 }
 
 // Starts the threads, makes the coordinator's turns, and takes everything apart.
 fn in_scope<'s, E, R: Threads + Wait + Sync, G: Gate>(
     scope: &Scope<'s, E>,
-    rt: &'s R,
     alloc: Global,
-    start: &'s OnceLock<bool>,
-    parkers: &'s Parkers,
+    shared: &'s Shared<'s, R, G>,
     crew: Crew<'s, TakeEnd<'s>>,
     ends: Vec<SendEnd<'s>>,
-    gate: &'s G,
     starts: usize,
 ) -> Result<Ended, RunFault>
     requires { AreNewEnds ends.items }
@@ -205,22 +210,19 @@ fn in_scope<'s, E, R: Threads + Wait + Sync, G: Gate>(
     } = room;
     let all = start_all(
         scope,
-        rt,
-        gate,
-        start,
-        parkers,
+        shared,
         servers,
         ends,
         &mut workers,
         &mut submitters,
         starts,
     );
-    let Some(go) = tell(rt, start, all) else {
+    let Some(go) = tell(shared.rt, shared.start, all) else {
         drop(coordinator);
         return Err(RunFault::Start);
     };
-    coordinate(rt, parkers, &mut coordinator);
-    join_all(rt, workers, &go, &mut logs, &mut seats);
+    coordinate(shared.rt, shared.parkers, &mut coordinator);
+    join_all(shared.rt, workers, &go, &mut logs, &mut seats);
     Ok(Ended::new(coordinator, logs, seats))
 }
 
@@ -228,10 +230,7 @@ fn in_scope<'s, E, R: Threads + Wait + Sync, G: Gate>(
 // `most` can't be.
 fn start_all<'s, E, R: Threads + Wait + Sync, G: Gate>(
     scope: &Scope<'s, E>,
-    rt: &'s R,
-    gate: &'s G,
-    start: &'s OnceLock<bool>,
-    parkers: &'s Parkers,
+    shared: &'s Shared<'s, R, G>,
     servers: Vec<Server<BoardPost<'s>, TakeEnd<'s>>>,
     ends: Vec<SendEnd<'s>>,
     workers: &mut Vec<PromisedHandle<Served<'s>, Owes<'s>>>,
@@ -241,12 +240,13 @@ fn start_all<'s, E, R: Threads + Wait + Sync, G: Gate>(
     requires new { AreNewEnds ends.items }
     requires workers { (workers.old.items ≡ []) × (length servers.items ≤ vec_capacity workers.old) }
     requires submitters { (submitters.old.items ≡ []) × (length ends.items ≤ vec_capacity submitters.old) }
-    ensures told { All (λ thread. thread.promise.start.now.id ≡ start.now.id) workers.new.items }
+    ensures told { All (λ thread. thread.promise.start.now.id ≡ shared.now.start.now.id)
+        workers.new.items }
     ensures servers { result ≡ true
         → map (λ thread. thread.promise.server.value) workers.new.items ≡ servers.entry.items }
     ensures enough { result ≡ true → length servers.entry.items + length ends.entry.items ≤ most }
 {
     let left = most.saturating_sub(servers.len());
-    start_workers(scope, rt, gate, start, parkers, servers, workers, most)
-        && start_submitters(scope, rt, gate, start, parkers, ends, submitters, left)
+    start_workers(scope, shared, servers, workers, most)
+        && start_submitters(scope, shared, ends, submitters, left)
 }

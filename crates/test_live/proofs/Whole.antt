@@ -12,13 +12,13 @@ use Rattle.like_live.proofs.Newly.{calls-keep-whole}
 
 turned : (v : DriverView) (a b : LiveView) → AreItsSeats v (a ∷ b ∷ []) → AreItsSeats v (b ∷ a ∷ [])
 turned v a b its =
-    let Here : LiveView → Type 0 = λ s. s.seat.post.board ≡ board_numbers v.lead.board in
+    let Here : LiveView → Type 0 = λ s. s.station.post.board ≡ board_numbers v.lead.board in
     record {
       len = its.len;
       here = All-cons Here b (a ∷ []) (All-head Here b [] (All-tail Here a (b ∷ []) its.here))
           (All-cons Here a [] (All-head Here a (b ∷ []) its.here) (All-nil Here));
       all = λ i below.
-          let f : LiveView → ℕ = λ s. cond (s.seat.post.worker == i) 1 0 in
+          let f : LiveView → ℕ = λ s. cond (s.station.post.worker == i) 1 0 in
           let one = its.all i below in
           omega (arith, sum_by-cons f a (b ∷ []), sum_by-cons f b [], sum_by-cons f b (a ∷ []), sum_by-cons f a []);
     }

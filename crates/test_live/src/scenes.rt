@@ -254,7 +254,7 @@ const BATCH_ANSWERS: &[Answer; 5] = &[
     Answer::Like(LikeAnswer::Refused(Verdict::OtherHome)),
     Answer::Glance(GlanceAnswer::Seen(seen!(11))),
     Answer::Look(LookAnswer::Waits),
-    UNANSWERED,
+    Answer::Look(LookAnswer::NoRoom),
 ];
 
 static SCENES: [Scene; 10] = [

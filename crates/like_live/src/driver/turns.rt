@@ -2,7 +2,7 @@ ghost use Rattle.std.specs.Prelude.{◌≡◌, ◌↔◌, false, IsTrue};
 ghost use Rattle.like_board.specs.Seats.{board_id};
 ghost use Rattle.like_core.specs.OpeningLimits.{service_limits};
 ghost use Rattle.like_core.specs.views.Views.{SawAllIn};
-ghost use Rattle.like_live.specs.Driver.{Acts, Decides, EndsJoined, EndsSplit, IsLeft, ReleasesNext, drives};
+ghost use Rattle.like_live.specs.Driver.{Acts, Decides, EndsJoined, EndsSplit, IsLeft, MayEnd, ReleasesNext, drives};
 ghost use Rattle.like_live.specs.Splits.{AreSplitsOf, SawRunning};
 
 use super::splits::Splits;
@@ -40,7 +40,7 @@ pub(crate) fn act<C: Choice>(
         release(lead, splits, board);
         return DriverAnswer::Released;
     }
-    if is_due(lead, splits, hint, sight, end) {
+    if prepare_end(lead, splits, hint, sight, end) {
         lead.announce(board);
         return DriverAnswer::Announced;
     }
@@ -50,9 +50,22 @@ pub(crate) fn act<C: Choice>(
     DriverAnswer::Running
 }
 
-// Whether the end of the phase is to be announced. A service's last phase goes on, and so does a joined one that all
-// seats have left. Pages are proposed before the end of others.
-fn is_due<C: Choice>(
+// Whether all seats have left a joined phase.
+pub(crate) fn is_left(lead: &Lead, sight: CoordSight) -> bool
+    ensures { IsTrue result ↔ IsLeft lead.now sight }
+{
+    sight.all_gone && lead.is_joined()
+}
+
+// Whether the phase may end. A service's last phase goes on, and so does a joined one that all seats have left.
+fn may_end(lead: &Lead, sight: CoordSight) -> bool
+    ensures { IsTrue result ↔ MayEnd lead.now sight }
+{
+    lead.phase() < LAST_PHASE && !is_left(lead, sight)
+}
+
+// Proposes pages before the end of a phase, and says whether its end is to be announced.
+fn prepare_end<C: Choice>(
     lead: &Lead,
     splits: &mut Splits<C>,
     hint: &mut HeardHint,
@@ -63,24 +76,17 @@ fn is_due<C: Choice>(
     ensures { Decides (drives lead.now splits.old hint.old) sight end result
         (drives lead.now splits.new hint.new) }
 {
-    if lead.phase() >= LAST_PHASE || is_left(lead, sight) {
+    if !may_end(lead, sight) {
         return false;
     }
     if lead.is_joined() {
-        return ends_joined(lead, splits, end);
+        return prepare_joined_end(lead, splits, end);
     }
-    ends_split(lead, splits, hint, end)
+    prepare_split_end(lead, splits, hint, end)
 }
 
-// Whether all seats have left a joined phase.
-pub(crate) fn is_left(lead: &Lead, sight: CoordSight) -> bool
-    ensures { IsTrue result ↔ IsLeft lead.now sight }
-{
-    sight.all_gone && lead.is_joined()
-}
-
-// Whether a joined phase ends. Where the host may want that and nothing would be split in the next, pages are proposed.
-fn ends_joined<C: Choice>(lead: &Lead, splits: &mut Splits<C>, end: End) -> bool
+// The same of a joined phase. Pages are proposed if the host may want it to end and nothing would be split in the next.
+fn prepare_joined_end<C: Choice>(lead: &Lead, splits: &mut Splits<C>, end: End) -> bool
     requires running { SawRunning lead.now.seat }
     ensures { EndsJoined splits.old end result splits.new }
 {
@@ -94,9 +100,9 @@ fn ends_joined<C: Choice>(lead: &Lead, splits: &mut Splits<C>, end: End) -> bool
     end == End::Always || splits.would_split()
 }
 
-// Whether a split phase ends: where the host wants that, or a seat asks for it by the hint. Then pages are proposed. A
-// hint counts in split phases alone, since looks wait in these alone.
-fn ends_split<C: Choice>(
+// The same of a split phase. It ends if the host wants that, or if a seat asks for it by the hint, and then pages are
+// proposed. A hint counts in split phases alone, since looks wait in these alone.
+fn prepare_split_end<C: Choice>(
     lead: &Lead,
     splits: &mut Splits<C>,
     hint: &mut HeardHint,

@@ -11,7 +11,7 @@ impl<P: Post> LiveSeat<P> {
     pub fn last(&self, user: u32) -> Result<Option<u32>, Verdict>
         ensures { TellsLast self.now user result }
     {
-        let users = self.seat.users();
+        let users = self.station.users();
         let request = Request {
             op: Op::Look,
             user,
@@ -27,7 +27,7 @@ impl<P: Post> LiveSeat<P> {
     pub fn has_users(&self, from: u32, many: usize) -> bool
         ensures { IsTrue result ↔ (from + many ≤ users_of self.now) }
     {
-        self.seat.users().has_places(from, many)
+        self.station.users().has_places(from, many)
     }
 
     /// Writes the last likes of the seat's users from place `from` on: each one's page, or `NO_PAGE`. It works in every
@@ -37,6 +37,6 @@ impl<P: Post> LiveSeat<P> {
         ensures len { length row.new ≡ length row.old }
         ensures lasts { AreLastsAt self.now from row.new }
     {
-        self.seat.users().write_lasts(from, row);
+        self.station.users().write_lasts(from, row);
     }
 }

@@ -21,21 +21,21 @@ impl<P: SlotPost> LiveSeat<P> {
     pub(crate) fn advance(&mut self) -> (TurnAnswer, u64)
         ensures moves { Moves self.old result.0 self.new }
         ensures keeps { IsLive self.new }
-        ensures runs { result.0 ≡ TurnAnswer.Runs → IsRunning self.new.seat.post.state }
+        ensures runs { result.0 ≡ TurnAnswer.Runs → IsRunning self.new.station.post.state }
         ensures was { IsLive self.old }
-        ensures phase { result.1 ≡ phase_at self.new.seat }
+        ensures phase { result.1 ≡ phase_at self.new.station }
     {
-        let phase = self.seat.phase();
-        if !self.seat.runs() {
+        let phase = self.station.phase();
+        if !self.station.runs() {
             let answer = self.advance_late();
-            return (answer, self.seat.phase());
+            return (answer, self.station.phase());
         }
-        let sight = self.seat.look_on();
+        let sight = self.station.look_on();
         if !sight.ending {
             return (TurnAnswer::Runs, phase);
         }
-        let answer = work(&mut self.seat, &mut self.found, true);
-        (answer, self.seat.phase())
+        let answer = work(&mut self.station, &mut self.found, true);
+        (answer, self.station.phase())
     }
 
     // The same, of a seat that has answered its phase or is gone.
@@ -44,39 +44,39 @@ impl<P: SlotPost> LiveSeat<P> {
     fn advance_late(&mut self) -> TurnAnswer
         ensures moves { Moves self.old result self.new }
         ensures keeps { IsLive self.new }
-        ensures runs { result ≡ TurnAnswer.Runs → IsRunning self.new.seat.post.state }
+        ensures runs { result ≡ TurnAnswer.Runs → IsRunning self.new.station.post.state }
         ensures was { IsLive self.old }
     {
-        if self.seat.is_gone() {
+        if self.station.is_gone() {
             return TurnAnswer::Gone;
         }
-        let sight = self.seat.look_with_slots();
+        let sight = self.station.look_with_slots();
         if sight.waits {
             return TurnAnswer::Between;
         }
-        work(&mut self.seat, &mut self.found, sight.ending)
+        work(&mut self.station, &mut self.found, sight.ending)
     }
 }
 
 // The phase work of a seat that is to retire: in a joined phase it finds what waits, and retires.
 pub(crate) fn work_or_retire<P: Post>(
-    seat: &mut ServiceStation<P, Asked>,
+    station: &mut ServiceStation<P, Asked>,
     found: &mut Stash<Found>,
     ending: bool,
 ) -> TurnAnswer
-    requires looked { HasLooked seat.old found.old }
-    requires ending { ending ≡ true → SawEnding seat.old.post.last }
-    ensures works { RetireWorks (live_of seat.old found.old) ending result
-        (live_of seat.new found.new) }
-    ensures live { IsLive (live_of seat.new found.new) }
+    requires looked { HasLooked station.old found.old }
+    requires ending { ending ≡ true → SawEnding station.old.post.last }
+    ensures works { RetireWorks (live_of station.old found.old) ending result
+        (live_of station.new found.new) }
+    ensures live { IsLive (live_of station.new found.new) }
     ensures capacity { found.new.capacity ≡ found.old.capacity }
 {
-    let phase = seat.phase();
+    let phase = station.phase();
     if phase % 2 == 1 {
-        return work(seat, found, ending);
+        return work(station, found, ending);
     }
-    find_all(seat, found);
-    seat.retire();
+    find_all(station, found);
+    station.retire();
     TurnAnswer::Gone
 }
 
@@ -84,60 +84,60 @@ pub(crate) fn work_or_retire<P: Post>(
 #[cold]
 #[inline(never)]
 fn work<P: Post>(
-    seat: &mut ServiceStation<P, Asked>,
+    station: &mut ServiceStation<P, Asked>,
     found: &mut Stash<Found>,
     ending: bool,
 ) -> TurnAnswer
-    requires looked { HasLooked seat.old found.old }
-    requires ending { ending ≡ true → SawEnding seat.old.post.last }
-    ensures works { Works (live_of seat.old found.old) ending result (live_of seat.new found.new) }
-    ensures live { IsLive (live_of seat.new found.new) }
+    requires looked { HasLooked station.old found.old }
+    requires ending { ending ≡ true → SawEnding station.old.post.last }
+    ensures works { Works (live_of station.old found.old) ending result (live_of station.new found.new) }
+    ensures live { IsLive (live_of station.new found.new) }
     ensures capacity { found.new.capacity ≡ found.old.capacity }
 {
-    let phase = seat.phase();
+    let phase = station.phase();
     if phase % 2 == 0 {
-        return joined_work(seat, found, ending);
+        return joined_work(station, found, ending);
     }
     if !ending {
         return TurnAnswer::Runs;
     }
-    seat.merge_and_report();
+    station.merge_and_report();
     TurnAnswer::Between
 }
 
 // The phase work of a joined phase: all that waits runs first.
 fn joined_work<P: Post>(
-    seat: &mut ServiceStation<P, Asked>,
+    station: &mut ServiceStation<P, Asked>,
     found: &mut Stash<Found>,
     ending: bool,
 ) -> TurnAnswer
-    requires looked { HasLooked seat.old found.old }
-    requires joined { RunsJoined seat.old.post.state }
-    requires ending { ending ≡ true → SawEnding seat.old.post.last }
-    ensures works { Works (live_of seat.old found.old) ending result (live_of seat.new found.new) }
-    ensures live { IsLive (live_of seat.new found.new) }
+    requires looked { HasLooked station.old found.old }
+    requires joined { RunsJoined station.old.post.state }
+    requires ending { ending ≡ true → SawEnding station.old.post.last }
+    ensures works { Works (live_of station.old found.old) ending result (live_of station.new found.new) }
+    ensures live { IsLive (live_of station.new found.new) }
     ensures capacity { found.new.capacity ≡ found.old.capacity }
 {
-    find_all(seat, found);
+    find_all(station, found);
     if !ending {
         return TurnAnswer::Runs;
     }
-    seat.acknowledge();
+    station.acknowledge();
     TurnAnswer::Between
 }
 
 // Runs all that waits, one after the other.
-fn find_all<P: Post>(seat: &mut ServiceStation<P, Asked>, found: &mut Stash<Found>)
-    requires looked { HasLooked seat.old found.old }
-    requires joined { RunsJoined seat.old.post.state }
-    ensures finds { FindsAll (live_of seat.old found.old) (live_of seat.new found.new) }
+fn find_all<P: Post>(station: &mut ServiceStation<P, Asked>, found: &mut Stash<Found>)
+    requires looked { HasLooked station.old found.old }
+    requires joined { RunsJoined station.old.post.state }
+    ensures finds { FindsAll (live_of station.old found.old) (live_of station.new found.new) }
     ensures next { All RanNext found.new.held }
-    ensures seat { IsStation seat.new }
+    ensures station { IsStation station.new }
     ensures capacity { found.new.capacity ≡ found.old.capacity }
 {
-    let phase = seat.phase();
-    while let Some(asked) = seat.next_held() {
-        let seen = seat.read_for(asked.user, asked.page);
+    let phase = station.phase();
+    while let Some(asked) = station.next_held() {
+        let seen = station.read_for(asked.user, asked.page);
         found.push(Found {
             asked,
             last: seen.last,

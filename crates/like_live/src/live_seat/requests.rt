@@ -28,22 +28,27 @@ struct Accepted {
 
 // Counts a look, and stores it if it is a sample.
 #[inline(always)]
-fn count_look<P: Post>(seat: &mut ServiceStation<P, Asked>, signals: &mut Signals, page: u32)
-    ensures { seat.new ≡ seat.old }
+fn count_look<P: Post>(station: &mut ServiceStation<P, Asked>, signals: &mut Signals, page: u32)
+    ensures { station.new ≡ station.old }
 {
-    if !seat.spend_room() {
-        store(seat, signals, page, Kind::Look);
+    if !station.spend_room() {
+        store(station, signals, page, Kind::Look);
     }
 }
 
 // Stores a sample, and gives room for likes up to the next one.
 #[cold]
 #[inline(never)]
-fn store<P: Post>(seat: &mut ServiceStation<P, Asked>, signals: &mut Signals, page: u32, kind: Kind)
-    ensures { seat.new ≡ seat.old }
+fn store<P: Post>(
+    station: &mut ServiceStation<P, Asked>,
+    signals: &mut Signals,
+    page: u32,
+    kind: Kind,
+)
+    ensures { station.new ≡ station.old }
 {
     let room = signals.store(page, kind);
-    seat.give_room(room);
+    station.give_room(room);
 }
 
 // Asks for the end of the phase once half of the room is taken. Up to there, and up to the next sample, looks are free
@@ -70,13 +75,13 @@ impl<P: Post> LiveSeat<P> {
     // split exists, and needs no other test. Whether it is split is tested once.
     #[inline(always)]
     fn accepts(&self, user: u32, page: u32) -> Option<Accepted>
-        requires { IsRunning self.now.seat.post.state }
-        ensures accepted { IfSome result (λ a. IsAccepted self.now.seat user page a.placed) }
-        ensures split { IfSome result (λ a. a.split ≡ slices self.now.seat.post page) }
-        ensures refused { IfNone result (verdict_at self.now.seat user page ≢ Verdict.Accepted) }
+        requires { IsRunning self.now.station.post.state }
+        ensures accepted { IfSome result (λ a. IsAccepted self.now.station user page a.placed) }
+        ensures split { IfSome result (λ a. a.split ≡ slices self.now.station.post page) }
+        ensures refused { IfNone result (verdict_at self.now.station user page ≢ Verdict.Accepted) }
     {
-        let placed = self.seat.users().find(&self.home, user)?;
-        if self.seat.is_sliced(page) {
+        let placed = self.station.users().find(&self.home, user)?;
+        if self.station.is_sliced(page) {
             return Some(Accepted {
                 placed,
                 split: true,
@@ -95,9 +100,9 @@ impl<P: Post> LiveSeat<P> {
     #[cold]
     #[inline(never)]
     fn refusal(&self, user: u32, page: u32) -> Verdict
-        ensures { result ≡ verdict_at self.now.seat user page }
+        ensures { result ≡ verdict_at self.now.station user page }
     {
-        let users = self.seat.users();
+        let users = self.station.users();
         let request = Request {
             op: Op::Look,
             user,
@@ -112,7 +117,7 @@ impl<P: Post> LiveSeat<P> {
     // A like, of a seat that runs a phase.
     #[inline(always)]
     pub(crate) fn like_now(&mut self, user: u32, page: u32) -> LikeAnswer
-        requires { IsRunning self.old.seat.post.state }
+        requires { IsRunning self.old.station.post.state }
         ensures case { LikesNow self.old user page result self.new }
         ensures keeps { IsLive self.new }
     {
@@ -120,12 +125,12 @@ impl<P: Post> LiveSeat<P> {
             return LikeAnswer::Refused(self.refusal(user, page));
         };
         if accepted.split {
-            if self.seat.try_sliced_at(accepted.placed, page) {
+            if self.station.try_sliced_at(accepted.placed, page) {
                 return LikeAnswer::Liked;
             }
             return self.like_late(accepted.placed, page);
         }
-        if self.seat.try_plain_at(accepted.placed, page) {
+        if self.station.try_plain_at(accepted.placed, page) {
             return LikeAnswer::Liked;
         }
         self.like_late(accepted.placed, page)
@@ -135,24 +140,24 @@ impl<P: Post> LiveSeat<P> {
     #[cold]
     #[inline(never)]
     fn like_late(&mut self, placed: Placed, page: u32) -> LikeAnswer
-        requires running { IsRunning self.old.seat.post.state }
-        requires accepted { IsAccepted self.old.seat placed.user page placed }
+        requires running { IsRunning self.old.station.post.state }
+        requires accepted { IsAccepted self.old.station placed.user page placed }
         ensures case { LikesNow self.old placed.user page result self.new }
         ensures keeps { IsLive self.new }
     {
-        if self.seat.likes() >= MAX_LIKES {
+        if self.station.likes() >= MAX_LIKES {
             return LikeAnswer::Full;
         }
-        self.seat.count_like_at(placed, page);
-        store(&mut self.seat, &mut self.signals, page, Kind::Like);
+        self.station.count_like_at(placed, page);
+        store(&mut self.station, &mut self.signals, page, Kind::Like);
         LikeAnswer::Liked
     }
 
     // A look, of a seat that runs this phase.
     #[inline(always)]
     pub(crate) fn look_now(&mut self, user: u32, page: u32, tag: u64, phase: u64) -> LookAnswer
-        requires runs { IsRunning self.old.seat.post.state }
-        requires phase { phase ≡ phase_at self.old.seat }
+        requires runs { IsRunning self.old.station.post.state }
+        requires phase { phase ≡ phase_at self.old.station }
         ensures case { LooksNow self.old user page tag result self.new }
         ensures keeps { IsLive self.new }
     {
@@ -160,8 +165,8 @@ impl<P: Post> LiveSeat<P> {
             return LookAnswer::Refused(self.refusal(user, page));
         };
         if !accepted.split {
-            count_look(&mut self.seat, &mut self.signals, page);
-            return LookAnswer::Seen(self.seat.read_at(accepted.placed, page));
+            count_look(&mut self.station, &mut self.signals, page);
+            return LookAnswer::Seen(self.station.read_at(accepted.placed, page));
         }
         if self.wait(user, page, tag, phase) || self.wait_late(user, page, tag, phase) {
             return LookAnswer::Waits;
@@ -172,9 +177,9 @@ impl<P: Post> LiveSeat<P> {
     // Puts a look at a split page by until the next joined phase, if it is free to wait. Says whether it did.
     #[inline(always)]
     fn wait(&mut self, user: u32, page: u32, tag: u64, phase: u64) -> bool
-        requires split { RunsSplit self.old.seat.post.state }
-        requires own { IsOwn self.old.seat (asked_in phase user page tag) }
-        requires phase { phase ≡ phase_at self.old.seat }
+        requires split { RunsSplit self.old.station.post.state }
+        requires own { IsOwn self.old.station (asked_in phase user page tag) }
+        requires phase { phase ≡ phase_at self.old.station }
         ensures waits { IsTrue result → PutsBy self.old (asked_in phase user page tag) self.new }
         ensures none { result ≡ false → self.new ≡ self.old }
         ensures keeps { IsLive self.new }
@@ -182,7 +187,7 @@ impl<P: Post> LiveSeat<P> {
         if !self.room.take_free() {
             return false;
         }
-        self.seat.put_by(Asked {
+        self.station.put_by(Asked {
             tag,
             user,
             page,
@@ -196,9 +201,9 @@ impl<P: Post> LiveSeat<P> {
     #[cold]
     #[inline(never)]
     fn wait_late(&mut self, user: u32, page: u32, tag: u64, phase: u64) -> bool
-        requires split { RunsSplit self.old.seat.post.state }
-        requires own { IsOwn self.old.seat (asked_in phase user page tag) }
-        requires phase { phase ≡ phase_at self.old.seat }
+        requires split { RunsSplit self.old.station.post.state }
+        requires own { IsOwn self.old.station (asked_in phase user page tag) }
+        requires phase { phase ≡ phase_at self.old.station }
         ensures waits { IsTrue result → PutsBy self.old (asked_in phase user page tag) self.new }
         ensures full { result ≡ false
             → length (waiting self.old) + length self.old.found ≡ room_of self.old }
@@ -210,7 +215,7 @@ impl<P: Post> LiveSeat<P> {
         }
         self.room.take();
         self.signals.count_waiting(page);
-        self.seat.put_by(Asked {
+        self.station.put_by(Asked {
             tag,
             user,
             page,
@@ -230,7 +235,7 @@ impl<P: Glances> LiveSeat<P> {
     // A glance, of a seat that runs a phase.
     #[inline(always)]
     pub(crate) fn glance_now(&mut self, user: u32, page: u32) -> GlanceAnswer
-        requires { IsRunning self.old.seat.post.state }
+        requires { IsRunning self.old.station.post.state }
         ensures case { GlancesNow self.old user page result self.new }
         ensures keeps { IsLive self.new }
     {
@@ -238,8 +243,8 @@ impl<P: Glances> LiveSeat<P> {
             return GlanceAnswer::Refused(self.refusal(user, page));
         };
         if accepted.split {
-            return GlanceAnswer::Seen(self.seat.glance(accepted.placed, page));
+            return GlanceAnswer::Seen(self.station.glance(accepted.placed, page));
         }
-        GlanceAnswer::Seen(self.seat.read_at(accepted.placed, page))
+        GlanceAnswer::Seen(self.station.read_at(accepted.placed, page))
     }
 }

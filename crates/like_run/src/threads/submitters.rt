@@ -1,18 +1,16 @@
 ghost use Rattle.std.specs.Prelude.{◌≡◌, ◌≤◌, true, [], length, vec_capacity};
 ghost use Rattle.like_queue.specs.Lines.{AreNewEnds};
 
-use like_queue::{Parkers, SendEnd, submit};
+use crate::threads::shared::Shared;
+use like_queue::{SendEnd, submit};
 use like_roles::Gate;
-use std::sync::{OnceLock, Wait};
+use std::sync::Wait;
 use std::thread::{JoinHandle, Scope, Threads};
 
 /// Starts a thread for each submitter, in order, and says whether all could be started; more than `most` can't be.
 pub fn start_submitters<'s, E, R: Threads + Wait + Sync, G: Gate>(
     scope: &Scope<'s, E>,
-    rt: &'s R,
-    gate: &'s G,
-    start: &'s OnceLock<bool>,
-    parkers: &'s Parkers,
+    shared: &'s Shared<'s, R, G>,
     ends: Vec<SendEnd<'s>>,
     threads: &mut Vec<JoinHandle<()>>,
     most: usize,
@@ -28,7 +26,7 @@ pub fn start_submitters<'s, E, R: Threads + Wait + Sync, G: Gate>(
             return false;
         }
         let submitter = threads.len() as u32;
-        match start_submitter(scope, rt, gate, start, parkers, submitter, end) {
+        match start_submitter(scope, shared, submitter, end) {
             Some(thread) => threads.push_reserved(thread),
             None => return false,
         }
@@ -39,10 +37,7 @@ pub fn start_submitters<'s, E, R: Threads + Wait + Sync, G: Gate>(
 // Starts the thread of a submitter.
 fn start_submitter<'s, E, R: Threads + Wait + Sync, G: Gate>(
     scope: &Scope<'s, E>,
-    rt: &'s R,
-    gate: &'s G,
-    start: &'s OnceLock<bool>,
-    parkers: &'s Parkers,
+    shared: &'s Shared<'s, R, G>,
     submitter: u32,
     end: SendEnd<'s>,
 ) -> Option<JoinHandle<()>>
@@ -51,7 +46,16 @@ fn start_submitter<'s, E, R: Threads + Wait + Sync, G: Gate>(
     let thread = scope.spawn(
         move ||
             requires { end.sent ≡ 0 }
-        { submit(rt, gate, start, parkers, submitter, end) },
+        {
+            submit(
+                shared.rt,
+                shared.gate,
+                shared.start,
+                shared.parkers,
+                submitter,
+                end,
+            )
+        },
     );
     thread.ok()
 }

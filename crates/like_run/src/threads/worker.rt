@@ -3,11 +3,12 @@ ghost use Rattle.like_core.specs.declared.worker_state.WorkerState.TheVariants.{
 ghost use Rattle.like_crew.specs.Server.{ServerGoesOn};
 ghost use Rattle.like_run.specs.Threads.{Keeps};
 
+use crate::threads::shared::Shared;
 use like_board::{BoardPost, WorkerSeat};
 use like_core::Post;
 use like_crew::Server;
 use like_promises::WorkerLog;
-use like_queue::{Parkers, TakeEnd, TakeWith, hear};
+use like_queue::{TakeEnd, TakeWith, hear};
 use like_roles::{Gate, Turn};
 use std::snapshot::Snapshot;
 use std::sync::{OnceLock, OnceToken, Wait};
@@ -40,22 +41,19 @@ impl<'a> Promise<Served<'a>> for Owes<'a> {
 
 /// A worker's thread: it waits until all threads were started, and then makes the worker's turns until it is gone.
 pub fn serve<'a, R: Wait, G: Gate>(
-    rt: &R,
-    gate: &G,
-    start: &'a OnceLock<bool>,
-    parkers: &Parkers,
+    shared: &Shared<'a, R, G>,
     worker: usize,
     server: Server<BoardPost<'_>, TakeEnd<'_>>,
 ) -> Served<'a>
-    ensures { Keeps start.now.id server.entry result }
+    ensures { Keeps shared.now.start.now.id server.entry result }
 {
-    let token = hear(rt, start);
-    if !*start.value(&token) {
+    let token = hear(shared.rt, shared.start);
+    if !*shared.start.value(&token) {
         return Served::Stopped(token, server.leave().back());
     }
     let mut server = server;
-    make_turns(rt, gate, parkers, worker, &mut server);
-    parkers.answer();
+    make_turns(shared, worker, &mut server);
+    shared.parkers.answer();
     let (log, post) = server.finish();
     Served::Left(log, post.back())
 }
@@ -63,9 +61,7 @@ pub fn serve<'a, R: Wait, G: Gate>(
 // Makes turns until the worker is gone. It waits where it has nothing to do in its phase, and where it found nothing in
 // `LOOKS` turns for each of its inboxes.
 fn make_turns<R: Wait, G: Gate, P: Post, I: TakeWith<R>>(
-    rt: &R,
-    gate: &G,
-    parkers: &Parkers,
+    shared: &Shared<'_, R, G>,
     worker: usize,
     server: &mut Server<P, I>,
 )
@@ -74,16 +70,16 @@ fn make_turns<R: Wait, G: Gate, P: Post, I: TakeWith<R>>(
 {
     let most = server.inbox_count().saturating_mul(LOOKS);
     let mut tries = most;
-    for _ in rt.forever() {
-        match server.turn(rt, gate) {
+    for _ in shared.rt.forever() {
+        match server.turn(shared.rt, shared.gate) {
             Turn::Retired => return,
             Turn::Nothing if tries > 1 => tries -= 1,
             Turn::Waiting | Turn::Nothing => {
-                parkers.wait(rt, worker);
+                shared.parkers.wait(shared.rt, worker);
                 tries = most;
             }
-            Turn::Idle => parkers.idle(rt, worker),
-            Turn::Acknowledged | Turn::Reported => parkers.answer(),
+            Turn::Idle => shared.parkers.idle(shared.rt, worker),
+            Turn::Acknowledged | Turn::Reported => shared.parkers.answer(),
             _ => tries = most,
         }
     }

@@ -22,21 +22,21 @@ next-boxed left rest all boxed s b popped same were =
     ∙ ap (λ (xs : List LiveView). xs ++ done) (sym popped)
     ∙ were
 
-pub loop-seat-preserved : goal.loop-seat-preserved
-loop-seat-preserved c =
-    let l = c.loop-seat in
+pub loop-live-preserved : goal.loop-live-preserved
+loop-live-preserved c =
+    let l = c.loop-live in
     let b = c.in_ok-in_box.field-0 in
     let more = c.push_reserved.ensures.items in
     record {
       all = ap (λ (xs : List (Box BoxedSeat Global)). c.pop.new.self.items ++ reverse (map seat_in xs)) more
-          ∙ next-boxed l.seats.items c.pop.new.self.items c.args.seats.items l.boxed.items c.in-Some.seat b
-          c.in-Some.ensures.items (ap (λ (x : BoxedSeat). x.seat) c.in_ok-in_box.ensures.boxed) l.invariant.all;
+          ∙ next-boxed l.seats.items c.pop.new.self.items c.args.seats.items l.boxed.items c.in-Some.live b
+          c.in-Some.ensures.items (ap (λ (x : BoxedSeat). x.live) c.in_ok-in_box.ensures.boxed) l.invariant.all;
       len = omega (
         arith,
         ap (λ (xs : List (Box BoxedSeat Global)). length xs) more,
         length_push l.boxed.items b,
         ap (λ (xs : List LiveView). length xs) c.in-Some.ensures.items,
-        length_push c.pop.new.self.items c.in-Some.seat,
+        length_push c.pop.new.self.items c.in-Some.live,
         l.invariant.len,
       );
       room = search rules;

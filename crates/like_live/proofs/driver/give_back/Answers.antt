@@ -12,8 +12,8 @@ loop-seat-preserved c =
     let l = c.loop-seat in
     let seat = c.in-Some.seat in
     let items = c.push_reserved.ensures.items in
-    let post_at : LiveView → PostView = λ s. s.seat.post in
-    let meaning : seat_meaning c.back.result ≡ seat.seat.post = c.back.ensures.meaning ∙ c.leave.ensures.post in
+    let post_at : LiveView → PostView = λ s. s.station.post in
+    let meaning : seat_meaning c.back.result ≡ seat.station.post = c.back.ensures.meaning ∙ c.leave.ensures.post in
     record {
       back =
           ap (map seat_meaning) items ∙ map-append seat_meaning l.back.items (c.back.result ∷ [])

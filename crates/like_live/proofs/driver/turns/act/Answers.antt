@@ -24,8 +24,8 @@ pub release-requires-clause-saw : goal.release-requires-clause-saw
 release-requires-clause-saw g c =
     saw_all_in _ _ _ c.look-sight.ensures c.if-sight.true (not-false _ c.if-not-sight.false)
 
-pub is_due-requires : goal.is_due-requires
-is_due-requires g c = record { running = saw_running _ _ _ c.look-sight.ensures c.if-sight.false }
+pub prepare_end-requires : goal.prepare_end-requires
+prepare_end-requires g c = record { running = saw_running _ _ _ c.look-sight.ensures c.if-sight.false }
 
 pub announce-requires-clause-here : goal.announce-requires-clause-here
 announce-requires-clause-here g c = (look-keeps _ _ _ c.look-sight.ensures).same.board ∙ c.requires.here
@@ -35,7 +35,7 @@ announce-requires-clause-running g c =
     let limits = ap (λ (z : Opening). z.limits) (look-keeps _ _ _ c.look-sight.ensures).same.opening ∙ c.requires.limits in (
       saw_running _ _ _ c.look-sight.ensures c.if-sight.false,
       subst (λ (l : Limits). c.look-sight.new.self.seat.phase < l.last_phase) (sym limits)
-          (due-goes-on _ _ _ _ _ c.if-is_due.true c.is_due.ensures),
+          (due-goes-on _ _ _ _ _ c.if-prepare_end.true c.prepare_end.ensures),
     )
 
 pub returns-then-sight : goal.returns-then-sight
@@ -48,39 +48,39 @@ returns-then-sight g c = record {
       (drives c.release.new.lead c.release.new.splits b)) (sym c.clear.ensures) c.release.ensures);
 }
 
-pub returns-then-is_due : goal.returns-then-is_due
-returns-then-is_due g c =
+pub returns-then-prepare_end : goal.returns-then-prepare_end
+returns-then-prepare_end g c =
     let before = drives c.look-sight.new.self c.args.splits.now c.args.hint.now in
-    let now = drives c.look-sight.new.self c.is_due.new.splits c.is_due.new.hint in
+    let now = drives c.look-sight.new.self c.prepare_end.new.splits c.prepare_end.new.hint in
     record {
       sight = c.look-sight.result;
       seen = c.look-sight.new.self;
       sees = c.look-sight.ensures;
       case = announces now c.if-sight.false
-          (subst (λ (b : Bool). Decides before c.look-sight.result c.args.end b now) c.if-is_due.true c.is_due.ensures) refl
-          (λ m. drives (c.announce.ensures m) c.is_due.new.splits c.is_due.new.hint);
+          (subst (λ (b : Bool). Decides before c.look-sight.result c.args.end b now) c.if-prepare_end.true c.prepare_end.ensures) refl
+          (λ m. drives (c.announce.ensures m) c.prepare_end.new.splits c.prepare_end.new.hint);
     }
 
 pub returns : goal.returns
 returns g c =
     let before = drives c.look-sight.new.self c.args.splits.now c.args.hint.now in
-    let now = drives c.look-sight.new.self c.is_due.new.splits c.is_due.new.hint in
+    let now = drives c.look-sight.new.self c.prepare_end.new.splits c.prepare_end.new.hint in
     record {
       sight = c.look-sight.result;
       seen = c.look-sight.new.self;
       sees = c.look-sight.ensures;
       case = running c.if-sight.false c.if-sight-2.false
-          (subst (λ (b : Bool). Decides before c.look-sight.result c.args.end b now) c.if-is_due.false c.is_due.ensures) refl;
+          (subst (λ (b : Bool). Decides before c.look-sight.result c.args.end b now) c.if-prepare_end.false c.prepare_end.ensures) refl;
     }
 
 pub returns-then-sight-2 : goal.returns-then-sight-2
 returns-then-sight-2 g c =
     let before = drives c.look-sight.new.self c.args.splits.now c.args.hint.now in
-    let now = drives c.look-sight.new.self c.is_due.new.splits c.is_due.new.hint in
+    let now = drives c.look-sight.new.self c.prepare_end.new.splits c.prepare_end.new.hint in
     record {
       sight = c.look-sight.result;
       seen = c.look-sight.new.self;
       sees = c.look-sight.ensures;
       case = ended c.if-sight.false c.if-sight-2.true
-          (subst (λ (b : Bool). Decides before c.look-sight.result c.args.end b now) c.if-is_due.false c.is_due.ensures) refl;
+          (subst (λ (b : Bool). Decides before c.look-sight.result c.args.end b now) c.if-prepare_end.false c.prepare_end.ensures) refl;
     }

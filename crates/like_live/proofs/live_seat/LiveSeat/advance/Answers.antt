@@ -32,7 +32,7 @@ returns-then-not-sight-clause-moves g c =
 
 pub returns-clause-moves : goal.returns-clause-moves
 returns-clause-moves g c =
-    let after = live_of c.work-answer.new.seat c.work-answer.new.found in
+    let after = live_of c.work-answer.new.station c.work-answer.new.found in
     let sight = c.look_on-sight.result in
     let looks = c.look_on-sight.ensures.looks.looks in
     subst (λ (u : LiveView). Moves u c.work-answer.result after) c.self.view_is
@@ -45,13 +45,13 @@ returns-clause-moves g c =
 pub work-answer-requires-clause-looked : goal.work-answer-requires-clause-looked
 work-answer-requires-clause-looked g c =
     let i = c.self.inside in
-    has-looked i.seat c.look_on-sight.new.self i.found i.home i.pages i.room i.half c.look_on-sight.result
+    has-looked i.station c.look_on-sight.new.self i.found i.home i.pages i.room i.half c.look_on-sight.result
     c.self.invariant c.look_on-sight.ensures.looks c.look_on-sight.ensures.goes_on
 
 pub invariant_of-self : goal.invariant_of-self
 invariant_of-self g c =
     let i = c.self.inside in
-    after-looked i.seat c.look_on-sight.new.self i.found i.home i.pages i.room i.half c.look_on-sight.result
+    after-looked i.station c.look_on-sight.new.self i.found i.home i.pages i.room i.half c.look_on-sight.result
     c.self.invariant c.look_on-sight.ensures.looks (ap phase_of c.look_on-sight.ensures.stays)
 
 pub returns-then-not-sight-clause-keeps : goal.returns-then-not-sight-clause-keeps
@@ -62,9 +62,9 @@ invariant_of-self-2 g c =
     let i = c.self.inside in
     let looks = c.look_on-sight.ensures.looks in
     let done = c.work-answer in
-    after-works i.seat c.look_on-sight.new.self done.new.seat i.found done.new.found i.home i.pages i.room i.half
+    after-works i.station c.look_on-sight.new.self done.new.station i.found done.new.found i.home i.pages i.room i.half
     c.look_on-sight.result c.self.invariant looks
-    (Leaves-works (live_of c.look_on-sight.new.self i.found) (live_of done.new.seat done.new.found) true done.result
+    (Leaves-works (live_of c.look_on-sight.new.self i.found) (live_of done.new.station done.new.found) true done.result
     looks.seat.sized done.ensures.works)
     done.ensures.live done.ensures.capacity
 
@@ -88,7 +88,7 @@ returns-then-not-runs-clause-was g c = c.advance_late-answer.ensures.was
 
 pub returns-then-not-runs-clause-phase : goal.returns-then-not-runs-clause-phase
 returns-then-not-runs-clause-phase g c =
-    c.phase.ensures.phase ∙ ap (λ (v : LiveView). phase_at v.seat) c.self-then-not-runs.view_is
+    c.phase.ensures.phase ∙ ap (λ (v : LiveView). phase_at v.station) c.self-then-not-runs.view_is
 
 pub look_on-sight-requires : goal.look_on-sight-requires
 look_on-sight-requires g c = record { running = c.if-not-runs.ensures.runs.0 refl }
@@ -112,7 +112,7 @@ returns-clause-keeps g c = c.work-answer.ensures.live
 pub returns-clause-runs : goal.returns-clause-runs
 returns-clause-runs g c =
     runs-after (live_of c.look_on-sight.new.self c.self.inside.found)
-    (live_of c.work-answer.new.seat c.work-answer.new.found) true c.work-answer.result c.work-answer.ensures.works
+    (live_of c.work-answer.new.station c.work-answer.new.found) true c.work-answer.result c.work-answer.ensures.works
 
 pub returns-clause-phase : goal.returns-clause-phase
 returns-clause-phase g c = c.phase-2.ensures.phase

@@ -20,8 +20,8 @@ returns-then-sight-clause-moves g c =
 
 pub returns-clause-moves : goal.returns-clause-moves
 returns-clause-moves g c =
-    let v = live_of c.self.inside.seat c.self.inside.found in
-    let after = live_of c.work.new.seat c.work.new.found in
+    let v = live_of c.self.inside.station c.self.inside.found in
+    let after = live_of c.work.new.station c.work.new.found in
     let sight = c.look_with_slots-sight.result in
     let looks = c.look_with_slots-sight.ensures.looks in
     subst (λ (u : LiveView). Moves u c.work.result after) c.self.view_is
@@ -32,7 +32,7 @@ returns-clause-moves g c =
 pub invariant_of-self : goal.invariant_of-self
 invariant_of-self g c =
     let i = c.self.inside in
-    after-waits i.seat c.look_with_slots-sight.new.self i.found i.home i.pages i.room i.half
+    after-waits i.station c.look_with_slots-sight.new.self i.found i.home i.pages i.room i.half
     c.look_with_slots-sight.result c.self.invariant c.look_with_slots-sight.ensures c.if-sight.true
 
 pub returns-then-sight-clause-keeps : goal.returns-then-sight-clause-keeps
@@ -41,7 +41,7 @@ returns-then-sight-clause-keeps g c = (invariant_of-self g c).live
 pub work-requires-clause-looked : goal.work-requires-clause-looked
 work-requires-clause-looked g c =
     let i = c.self.inside in
-    has-looked i.seat c.look_with_slots-sight.new.self i.found i.home i.pages i.room i.half
+    has-looked i.station c.look_with_slots-sight.new.self i.found i.home i.pages i.room i.half
     c.look_with_slots-sight.result c.self.invariant c.look_with_slots-sight.ensures c.if-sight.false
 
 pub invariant_of-self-2 : goal.invariant_of-self-2
@@ -49,9 +49,9 @@ invariant_of-self-2 g c =
     let i = c.self.inside in
     let looked = c.look_with_slots-sight in
     let done = c.work in
-    after-works i.seat looked.new.self done.new.seat i.found done.new.found i.home i.pages i.room i.half looked.result
+    after-works i.station looked.new.self done.new.station i.found done.new.found i.home i.pages i.room i.half looked.result
     c.self.invariant looked.ensures
-    (Leaves-works (live_of looked.new.self i.found) (live_of done.new.seat done.new.found) looked.result.ending
+    (Leaves-works (live_of looked.new.self i.found) (live_of done.new.station done.new.found) looked.result.ending
     done.result looked.ensures.seat.sized done.ensures.works)
     done.ensures.live done.ensures.capacity
 
@@ -96,4 +96,4 @@ returns-clause-keeps g c = c.work.ensures.live
 pub returns-clause-runs : goal.returns-clause-runs
 returns-clause-runs g c =
     runs-after (live_of c.look_with_slots-sight.new.self c.self.inside.found)
-    (live_of c.work.new.seat c.work.new.found) c.look_with_slots-sight.result.ending c.work.result c.work.ensures.works
+    (live_of c.work.new.station c.work.new.found) c.look_with_slots-sight.result.ending c.work.result c.work.ensures.works

@@ -16,7 +16,7 @@ pub returns-then-not-is_gone-clause-case : goal.returns-then-not-is_gone-clause-
 returns-then-not-is_gone-clause-case g c =
     there
     (λ gone. absurd (cc (
-      c.is_gone.ensures.1 (subst (λ (v : LiveView). v.seat.post.state ≡ Gone) (sym c.self.view_is) gone),
+      c.is_gone.ensures.1 (subst (λ (v : LiveView). v.station.post.state ≡ Gone) (sym c.self.view_is) gone),
       c.if-not-is_gone.true,
     )))
     c.turn.ensures.case
@@ -30,22 +30,22 @@ returns-then-come_back-clause-case g c =
 pub returns-then-come_back-clause-tallies : goal.returns-then-come_back-clause-tallies
 returns-then-come_back-clause-tallies g c =
     (Leaves-come_back c.args.self.now (live_of c.come_back.new.self c.self.inside.found) Runs
-    (subst IsSized c.self.view_is c.self.invariant.live.seat.sized) (returns-then-come_back-clause-case g c)).tallies
+    (subst IsSized c.self.view_is c.self.invariant.live.station.sized) (returns-then-come_back-clause-case g c)).tallies
 
 pub returns-then-come_back-clause-same : goal.returns-then-come_back-clause-same
 returns-then-come_back-clause-same g c =
     (Leaves-come_back c.args.self.now (live_of c.come_back.new.self c.self.inside.found) Runs
-    (subst IsSized c.self.view_is c.self.invariant.live.seat.sized) (returns-then-come_back-clause-case g c)).same
+    (subst IsSized c.self.view_is c.self.invariant.live.station.sized) (returns-then-come_back-clause-case g c)).same
 
 pub returns-then-come_back-clause-last : goal.returns-then-come_back-clause-last
 returns-then-come_back-clause-last g c =
     (Leaves-come_back c.args.self.now (live_of c.come_back.new.self c.self.inside.found) Runs
-    (subst IsSized c.self.view_is c.self.invariant.live.seat.sized) (returns-then-come_back-clause-case g c)).last
+    (subst IsSized c.self.view_is c.self.invariant.live.station.sized) (returns-then-come_back-clause-case g c)).last
 
 pub invariant_of-self : goal.invariant_of-self
 invariant_of-self g c =
     let i = c.self.inside in
-    after-back i.seat c.come_back.new.self i.found i.home i.pages i.room i.half c.self.invariant
+    after-back i.station c.come_back.new.self i.found i.home i.pages i.room i.half c.self.invariant
     (c.is_gone.ensures.0 c.if-not-is_gone.false) (c.come_back.ensures.back c.if-come_back.true) c.come_back.ensures.seat
 
 pub returns-then-come_back-clause-keeps : goal.returns-then-come_back-clause-keeps
@@ -91,14 +91,14 @@ come_back-requires-clause-lets g c = subst LetsReturn (sym c.self.invariant.live
 pub returns-clause-same : goal.returns-clause-same
 returns-clause-same g c =
     (Leaves-come_back c.args.self.now (live_of c.come_back.new.self c.self.inside.found) Between
-    (subst IsSized c.self.view_is c.self.invariant.live.seat.sized) (returns-clause-case g c)).same
+    (subst IsSized c.self.view_is c.self.invariant.live.station.sized) (returns-clause-case g c)).same
 
 pub returns-clause-tallies : goal.returns-clause-tallies
 returns-clause-tallies g c =
     (Leaves-come_back c.args.self.now (live_of c.come_back.new.self c.self.inside.found) Between
-    (subst IsSized c.self.view_is c.self.invariant.live.seat.sized) (returns-clause-case g c)).tallies
+    (subst IsSized c.self.view_is c.self.invariant.live.station.sized) (returns-clause-case g c)).tallies
 
 pub returns-clause-last : goal.returns-clause-last
 returns-clause-last g c =
     (Leaves-come_back c.args.self.now (live_of c.come_back.new.self c.self.inside.found) Between
-    (subst IsSized c.self.view_is c.self.invariant.live.seat.sized) (returns-clause-case g c)).last
+    (subst IsSized c.self.view_is c.self.invariant.live.station.sized) (returns-clause-case g c)).last

@@ -8,7 +8,7 @@ use Rattle.like_live.proofs.live_seat.LiveSeat.lasts.Goals as goal
 
 pub returns-clause-lasts : goal.returns-clause-lasts
 returns-clause-lasts g c =
-    let v = live_of c.self.inside.seat c.self.inside.found in
+    let v = live_of c.self.inside.station c.self.inside.found in
     let row = c.write_lasts.new.row in
     let table = subst IsUserTable c.users.ensures c.write_lasts.ensures.table in
     let lasts = subst (λ (t : UserTable). AreLastsFrom t c.args.from row) c.users.ensures c.write_lasts.ensures.lasts in

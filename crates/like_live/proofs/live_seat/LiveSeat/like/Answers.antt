@@ -12,7 +12,7 @@ pub returns-in-Runs-clause-tallies : goal.returns-in-Runs-clause-tallies
 returns-in-Runs-clause-tallies g c = λ other.
     let before = c.turn.ensures.tallies other in
     let more = LikesNow-tallies c.turn.new.self c.like_now.new.self c.args.user c.args.page c.like_now.result
-    c.turn.ensures.keeps.seat.sized c.like_now.ensures.case other in
+    c.turn.ensures.keeps.station.sized c.like_now.ensures.case other in
     omega arith
 
 pub returns-in-Between-clause-case : goal.returns-in-Between-clause-case

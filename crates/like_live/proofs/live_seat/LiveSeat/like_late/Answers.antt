@@ -4,7 +4,7 @@ use Rattle.like_seat.specs.Steps.{CountsLike}
 use Rattle.like_live.specs.declared.asked.Asked.{Asked}
 use Rattle.like_live.specs.Kept.{AreLiveSeatParts}
 use Rattle.like_live.specs.Calls.{full, liked}
-use Rattle.like_live.specs.LiveView.{LiveView, with_seat}
+use Rattle.like_live.specs.LiveView.{LiveView, with_station}
 use Rattle.like_live.proofs.Requests.{after-counted, is-full, not-full}
 use Rattle.like_live.proofs.live_seat.LiveSeat.like_late.Goals as goal
 
@@ -12,7 +12,7 @@ pub invariant_of-self : goal.invariant_of-self
 invariant_of-self g c =
     let i = c.self.inside in
     subst (λ (t : StationView Asked). AreLiveSeatParts t i.found i.home i.pages i.room i.half) (sym c.store.ensures)
-    (after-counted i.seat c.count_like_at.new.self i.found i.home i.pages i.room i.half c.args.placed.user c.args.page
+    (after-counted i.station c.count_like_at.new.self i.found i.home i.pages i.room i.half c.args.placed.user c.args.page
     c.count_like_at.result c.self.invariant c.count_like_at.ensures.counts c.count_like_at.ensures.seat)
 
 pub returns-clause-keeps : goal.returns-clause-keeps
@@ -20,24 +20,24 @@ returns-clause-keeps g c = (invariant_of-self g c).live
 
 pub returns-clause-case : goal.returns-clause-case
 returns-clause-case g c =
-    let s = c.self.inside.seat in
+    let s = c.self.inside.station in
     let live = c.self.invariant.live in
-    let same : s ≡ c.args.self.now.seat = ap (λ (w : LiveView). w.seat) c.self.view_is in
-    let few = not-full s live.seat live.limits (omega (arith, c.likes.ensures.likes, c.if-likes-ge-MAX_LIKES.false)) in
+    let same : s ≡ c.args.self.now.station = ap (λ (w : LiveView). w.station) c.self.view_is in
+    let few = not-full s live.station live.limits (omega (arith, c.likes.ensures.likes, c.if-likes-ge-MAX_LIKES.false)) in
     let counts = subst (λ (t : StationView Asked). CountsLike s c.args.placed.user c.args.page c.count_like_at.result t)
     (sym c.store.ensures) c.count_like_at.ensures.counts in
-    liked c.count_like_at.result c.store.new.seat c.requires.accepted.verdict
+    liked c.count_like_at.result c.store.new.station c.requires.accepted.verdict
     (subst (λ (t : StationView Asked). likes_of t < t.post.limits.likes) same few)
     refl
-    (subst (λ (t : StationView Asked). CountsLike t c.args.placed.user c.args.page c.count_like_at.result c.store.new.seat)
+    (subst (λ (t : StationView Asked). CountsLike t c.args.placed.user c.args.page c.count_like_at.result c.store.new.station)
     same counts)
-    (ap (λ (w : LiveView). with_seat w c.store.new.seat) c.self.view_is)
+    (ap (λ (w : LiveView). with_station w c.store.new.station) c.self.view_is)
 
 pub returns-then-likes-ge-MAX_LIKES-clause-case : goal.returns-then-likes-ge-MAX_LIKES-clause-case
 returns-then-likes-ge-MAX_LIKES-clause-case g c =
-    let s = c.self.inside.seat in
+    let s = c.self.inside.station in
     let live = c.self.invariant.live in
-    let same : s ≡ c.args.self.now.seat = ap (λ (w : LiveView). w.seat) c.self.view_is in
+    let same : s ≡ c.args.self.now.station = ap (λ (w : LiveView). w.station) c.self.view_is in
     full c.requires.accepted.verdict
     (subst (λ (t : StationView Asked). likes_of t ≡ t.post.limits.likes) same
-    (is-full s live.seat live.limits (omega (arith, c.likes.ensures.likes, c.if-likes-ge-MAX_LIKES.true)))) refl refl
+    (is-full s live.station live.limits (omega (arith, c.likes.ensures.likes, c.if-likes-ge-MAX_LIKES.true)))) refl refl

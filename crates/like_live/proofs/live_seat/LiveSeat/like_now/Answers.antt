@@ -6,18 +6,18 @@ use Rattle.like_seat.specs.Steps.{CountsLike}
 use Rattle.like_live.specs.declared.answer.LikeAnswer.TheVariants.{Refused}
 use Rattle.like_live.specs.declared.asked.Asked.{Asked}
 use Rattle.like_live.specs.Calls.{LikesNow, liked, refused}
-use Rattle.like_live.specs.LiveView.{IsLive, LiveView, live_of, with_seat}
+use Rattle.like_live.specs.LiveView.{IsLive, LiveView, live_of, with_station}
 use Rattle.like_live.proofs.Requests.{accepted_in, after-counted, likes-most, not-full}
 use Rattle.like_live.specs.Kept.{AreLiveSeatParts}
 use Rattle.like_live.proofs.live_seat.LiveSeat.like_now.Goals as goal
 
 pub returns-then-try_sliced_at-clause-case : goal.returns-then-try_sliced_at-clause-case
 returns-then-try_sliced_at-clause-case g c =
-    let s = c.self.inside.seat in
+    let s = c.self.inside.station in
     let live = c.self.invariant.live in
     let accepted = c.in-Some.ensures.accepted in
-    let same : s ≡ c.args.self.now.seat = ap (λ (w : LiveView). w.seat) c.self.view_is in
-    let few = not-full s live.seat live.limits (c.try_sliced_at.ensures.few c.if-try_sliced_at.true) in
+    let same : s ≡ c.args.self.now.station = ap (λ (w : LiveView). w.station) c.self.view_is in
+    let few = not-full s live.station live.limits (c.try_sliced_at.ensures.few c.if-try_sliced_at.true) in
     let counts = subst (λ (u : ℕ). CountsLike s u c.args.page None c.try_sliced_at.new.self)
     accepted.user_is (c.try_sliced_at.ensures.counts c.if-try_sliced_at.true) in
     liked None c.try_sliced_at.new.self accepted.verdict
@@ -25,15 +25,15 @@ returns-then-try_sliced_at-clause-case g c =
     refl
     (subst (λ (t : StationView Asked). CountsLike t c.args.user c.args.page None c.try_sliced_at.new.self)
     same counts)
-    (ap (λ (w : LiveView). with_seat w c.try_sliced_at.new.self) c.self.view_is)
+    (ap (λ (w : LiveView). with_station w c.try_sliced_at.new.self) c.self.view_is)
 
 pub returns-then-try_plain_at-clause-case : goal.returns-then-try_plain_at-clause-case
 returns-then-try_plain_at-clause-case g c =
-    let s = c.self.inside.seat in
+    let s = c.self.inside.station in
     let live = c.self.invariant.live in
     let accepted = c.in-Some.ensures.accepted in
-    let same : s ≡ c.args.self.now.seat = ap (λ (w : LiveView). w.seat) c.self.view_is in
-    let few = not-full s live.seat live.limits (c.try_plain_at.ensures.few c.if-try_plain_at.true) in
+    let same : s ≡ c.args.self.now.station = ap (λ (w : LiveView). w.station) c.self.view_is in
+    let few = not-full s live.station live.limits (c.try_plain_at.ensures.few c.if-try_plain_at.true) in
     let counts = subst (λ (u : ℕ). CountsLike s u c.args.page (Some (c.try_plain_at.ensures.counts c.if-try_plain_at.true).0) c.try_plain_at.new.self)
     accepted.user_is (c.try_plain_at.ensures.counts c.if-try_plain_at.true).1 in
     liked (Some (c.try_plain_at.ensures.counts c.if-try_plain_at.true).0) c.try_plain_at.new.self accepted.verdict
@@ -41,7 +41,7 @@ returns-then-try_plain_at-clause-case g c =
     refl
     (subst (λ (t : StationView Asked). CountsLike t c.args.user c.args.page (Some (c.try_plain_at.ensures.counts c.if-try_plain_at.true).0) c.try_plain_at.new.self)
     same counts)
-    (ap (λ (w : LiveView). with_seat w c.try_plain_at.new.self) c.self.view_is)
+    (ap (λ (w : LiveView). with_station w c.try_plain_at.new.self) c.self.view_is)
 
 pub returns-then-accepted-clause-case : goal.returns-then-accepted-clause-case
 returns-then-accepted-clause-case g c =
@@ -62,7 +62,7 @@ returns-clause-case g c =
 pub invariant_of-self : goal.invariant_of-self
 invariant_of-self g c =
     let i = c.self.inside in
-    after-counted i.seat c.try_sliced_at.new.self i.found i.home i.pages i.room i.half c.in-Some.accepted.placed.user
+    after-counted i.station c.try_sliced_at.new.self i.found i.home i.pages i.room i.half c.in-Some.accepted.placed.user
     c.args.page None c.self.invariant (c.try_sliced_at.ensures.counts c.if-try_sliced_at.true)
     c.try_sliced_at.ensures.seat
 
@@ -79,7 +79,7 @@ pub invariant_of-self-then-try_plain_at : goal.invariant_of-self-then-try_plain_
 invariant_of-self-then-try_plain_at g c =
     let i = c.self.inside in
     let counts = c.try_plain_at.ensures.counts c.if-try_plain_at.true in
-    after-counted i.seat c.try_plain_at.new.self i.found i.home i.pages i.room i.half c.in-Some.accepted.placed.user
+    after-counted i.station c.try_plain_at.new.self i.found i.home i.pages i.room i.half c.in-Some.accepted.placed.user
     c.args.page (Some counts.0) c.self.invariant counts.1 c.try_plain_at.ensures.seat
 
 pub returns-then-try_plain_at-clause-keeps : goal.returns-then-try_plain_at-clause-keeps
@@ -103,38 +103,38 @@ returns-in_default-clause-keeps g c =
 
 pub try_sliced_at-requires-clause-running : goal.try_sliced_at-requires-clause-running
 try_sliced_at-requires-clause-running g c =
-    subst (λ (v : LiveView). IsRunning v.seat.post.state) (sym c.self.view_is) c.requires
+    subst (λ (v : LiveView). IsRunning v.station.post.state) (sym c.self.view_is) c.requires
 
 pub try_sliced_at-requires-clause-there : goal.try_sliced_at-requires-clause-there
 try_sliced_at-requires-clause-there g c =
     let i = c.self.inside in
-    (accepted_in c.args.self.now i.seat i.seat i.found c.args.user c.args.page c.in-Some.accepted.placed
+    (accepted_in c.args.self.now i.station i.station i.found c.args.user c.args.page c.in-Some.accepted.placed
     c.self.view_is refl c.in-Some.ensures.accepted).there
 
 pub try_sliced_at-requires-clause-placed : goal.try_sliced_at-requires-clause-placed
 try_sliced_at-requires-clause-placed g c =
     let i = c.self.inside in
-    (accepted_in c.args.self.now i.seat i.seat i.found c.args.user c.args.page c.in-Some.accepted.placed
+    (accepted_in c.args.self.now i.station i.station i.found c.args.user c.args.page c.in-Some.accepted.placed
     c.self.view_is refl c.in-Some.ensures.accepted).place_is
 
 pub try_sliced_at-requires-clause-split : goal.try_sliced_at-requires-clause-split
 try_sliced_at-requires-clause-split g c =
-    ap (λ (v : LiveView). slices v.seat.post c.args.page) c.self.view_is
+    ap (λ (v : LiveView). slices v.station.post c.args.page) c.self.view_is
     ∙ sym c.in-Some.ensures.split ∙ c.if-accepted.true
 
 pub try_sliced_at-requires-clause-most : goal.try_sliced_at-requires-clause-most
 try_sliced_at-requires-clause-most g c =
-    likes-most c.self.inside.seat c.self.invariant.live.limits
+    likes-most c.self.inside.station c.self.invariant.live.limits
 
 pub like_late-requires-clause-running : goal.like_late-requires-clause-running
 like_late-requires-clause-running g c =
     subst (λ (t : StationView Asked). IsRunning t.post.state) (sym (c.try_sliced_at.ensures.full c.if-try_sliced_at.false))
-    (subst (λ (v : LiveView). IsRunning v.seat.post.state) (sym c.self.view_is) c.requires)
+    (subst (λ (v : LiveView). IsRunning v.station.post.state) (sym c.self.view_is) c.requires)
 
 pub like_late-requires-clause-accepted : goal.like_late-requires-clause-accepted
 like_late-requires-clause-accepted g c =
     let i = c.self.inside in
-    accepted_in c.args.self.now i.seat c.try_sliced_at.new.self i.found c.args.user c.args.page c.in-Some.accepted.placed
+    accepted_in c.args.self.now i.station c.try_sliced_at.new.self i.found c.args.user c.args.page c.in-Some.accepted.placed
     c.self.view_is (c.try_sliced_at.ensures.full c.if-try_sliced_at.false) c.in-Some.ensures.accepted
 
 pub returns-then-accepted-clause-keeps : goal.returns-then-accepted-clause-keeps
@@ -142,38 +142,38 @@ returns-then-accepted-clause-keeps g c = c.like_late.ensures.keeps
 
 pub try_plain_at-requires-clause-running : goal.try_plain_at-requires-clause-running
 try_plain_at-requires-clause-running g c =
-    subst (λ (v : LiveView). IsRunning v.seat.post.state) (sym c.self.view_is) c.requires
+    subst (λ (v : LiveView). IsRunning v.station.post.state) (sym c.self.view_is) c.requires
 
 pub try_plain_at-requires-clause-there : goal.try_plain_at-requires-clause-there
 try_plain_at-requires-clause-there g c =
     let i = c.self.inside in
-    (accepted_in c.args.self.now i.seat i.seat i.found c.args.user c.args.page c.in-Some.accepted.placed
+    (accepted_in c.args.self.now i.station i.station i.found c.args.user c.args.page c.in-Some.accepted.placed
     c.self.view_is refl c.in-Some.ensures.accepted).there
 
 pub try_plain_at-requires-clause-placed : goal.try_plain_at-requires-clause-placed
 try_plain_at-requires-clause-placed g c =
     let i = c.self.inside in
-    (accepted_in c.args.self.now i.seat i.seat i.found c.args.user c.args.page c.in-Some.accepted.placed
+    (accepted_in c.args.self.now i.station i.station i.found c.args.user c.args.page c.in-Some.accepted.placed
     c.self.view_is refl c.in-Some.ensures.accepted).place_is
 
 pub try_plain_at-requires-clause-plain : goal.try_plain_at-requires-clause-plain
 try_plain_at-requires-clause-plain g c =
-    ap (λ (v : LiveView). slices v.seat.post c.args.page) c.self.view_is
+    ap (λ (v : LiveView). slices v.station.post c.args.page) c.self.view_is
     ∙ sym c.in-Some.ensures.split ∙ c.if-accepted.false
 
 pub try_plain_at-requires-clause-most : goal.try_plain_at-requires-clause-most
 try_plain_at-requires-clause-most g c =
-    likes-most c.self.inside.seat c.self.invariant.live.limits
+    likes-most c.self.inside.station c.self.invariant.live.limits
 
 pub like_late-requires-2-clause-running : goal.like_late-requires-2-clause-running
 like_late-requires-2-clause-running g c =
     subst (λ (t : StationView Asked). IsRunning t.post.state) (sym (c.try_plain_at.ensures.full c.if-try_plain_at.false))
-    (subst (λ (v : LiveView). IsRunning v.seat.post.state) (sym c.self.view_is) c.requires)
+    (subst (λ (v : LiveView). IsRunning v.station.post.state) (sym c.self.view_is) c.requires)
 
 pub like_late-requires-2-clause-accepted : goal.like_late-requires-2-clause-accepted
 like_late-requires-2-clause-accepted g c =
     let i = c.self.inside in
-    accepted_in c.args.self.now i.seat c.try_plain_at.new.self i.found c.args.user c.args.page c.in-Some.accepted.placed
+    accepted_in c.args.self.now i.station c.try_plain_at.new.self i.found c.args.user c.args.page c.in-Some.accepted.placed
     c.self.view_is (c.try_plain_at.ensures.full c.if-try_plain_at.false) c.in-Some.ensures.accepted
 
 pub returns-clause-keeps : goal.returns-clause-keeps

@@ -10,7 +10,7 @@ use Rattle.like_tables.specs.declared.placed.Placed.{Placed}
 use Rattle.like_live.specs.declared.answer.LookAnswer.TheVariants.{Refused, Waits}
 use Rattle.like_live.specs.declared.asked.Asked.{Asked}
 use Rattle.like_live.specs.Calls.{IsAccepted, LooksNow, PutsBy, asked_in, no_room, refused, seen, verdict_at, waits}
-use Rattle.like_live.specs.LiveView.{IsLive, IsOwn, LiveView, room_of, waiting, with_seat}
+use Rattle.like_live.specs.LiveView.{IsLive, IsOwn, LiveView, room_of, waiting, with_station}
 use Rattle.like_live.proofs.Finding.{split_since}
 use Rattle.like_live.proofs.Requests.{accepted_in, after-read}
 use Rattle.like_live.proofs.Showing.{split_phase}
@@ -37,19 +37,19 @@ runs-split s page running split =
 
 -- a look that was put by waits
 put-by : (v after : LiveView) (user page tag phase : ℕ)
-    → verdict_at v.seat user page ≡ Accepted
-    → slices v.seat.post page ≡ true
-    → phase ≡ phase_at v.seat
+    → verdict_at v.station user page ≡ Accepted
+    → slices v.station.post page ≡ true
+    → phase ≡ phase_at v.station
     → PutsBy v (asked_in phase user page tag) after
     → LooksNow v user page tag Waits after
 put-by v after user page tag phase accepted split is puts =
     waits accepted split puts.room refl
-    (subst (λ p. after ≡ with_seat v (holding v.seat (asked_in p user page tag))) is puts.is)
+    (subst (λ p. after ≡ with_station v (holding v.station (asked_in p user page tag))) is puts.is)
 
 pub returns-then-not-accepted-clause-case : goal.returns-then-not-accepted-clause-case
 returns-then-not-accepted-clause-case g c =
-    let s = c.self.inside.seat in
-    let same : s ≡ c.args.self.now.seat = ap (λ (w : LiveView). w.seat) c.self.view_is in
+    let s = c.self.inside.station in
+    let same : s ≡ c.args.self.now.station = ap (λ (w : LiveView). w.station) c.self.view_is in
     seen c.read_at.result c.read_at.new.self c.in-Some.ensures.accepted.verdict
     (sym c.in-Some.ensures.split ∙ not-true c.in-Some.accepted.split c.if-not-accepted.true)
     refl
@@ -57,13 +57,13 @@ returns-then-not-accepted-clause-case g c =
     (subst (λ (u : ℕ). Reads s u c.args.page c.read_at.result c.read_at.new.self) c.in-Some.ensures.accepted.user_is
     (subst (λ (t : StationView Asked). Reads t c.in-Some.accepted.placed.user c.args.page c.read_at.result c.read_at.new.self)
     c.count_look.ensures c.read_at.ensures.reads)))
-    (ap (λ (w : LiveView). with_seat w c.read_at.new.self) c.self.view_is)
+    (ap (λ (w : LiveView). with_station w c.read_at.new.self) c.self.view_is)
 
 pub invariant_of-self : goal.invariant_of-self
 invariant_of-self g c =
     let i = c.self.inside in
     let user = c.in-Some.accepted.placed.user in
-    after-read i.seat c.read_at.new.self i.found i.home i.pages i.room i.half user c.args.page c.read_at.result
+    after-read i.station c.read_at.new.self i.found i.home i.pages i.room i.half user c.args.page c.read_at.result
     c.self.invariant
     (subst (λ (t : StationView Asked). Reads t user c.args.page c.read_at.result c.read_at.new.self)
     c.count_look.ensures c.read_at.ensures.reads)
@@ -74,30 +74,30 @@ returns-then-not-accepted-clause-keeps g c = (invariant_of-self g c).live
 
 pub wait-requires-clause-own : goal.wait-requires-clause-own
 wait-requires-clause-own g c =
-    own c.args.self.now.seat c.args.user c.args.page c.args.tag c.args.phase c.in-Some.accepted.placed
+    own c.args.self.now.station c.args.user c.args.page c.args.tag c.args.phase c.in-Some.accepted.placed
     c.in-Some.ensures.accepted
 
 pub wait-requires-clause-split : goal.wait-requires-clause-split
 wait-requires-clause-split g c =
-    runs-split c.args.self.now.seat c.args.page c.requires.runs
+    runs-split c.args.self.now.station c.args.page c.requires.runs
     (sym c.in-Some.ensures.split ∙ not-false _ c.if-not-accepted.false)
 
 pub wait_late-requires-clause-own : goal.wait_late-requires-clause-own
 wait_late-requires-clause-own g c =
-    subst (λ (v : LiveView). IsOwn v.seat (asked_in c.args.phase c.args.user c.args.page c.args.tag))
+    subst (λ (v : LiveView). IsOwn v.station (asked_in c.args.phase c.args.user c.args.page c.args.tag))
     (sym (c.wait.ensures.none c.if-wait.false))
-    (own c.args.self.now.seat c.args.user c.args.page c.args.tag c.args.phase c.in-Some.accepted.placed
+    (own c.args.self.now.station c.args.user c.args.page c.args.tag c.args.phase c.in-Some.accepted.placed
     c.in-Some.ensures.accepted)
 
 pub wait_late-requires-clause-split : goal.wait_late-requires-clause-split
 wait_late-requires-clause-split g c =
-    subst (λ (v : LiveView). RunsSplit v.seat.post.state) (sym (c.wait.ensures.none c.if-wait.false))
-    (runs-split c.args.self.now.seat c.args.page c.requires.runs
+    subst (λ (v : LiveView). RunsSplit v.station.post.state) (sym (c.wait.ensures.none c.if-wait.false))
+    (runs-split c.args.self.now.station c.args.page c.requires.runs
     (sym c.in-Some.ensures.split ∙ not-false _ c.if-not-accepted.false))
 
 pub wait_late-requires-clause-phase : goal.wait_late-requires-clause-phase
 wait_late-requires-clause-phase g c =
-    c.requires.phase ∙ ap (λ (v : LiveView). phase_at v.seat) (sym (c.wait.ensures.none c.if-wait.false))
+    c.requires.phase ∙ ap (λ (v : LiveView). phase_at v.station) (sym (c.wait.ensures.none c.if-wait.false))
 
 pub returns-then-wait-clause-case : goal.returns-then-wait-clause-case
 returns-then-wait-clause-case g c =
@@ -137,24 +137,24 @@ returns-in_default-clause-keeps g c =
 pub read_at-requires-clause-running : goal.read_at-requires-clause-running
 read_at-requires-clause-running g c =
     subst (λ (t : StationView Asked). IsRunning t.post.state) (sym c.count_look.ensures)
-    (subst (λ (v : LiveView). IsRunning v.seat.post.state) (sym c.self.view_is) c.requires.runs)
+    (subst (λ (v : LiveView). IsRunning v.station.post.state) (sym c.self.view_is) c.requires.runs)
 
 pub read_at-requires-clause-there : goal.read_at-requires-clause-there
 read_at-requires-clause-there g c =
     let i = c.self.inside in
-    (accepted_in c.args.self.now i.seat c.count_look.new.seat i.found c.args.user c.args.page c.in-Some.accepted.placed
+    (accepted_in c.args.self.now i.station c.count_look.new.station i.found c.args.user c.args.page c.in-Some.accepted.placed
     c.self.view_is c.count_look.ensures c.in-Some.ensures.accepted).there
 
 pub read_at-requires-clause-placed : goal.read_at-requires-clause-placed
 read_at-requires-clause-placed g c =
     let i = c.self.inside in
-    (accepted_in c.args.self.now i.seat c.count_look.new.seat i.found c.args.user c.args.page c.in-Some.accepted.placed
+    (accepted_in c.args.self.now i.station c.count_look.new.station i.found c.args.user c.args.page c.in-Some.accepted.placed
     c.self.view_is c.count_look.ensures c.in-Some.ensures.accepted).place_is
 
 pub read_at-requires-clause-plain : goal.read_at-requires-clause-plain
 read_at-requires-clause-plain g c =
     ap (λ (t : StationView Asked). slices t.post c.args.page) c.count_look.ensures
-    ∙ ap (λ (v : LiveView). slices v.seat.post c.args.page) c.self.view_is
+    ∙ ap (λ (v : LiveView). slices v.station.post c.args.page) c.self.view_is
     ∙ sym c.in-Some.ensures.split ∙ not-true _ c.if-not-accepted.true
 
 pub wait-requires-clause-phase : goal.wait-requires-clause-phase

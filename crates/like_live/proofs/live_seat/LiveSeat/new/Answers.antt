@@ -35,7 +35,7 @@ new-parts post s found home users pages room left new is home_is all limits mark
     let no_found = ap (λ (xs : List Found). length xs) none_found in
     record {
       live = record {
-        seat = new.is;
+        station = new.is;
         limits = ap (λ (p : PostView). p.limits) new.at_post ∙ limits;
         home = subst (λ (t : UserTable). t.share.submitters ≡ t.share.workers) (sym new.last) alone;
         split = λ joined. none;
@@ -79,7 +79,7 @@ of_service-requires-clause-service g c = record {
 
 pub invariant_of-result : goal.invariant_of-result
 invariant_of-result g c =
-    new-parts (g.P.Post.view c.args.post) c.in-Ok.seat c.in_ok-found.found c.home-home.result c.args.last c.args.pages
+    new-parts (g.P.Post.view c.args.post) c.in-Ok.station c.in_ok-found.found c.home-home.result c.args.last c.args.pages
     c.args.room c.new-in-Ok.result c.in-Ok.ensures.new c.in_ok-found.ensures c.home-home.ensures c.new-in-Ok.ensures
     c.requires.limits c.requires.marks c.requires.home
 

@@ -20,7 +20,7 @@ returns-then-sight-clause-case g c =
 
 pub returns-clause-case : goal.returns-clause-case
 returns-clause-case g c =
-    let after = live_of c.work_or_retire.new.seat c.work_or_retire.new.found in
+    let after = live_of c.work_or_retire.new.station c.work_or_retire.new.found in
     let sight = c.look_with_slots-sight.result in
     let looks = c.look_with_slots-sight.ensures.looks in
     subst (λ (v : LiveView). RetireCase v c.work_or_retire.result after) c.self.view_is
@@ -30,26 +30,26 @@ returns-clause-case g c =
 
 pub returns-clause-tallies : goal.returns-clause-tallies
 returns-clause-tallies g c =
-    let after = live_of c.work_or_retire.new.seat c.work_or_retire.new.found in
+    let after = live_of c.work_or_retire.new.station c.work_or_retire.new.found in
     (Leaves-retires c.args.self.now after c.work_or_retire.result
-    (subst IsSized c.self.view_is c.self.invariant.live.seat.sized) (returns-clause-case g c)).tallies
+    (subst IsSized c.self.view_is c.self.invariant.live.station.sized) (returns-clause-case g c)).tallies
 
 pub returns-clause-same : goal.returns-clause-same
 returns-clause-same g c =
-    let after = live_of c.work_or_retire.new.seat c.work_or_retire.new.found in
+    let after = live_of c.work_or_retire.new.station c.work_or_retire.new.found in
     (Leaves-retires c.args.self.now after c.work_or_retire.result
-    (subst IsSized c.self.view_is c.self.invariant.live.seat.sized) (returns-clause-case g c)).same
+    (subst IsSized c.self.view_is c.self.invariant.live.station.sized) (returns-clause-case g c)).same
 
 pub returns-clause-last : goal.returns-clause-last
 returns-clause-last g c =
-    let after = live_of c.work_or_retire.new.seat c.work_or_retire.new.found in
+    let after = live_of c.work_or_retire.new.station c.work_or_retire.new.found in
     (Leaves-retires c.args.self.now after c.work_or_retire.result
-    (subst IsSized c.self.view_is c.self.invariant.live.seat.sized) (returns-clause-case g c)).last
+    (subst IsSized c.self.view_is c.self.invariant.live.station.sized) (returns-clause-case g c)).last
 
 pub invariant_of-self : goal.invariant_of-self
 invariant_of-self g c =
     let i = c.self.inside in
-    after-waits i.seat c.look_with_slots-sight.new.self i.found i.home i.pages i.room i.half
+    after-waits i.station c.look_with_slots-sight.new.self i.found i.home i.pages i.room i.half
     c.look_with_slots-sight.result c.self.invariant c.look_with_slots-sight.ensures c.if-sight.true
 
 pub returns-then-sight-clause-keeps : goal.returns-then-sight-clause-keeps
@@ -58,7 +58,7 @@ returns-then-sight-clause-keeps g c = (invariant_of-self g c).live
 pub work_or_retire-requires-clause-looked : goal.work_or_retire-requires-clause-looked
 work_or_retire-requires-clause-looked g c =
     let i = c.self.inside in
-    has-looked i.seat c.look_with_slots-sight.new.self i.found i.home i.pages i.room i.half
+    has-looked i.station c.look_with_slots-sight.new.self i.found i.home i.pages i.room i.half
     c.look_with_slots-sight.result c.self.invariant c.look_with_slots-sight.ensures c.if-sight.false
 
 pub invariant_of-self-2 : goal.invariant_of-self-2
@@ -66,9 +66,9 @@ invariant_of-self-2 g c =
     let i = c.self.inside in
     let looked = c.look_with_slots-sight in
     let done = c.work_or_retire in
-    after-works i.seat looked.new.self done.new.seat i.found done.new.found i.home i.pages i.room i.half looked.result
+    after-works i.station looked.new.self done.new.station i.found done.new.found i.home i.pages i.room i.half looked.result
     c.self.invariant looked.ensures
-    (Leaves-retire_works (live_of looked.new.self i.found) (live_of done.new.seat done.new.found) looked.result.ending
+    (Leaves-retire_works (live_of looked.new.self i.found) (live_of done.new.station done.new.found) looked.result.ending
     done.result looked.ensures.seat.sized done.ensures.works)
     done.ensures.live done.ensures.capacity
 
@@ -99,17 +99,17 @@ look_with_slots-sight-requires-clause-here g c =
 pub returns-then-sight-clause-same : goal.returns-then-sight-clause-same
 returns-then-sight-clause-same g c =
     (Leaves-retires c.args.self.now (live_of c.look_with_slots-sight.new.self c.self.inside.found) Between
-    (subst IsSized c.self.view_is c.self.invariant.live.seat.sized) (returns-then-sight-clause-case g c)).same
+    (subst IsSized c.self.view_is c.self.invariant.live.station.sized) (returns-then-sight-clause-case g c)).same
 
 pub returns-then-sight-clause-tallies : goal.returns-then-sight-clause-tallies
 returns-then-sight-clause-tallies g c =
     (Leaves-retires c.args.self.now (live_of c.look_with_slots-sight.new.self c.self.inside.found) Between
-    (subst IsSized c.self.view_is c.self.invariant.live.seat.sized) (returns-then-sight-clause-case g c)).tallies
+    (subst IsSized c.self.view_is c.self.invariant.live.station.sized) (returns-then-sight-clause-case g c)).tallies
 
 pub returns-then-sight-clause-last : goal.returns-then-sight-clause-last
 returns-then-sight-clause-last g c =
     (Leaves-retires c.args.self.now (live_of c.look_with_slots-sight.new.self c.self.inside.found) Between
-    (subst IsSized c.self.view_is c.self.invariant.live.seat.sized) (returns-then-sight-clause-case g c)).last
+    (subst IsSized c.self.view_is c.self.invariant.live.station.sized) (returns-then-sight-clause-case g c)).last
 
 pub work_or_retire-requires-clause-ending : goal.work_or_retire-requires-clause-ending
 work_or_retire-requires-clause-ending g c =

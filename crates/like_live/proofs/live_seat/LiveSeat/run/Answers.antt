@@ -1,32 +1,46 @@
-use Rattle.std.proofs.Common.{◌∙◌, get_or, arith}
-use Rattle.std.proofs.lemmas.Option.{slice_get-get_or}
-use Rattle.like_live.specs.declared.call.Call.{Call}
-use Rattle.like_live.specs.declared.call.Call.TheVariants.{Like}
-use Rattle.like_live.specs.Batch.{stops}
-use Rattle.like_live.proofs.Batches.{HasRun-more, slice_get-set_other}
+use Rattle.std.proofs.Common.{◌<◌, ◌∙◌, arith}
+use Rattle.like_live.proofs.Batches.{batch-more, batch-stops, set-behind}
 use Rattle.like_live.proofs.Moving.{same_seat_both}
 use Rattle.like_live.proofs.live_seat.LiveSeat.run.Goals as goal
 
-pub returns-in-None-clause-case : goal.returns-in-None-clause-case
-returns-in-None-clause-case g c =
-    let calls = c.args.calls.now in
+pub returns-then-answer-clause-case : goal.returns-then-answer-clause-case
+returns-then-answer-clause-case g c =
     let i = c.loop-done.done in
-    let next : Call = get_or calls i (Like 0 0) in
-    stops c.loop-done.self next
-    (slice_get-get_or calls i (Like 0 0) c.loop-done-test.true) c.loop-done.invariant.ran c.in-None.ensures.case
+    batch-stops g.R.Row.asks g.R.Row.tells c.args.self.now c.loop-done.self c.answer.new.self c.args.rows.now
+    c.loop-done.answers i c.index-rows-done.result c.answer.new.told c.answer.result c.index-rows-done.is
+    (omega (arith, c.loop-done-test.true, c.min-most.ensures))
+    (omega (arith, c.loop-done-test.true, c.min-most.ensures, c.loop-done.auto.answers))
+    c.loop-done.invariant.ran c.answer.ensures.row c.if-answer.true
+
+pub returns-then-answer-clause-rest : goal.returns-then-answer-clause-rest
+returns-then-answer-clause-rest g c = λ k past.
+    set-behind c.loop-done.answers c.loop-done.done k c.answer.new.told past
+    ∙ c.loop-done.invariant.rest k (omega arith)
+
+pub returns-then-answer-clause-unasked : goal.returns-then-answer-clause-unasked
+returns-then-answer-clause-unasked g c = λ k past.
+    let below : c.loop-done.done < k = omega (arith, c.loop-done-test.true, c.min-most.ensures) in
+    set-behind c.loop-done.answers c.loop-done.done k c.answer.new.told below
+    ∙ c.loop-done.invariant.rest k (omega arith)
+
+pub returns-clause-unasked : goal.returns-clause-unasked
+returns-clause-unasked g c = λ k past.
+    c.loop-done.invariant.rest k (omega (arith, c.loop-done.auto.done-end, c.min-most.ensures))
+
+pub returns-clause-rest : goal.returns-clause-rest
+returns-clause-rest g c = λ k past. c.loop-done.invariant.rest k (omega (arith, c.loop-done.auto.done-end))
 
 pub loop-done-preserved : goal.loop-done-preserved
 loop-done-preserved g c =
-    let calls = c.args.calls.now in
     let i = c.loop-done.done in
-    let next : Call = get_or calls i (Like 0 0) in
     record {
-      ran = HasRun-more c.args.self.now c.loop-done.self c.answer.new.self calls c.loop-done.answers i next
-          c.in-Some.answer c.loop-done.invariant.ran (slice_get-get_or calls i (Like 0 0) c.loop-done-test.true)
-          (omega (arith, c.requires, c.loop-done.auto.answers, c.loop-done-test.true)) c.in-Some.ensures.case;
+      ran = batch-more g.R.Row.asks g.R.Row.tells c.args.self.now c.loop-done.self c.answer.new.self c.args.rows.now
+          c.loop-done.answers i c.index-rows-done.result c.answer.new.told c.answer.result c.index-rows-done.is
+          (omega (arith, c.loop-done-test.true, c.min-most.ensures))
+          (omega (arith, c.loop-done-test.true, c.min-most.ensures, c.loop-done.auto.answers))
+          c.loop-done.invariant.ran c.answer.ensures.row c.if-answer.false;
       rest = λ k past.
-          slice_get-set_other c.loop-done.answers i k c.in-Some.answer (omega arith)
-          ∙ c.loop-done.invariant.rest k (omega arith);
+          set-behind c.loop-done.answers i k c.answer.new.told (omega arith) ∙ c.loop-done.invariant.rest k (omega arith);
       live = c.answer.ensures.keeps;
       same = same_seat_both c.args.self.now c.loop-done.self c.answer.new.self c.loop-done.invariant.same
           c.answer.ensures.same;

@@ -11,7 +11,7 @@ use Rattle.like_live.proofs.live_seat.LiveSeat.wait.Goals as goal
 pub invariant_of-self : goal.invariant_of-self
 invariant_of-self g c =
     let i = c.self.inside in
-    subst (λ (r : RoomView). AreLiveSeatParts i.seat i.found i.home i.pages r i.half)
+    subst (λ (r : RoomView). AreLiveSeatParts i.station i.found i.home i.pages r i.half)
     (sym (c.take_free.ensures.none c.if-not-take_free.true).1) c.self.invariant
 
 pub put_by-requires : goal.put_by-requires
@@ -23,17 +23,17 @@ invariant_of-self-2 g c =
     let i = c.self.inside in
     let a = asked_in c.args.phase c.args.user c.args.page c.args.tag in
     let taken = c.take_free.ensures.taken c.if-not-take_free.false in
-    after-held i.seat c.put_by.new.self i.found i.home i.pages i.room c.take_free.new.self i.half a c.self.invariant
-    (subst (λ (w : LiveView). RunsSplit w.seat.post.state) (sym c.self.view_is) c.requires.split)
-    (subst (λ (w : LiveView). IsOwn w.seat a) (sym c.self.view_is) c.requires.own)
-    (c.requires.phase ∙ ap (λ (w : LiveView). phase_at w.seat) (sym c.self.view_is))
+    after-held i.station c.put_by.new.self i.found i.home i.pages i.room c.take_free.new.self i.half a c.self.invariant
+    (subst (λ (w : LiveView). RunsSplit w.station.post.state) (sym c.self.view_is) c.requires.split)
+    (subst (λ (w : LiveView). IsOwn w.station a) (sym c.self.view_is) c.requires.own)
+    (c.requires.phase ∙ ap (λ (w : LiveView). phase_at w.station) (sym c.self.view_is))
     taken.1 (λ _. omega (arith, c.self.invariant.early (omega (arith, taken.0)), taken.0))
     c.put_by.ensures.holds c.put_by.ensures.seat
 
 pub returns-clause-waits : goal.returns-clause-waits
 returns-clause-waits g c = λ _.
     let i = c.self.inside in
-    puts-by c.args.self.now i.seat c.put_by.new.self i.found i.home i.pages i.room i.half
+    puts-by c.args.self.now i.station c.put_by.new.self i.found i.home i.pages i.room i.half
     (asked_in c.args.phase c.args.user c.args.page c.args.tag) c.self.invariant c.self.view_is
     (omega (arith, (c.take_free.ensures.taken c.if-not-take_free.false).1)) c.put_by.ensures.holds
 

@@ -19,10 +19,10 @@ pub invariant_of-self : goal.invariant_of-self
 invariant_of-self g c =
     let i = c.self.inside in
     let a = asked_in c.args.phase c.args.user c.args.page c.args.tag in
-    after-held i.seat c.put_by.new.self i.found i.home i.pages i.room c.plan_ahead.new.room i.half a c.self.invariant
-    (subst (λ (w : LiveView). RunsSplit w.seat.post.state) (sym c.self.view_is) c.requires.split)
-    (subst (λ (w : LiveView). IsOwn w.seat a) (sym c.self.view_is) c.requires.own)
-    (c.requires.phase ∙ ap (λ (w : LiveView). phase_at w.seat) (sym c.self.view_is))
+    after-held i.station c.put_by.new.self i.found i.home i.pages i.room c.plan_ahead.new.room i.half a c.self.invariant
+    (subst (λ (w : LiveView). RunsSplit w.station.post.state) (sym c.self.view_is) c.requires.split)
+    (subst (λ (w : LiveView). IsOwn w.station a) (sym c.self.view_is) c.requires.own)
+    (c.requires.phase ∙ ap (λ (w : LiveView). phase_at w.station) (sym c.self.view_is))
     (c.take.ensures.left ∙ ap (λ n. n + 1) (sym c.plan_ahead.ensures.left))
     (λ some. omega (
       arith,
@@ -38,7 +38,7 @@ invariant_of-self g c =
 pub returns-clause-waits : goal.returns-clause-waits
 returns-clause-waits g c = λ _.
     let i = c.self.inside in
-    puts-by c.args.self.now i.seat c.put_by.new.self i.found i.home i.pages i.room i.half
+    puts-by c.args.self.now i.station c.put_by.new.self i.found i.home i.pages i.room i.half
     (asked_in c.args.phase c.args.user c.args.page c.args.tag) c.self.invariant c.self.view_is
     (omega (arith, c.take.ensures.left)) c.put_by.ensures.holds
 

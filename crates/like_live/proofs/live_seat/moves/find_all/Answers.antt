@@ -10,50 +10,50 @@ use Rattle.like_live.proofs.live_seat.moves.find_all.Goals as goal
 
 pub read_for-seen-requires-clause-there : goal.read_for-seen-requires-clause-there
 read_for-seen-requires-clause-there g c =
-    let v = live_of c.args.seat.now c.args.found.now in
-    let now = live_of c.loop-asked.seat c.loop-asked.found in
+    let v = live_of c.args.station.now c.args.found.now in
+    let now = live_of c.loop-asked.station c.loop-asked.found in
     (Finding-first v now c.next_held.new.self c.in-Some.asked c.loop-asked.invariant.finding c.requires.looked.own
     (sym c.in-Some.ensures.first) c.in-Some.ensures.rest).there
 
 pub read_for-seen-requires-clause-owned : goal.read_for-seen-requires-clause-owned
 read_for-seen-requires-clause-owned g c =
-    let v = live_of c.args.seat.now c.args.found.now in
-    let now = live_of c.loop-asked.seat c.loop-asked.found in
+    let v = live_of c.args.station.now c.args.found.now in
+    let now = live_of c.loop-asked.station c.loop-asked.found in
     (Finding-first v now c.next_held.new.self c.in-Some.asked c.loop-asked.invariant.finding c.requires.looked.own
     (sym c.in-Some.ensures.first) c.in-Some.ensures.rest).owned
 
 pub loop-asked-init : goal.loop-asked-init
 loop-asked-init g c = record {
-  finding = Finding-start (live_of c.args.seat.now c.args.found.now);
-  seat = c.phase-phase.ensures.seat;
+  finding = Finding-start (live_of c.args.station.now c.args.found.now);
+  station = c.phase-phase.ensures.seat;
   capacity = refl;
 }
 
 pub loop-asked-preserved : goal.loop-asked-preserved
 loop-asked-preserved g c =
-    let v = live_of c.args.seat.now c.args.found.now in
-    let now = live_of c.loop-asked.seat c.loop-asked.found in
+    let v = live_of c.args.station.now c.args.found.now in
+    let now = live_of c.loop-asked.station c.loop-asked.found in
     record {
       finding = Finding-next v now c.next_held.new.self c.read_for-seen.new.self c.push.new.self.held c.in-Some.asked
           c.read_for-seen.result c.phase-phase.result c.loop-asked.invariant.finding
           (sym c.in-Some.ensures.first) c.in-Some.ensures.rest c.read_for-seen.ensures.reads c.phase-phase.ensures.phase
           (ap (λ (w : Waiting Found). w.held) c.push.ensures);
-      seat = c.read_for-seen.ensures.seat;
+      station = c.read_for-seen.ensures.seat;
       capacity = ap (λ (w : Waiting Found). w.capacity) c.push.ensures ∙ c.loop-asked.invariant.capacity;
     }
 
 pub returns-clause-next : goal.returns-clause-next
 returns-clause-next g c =
-    let v = live_of c.args.seat.now c.args.found.now in
-    let now = live_of c.loop-asked.seat c.loop-asked.found in
+    let v = live_of c.args.station.now c.args.found.now in
+    let now = live_of c.loop-asked.station c.loop-asked.found in
     let looked = c.requires.looked in
     Finding-ran v now c.loop-asked.invariant.finding
-    (looked.before (joined_phase c.args.seat.now.post.state c.requires.joined)) looked.next
+    (looked.before (joined_phase c.args.station.now.post.state c.requires.joined)) looked.next
 
 pub returns-clause-finds : goal.returns-clause-finds
 returns-clause-finds g c =
-    let v = live_of c.args.seat.now c.args.found.now in
-    let s = c.loop-asked.seat in
+    let v = live_of c.args.station.now c.args.found.now in
+    let s = c.loop-asked.station in
     let none = none_first s.held.held (sym c.next_held.ensures.first ∙ c.in_default.is) in
     let rest = ap (λ (xs : List Asked). drop 1 xs) none ∙ sym none in
     let same : c.next_held.new.self ≡ s =
@@ -64,26 +64,26 @@ returns-clause-finds g c =
 pub read_for-seen-requires-clause-plain : goal.read_for-seen-requires-clause-plain
 read_for-seen-requires-clause-plain g c =
     plain c.next_held.new.self.post c.in-Some.asked.page
-    (Finding-joined (live_of c.args.seat.now c.args.found.now) (live_of c.loop-asked.seat c.loop-asked.found)
+    (Finding-joined (live_of c.args.station.now c.args.found.now) (live_of c.loop-asked.station c.loop-asked.found)
     c.next_held.new.self c.loop-asked.invariant.finding c.requires.joined c.in-Some.ensures.rest)
 
 pub read_for-seen-requires-clause-running : goal.read_for-seen-requires-clause-running
 read_for-seen-requires-clause-running g c =
     running c.next_held.new.self.post.state
-    (Finding-joined (live_of c.args.seat.now c.args.found.now) (live_of c.loop-asked.seat c.loop-asked.found)
+    (Finding-joined (live_of c.args.station.now c.args.found.now) (live_of c.loop-asked.station c.loop-asked.found)
     c.next_held.new.self c.loop-asked.invariant.finding c.requires.joined c.in-Some.ensures.rest)
 
 pub push-requires : goal.push-requires
 push-requires g c =
     let l = c.loop-asked in
     let looked = c.requires.looked in
-    let first = first_of l.seat.held.held c.in-Some.asked (sym c.in-Some.ensures.first) in
-    let same = Finding-room (live_of c.args.seat.now c.args.found.now) (live_of l.seat l.found) l.invariant.finding in
+    let first = first_of l.station.held.held c.in-Some.asked (sym c.in-Some.ensures.first) in
+    let same = Finding-room (live_of c.args.station.now c.args.found.now) (live_of l.station l.found) l.invariant.finding in
     omega (arith, ap (λ (xs : List Asked). length xs) first, same, looked.room, looked.capacity, l.invariant.capacity)
 
 pub loop-asked-smaller : goal.loop-asked-smaller
 loop-asked-smaller g c =
-    let first = first_of c.loop-asked.seat.held.held c.in-Some.asked (sym c.in-Some.ensures.first) in
+    let first = first_of c.loop-asked.station.held.held c.in-Some.asked (sym c.in-Some.ensures.first) in
     let rest =
     ap (λ (t : StationView Asked). length t.held.held) (c.read_for-seen.ensures.reads.read)
     ∙ ap (λ (t : StationView Asked). length t.held.held) c.in-Some.ensures.rest in

@@ -6,10 +6,10 @@ use Rattle.like_live.proofs.live_seat.moves.find_all.Given as goal
 
 abbrev pub invariant-loop-asked : goal.invariant-loop-asked
 invariant-loop-asked g l = record {
-  finding : Finding (live_of l.initial.seat l.initial.found) (live_of l.seat l.found);
-  seat : IsStation l.seat;
+  finding : Finding (live_of l.initial.station l.initial.found) (live_of l.station l.found);
+  station : IsStation l.station;
   capacity : l.found.capacity ≡ l.initial.found.capacity;
 }
 
 abbrev pub decreases-loop-asked : goal.decreases-loop-asked
-decreases-loop-asked g l = length l.seat.held.held
+decreases-loop-asked g l = length l.station.held.held

@@ -10,7 +10,7 @@ use Rattle.like_live.proofs.live_seat.moves.joined_work.Goals as goal
 
 pub returns-clause-works : goal.returns-clause-works
 returns-clause-works g c =
-    acknowledges (live_of c.find_all.new.seat c.find_all.new.found) c.requires.joined c.if-not-ending.false refl
+    acknowledges (live_of c.find_all.new.station c.find_all.new.found) c.requires.joined c.if-not-ending.false refl
     c.find_all.ensures.finds
     (λ m. live_of (c.acknowledge.ensures.stops m) c.find_all.new.found)
 
@@ -26,28 +26,28 @@ returns-then-not-ending-clause-works g c =
 
 pub returns-then-not-ending-clause-live : goal.returns-then-not-ending-clause-live
 returns-then-not-ending-clause-live g c =
-    found-live c.args.seat.now c.find_all.new.seat c.args.found.now c.find_all.new.found c.requires.looked
-    c.find_all.ensures.finds c.find_all.ensures.next c.find_all.ensures.seat
+    found-live c.args.station.now c.find_all.new.station c.args.found.now c.find_all.new.found c.requires.looked
+    c.find_all.ensures.finds c.find_all.ensures.next c.find_all.ensures.station
 
 pub returns-then-not-ending-clause-capacity : goal.returns-then-not-ending-clause-capacity
 returns-then-not-ending-clause-capacity g c = c.find_all.ensures.capacity
 
 pub acknowledge-requires-clause-runs : goal.acknowledge-requires-clause-runs
 acknowledge-requires-clause-runs g c =
-    subst (λ (v : LiveView). RunsJoined v.seat.post.state) (sym c.find_all.ensures.finds.rest) c.requires.joined
+    subst (λ (v : LiveView). RunsJoined v.station.post.state) (sym c.find_all.ensures.finds.rest) c.requires.joined
 
 pub acknowledge-requires-clause-ending : goal.acknowledge-requires-clause-ending
 acknowledge-requires-clause-ending g c =
-    subst (λ (v : LiveView). SawEnding v.seat.post.last) (sym c.find_all.ensures.finds.rest)
+    subst (λ (v : LiveView). SawEnding v.station.post.last) (sym c.find_all.ensures.finds.rest)
     (c.requires.ending c.if-not-ending.false)
 
 pub returns-clause-live : goal.returns-clause-live
 returns-clause-live g c =
-    let found = found-live c.args.seat.now c.find_all.new.seat c.args.found.now c.find_all.new.found c.requires.looked
-    c.find_all.ensures.finds c.find_all.ensures.next c.find_all.ensures.seat in
+    let found = found-live c.args.station.now c.find_all.new.station c.args.found.now c.find_all.new.found c.requires.looked
+    c.find_all.ensures.finds c.find_all.ensures.next c.find_all.ensures.station in
     let is = c.acknowledge.ensures.stops in
     subst (λ (s : StationView Asked). IsLive (live_of s c.find_all.new.found)) (sym is)
-    (stopped-live (live_of c.find_all.new.seat c.find_all.new.found) (answered c.find_all.new.seat.post) found
+    (stopped-live (live_of c.find_all.new.station c.find_all.new.found) (answered c.find_all.new.station.post) found
     (ap (λ (v : LiveView). waiting v) c.find_all.ensures.finds.rest) refl
     (subst (λ (s : StationView Asked). IsStation s) is c.acknowledge.ensures.seat))
 

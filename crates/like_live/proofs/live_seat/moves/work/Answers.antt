@@ -8,7 +8,7 @@ use Rattle.like_live.proofs.live_seat.moves.work.Goals as goal
 
 pub returns-clause-works : goal.returns-clause-works
 returns-clause-works g c =
-    let split : RunsSplit c.args.seat.now.post.state =
+    let split : RunsSplit c.args.station.now.post.state =
     split_since _ c.phase-phase.result c.requires.looked.runs c.phase-phase.ensures.phase c.if-phase-eq0.false in
     reports c.merge_and_report.new.self split c.if-not-ending.false refl c.merge_and_report.ensures.reports
     (refl {a = live_of c.merge_and_report.new.self c.args.found.now})
@@ -34,13 +34,13 @@ returns-then-phase-eq0-clause-capacity g c = c.joined_work.ensures.capacity
 
 pub returns-then-not-ending-clause-works : goal.returns-then-not-ending-clause-works
 returns-then-not-ending-clause-works g c =
-    let split : RunsSplit c.args.seat.now.post.state =
+    let split : RunsSplit c.args.station.now.post.state =
     split_since _ c.phase-phase.result c.requires.looked.runs c.phase-phase.ensures.phase c.if-phase-eq0.false in
     runs_split split c.if-not-ending.true refl refl
 
 pub returns-then-not-ending-clause-live : goal.returns-then-not-ending-clause-live
 returns-then-not-ending-clause-live g c =
-    looked-live c.args.seat.now c.args.found.now c.requires.looked
+    looked-live c.args.station.now c.args.found.now c.requires.looked
     (omega (arith, c.phase-phase.ensures.phase, c.if-phase-eq0.false))
 
 pub returns-then-not-ending-clause-capacity : goal.returns-then-not-ending-clause-capacity
@@ -58,6 +58,6 @@ returns-clause-capacity g c = refl
 
 pub returns-clause-live : goal.returns-clause-live
 returns-clause-live g c =
-    merged-live c.args.seat.now c.merge_and_report.new.self c.args.found.now c.requires.looked
+    merged-live c.args.station.now c.merge_and_report.new.self c.args.found.now c.requires.looked
     (omega (arith, c.phase-phase.ensures.phase, c.if-phase-eq0.false)) c.merge_and_report.ensures.reports
     c.merge_and_report.ensures.seat

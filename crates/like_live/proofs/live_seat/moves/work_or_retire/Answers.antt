@@ -12,15 +12,15 @@ use Rattle.like_live.proofs.live_seat.moves.work_or_retire.Goals as goal
 pub returns-then-phase-eq1-clause-works : goal.returns-then-phase-eq1-clause-works
 returns-then-phase-eq1-clause-works g c =
     let odd = c.if-phase-eq1.true in
-    let split : RunsSplit c.args.seat.now.post.state =
+    let split : RunsSplit c.args.station.now.post.state =
     split_since _ c.phase-phase.result c.requires.looked.runs c.phase-phase.ensures.phase (λ even. absurd (omega arith)) in
     stays split c.work.ensures.works
 
 pub returns-clause-works : goal.returns-clause-works
 returns-clause-works g c =
-    let joined : RunsJoined c.args.seat.now.post.state =
+    let joined : RunsJoined c.args.station.now.post.state =
     joined_since _ c.phase-phase.result c.requires.looked.runs c.phase-phase.ensures.phase (omega (arith, c.if-phase-eq1.false)) in
-    retires (live_of c.find_all.new.seat c.find_all.new.found) joined refl c.find_all.ensures.finds
+    retires (live_of c.find_all.new.station c.find_all.new.found) joined refl c.find_all.ensures.finds
     (λ m. live_of (c.retire.ensures.ends m) c.find_all.new.found)
 
 pub work-requires-clause-looked : goal.work-requires-clause-looked
@@ -44,16 +44,16 @@ find_all-requires-clause-joined g c =
 
 pub retire-requires : goal.retire-requires
 retire-requires g c =
-    subst (λ (v : LiveView). RunsJoined v.seat.post.state) (sym c.find_all.ensures.finds.rest)
+    subst (λ (v : LiveView). RunsJoined v.station.post.state) (sym c.find_all.ensures.finds.rest)
     (joined_since _ c.phase-phase.result c.requires.looked.runs c.phase-phase.ensures.phase (omega (arith, c.if-phase-eq1.false)))
 
 pub returns-clause-live : goal.returns-clause-live
 returns-clause-live g c =
-    let found = found-live c.args.seat.now c.find_all.new.seat c.args.found.now c.find_all.new.found c.requires.looked
-    c.find_all.ensures.finds c.find_all.ensures.next c.find_all.ensures.seat in
+    let found = found-live c.args.station.now c.find_all.new.station c.args.found.now c.find_all.new.found c.requires.looked
+    c.find_all.ensures.finds c.find_all.ensures.next c.find_all.ensures.station in
     let is = c.retire.ensures.ends in
     subst (λ (s : StationView Asked). IsLive (live_of s c.find_all.new.found)) (sym is)
-    (stopped-live (live_of c.find_all.new.seat c.find_all.new.found) (retired c.find_all.new.seat.post) found
+    (stopped-live (live_of c.find_all.new.station c.find_all.new.found) (retired c.find_all.new.station.post) found
     (ap (λ (v : LiveView). waiting v) c.find_all.ensures.finds.rest) refl
     (subst (λ (s : StationView Asked). IsStation s) is c.retire.ensures.seat))
 

@@ -67,7 +67,7 @@ loop-server-preserved g c =
     let started = c.in-Some-start_worker in
     let thread : PromisedHandle Served Owes = started.thread in
     let pushed : c.push_reserved.new.self.items ≡ l.threads.items ++ thread ∷ [] = c.push_reserved.ensures.items in
-    let Told : PromisedHandle Served Owes → Type 0 = λ t. start_of t ≡ c.args.start.now.id in
+    let Told : PromisedHandle Served Owes → Type 0 = λ t. start_of t ≡ c.args.shared.now.start.now.id in
     record {
       few = few-more l.threads.items c.push_reserved.new.self.items thread c.len-worker.result _ c.args.most pushed
           c.len-worker.ensures l.threads.ok.0 started.ensures.few;
