@@ -7,8 +7,8 @@ use Rattle.like_core.specs.declared.view.View.{View}
 use Rattle.like_core.specs.declared.view.View.TheVariants.{Worker}
 use Rattle.like_core.specs.declared.view.WorkerSeatView.{WorkerSeatView}
 use Rattle.like_board.specs.declared.own_board.OwnBoard.{OwnBoard}
-use Rattle.like_board.specs.declared.own_post.OwnPost.{OwnPost}
-use Rattle.like_board.specs.declared.own_worker_seat.OwnWorkerSeat.{OwnWorkerSeat}
+use Rattle.like_board.specs.declared.own_board.post.OwnPost.{OwnPost}
+use Rattle.like_board.specs.declared.own_board.worker_seat.OwnWorkerSeat.{OwnWorkerSeat}
 use Rattle.like_board.specs.Known.{worker_view_of}
 use Rattle.like_board.specs.Lent.{HasLooked, ShowsBy, lent_board}
 use Rattle.like_board.specs.Own.{Knows, Steps, own_place, own_view, own_views}

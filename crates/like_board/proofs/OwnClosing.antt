@@ -11,7 +11,7 @@ use Rattle.like_core.specs.declared.view.WorkerSeatView.{WorkerSeatView}
 use Rattle.like_core.specs.views.Layout.{word_of}
 use Rattle.like_core.specs.views.Shows.{ShowsSome}
 use Rattle.like_core.specs.views.Views.{gathered_all}
-use Rattle.like_board.specs.declared.own_worker_seat.OwnWorkerSeat.{OwnWorkerSeat}
+use Rattle.like_board.specs.declared.own_board.worker_seat.OwnWorkerSeat.{OwnWorkerSeat}
 use Rattle.like_board.specs.Closed.{IsClosed}
 use Rattle.like_board.specs.Own.{own_view}
 use Rattle.like_board.specs.OwnClosed.{all_views, as_shared}

@@ -16,8 +16,8 @@ use Rattle.like_core.specs.WorkerState.{IsIn}
 use Rattle.like_core.specs.views.Places.{count_after}
 use Rattle.like_core.specs.views.Views.{fresh, post_of}
 use Rattle.like_board.specs.declared.own_board.OwnBoard.{OwnBoard}
-use Rattle.like_board.specs.declared.own_coord_seat.OwnCoordSeat.{OwnCoordSeat}
-use Rattle.like_board.specs.declared.own_worker_seat.OwnWorkerSeat.{OwnWorkerSeat}
+use Rattle.like_board.specs.declared.own_board.coord_seat.OwnCoordSeat.{OwnCoordSeat}
+use Rattle.like_board.specs.declared.own_board.worker_seat.OwnWorkerSeat.{OwnWorkerSeat}
 use Rattle.like_board.specs.Known.{worker_view_of, coord_view_of}
 use Rattle.like_board.specs.Rule.{opening_of}
 

@@ -5,7 +5,7 @@ use Rattle.like_core.specs.declared.view.View.{View}
 use Rattle.like_core.specs.declared.view.View.TheVariants.{Coord, Worker}
 use Rattle.like_core.specs.declared.view.CoordSeatView.{CoordSeatView}
 use Rattle.like_core.specs.views.Layout.{word_of}
-use Rattle.like_board.specs.declared.own_worker_seat.OwnWorkerSeat.{OwnWorkerSeat}
+use Rattle.like_board.specs.declared.own_board.worker_seat.OwnWorkerSeat.{OwnWorkerSeat}
 use Rattle.like_board.specs.declared.worker_seat.WorkerSeat.{WorkerSeat}
 use Rattle.like_board.specs.Own.{own_view}
 

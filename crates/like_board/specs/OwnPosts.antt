@@ -6,8 +6,8 @@ use Rattle.like_core.specs.declared.view.View.{View}
 use Rattle.like_core.specs.declared.view.View.TheVariants.{Worker}
 use Rattle.like_core.specs.Post.{PostView}
 use Rattle.like_board.specs.declared.own_board.OwnBoard.{OwnBoard}
-use Rattle.like_board.specs.declared.own_post.OwnPost.{OwnPost}
-use Rattle.like_board.specs.declared.own_worker_seat.OwnWorkerSeat.{OwnWorkerSeat}
+use Rattle.like_board.specs.declared.own_board.post.OwnPost.{OwnPost}
+use Rattle.like_board.specs.declared.own_board.worker_seat.OwnWorkerSeat.{OwnWorkerSeat}
 use Rattle.like_board.specs.Lent.{HasLooked, lent_board}
 use Rattle.like_board.specs.Own.{own_meaning, own_place, own_view, own_views}
 

@@ -5,12 +5,20 @@ ghost use Rattle.like_core.specs.views.Layout.{word_of};
 ghost use Rattle.like_board.specs.NewViews.{new_views};
 ghost use Rattle.like_board.specs.Rule.{opening_of};
 
+mod answer;
+mod close;
+mod coord_seat;
+mod post;
+mod seats;
+mod worker_seat;
+
+pub use self::coord_seat::OwnCoordSeat;
+pub use self::post::OwnPost;
+pub use self::worker_seat::OwnWorkerSeat;
 use crate::first_pages::FirstPages;
 use crate::key::Key;
 use crate::layout::first_words;
-use crate::own_coord_seat::OwnCoordSeat;
-use crate::own_seats::own_seats;
-use crate::own_worker_seat::OwnWorkerSeat;
+use crate::own_board::seats::own_seats;
 use crate::rule::BoardRule;
 use like_core::{Limits, View};
 use own_table::{FirstViews, OwnTable};

@@ -2,8 +2,7 @@ ghost use Rattle.like_board.specs.Led.{no_board, owned};
 ghost use Rattle.like_board.specs.Own.{own_coord, own_opening, own_views};
 
 use super::{LeadSeat, LeadsAt};
-use crate::own_board::OwnBoard;
-use crate::own_coord_seat::OwnCoordSeat;
+use crate::own_board::{OwnBoard, OwnCoordSeat};
 use like_core::CoordSight;
 
 impl LeadSeat for OwnCoordSeat {

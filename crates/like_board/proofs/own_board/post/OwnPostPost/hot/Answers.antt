@@ -1,0 +1,24 @@
+use Rattle.std.proofs.Common.{◌≡◌, ap}
+use Rattle.like_core.specs.declared.view.WorkerSeatView.{WorkerSeatView}
+use Rattle.like_core.specs.views.Views.{post_of}
+use Rattle.like_board.proofs.LentPosts.{here_after, looked_after, numbers_after}
+use Rattle.like_board.proofs.own_board.post.OwnPostPost.hot.Goals as goal
+
+pub invariant_of-self : goal.invariant_of-self
+invariant_of-self c =
+    let p = c.args.self.now in
+    let b = c.hot.new.board in
+    let s = c.hot.new.self in
+    let told = c.hot.ensures in
+    record {
+      here = here_after p b s told.place told.board;
+      knew = p.knew;
+      looked = looked_after p b s told.place told.board (ap (λ (v : WorkerSeatView). v.looks) told.view);
+    }
+
+pub returns-clause-view : goal.returns-clause-view
+returns-clause-view c =
+    let p = c.args.self.now in
+    let told = c.hot.ensures in
+    let numbers = numbers_after p c.hot.new.board c.hot.new.self told.place told.board in
+    λ m. record (post_of (told.view m)) { board = numbers m }

@@ -1,0 +1,53 @@
+use Rattle.std.proofs.Common.{◌≡◌, ◌+◌, ◌<◌, ℕ, List, length, get_or, ap, rules, sym, subst, ◌∙◌, arith}
+use mathlib.Core.Option.{some}
+use lib.ListN.{get_elem?}
+use Rattle.own_table.specs.Table.{key_of, views_of, words_of}
+use Rattle.like_core.specs.declared.opening.Opening.{Opening}
+use Rattle.like_core.specs.declared.view.View.{View}
+use Rattle.like_core.specs.views.Actions.{Adds}
+use Rattle.like_core.proofs.views.Apart.{word_of-order}
+use Rattle.like_board.specs.Known.{worker_view_of}
+use Rattle.like_board.specs.Own.{own_opening, own_views, own_view}
+use Rattle.like_board.proofs.Allowed.{adding_to}
+use Rattle.like_board.proofs.Fresh.{present_count, worker_opens}
+use Rattle.like_board.proofs.own_board.worker_seat.OwnWorkerSeat.add.Goals as goal
+
+pub fetch_add-requires : goal.fetch_add-requires
+fetch_add-requires c =
+    let seat = c.args.self.now in
+    let t = c.args.board.now.table in
+    let told = c.tell.ensures in
+    let z = own_opening c.args.board.now in
+    let opened = worker_opens z _ (own_views c.args.board.now) _ (own_view seat) told.holds c.requires.here in
+    let marks = ap (λ (y : Opening). length y.marks) opened in
+    let paged = told.holds.shows.opening.marks in
+    let mine = c.requires.may.there in
+    let below : c.args.page < length z.counts = omega (arith, marks, paged, mine) in
+    let word = c.word_of-word.ensures in
+    let before = word_of-order c.args.page (length z.counts) below in
+    let sized = c.args.board.now.sized in
+    let same = ap (λ (l : List ℕ). length l) told.words in
+    record {
+      here = ap (λ (l : List View). get_elem? l seat.seat.id) told.views ∙ c.requires.here
+          ∙ ap (λ m. some m.0) (sym seat.is_worker);
+      there = omega (arith, word, before, sized, same);
+      allowed = adding_to (key_of c.tell.new.self) _ _ _ c.args.page _ c.args.n word seat.is_worker c.requires.may;
+    }
+
+pub returns-clause-present : goal.returns-clause-present
+returns-clause-present c =
+    let seat = c.args.self.now in
+    let told = c.tell.ensures in
+    let z = own_opening c.args.board.now in
+    let opened = worker_opens z _ (own_views c.args.board.now) _ (own_view seat) told.holds c.requires.here in
+    let marks = ap (λ (y : Opening). length y.marks) opened in
+    let paged = told.holds.shows.opening.marks in
+    let mine = c.requires.may.there in
+    c.fetch_add.ensures.found ∙ (λ m. get_or (told.words m) (c.word_of-word.ensures m) 0)
+    ∙ present_count z _ (own_views c.args.board.now) c.args.page told.holds (omega (arith, marks, paged, mine))
+
+pub returns-clause-event : goal.returns-clause-event
+returns-clause-event c =
+    let told = c.fetch_add.ensures.told.0 c.args.page c.word_of-word.ensures in
+    subst (Adds (own_view c.args.self.now) c.args.page c.args.n c.fetch_add.result)
+    (sym (ap worker_view_of told.view)) told.step
