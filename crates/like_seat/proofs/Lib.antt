@@ -8,3 +8,4 @@ pub mod MergedLikes
 pub mod Merging
 pub mod WholeMerge
 pub mod SliceLogs
+pub mod Parts

@@ -18,3 +18,4 @@ pub use lead::{Lead, LeadOf, NoLead};
 pub use merged::Merged;
 pub use seen::Seen;
 pub use station::{NoStation, RunStation, ServiceStation, Station, come_back};
+pub use tables::Tables;

@@ -10,6 +10,7 @@ ghost use Rattle.like_seat.specs.Steps.{IsNewStation};
 mod answers;
 mod looks;
 mod merges;
+mod parts;
 mod service;
 mod waits;
 

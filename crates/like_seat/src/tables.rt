@@ -14,22 +14,24 @@ use like_tables::{BucketCounts, Counts, Slice, SplitSlice, Stash, Users};
 use std::alloc::{AllocError, Global};
 
 /// What a seat keeps beside its post.
+///
+/// `W` is what waits for the next joined phase, and `C` has the likes of its slice.
 #[derive(Drop)]
-pub(crate) struct Tables<W: Copy, C: Counts> {
+pub struct Tables<W: Copy, C: Counts> {
     /// Of a run: whether each page is marked as split.
-    pub marks: Vec<bool>,
+    pub(crate) marks: Vec<bool>,
     /// The state of its post.
-    pub state: WorkerState,
+    pub(crate) state: WorkerState,
     /// What waits for the next joined phase, and in that phase what is left of it.
-    pub held: Stash<W>,
+    pub(crate) held: Stash<W>,
     /// Which pages are split in the phase that it runs, and the likes that it has counted of them.
-    pub slice: SplitSlice<C>,
+    pub(crate) slice: SplitSlice<C>,
     /// The likes that went into the slice.
-    pub sliced: SliceLog,
+    pub(crate) sliced: SliceLog,
     /// How many likes it has counted: what was added on the board, and the slice.
-    pub likes: LikeCount,
+    pub(crate) likes: LikeCount,
     /// The last likes of its users.
-    pub last: Users,
+    pub(crate) last: Users,
 }
 
 impl<W: Copy, C: Counts> Tables<W, C> {
@@ -60,7 +62,7 @@ impl<W: Copy, C: Counts> Tables<W, C> {
 
 impl<W: Copy> Tables<W, Slice> {
     // The tables of a seat of a run that has done nothing yet. All memory is taken here.
-    pub fn of_run(
+    pub(crate) fn of_run(
         alloc: Global,
         marks: Vec<bool>,
         room: u32,
@@ -79,7 +81,7 @@ impl<W: Copy> Tables<W, Slice> {
 
 impl<W: Copy> Tables<W, BucketCounts> {
     // The same of a service.
-    pub fn of_service(
+    pub(crate) fn of_service(
         alloc: Global,
         factor: u32,
         room: u32,
@@ -136,7 +138,7 @@ impl<W: Copy, C: Counts> Tables<W, C> {
     // or hot are split.
     #[cold]
     #[inline(never)]
-    pub fn enter<P: Post>(&mut self, post: &mut P, phase: u64)
+    pub(crate) fn enter<P: Post>(&mut self, post: &mut P, phase: u64)
         requires may { MayEnter (P.view post.old) self.old.slice phase }
         requires run { IsOfRun (P.view post.old) self.old.marks.items }
         ensures enters { Enters (P.view post.old) phase (P.view post.new) self.old self.new }
@@ -152,7 +154,7 @@ impl<W: Copy, C: Counts> Tables<W, C> {
     // The same in a service, where the post reads the slots of a split phase, and the pages in those in use are split.
     #[cold]
     #[inline(never)]
-    pub fn enter_slots<P: SlotPost>(&mut self, post: &mut P, phase: u64)
+    pub(crate) fn enter_slots<P: SlotPost>(&mut self, post: &mut P, phase: u64)
         requires may { MayEnter (P.view post.old) self.old.slice phase }
         requires service { IsOfService (P.view post.old) }
         ensures enters { Enters (P.view post.old) phase (P.view post.new) self.old self.new }
@@ -168,7 +170,7 @@ impl<W: Copy, C: Counts> Tables<W, C> {
 
     // The phase that the worker runs or has answered.
     #[inline(always)]
-    pub fn phase(&self) -> u64
+    pub(crate) fn phase(&self) -> u64
         ensures { result ≡ phase_of self.now.state }
     {
         match self.state {

@@ -1,0 +1,29 @@
+ghost use Rattle.std.specs.Prelude.{◌≡◌};
+ghost use Rattle.like_seat.specs.Kept.{view_of};
+ghost use Rattle.like_seat.specs.Parts.{AreTablesOf};
+
+use crate::station::Station;
+use crate::tables::Tables;
+use like_core::Post;
+use like_tables::Counts;
+
+impl<P: Post, W: Copy, C: Counts> Station<P, W, C> {
+    /// Its post, and what it keeps beside it.
+    #[inline(always)]
+    pub fn into_parts(self) -> (P, Tables<W, C>)
+        ensures kept { AreTablesOf (P.view result.0) result.1 }
+        ensures seat { view_of (P.view result.0) result.1 ≡ self }
+    {
+        let Station { post, tables } = self;
+        (post, tables)
+    }
+
+    /// A seat of these parts. The post means what that of the tables meant, but it may be at another board.
+    #[inline(always)]
+    pub fn from_parts(post: P, tables: Tables<W, C>) -> Self
+        requires { AreTablesOf (P.view post) tables }
+        ensures { result ≡ view_of (P.view post) tables }
+    {
+        Station { post, tables }
+    }
+}
