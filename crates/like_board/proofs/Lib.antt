@@ -15,3 +15,4 @@ pub mod AllSeats
 pub mod Lending
 pub mod LentPosts
 pub mod OwnClosing
+pub mod Led

@@ -9,3 +9,4 @@ pub mod Own
 pub mod Lent
 pub mod OwnPosts
 pub mod OwnClosed
+pub mod Led

@@ -11,7 +11,7 @@ mod turn;
 mod worker;
 
 pub use coord_turn::CoordTurn;
-pub use coordinator::{Coordinator, NoCoordinator};
+pub use coordinator::{Coordinator, CoordinatorOf, NoCoordinator, OwnCoordinator};
 pub use like_promises::{Added, Chosen, Ran, Reply, Took, WorkerLog};
 pub use like_requests::{Gate, NoGate};
 pub use turn::Turn;

@@ -1,11 +1,12 @@
 -- What leads the phases of a board, and what each of its steps does to it.
 use Rattle.std.specs.Prelude.{◌≡◌, ℕ, ◌+◌, ◌-◌, ◌<◌, ◌≤◌, nat_le, Bool, true, List, [], ◌∷◌, length, min, take, slice_index, slice_set, Option, Some, None}
+use Rattle.like_board.specs.Led.{IsSightOf}
 use Rattle.like_board.specs.Seats.{BoardId}
 use Rattle.like_core.specs.declared.sight.CoordSight.{CoordSight}
 use Rattle.like_core.specs.declared.view.CoordSeatView.{CoordSeatView}
 use Rattle.like_core.specs.declared.view.View.TheVariants.{Coord}
 use Rattle.like_limits.specs.Limits.{hot_pages}
-use Rattle.like_core.specs.Phase.{IsJoined, IsSplit}
+use Rattle.like_core.specs.Phase.{IsJoined}
 use Rattle.like_core.specs.OpeningLimits.{has_slots}
 use Rattle.like_core.specs.Slots.{IsChoice, mask_of_slots}
 use Rattle.like_core.specs.views.Actions.{Surveys}
@@ -29,16 +30,6 @@ of_hot_pages counts = take (min hot_pages (length counts)) counts
 abbrev pub new_lead : BoardId → CoordSeatView → Option ℕ → List ℕ → LeadView
 new_lead board seat hot counts =
     record { board = board; seat = seat; hot = hot; before = of_hot_pages counts }
-
--- what a look can show: the present phase, which is no later than the last; whether it is ending; all in, once a look at
--- this phase showed that, in a service one at its ending; and all gone in a split phase only where the last sight before
--- its release showed that
-pub record IsSightOf (c : CoordSeatView) (sight : CoordSight) : Type 0 where
-  pub number : sight.number ≡ c.phase
-  pub within : c.phase ≤ c.opening.limits.last_phase
-  pub ending : sight.ending ≡ c.ending
-  pub all_in : c.all_in ≡ true → sight.all_in ≡ true
-  pub all_gone : IsSplit c.phase → sight.all_gone ≡ true → c.gone ≡ true
 
 -- after a look at a word
 abbrev pub saw_word : LeadView → ℕ → CoordSight → LeadView

@@ -14,7 +14,7 @@ mod slice_log;
 mod station;
 mod tables;
 
-pub use lead::{Lead, NoLead};
+pub use lead::{Lead, LeadOf, NoLead};
 pub use merged::Merged;
 pub use seen::Seen;
 pub use station::{NoStation, RunStation, ServiceStation, Station, come_back};

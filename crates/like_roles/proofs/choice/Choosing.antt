@@ -124,6 +124,11 @@ module _ (least pages : ℕ) (got : ℕ → ℕ → ℕ) where
             le-ltb (length (chosen_below hot n)) max_chosen (omega (arith, count, past))
             ∙ sym (le-ltb (length (chosen_below enough n)) max_chosen past)
 
+-- a choice is made at the lead's own board
+pub chooses-board : (v : LeadView) (m : ℕ) (after : LeadView) → ChoosesRisen v m after → after.board ≡ v.board
+chooses-board v m after (none_asked none zero-is same) = ap (λ (l : LeadView). l.board) same
+chooses-board v m after (those_risen least counts some many risen-is same) = ap (λ (l : LeadView). l.board) same
+
 -- what a lead chooses, limited, noted and published, is a choice
 pub chooses-limited : (lead ready after : LeadView) (chosen : List Chosen) (m : ℕ)
     → ChoosesRisen lead m ready

@@ -4,13 +4,14 @@ use Rattle.like_core.specs.declared.sight.CoordSight.{CoordSight}
 use Rattle.like_core.specs.views.Views.{announced_coord}
 use Rattle.like_core.specs.Phase.{IsJoined, IsSplit}
 use Rattle.like_core.specs.views.Actions.{Surveys}
+use Rattle.like_board.specs.Led.{BoardView, ShowsTold}
 use Rattle.like_seat.specs.Lead.{LeadView, saw_word}
 use Rattle.like_promises.specs.declared.chosen.Chosen.{Chosen}
 use Rattle.like_roles.specs.declared.coord_turn.CoordTurn.{CoordTurn}
 use Rattle.like_roles.specs.declared.coord_turn.CoordTurn.TheVariants.{Ended}
 use Rattle.like_roles.proofs.choice.Choosing.{release-gone}
 use Rattle.like_roles.proofs.choice.Releasing.{release-on}
-use Rattle.like_roles.specs.coordinator.CoordTurns.{Acts, ends, counts, stays, announces, releases, waits, ChoseByCounts, CoordinatorView, CoordTurns, HasEndedJoined, IsBeforeEnd, IsCoordSight, looks, surveyed, coordinator_of}
+use Rattle.like_roles.specs.coordinator.CoordTurns.{Acts, ends, counts, stays, announces, releases, waits, ChoseByCounts, CoordinatorView, CoordTurns, HasEndedJoined, IsBeforeEnd, IsCoordSight, looks, surveyed, coordinator_of, TurnsAt}
 
 -- no turn releases a split phase after all are gone
 pub before_end : (v : CoordinatorView) (answer : CoordTurn) (after : CoordinatorView)
@@ -58,21 +59,26 @@ ended_joined v answer after t before is = shown t.acts
     shown (waits g n i a e) = absurd (let clash = sym a ∙ is in cc)
 
 -- what the coordinator does whose lead looked is a turn case
-pub by_case : (v : CoordinatorView) (lead after : LeadView) (turns left phase : ℕ) (chosen : List Chosen)
+pub by_case : (b : BoardView) (v : CoordinatorView) (lead after : LeadView) (turns left phase : ℕ) (chosen : List Chosen)
     (sight : CoordSight) (answer : CoordTurn) (w : CoordinatorView)
     → coordinator_of lead turns left phase chosen ≡ v
     → IsCoordSight lead.seat sight
     → Surveys lead.seat sight after.seat
     → after ≡ saw_word lead after.seat.word sight
+    → ShowsTold b lead.seat.phase sight
     → Acts (coordinator_of after turns left sight.number chosen) sight answer w
-    → CoordTurns v answer w
-by_case v lead after turns left phase chosen sight answer w is shows event saw acts =
-    subst (λ (x : CoordinatorView). CoordTurns x answer w) is (record {
-      word = after.seat.word;
-      sight = sight;
-      shows = shows;
-      event = looks (subst (λ (x : LeadView). Surveys lead.seat sight x.seat) saw event);
-      acts = subst (λ (x : LeadView). Acts (coordinator_of x turns left sight.number chosen) sight answer w) saw acts;
+    → TurnsAt b v answer w
+by_case b v lead after turns left phase chosen sight answer w is shows event saw fresh acts =
+    subst (λ (x : CoordinatorView). TurnsAt b x answer w) is (record {
+      turn = record {
+        word = after.seat.word;
+        sight = sight;
+        shows = shows;
+        event = looks (subst (λ (x : LeadView). Surveys lead.seat sight x.seat) saw event);
+        acts =
+            subst (λ (x : LeadView). Acts (coordinator_of x turns left sight.number chosen) sight answer w) saw acts;
+      };
+      fresh = fresh;
     })
 
 -- a turn steps on its own board

@@ -5,6 +5,7 @@ use Rattle.like_core.specs.declared.view.CoordSeatView.{CoordSeatView}
 use Rattle.like_core.specs.Phase.{last_phase, IsJoined, IsSplit}
 use Rattle.like_core.specs.views.Actions.{Surveys}
 use Rattle.like_core.specs.views.Views.{announced_coord, looked_coord}
+use Rattle.like_board.specs.Led.{BoardView, ShowsTold}
 use Rattle.like_board.specs.Seats.{BoardId}
 use Rattle.like_seat.specs.Lead.{LeadView}
 use Rattle.like_promises.specs.declared.chosen.Chosen.{Chosen}
@@ -75,6 +76,11 @@ pub record CoordTurns (v : CoordinatorView) (answer : CoordTurn) (after : Coordi
   pub shows : IsCoordSight v.seat sight
   pub event : IsLook v.seat word sight
   pub acts : Acts (surveyed v word sight) sight answer after
+
+-- the same at a board: where that tells what all its seats know, the look shows it
+pub record TurnsAt (b : BoardView) (v : CoordinatorView) (answer : CoordTurn) (after : CoordinatorView) : Type 0 where
+  pub turn : CoordTurns v answer after
+  pub fresh : ShowsTold b v.seat.phase turn.sight
 
 -- no split phase was released after a look showed all workers gone
 abbrev pub IsBeforeEnd : CoordinatorView → Type 0

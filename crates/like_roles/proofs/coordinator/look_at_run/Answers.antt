@@ -1,8 +1,8 @@
 use Rattle.like_roles.proofs.coordinator.look_at_run.Goals as goal
 
 pub returns-clause-shows : goal.returns-clause-shows
-returns-clause-shows c =
-    let shows = c.look.ensures.shows in
+returns-clause-shows g c =
+    let shows = c.look_at.ensures.sees.shows in
     record {
       number = shows.number;
       ending = shows.ending;

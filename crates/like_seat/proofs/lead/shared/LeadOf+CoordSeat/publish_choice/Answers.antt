@@ -6,7 +6,7 @@ use Rattle.like_core.specs.Slots.{mask_of_slots}
 use Rattle.like_board.specs.Seats.{coord_board, coord_view}
 use Rattle.like_seat.specs.Lead.{LeadView, MayPublishChoice, PublishesChoice}
 use Rattle.like_seat.proofs.Choosing.{mask-held, may-publish_slots}
-use Rattle.like_seat.proofs.lead.Lead.publish_choice.Goals as goal
+use Rattle.like_seat.proofs.lead.shared.LeadOf+CoordSeat.publish_choice.Goals as goal
 
 pub put_pages-requires-clause-may : goal.put_pages-requires-clause-may
 put_pages-requires-clause-may c =

@@ -5,7 +5,7 @@ use Rattle.like_core.specs.views.Views.{SawAllIn}
 use Rattle.like_board.specs.Seats.{coord_view}
 use Rattle.like_seat.specs.Lead.{LeadView}
 use Rattle.like_seat.proofs.Leading.{counted-is, saw-still}
-use Rattle.like_seat.proofs.lead.Lead.read_counts.Goals as goal
+use Rattle.like_seat.proofs.lead.shared.LeadOf+CoordSeat.read_counts.Goals as goal
 
 pub invariant_of-self : goal.invariant_of-self
 invariant_of-self c =
