@@ -12,7 +12,7 @@ use Rattle.like_core.specs.PageSteps.{additions_among}
 use Rattle.like_requests.specs.declared.request.PageRef.TheVariants.{Known, Unknown}
 use Rattle.like_requests.specs.declared.verdict.Verdict.TheVariants.{Accepted, UnknownUser, OtherHome, UnknownPage}
 use Rattle.like_requests.specs.Verdict.{is_known}
-use Rattle.like_seat.specs.StationView.{StationView, tally_of}
+use Rattle.like_seat.specs.StationView.{StationView, phase_at, tally_of}
 use Rattle.like_seat.specs.Steps.{CountsLike, holding}
 use Rattle.like_tables.specs.UserTable.{with_last}
 use Rattle.like_tables.specs.Waiting.{Waiting}
@@ -22,7 +22,7 @@ use Rattle.like_live.specs.declared.answer.LookAnswer.{LookAnswer}
 use Rattle.like_live.specs.declared.asked.Asked.{Asked}
 use Rattle.like_live.specs.LiveView.{IsSameSeat, KeepsTallies, LiveView, tally, with_seat}
 use Rattle.like_live.specs.Calls as calls
-use Rattle.like_live.specs.Calls.{GlancesNow, LikesNow, LooksNow, TalliesLike, asked_now, full, last_after, liked, refused, told_of, verdict_at}
+use Rattle.like_live.specs.Calls.{GlancesNow, LikesNow, LooksNow, TalliesLike, asked_in, full, last_after, liked, refused, told_of, verdict_at}
 use Rattle.like_live.proofs.Moving.{IsSized, same_seat}
 
 -- a request that is accepted has passed the last test
@@ -174,7 +174,7 @@ LooksNow-leaves u v after user page tag answer turn (calls.no_room accepted spli
     subst (LeavesLikes u) (sym is) turn
 LooksNow-leaves u v after user page tag answer turn (calls.waits accepted split room a is) =
     subst (LeavesLikes u) (sym is)
-    (still-leaves u v v.seat.post.did (holding v.seat (asked_now v user page tag)).held refl turn)
+    (still-leaves u v v.seat.post.did (holding v.seat (asked_in (phase_at v.seat) user page tag)).held refl turn)
 
 -- so does a glance
 pub GlancesNow-leaves : (u v after : LiveView) (user page : ℕ) (answer : GlanceAnswer)

@@ -4,9 +4,9 @@ ghost use Rattle.like_core.specs.Phase.{last_phase, IsJoined};
 ghost use Rattle.like_core.specs.OpeningLimits.{run_limits};
 ghost use Rattle.like_core.specs.views.Actions.{Surveys};
 ghost use Rattle.like_core.specs.views.Views.{SawAllIn};
-ghost use Rattle.like_seat.specs.Lead.{saw_word};
+ghost use Rattle.like_seat.specs.Lead.{IsSightOf, saw_word};
 ghost use Rattle.like_roles.specs.coordinator.Choice.{Chooses, choice_of, first_choice, ReleasesNext};
-ghost use Rattle.like_roles.specs.coordinator.CoordTurns.{ChoseByCounts, CoordTurns, HasEndedJoined, IsBeforeEnd, IsCoordSight};
+ghost use Rattle.like_roles.specs.coordinator.CoordTurns.{ChoseByCounts, CoordTurns, HasEndedJoined, IsBeforeEnd};
 
 mod choices;
 
@@ -55,7 +55,7 @@ fn look_at_run(lead: &mut Lead, board: &Board) -> CoordSight
     requires here { lead.old.board ≡ board_id board.now }
     requires run { lead.old.seat.opening.limits ≡ run_limits }
     ensures saw { lead.new ≡ saw_word lead.old lead.new.seat.word result }
-    ensures shows { IsCoordSight lead.old.seat result }
+    ensures shows { IsSightOf lead.old.seat result }
     ensures within { lead.old.seat.phase ≤ last_phase }
     ensures event { Surveys lead.old.seat result lead.new.seat }
 {

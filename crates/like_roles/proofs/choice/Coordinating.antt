@@ -4,13 +4,13 @@ use Rattle.like_core.specs.declared.sight.CoordSight.{CoordSight}
 use Rattle.like_core.specs.views.Views.{announced_coord}
 use Rattle.like_core.specs.Phase.{IsJoined, IsSplit}
 use Rattle.like_core.specs.views.Actions.{Surveys}
-use Rattle.like_seat.specs.Lead.{LeadView, saw_word}
+use Rattle.like_seat.specs.Lead.{IsSightOf, LeadView, saw_word}
 use Rattle.like_promises.specs.declared.chosen.Chosen.{Chosen}
 use Rattle.like_roles.specs.declared.coord_turn.CoordTurn.{CoordTurn}
 use Rattle.like_roles.specs.declared.coord_turn.CoordTurn.TheVariants.{Ended}
 use Rattle.like_roles.proofs.choice.Choosing.{release-gone}
 use Rattle.like_roles.proofs.choice.Releasing.{release-on}
-use Rattle.like_roles.specs.coordinator.CoordTurns.{Acts, ends, counts, stays, announces, releases, waits, ChoseByCounts, CoordinatorView, CoordTurns, HasEndedJoined, IsBeforeEnd, IsCoordSight, looks, surveyed, coordinator_of}
+use Rattle.like_roles.specs.coordinator.CoordTurns.{Acts, ends, counts, stays, announces, releases, waits, ChoseByCounts, CoordinatorView, CoordTurns, HasEndedJoined, IsBeforeEnd, surveyed, coordinator_of}
 
 -- no turn releases a split phase after all are gone
 pub before_end : (v : CoordinatorView) (answer : CoordTurn) (after : CoordinatorView)
@@ -61,7 +61,7 @@ ended_joined v answer after t before is = shown t.acts
 pub by_case : (v : CoordinatorView) (lead after : LeadView) (turns left phase : ℕ) (chosen : List Chosen)
     (sight : CoordSight) (answer : CoordTurn) (w : CoordinatorView)
     → coordinator_of lead turns left phase chosen ≡ v
-    → IsCoordSight lead.seat sight
+    → IsSightOf lead.seat sight
     → Surveys lead.seat sight after.seat
     → after ≡ saw_word lead after.seat.word sight
     → Acts (coordinator_of after turns left sight.number chosen) sight answer w
@@ -71,7 +71,7 @@ by_case v lead after turns left phase chosen sight answer w is shows event saw a
       word = after.seat.word;
       sight = sight;
       shows = shows;
-      event = looks (subst (λ (x : LeadView). Surveys lead.seat sight x.seat) saw event);
+      event = subst (λ (x : LeadView). Surveys lead.seat sight x.seat) saw event;
       acts = subst (λ (x : LeadView). Acts (coordinator_of x turns left sight.number chosen) sight answer w) saw acts;
     })
 
