@@ -35,7 +35,7 @@ use Rattle.like_core.proofs.views.Posts.{post_fresh}
 use Rattle.like_board.specs.declared.key.Key.{Key}
 use Rattle.like_board.specs.Known.{worker_view_of, coord_view_of}
 use Rattle.like_board.specs.Rule.{opening_of, IsShowing}
-use Rattle.like_board.specs.Plays.{CameBack, Looked, Surveyed, phase_at, sight_at, coord_sight_at, TellsLook, TellsSurvey, TellsWorker, TellsReturn, TellsCoord, PageAct, TellsAdd, TellsRead, TellsAddAt, TellsReadAt, TellsMask, TellsSlot, TellsSlotAt, TellsSlots, TellsPutAt, TellsCount, TellsCountAt}
+use Rattle.like_board.specs.Plays.{CameBack, Looked, Surveyed, phase_at, sight_at, coord_sight_at, TellsLook, TellsSurvey, TellsWorker, TellsReturn, TellsCoord, TellsAdd, TellsRead, TellsMask, TellsSlot, TellsSlots, TellsPutAt, TellsCount, OfWord}
 use Rattle.like_board.specs.Closed.{TellsLast}
 use Rattle.like_board.proofs.coordinator.Leads.{splits}
 use Rattle.like_board.proofs.worker.Moves.{known_of, no_seat}
@@ -342,7 +342,7 @@ counting_page : {S : Type 0} (key : Key) (slots id : ℕ) (me : Me S View) (page
     → me ≡ (Coord (coord_view_of me.0), [])
     → MayCount (coord_view_of me.0) page
     → Allows (IsShowing key) slots id me (word_of page) (λ n. n)
-    (λ found after. TellsCountAt (word_of page) me.0 found after.0 × (after.1 ≡ []))
+    (λ found after. OfWord word_of TellsCount (word_of page) me.0 found after.0 × (after.1 ≡ []))
 counting_page {S} key slots id me page is may = λ st shows _ at _.
     let z = opening_of key in
     let c : CoordSeatView = coord_view_of me.0 in
@@ -376,10 +376,10 @@ pub counting : {S : Type 0} (key : Key) (slots id : ℕ) (me : Me S View) (page 
     → me ≡ (Coord (coord_view_of me.0), [])
     → MayCount (coord_view_of me.0) page
     → Allows (IsShowing key) slots id me word (λ n. n)
-    (λ found after. TellsCountAt word me.0 found after.0 × (after.1 ≡ []))
+    (λ found after. OfWord word_of TellsCount word me.0 found after.0 × (after.1 ≡ []))
 counting {S} key slots id me page word word_is is may =
     subst (λ (i : ℕ). Allows (IsShowing key) slots id me i (λ n. n)
-    (λ found after. TellsCountAt i me.0 found after.0 × (after.1 ≡ []))) (sym word_is)
+    (λ found after. OfWord word_of TellsCount i me.0 found after.0 × (after.1 ≡ []))) (sym word_is)
     (counting_page key slots id me page is may)
 
 pub publishing : {S : Type 0} (key : Key) (slots id : ℕ) (me : Me S View) (mask : ℕ)
@@ -478,7 +478,7 @@ adding_page : {S : Type 0} (key : Key) (slots id : ℕ) (me : Me S View) (page n
     → me ≡ (Worker (worker_view_of me.0), [])
     → MayAdd (post_of (worker_view_of me.0)) page n
     → Allows (IsShowing key) slots id me (word_of page) (λ k. (k + n) % 2 ^ 64)
-    (λ found after. TellsAddAt (word_of page) n me.0 found after.0 × (after.1 ≡ []))
+    (λ found after. OfWord word_of (λ p. TellsAdd p n) (word_of page) me.0 found after.0 × (after.1 ≡ []))
 adding_page {S} key slots id me page n is may = λ st shows _ at _.
     let z = opening_of key in
     let v : WorkerSeatView = worker_view_of me.0 in
@@ -510,10 +510,10 @@ pub adding_to : {S : Type 0} (key : Key) (slots id : ℕ) (me : Me S View) (page
     → me ≡ (Worker (worker_view_of me.0), [])
     → MayAdd (post_of (worker_view_of me.0)) page n
     → Allows (IsShowing key) slots id me word (λ k. (k + n) % 2 ^ 64)
-    (λ found after. TellsAddAt word n me.0 found after.0 × (after.1 ≡ []))
+    (λ found after. OfWord word_of (λ p. TellsAdd p n) word me.0 found after.0 × (after.1 ≡ []))
 adding_to {S} key slots id me page word n word_is is may =
     subst (λ (i : ℕ). Allows (IsShowing key) slots id me i (λ k. (k + n) % 2 ^ 64)
-    (λ found after. TellsAddAt i n me.0 found after.0 × (after.1 ≡ []))) (sym word_is)
+    (λ found after. OfWord word_of (λ p. TellsAdd p n) i me.0 found after.0 × (after.1 ≡ []))) (sym word_is)
     (adding_page key slots id me page n is may)
 
 -- a step that finds a page's count and is this move
@@ -524,14 +524,14 @@ finding_page : {S : Type 0} (key : Key) (slots id : ℕ) (me : Me S View) (page 
     → get_elem? views id ≡ some (Worker (worker_view_of me.0))
     → IsRead z words views id (worker_view_of me.0) page move call
     (next (worker_view_of me.0) page (get_or words (word_of page) 0)))
-    → (does : PageAct)
+    → (does : WorkerSeatView → ℕ → ℕ → WorkerSeatView → Type 0)
     → ((count : ℕ) (w : WorkerSeatView)
     → IsPageStep (worker_view_of me.0).opening [] move (Count count)
     (page_step (worker_view_of me.0).worker (phase_of (worker_view_of me.0).state) page count call)
     (Worker (worker_view_of me.0)) (Worker w)
     → does (worker_view_of me.0) page count w)
     → Allows (IsShowing key) slots id me (word_of page) (λ k. k)
-    (λ found after. TellsReadAt does next (word_of page) me.0 found after.0 × (after.1 ≡ []))
+    (λ found after. OfWord word_of (TellsRead does next) (word_of page) me.0 found after.0 × (after.1 ≡ []))
 finding_page {S} key slots id me page move call next is reads does act = λ st shows _ at _.
     let z = opening_of key in
     let v : WorkerSeatView = worker_view_of me.0 in
@@ -564,10 +564,10 @@ pub reading : {S : Type 0} (key : Key) (slots id : ℕ) (me : Me S View) (page w
     → me ≡ (Worker (worker_view_of me.0), [])
     → MayRead (post_of (worker_view_of me.0)) page
     → Allows (IsShowing key) slots id me word (λ k. k)
-    (λ found after. TellsReadAt Reads read_view word me.0 found after.0 × (after.1 ≡ []))
+    (λ found after. OfWord word_of (TellsRead Reads read_view) word me.0 found after.0 × (after.1 ≡ []))
 reading {S} key slots id me page word word_is is may =
     subst (λ (i : ℕ). Allows (IsShowing key) slots id me i (λ k. k)
-    (λ found after. TellsReadAt Reads read_view i me.0 found after.0 × (after.1 ≡ []))) (sym word_is)
+    (λ found after. OfWord word_of (TellsRead Reads read_view) i me.0 found after.0 × (after.1 ≡ []))) (sym word_is)
     (finding_page key slots id me page (makes (Read (worker_view_of me.0).worker page)) ReadCall read_view is
     (λ z words views. reads z words views id (worker_view_of me.0) page may) Reads (λ count w step. step))
 
@@ -576,10 +576,10 @@ pub glancing : {S : Type 0} (key : Key) (slots id : ℕ) (me : Me S View) (page 
     → me ≡ (Worker (worker_view_of me.0), [])
     → MayGlance (post_of (worker_view_of me.0)) page
     → Allows (IsShowing key) slots id me word (λ k. k)
-    (λ found after. TellsReadAt Glances glanced_view word me.0 found after.0 × (after.1 ≡ []))
+    (λ found after. OfWord word_of (TellsRead Glances glanced_view) word me.0 found after.0 × (after.1 ≡ []))
 glancing {S} key slots id me page word word_is is may =
     subst (λ (i : ℕ). Allows (IsShowing key) slots id me i (λ k. k)
-    (λ found after. TellsReadAt Glances glanced_view i me.0 found after.0 × (after.1 ≡ []))) (sym word_is)
+    (λ found after. OfWord word_of (TellsRead Glances glanced_view) i me.0 found after.0 × (after.1 ≡ []))) (sym word_is)
     (finding_page key slots id me page (glances_at (worker_view_of me.0).worker page) GlanceCall glanced_view is
     (λ z words views. glances z words views id (worker_view_of me.0) page may) Glances (λ count w step. step))
 
@@ -617,7 +617,7 @@ reading_from : {S : Type 0} (key : Key) (slots id : ℕ) (me : Me S View) (slot 
     → me ≡ (Worker (worker_view_of me.0), [])
     → MayReadSlot (worker_view_of me.0) slot
     → Allows (IsShowing key) slots id me (slot_place slot) (λ k. k)
-    (λ found after. TellsSlotAt (slot_place slot) me.0 found after.0 × (after.1 ≡ []))
+    (λ found after. OfWord slot_place TellsSlot (slot_place slot) me.0 found after.0 × (after.1 ≡ []))
 reading_from {S} key slots id me slot is may = λ st shows _ at _.
     let z = opening_of key in
     let v : WorkerSeatView = worker_view_of me.0 in
@@ -643,10 +643,10 @@ pub reading_slot : {S : Type 0} (key : Key) (slots id : ℕ) (me : Me S View) (s
     → me ≡ (Worker (worker_view_of me.0), [])
     → MayReadSlot (worker_view_of me.0) slot
     → Allows (IsShowing key) slots id me word (λ k. k)
-    (λ found after. TellsSlotAt word me.0 found after.0 × (after.1 ≡ []))
+    (λ found after. OfWord slot_place TellsSlot word me.0 found after.0 × (after.1 ≡ []))
 reading_slot {S} key slots id me slot word word_is is may =
     subst (λ (i : ℕ). Allows (IsShowing key) slots id me i (λ k. k)
-    (λ found after. TellsSlotAt i me.0 found after.0 × (after.1 ≡ []))) (sym word_is)
+    (λ found after. OfWord slot_place TellsSlot i me.0 found after.0 × (after.1 ≡ []))) (sym word_is)
     (reading_from key slots id me slot is may)
 
 pub reading_slots : {S : Type 0} (key : Key) (slots id : ℕ) (me : Me S View)

@@ -1,14 +1,12 @@
 -- What a look at a board shows, whose views are known: the phase, whether it is ending, who is in and who is gone; and
 -- what count a page has.
-use Rattle.std.proofs.Common.{◌≡◌, ℕ, zero, suc, ◌+◌, ◌<◌, ◌≤◌, ◌==◌, nat_lt, ◌≢◌, ◌⊎◌, Bool, true, false, cond, inl, inr, List, [], ◌∷◌, length, get_or, slice_index, subst, ap, sym, ◌∙◌, refl, arith}
+use Rattle.std.proofs.Common.{◌≡◌, ℕ, suc, ◌+◌, ◌<◌, ◌≤◌, ◌==◌, nat_lt, ◌≢◌, Bool, cond, inl, inr, List, [], ◌∷◌, length, get_or, slice_index, subst, ap, sym, ◌∙◌, refl, arith}
 use Rattle.std.specs.List.{sum_by}
 use Rattle.std.specs.Prelude.{count_by}
 use Rattle.std.proofs.lemmas.List.Sums.{sum_by-cons}
 use Rattle.std.proofs.lemmas.Bool.{cases_eq, cases_lt, cond-true, lt-ltb, ne_eqb}
-use mathlib.Core.Option.{some, some-injective, some-ne-none}
+use mathlib.Core.Option.{some, some-injective}
 use lib.ListN.{get_elem?}
-use Rattle.like_core.specs.declared.sight.Sight.{Sight}
-use Rattle.like_core.specs.declared.sight.CoordSight.{CoordSight}
 use Rattle.like_core.specs.declared.form.Form.{Form}
 use Rattle.like_core.specs.declared.limits.Limits.{Limits}
 use Rattle.like_core.specs.declared.opening.Opening.{Opening}
@@ -20,7 +18,6 @@ use Rattle.like_core.specs.declared.view.View.{View}
 use Rattle.like_core.specs.declared.view.View.TheVariants.{Coord, Worker, Spent}
 use Rattle.like_core.specs.WorkerState.{IsIn, turn_of}
 use Rattle.like_core.specs.word.Forms.{form_of}
-use Rattle.like_core.specs.word.ShownWord.{shown_word}
 use Rattle.like_core.specs.core.Numbers.{AllIn, AllGone, CoordSees, Sees}
 use Rattle.like_core.specs.core.State.{CoreState, numbers}
 use Rattle.like_core.specs.views.Layout.{word_of}

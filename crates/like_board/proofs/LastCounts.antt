@@ -1,35 +1,34 @@
 -- What the last words are, in terms of the seats that were given back.
-use Rattle.std.proofs.Common.{◌≡◌, ℕ, zero, suc, ◌+◌, ◌^◌, ◌<◌, ◌≤◌, ◌==◌, nat_lt, ◌&&◌, inl, inr, cond, List, [], ◌∷◌, ◌++◌, All, length, map, get_or, slice_index, count_by, Bool, IfSome, subst, ap, sym, ◌∙◌, refl, eq-eqb, arith}
+use Rattle.std.proofs.Common.{◌≡◌, ℕ, zero, suc, ◌+◌, ◌^◌, ◌<◌, ◌≤◌, ◌==◌, cond, List, [], ◌∷◌, ◌++◌, All, length, map, get_or, slice_index, IfSome, subst, ap, sym, ◌∙◌, refl, arith}
 use Rattle.std.specs.List.{sum_by}
 use Rattle.std.proofs.lemmas.List.{append-nil, length-append}
 use Rattle.std.proofs.lemmas.List.Sums.{sum_by-cons}
-use Rattle.std.proofs.lemmas.List.Elements.{All-cons, All-head, All-map, All-tail}
+use Rattle.std.proofs.lemmas.List.Elements.{All-map}
 use mathlib.Core.Option.{some}
 use lib.ListN.{get_elem?}
 use Rattle.like_core.specs.declared.sight.Sight.{Sight}
 use Rattle.like_core.specs.declared.opening.Opening.{Opening}
-use Rattle.like_core.specs.declared.view.Addition.{Addition}
 use Rattle.like_core.specs.declared.view.WorkerSeatView.{WorkerSeatView}
 use Rattle.like_core.specs.declared.view.CoordSeatView.{CoordSeatView}
 use Rattle.like_core.specs.declared.view.View.{View}
 use Rattle.like_core.specs.declared.view.View.TheVariants.{Coord}
 use Rattle.like_core.specs.Additions.{added_to, added_before}
-use Rattle.like_core.specs.PageSteps.{AreInTurn, additions_among}
+use Rattle.like_core.specs.PageSteps.{additions_among}
 use Rattle.like_core.specs.views.Views.{post_of, seats_of}
-use Rattle.like_core.specs.views.Reads.{before_in, HaveBetween, IsCounted}
+use Rattle.like_core.specs.views.Reads.{before_in, IsCounted}
 use Rattle.like_core.specs.PhaseMasks.{mask_of, AreMasksOf}
-use Rattle.like_core.specs.views.Places.{Counting, AreTiles, HavePlaced}
 use Rattle.like_core.specs.views.Layout.{word_of}
 use Rattle.like_core.specs.views.Shows.{ShowsSome, FitsWorker, FitsCoord}
 use Rattle.like_core.specs.Post.{PostView, additions_of}
 use Rattle.like_core.specs.views.Order.{HasDone}
-use Rattle.like_core.specs.views.PostOrder.{IsOrderOf, posts_added, posts_before, posts_passing}
+use Rattle.like_core.specs.WorkerState.{SawNoLater}
+use Rattle.like_core.specs.views.PostOrder.{IsOrderOf, posts_before}
 use Rattle.like_core.proofs.views.KeptCounts.{counted_on}
 use Rattle.like_core.proofs.views.Ordered.{order_gives_bounds, order_gives_places}
 use Rattle.like_board.specs.declared.worker_seat.WorkerSeat.{WorkerSeat}
 use Rattle.like_board.specs.Known.{coord_view_of}
-use Rattle.like_board.specs.Seats.{seat_view, seat_meaning, last_count, seats_before, seats_passing}
-use Rattle.like_board.specs.Closed.{HasAllBack, IsClosed}
+use Rattle.like_board.specs.Seats.{seat_view, seat_meaning}
+use Rattle.like_board.specs.Closed.{HasAllBack, IsClosed, count_with}
 use Rattle.like_board.proofs.worker.Moves.{if_some}
 use Rattle.like_board.proofs.Gathering.{last_counted, last_order, last_word}
 
@@ -110,21 +109,14 @@ closed_masks z words views place c some_state at k w found =
     let fits : FitsWorker z some_state.state w = old.seats.joined k w found in
     λ i m inside. (fits.masks i m inside).1 ∙ sym (old.choice.masks (get_or w.masks i m).phase)
 
--- what is true of all that a list stands for is true of what each element does
-all-back : {A B : Type 0} (f : A → B) (P : B → Type 0) (xs : List A) → All P (map f xs) → All (λ x. P (f x)) xs
-all-back f P [] all = λ k d below. absurd (omega arith)
-all-back {A} f P (x ∷ xs) all =
-    All-cons (λ y. P (f y)) x xs (All-head P (f x) (map f xs) all)
-    (all-back f P xs (All-tail P (f x) (map f xs) all))
-
 -- the last words, phases and reads, where the coordinator's seat has all workers' seats
 pub closes : (z : Opening) (words : List ℕ) (views : List View) (place : ℕ) (v : View) (c : CoordSeatView)
     (seats : List WorkerSeat)
     → ShowsSome z words views
     → get_elem? views place ≡ some v
     → HasAllBack v c seats
-    → IsClosed c seats
-    × ((page : ℕ) → page < length c.opening.counts → get_or words (word_of page) 0 ≡ last_count c.opening seats page)
+    → IsClosed c (map seat_meaning seats)
+    × ((page : ℕ) → page < length c.opening.counts → get_or words (word_of page) 0 ≡ count_with c seats page)
 closes z words views place v c seats shows at_view back =
     let joined : map seat_view seats ++ c.joined ≡ map seat_view seats =
     ap (λ (l : List WorkerSeatView). map seat_view seats ++ l) back.none ∙ append-nil (map seat_view seats)
@@ -135,73 +127,47 @@ closes z words views place v c seats shows at_view back =
     let each : (i : ℕ) → i < c.opening.workers → seats_of i (Coord d) ≡ 1 =
     λ i below. sum_by-map seat_view (λ (w : WorkerSeatView). cond (w.worker == i) 1 0) seats ∙ back.all i below
     in
-    let added : (phase page : ℕ) → before_in phase page (Coord d) ≡ seats_before seats phase page =
-    λ phase page. sum_by-map seat_view (λ (w : WorkerSeatView). added_before phase page (additions_among w.did)) seats
-    in
     let posts : List PostView = map seat_meaning seats in
     let first : ℕ → ℕ = slice_index c.opening.counts in
-    let before : posts_before posts ≡ seats_before seats =
-    λ i phase page. sum_by-map seat_meaning (λ (v : PostView). added_before phase page (additions_among v.did)) seats i in
-    let passing : posts_passing posts ≡ seats_passing seats =
-    λ i test. sum_by-map seat_meaning (λ (v : PostView). count_by test (additions_among v.did)) seats i in
-    let last : (λ page. first page + posts_added posts page) ≡ last_count c.opening seats =
-    λ i page. first page + sum_by-map seat_meaning (λ (v : PostView). added_to page (additions_among v.did)) seats i in
+    let added : (phase page : ℕ) → before_in phase page (Coord d) ≡ posts_before posts phase page =
+    λ phase page.
+    sum_by-map seat_view (λ (w : WorkerSeatView). added_before phase page (additions_among w.did)) seats
+    ∙ sym (sum_by-map seat_meaning (λ (w : PostView). added_before phase page (additions_among w.did)) seats)
+    in
     let old : FitsCoord z shows.state d = shows.shows.seats.each place (Coord d) at in
     let few : length z.counts < 2 ^ 32 =
     (let within = shows.shows.opening.few_pages in
     let fits = shows.shows.opening.limits.pages in
     omega arith)
     in
-    let done : (k : ℕ) (seat : WorkerSeat) → k < length seats → HasDone shows.steps (seat_meaning (get_or seats k seat)) =
-    λ k seat below.
-    shows.order.each place (Coord d) at k (seat_view (get_or seats k seat)) (at_mapped seat_view seats k seat below) in
     let order : IsOrderOf first c.phase posts shows.steps =
     subst (λ (y : Opening). IsOrderOf (slice_index y.counts) c.phase posts shows.steps) (sym old.seats.opening)
     (subst (λ (k : ℕ). IsOrderOf (slice_index z.counts) k posts shows.steps) (sym old.phase.present)
     (last_order z words views place d shows at
     (λ i below. (let made = back.made in each i (omega arith))) posts
-    (All-map (HasDone shows.steps) seat_meaning seats done)
-    (λ i. sum_by-map seat_meaning (λ (v : PostView). cond {A = ℕ} (v.worker == i) 1 0) seats
-    ∙ sym (sum_by-map seat_view (λ (w : WorkerSeatView). cond {A = ℕ} (w.worker == i) 1 0) seats)))) in
-    let between : All (λ (s : WorkerSeat). HaveBetween c.opening.counts (seats_before seats) c.phase (seat_meaning s)) seats =
-    all-back seat_meaning (HaveBetween c.opening.counts (seats_before seats) c.phase) seats
-    (subst (λ (f : ℕ → ℕ → ℕ). All (HaveBetween c.opening.counts f c.phase) posts) before
-    (order_gives_bounds c.opening.counts c.phase posts shows.steps order)) in
-    let placed = order_gives_places first c.phase posts shows.steps order in
-    let each_placed : All (λ (s : WorkerSeat). HavePlaced first (seats_passing seats) (seat_meaning s)) seats =
-    all-back seat_meaning (HavePlaced first (seats_passing seats)) seats
-    (subst (λ (f : Counting). All (HavePlaced first f) posts) passing placed.1) in (
+    (All-map (HasDone shows.steps) seat_meaning seats (λ k seat below.
+    shows.order.each place (Coord d) at k (seat_view (get_or seats k seat)) (at_mapped seat_view seats k seat below)))
+    (λ i. sum_by-map seat_meaning (λ (w : PostView). cond {A = ℕ} (w.worker == i) 1 0) seats
+    ∙ sym (sum_by-map seat_view (λ (w : WorkerSeatView). cond {A = ℕ} (w.worker == i) 1 0) seats)))) in (
       record {
         few_pages = subst (λ (y : Opening). length y.counts < 2 ^ 32) (sym old.seats.opening) few;
-        phases = λ k seat below.
+        phases = All-map (λ (w : PostView). SawNoLater c.phase w.last) seat_meaning seats (λ k seat below.
             closed_phase z words views place d shows at k (seat_view (get_or seats k seat))
-            (at_mapped seat_view seats k seat below);
-        added = λ k seat below i a inside. ((between k seat below).2 i a inside).0;
-        stand = λ k seat below. (between k seat below).2;
-        reads = λ k seat below. (between k seat below).0;
-        glances = λ k seat below. (between k seat below).1;
-        counted = closed_counted z words views place d (seats_before seats) shows at back.made each added;
-        masks = λ k seat below.
+            (at_mapped seat_view seats k seat below));
+        between = order_gives_bounds c.opening.counts c.phase posts shows.steps order;
+        counted = closed_counted z words views place d (posts_before posts) shows at back.made each added;
+        masks = All-map (λ (w : PostView). AreMasksOf (mask_of c.masks) w.masks) seat_meaning seats (λ k seat below.
             closed_masks z words views place d shows at k (seat_view (get_or seats k seat))
-            (at_mapped seat_view seats k seat below);
-        places = record {
-          tiles = subst (λ (f : ℕ → ℕ). AreTiles first f (seats_passing seats)) last
-              (subst (λ (f : Counting). AreTiles first (λ page. first page + posts_added posts page) f) passing placed.0);
-          each = λ k seat below. (each_placed k seat below).0;
-          glanced = λ k seat below. (each_placed k seat below).1;
-        };
+            (at_mapped seat_view seats k seat below));
+        places = order_gives_places first c.phase posts shows.steps order;
         steps = shows.steps;
-        order = record {
-          in_turn = order.in_turn;
-          each = done;
-          others = λ i none.
-              order.others i (sum_by-map seat_meaning (λ (v : PostView). cond {A = ℕ} (v.worker == i) 1 0) seats ∙ none);
-        };
+        order = order;
       },
       λ page on.
           closed_word z words views place d shows at back.made each page on ∙
           ap (λ (k : ℕ). get_or c.opening.counts page 0 + k)
-          (sum_by-map seat_view (λ (w : WorkerSeatView). additions_of (post_of w) page) seats),
+          (sum_by-map seat_view (λ (w : WorkerSeatView). additions_of (post_of w) page) seats
+          ∙ sym (sum_by-map seat_meaning (λ (w : PostView). added_to page (additions_among w.did)) seats)),
     )
 
 -- a view that is some coordinator's is the coordinator's that it is read as

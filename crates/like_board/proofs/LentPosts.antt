@@ -1,6 +1,6 @@
 -- A post after a step of its seat.
-use Rattle.std.proofs.Common.{◌≡◌, ℕ, ◌+◌, ◌≤◌, List, [], ◌∷◌, ◌++◌, subst, ap, sym, ◌∙◌, arith}
-use mathlib.Core.Option.{Option, some, some-injective}
+use Rattle.std.proofs.Common.{◌≡◌, ℕ, ◌+◌, ◌≤◌, List, [], ◌∷◌, ◌++◌, subst, ap, ◌∙◌, arith}
+use mathlib.Core.Option.{Option}
 use lib.ListN.{get_elem?}
 use Rattle.like_core.specs.declared.view.Look.{Look}
 use Rattle.like_core.specs.declared.view.View.{View}

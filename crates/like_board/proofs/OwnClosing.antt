@@ -1,5 +1,5 @@
 -- What is known of a board that one thread owned, once it ends.
-use Rattle.std.proofs.Common.{◌≡◌, ◌≢◌, ℕ, zero, suc, ◌+◌, ◌<◌, ◌≤◌, List, [], ◌∷◌, ◌++◌, length, map, get_or, refl, subst, ap, sym, ◌∙◌, arith}
+use Rattle.std.proofs.Common.{◌≡◌, ◌≢◌, ℕ, zero, suc, ◌+◌, ◌<◌, ◌≤◌, List, [], ◌∷◌, length, map, get_or, refl, ap, sym, ◌∙◌, arith}
 use mathlib.Core.Option.{some, some-injective, some-ne-none}
 use lib.ListN.{get_elem?}
 use Rattle.atomic_table.proofs.Lists.{set_else, set_here}
@@ -12,10 +12,10 @@ use Rattle.like_core.specs.views.Layout.{word_of}
 use Rattle.like_core.specs.views.Shows.{ShowsSome}
 use Rattle.like_core.specs.views.Views.{gathered_all}
 use Rattle.like_board.specs.declared.own_board.worker_seat.OwnWorkerSeat.{OwnWorkerSeat}
-use Rattle.like_board.specs.Closed.{IsClosed}
+use Rattle.like_board.specs.Closed.{IsClosed, count_with}
 use Rattle.like_board.specs.Own.{own_view}
 use Rattle.like_board.specs.OwnClosed.{all_views, as_shared}
-use Rattle.like_board.specs.Seats.{AreAll, last_count, seat_view}
+use Rattle.like_board.specs.Seats.{AreAll, seat_meaning, seat_view}
 use Rattle.like_board.proofs.Gathering.{gathered, gathers}
 use Rattle.like_board.proofs.LastCounts.{closes}
 use Rattle.like_board.proofs.Lending.{inside}
@@ -76,9 +76,9 @@ pub closes_own : (z : Opening) (words : List ℕ) (views : List View) (c : Coord
     → c.joined ≡ []
     → c.made ≡ c.opening.workers
     → AreAll c.opening.workers (map as_shared seats)
-    → IsClosed c (map as_shared seats)
+    → IsClosed c (map seat_meaning (map as_shared seats))
     × ((page : ℕ) → page < length c.opening.counts
-    → get_or words (word_of page) 0 ≡ last_count c.opening (map as_shared seats) page)
+    → get_or words (word_of page) 0 ≡ count_with c (map as_shared seats) page)
 closes_own z words views c seats shows are none made all =
     let vs : List WorkerSeatView = map own_view seats in
     let lead : get_elem? views 0 ≡ some (Coord c) = ap (λ (l : List View). get_elem? l 0) are in

@@ -1,5 +1,5 @@
 -- A post at a board that is lent to it.
-use Rattle.std.specs.Prelude.{◌≡◌, ℕ, List, [], slice_set}
+use Rattle.std.specs.Prelude.{◌≡◌, ℕ, List, slice_set}
 use lib.ListN.{get_elem?}
 use Rattle.like_core.specs.declared.view.WorkerSeatView.{WorkerSeatView}
 use Rattle.like_core.specs.declared.view.View.{View}

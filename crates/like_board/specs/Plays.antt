@@ -17,7 +17,7 @@ use Rattle.like_core.specs.WorkerState.{IsSightOf, SeesEndingStill, phase_of, se
 use Rattle.like_core.specs.Additions.{added_to}
 use Rattle.like_core.specs.Slots.{IsChoice}
 use Rattle.like_core.specs.views.Views.{looked_view, returned_view, added_view, masked_view, slotted_view, slots_read, looked_coord, counted_coord, slotted_coord}
-use Rattle.like_core.specs.views.Layout.{slot_place, word_of}
+use Rattle.like_core.specs.views.Layout.{slot_place}
 use Rattle.like_core.specs.views.Shows.{IsKnown, IsStep}
 use Rattle.like_core.specs.views.Actions.{Adds, ComesBack, ReadsMask, Counts}
 use Rattle.like_core.specs.PageSteps.{additions_among}
@@ -64,23 +64,15 @@ pub record TellsSurvey (v : View) (found : ℕ) (w : View) : Type 0 where
   pub view : let me = coord_view_of v in w ≡ Coord (looked_coord me found (coord_sight_at me.opening found))
   pub known : IsKnown (coord_view_of v).opening w
 
--- what a worker does, as a relation of its views
-abbrev pub WorkerAct : Type 1
-WorkerAct = WorkerSeatView → WorkerSeatView → Type 0
-
--- what the coordinator does
-abbrev pub CoordAct : Type 1
-CoordAct = CoordSeatView → CoordSeatView → Type 0
-
 -- what another step of a worker tells: it is this action, and the view after is this
-pub record TellsWorker (does : WorkerAct) (next : WorkerSeatView → WorkerSeatView) (v w : View)
-    : Type 0 where
+pub record TellsWorker (does : WorkerSeatView → WorkerSeatView → Type 0) (next : WorkerSeatView → WorkerSeatView)
+    (v w : View) : Type 0 where
   pub view : w ≡ Worker (next (worker_view_of v))
   pub step : does (worker_view_of v) (next (worker_view_of v))
 
 -- what another step of the coordinator tells
-pub record TellsCoord (does : CoordAct) (next : CoordSeatView → CoordSeatView) (v w : View)
-    : Type 0 where
+pub record TellsCoord (does : CoordSeatView → CoordSeatView → Type 0) (next : CoordSeatView → CoordSeatView)
+    (v w : View) : Type 0 where
   pub view : w ≡ Coord (next (coord_view_of v))
   pub step : does (coord_view_of v) (next (coord_view_of v))
 
@@ -96,6 +88,10 @@ pub record TellsReturn (expected : ℕ) (v : View) (found : ℕ) (w : View) : Ty
   pub back : found ≡ expected → CameBack (phase_at (worker_view_of v).opening found) v w
   pub missed : found ≢ expected → w ≡ v
 
+-- what a step on a word tells, where that is the word of something: of a page, or of a slot
+abbrev pub OfWord : (ℕ → ℕ) → (ℕ → View → ℕ → View → Type 0) → ℕ → View → ℕ → View → Type 0
+OfWord word_for Tells word v found w = (i : ℕ) → word ≡ word_for i → Tells i v found w
+
 -- what an addition of n to a page tells: the view after has it, with the count that it found; the worker's own
 -- additions are in that; and it is the action
 pub record TellsAdd (page n : ℕ) (v : View) (found : ℕ) (w : View) : Type 0 where
@@ -103,26 +99,14 @@ pub record TellsAdd (page n : ℕ) (v : View) (found : ℕ) (w : View) : Type 0 
   pub own : added_to page (additions_among (worker_view_of v).did) ≤ found
   pub step : let me = worker_view_of v in Adds me page n found (added_view me page found n)
 
--- the same of a word, where it is a page's
-abbrev pub TellsAddAt : ℕ → ℕ → View → ℕ → View → Type 0
-TellsAddAt word n v found w = (page : ℕ) → word ≡ word_of page → TellsAdd page n v found w
-
--- what a worker does that finds a page's count, as a relation of its views
-abbrev pub PageAct : Type 1
-PageAct = WorkerSeatView → ℕ → ℕ → WorkerSeatView → Type 0
-
 -- what a read of a page or a glance tells: the view after has it, with the count that it found; the worker's own
 -- additions are in that, and it is within the bound of all counts; and it is the action
-pub record TellsRead (does : PageAct) (next : WorkerSeatView → ℕ → ℕ → WorkerSeatView) (page : ℕ)
-    (v : View) (found : ℕ) (w : View) : Type 0 where
+pub record TellsRead (does : WorkerSeatView → ℕ → ℕ → WorkerSeatView → Type 0)
+    (next : WorkerSeatView → ℕ → ℕ → WorkerSeatView) (page : ℕ) (v : View) (found : ℕ) (w : View) : Type 0 where
   pub view : w ≡ Worker (next (worker_view_of v) page found)
   pub own : added_to page (additions_among (worker_view_of v).did) ≤ found
   pub bounded : found < total_bound
   pub step : let me = worker_view_of v in does me page found (next me page found)
-
--- the same of a word
-abbrev pub TellsReadAt : PageAct → (WorkerSeatView → ℕ → ℕ → WorkerSeatView) → ℕ → View → ℕ → View → Type 0
-TellsReadAt does next word v found w = (page : ℕ) → word ≡ word_of page → TellsRead does next page v found w
 
 -- what a read of the mask word tells: the view after has the mask that it found, and it is the action
 pub record TellsMask (v : View) (found : ℕ) (w : View) : Type 0 where
@@ -133,10 +117,6 @@ pub record TellsMask (v : View) (found : ℕ) (w : View) : Type 0 where
 pub record TellsSlot (slot : ℕ) (v : View) (found : ℕ) (w : View) : Type 0 where
   pub view : w ≡ Worker (slotted_view (worker_view_of v) slot found)
   pub fits : found < 2 ^ 32
-
--- the same of a word, where it is a slot's
-abbrev pub TellsSlotAt : ℕ → View → ℕ → View → Type 0
-TellsSlotAt word v found w = (slot : ℕ) → word ≡ slot_place slot → TellsSlot slot v found w
 
 -- what a read of the mask word tells a worker that has read the slots: the view after has the mask of the pages in
 -- those that are in use, which are a lawful choice; and it is the action
@@ -156,7 +136,3 @@ pub record TellsCount (page : ℕ) (v : View) (found : ℕ) (w : View) : Type 0 
   pub view : w ≡ Coord (counted_coord (coord_view_of v) page found)
   pub known : IsKnown (coord_view_of v).opening w
   pub step : let me = coord_view_of v in Counts me page found (counted_coord me page found)
-
--- the same of a word
-abbrev pub TellsCountAt : ℕ → View → ℕ → View → Type 0
-TellsCountAt word v found w = (page : ℕ) → word ≡ word_of page → TellsCount page v found w

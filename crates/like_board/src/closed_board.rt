@@ -7,8 +7,8 @@ ghost use Rattle.like_core.specs.views.Layout.{word_of};
 ghost use Rattle.like_core.specs.views.Views.{gathered_all};
 ghost use Rattle.like_board.specs.declared.worker_seat.WorkerSeat.{WorkerSeat};
 ghost use Rattle.like_board.specs.Known.{coord_view_of};
-ghost use Rattle.like_board.specs.Seats.{board_id, coord_board, coord_view, seat_board, seat_view, seat_meaning, AreAll, last_count};
-ghost use Rattle.like_board.specs.Closed.{IsClosedBoard, HasAllBack};
+ghost use Rattle.like_board.specs.Seats.{board_id, coord_board, coord_view, seat_board, seat_view, seat_meaning, AreAll};
+ghost use Rattle.like_board.specs.Closed.{IsClosedBoard, HasAllBack, count_with};
 
 use crate::board::Board;
 use crate::coord_seat::CoordSeat;
@@ -42,7 +42,7 @@ fn write_counts(board: &Board, coord: &mut Seat<(), View>, counts: &mut [u64])
     ensures counts { (c : CoordSeatView) (seats : List WorkerSeat)
         → HasAllBack coord.old.me.0 c seats
         → length c.opening.counts ≡ length counts.old → (page : ℕ) → page < length counts.old
-        → slice_index counts.new page ≡ last_count c.opening seats page }
+        → slice_index counts.new page ≡ count_with c seats page }
 {
     for (page, count) in counts.iter_mut().enumerate() {
         let word = word_of(page as u32);

@@ -2,9 +2,10 @@
 ghost use Rattle.std.specs.Prelude.{◌≡◌, []};
 ghost use Rattle.like_core.specs.declared.view.View.TheVariants.{Coord, Worker, Spent};
 ghost use Rattle.like_core.specs.views.Views.{fresh, answered_view, retired_view, read_view, glanced_view, announced_coord, released_coord, published_coord, slots_put, made_coord, gathered_coord};
+ghost use Rattle.like_core.specs.views.Layout.{slot_place, word_of};
 ghost use Rattle.like_core.specs.views.Actions.{Acknowledges, Reports, Retires, Reads, Glances, Announces, Releases};
 ghost use Rattle.like_board.specs.Known.{coord_view_of, worker_view_of};
-ghost use Rattle.like_board.specs.Plays.{TellsLook, TellsSurvey, TellsWorker, TellsReturn, TellsCoord, TellsAddAt, TellsReadAt, TellsMask, TellsSlotAt, TellsSlots, TellsCountAt, TellsPutAt};
+ghost use Rattle.like_board.specs.Plays.{TellsLook, TellsSurvey, TellsWorker, TellsReturn, TellsCoord, TellsAdd, TellsRead, TellsMask, TellsSlot, TellsSlots, TellsCount, TellsPutAt, OfWord};
 ghost use Rattle.like_board.specs.Closed.{TellsLast};
 
 use atomic_table::{Join, Play, Split};
@@ -49,7 +50,8 @@ impl Play<(), View> for Returning {
 pub struct Adding;
 
 impl Play<(), View> for Adding {
-    ghost then = { λ step me found after. TellsAddAt step.word step.first me.0 found after.0 × (after.1 ≡ []) };
+    ghost then = { λ step me found after.
+        OfWord word_of (λ p. TellsAdd p step.first) step.word me.0 found after.0 × (after.1 ≡ []) };
 }
 
 /// A read of such a count.
@@ -57,7 +59,7 @@ pub struct Reading;
 
 impl Play<(), View> for Reading {
     ghost then = { λ step me found after.
-        TellsReadAt Reads read_view step.word me.0 found after.0 × (after.1 ≡ []) };
+        OfWord word_of (TellsRead Reads read_view) step.word me.0 found after.0 × (after.1 ≡ []) };
 }
 
 /// A glance at such a count.
@@ -65,7 +67,7 @@ pub struct Glancing;
 
 impl Play<(), View> for Glancing {
     ghost then = { λ step me found after.
-        TellsReadAt Glances glanced_view step.word me.0 found after.0 × (after.1 ≡ []) };
+        OfWord word_of (TellsRead Glances glanced_view) step.word me.0 found after.0 × (after.1 ≡ []) };
 }
 
 /// A worker's read of the mask word.
@@ -79,7 +81,8 @@ impl Play<(), View> for ReadingMask {
 pub struct ReadingSlot;
 
 impl Play<(), View> for ReadingSlot {
-    ghost then = { λ step me found after. TellsSlotAt step.word me.0 found after.0 × (after.1 ≡ []) };
+    ghost then = { λ step me found after.
+        OfWord slot_place TellsSlot step.word me.0 found after.0 × (after.1 ≡ []) };
 }
 
 /// A worker's read of the mask word where it tells which slots are in use.
@@ -107,7 +110,8 @@ impl Play<(), View> for Announcing {
 pub struct Counting;
 
 impl Play<(), View> for Counting {
-    ghost then = { λ step me found after. TellsCountAt step.word me.0 found after.0 × (after.1 ≡ []) };
+    ghost then = { λ step me found after.
+        OfWord word_of TellsCount step.word me.0 found after.0 × (after.1 ≡ []) };
 }
 
 /// A mask that is published.

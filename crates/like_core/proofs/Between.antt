@@ -1,5 +1,5 @@
 -- What steps in turn read and add lies between what was added before.
-use Rattle.std.proofs.Common.{◌≡◌, ℕ, ◌+◌, ◌<◌, ◌≤◌, ◌==◌, ◌&&◌, nat_lt, Bool, true, false, cond, List, [], ◌∷◌, ◌++◌, All, length, get_or, slice_index, drop, subst, ap, sym, ◌∙◌, refl, arith, eq-eqb}
+use Rattle.std.proofs.Common.{◌≡◌, ℕ, ◌+◌, ◌≤◌, ◌==◌, ◌&&◌, nat_lt, Bool, true, false, cond, List, [], ◌∷◌, ◌++◌, length, get_or, slice_index, drop, ap, ◌∙◌, refl, arith, eq-eqb}
 use Rattle.std.proofs.Math.Seq.{take-length}
 use Rattle.std.proofs.lemmas.Bool.{le-ltb, lt-ltb}
 use Rattle.std.proofs.lemmas.List.{take-append-le, drop-append-le, drop_all, length-append}
@@ -9,7 +9,7 @@ use Rattle.like_core.specs.declared.page_step.PageCall.TheVariants.{Add, Read, G
 use Rattle.like_core.specs.declared.page_step.PageStep.{PageStep}
 use Rattle.like_core.specs.declared.view.Addition.{Addition}
 use Rattle.like_core.specs.declared.view.PageRead.{PageRead}
-use Rattle.like_core.specs.Additions.{addition, added_before, added_in, added_to, page_read}
+use Rattle.like_core.specs.Additions.{addition, added_before, added_in, page_read}
 use Rattle.like_core.specs.PageSteps.{AreInTurn, additions_among, and_addition, and_glance, and_read, glances_among, likes_of, reads_among, steps_by}
 use Rattle.like_core.specs.views.Reads.{AreBetween, IsBetween, StandBetween, StandsBetween}
 use Rattle.like_core.proofs.Totals.{added-in, before_one, none_later, own_less}

@@ -1,4 +1,4 @@
-use Rattle.std.specs.Prelude.{ℕ, zero, suc, ◌+◌, ◌*◌, ◌^◌, ◌==◌, Bool, true, false, ◌&&◌, if◌then◌else◌, List, count_by}
+use Rattle.std.specs.Prelude.{ℕ, zero, suc, ◌+◌, ◌*◌, ◌^◌, ◌==◌, Bool, true, false, ◌&&◌, if◌then◌else◌, List, [], ◌∷◌, count_by}
 use Rattle.std.specs.Int.{bit_at}
 
 -- the function that is x at i, and f elsewhere
@@ -14,6 +14,11 @@ sum_below f (suc n) = sum_below f n + f n
 abbrev pub each_below : (ℕ → Bool) → ℕ → Bool
 each_below test zero = true
 each_below test (suc n) = each_below test n && test n
+
+-- each step of a list may be made after those before it, where `next` gives the state after a step
+abbrev pub MayAll : {S E : Type 0} → (S → E → S) → (S → E → Type 0) → S → List E → Type 0
+MayAll next May s [] = Unit {0}
+MayAll next May s (step ∷ steps) = May s step × MayAll next May (next s step) steps
 
 -- whether a mask has bit i
 abbrev pub has_bit : ℕ → ℕ → Bool

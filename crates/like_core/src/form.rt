@@ -1,5 +1,5 @@
 //! The forms of the phase word: what a board's steps put into it, and what it shows.
-ghost use Rattle.std.specs.Prelude.{◌≡◌, ◌^◌, ◌<◌, ◌≤◌};
+ghost use Rattle.std.specs.Prelude.{◌≡◌, ◌<◌, ◌≤◌};
 ghost use Rattle.like_core.specs.Functions.{each_below, has_bit};
 ghost use Rattle.like_core.specs.OpeningLimits.{most_phase, most_seats};
 ghost use Rattle.like_core.specs.views.Sights.{coord_sight_in, sight_in};

@@ -1,8 +1,8 @@
 -- The run lists that a run leaves are those of one thread.
-use Rattle.std.proofs.Common.{◌≡◌, ℕ, ◌+◌, ◌≤◌, ◌==◌, ◌&&◌, Bool, true, false, cond, List, [], ◌∷◌, length, filter, get_or, slice_get, Some, All, IfSome, count_by, inl, inr, refl, sym, ap, ◌∙◌, subst, arith, ne_eqb}
+use Rattle.std.proofs.Common.{◌≡◌, ℕ, ◌+◌, ◌≤◌, ◌==◌, ◌&&◌, Bool, true, false, cond, List, [], ◌∷◌, length, filter, get_or, slice_get, slice_index, Some, All, count_by, inl, inr, refl, sym, ap, ◌∙◌, subst, arith, ne_eqb}
 use Rattle.std.proofs.lemmas.Bool.{cases_lt}
 use Rattle.std.proofs.lemmas.List.{length-map}
-use Rattle.std.proofs.lemmas.Option.{get_or_from_slice_get, slice_get-get_or, slice_get_within}
+use Rattle.std.proofs.lemmas.Option.{slice_get-get_or}
 use Rattle.like_requests.specs.declared.request.Request.{Request}
 use Rattle.like_requests.specs.declared.setup.Setup.{Setup}
 use Rattle.like_core.specs.declared.opening.Opening.{Opening}
@@ -12,10 +12,12 @@ use Rattle.like_core.specs.declared.page_step.PageStep.{PageStep}
 use Rattle.like_core.specs.declared.view.Addition.{Addition}
 use Rattle.like_core.specs.Additions.{added_in}
 use Rattle.like_core.specs.PageSteps.{AreInTurn, additions_among, adds_to, and_addition, earliest_first, likes_in, likes_of, steps_by}
+use Rattle.like_core.specs.Post.{PostView}
 use Rattle.like_core.specs.views.Order.{HasDone}
+use Rattle.like_core.specs.views.PostOrder.{IsOrderOf}
 use Rattle.like_core.proofs.core.Labels.{added_in-push}
 use Rattle.like_board.specs.declared.worker_seat.WorkerSeat.{WorkerSeat}
-use Rattle.like_board.specs.Seats.{AreCounted, AreOrdered, HaveReadMasks, coord_view, seat_meaning}
+use Rattle.like_board.specs.Seats.{coord_view, seat_meaning}
 use Rattle.like_promises.specs.declared.log.Ran.{Ran}
 use Rattle.like_promises.specs.declared.log.WorkerLog.{WorkerLog}
 use Rattle.like_promises.specs.EndToEnd.{runs_of}
@@ -32,9 +34,10 @@ use Rattle.like_serial.proofs.Serial.{no_run, runs_are_serial}
 use Rattle.like_serial.proofs.Weigh.{only, sum-weigh, weigh, weigh-append, weigh-filter}
 use Rattle.like_crew.specs.declared.ended.Ended.{Ended}
 use Rattle.like_crew.specs.declared.site.Site.{Site}
-use Rattle.like_crew.specs.Ended.{IsEnded, IsSeatOf}
+use Rattle.like_crew.specs.Ended.{IsEnded}
 use Rattle.like_crew.specs.Server.{IsLogOf}
-use Rattle.like_crew.proofs.Whole.{hot_known, initial-at, known, left-at, log-there, logs-are, logs-size, right-at, right-at-server, run-at, seat-worker, seats-size, served, server-at}
+use Rattle.like_crew.proofs.lists.Sums.{sum-of-map}
+use Rattle.like_crew.proofs.Whole.{HasCounted, HaveMasks, SawNoneLater, at-post, hot_known, initial-at, known, left-at, log-there, logs-are, logs-size, posts, right-at-server, run-at, seat-worker, seats-size, served, server-at}
 
 -- nothing is added to a page in a phase
 none-added : (a b : Bool) → only a (cond b 0 0) ≡ 0
@@ -87,21 +90,16 @@ fits-none : (workload : Workload) → FitsRunList workload [] []
 fits-none workload = record { plain = refl; by_phase = λ phase page. refl }
 
 module _ (setup : Setup) (plans : List (List Request)) (site : Site) (e : Ended) (h : IsEnded setup plans site e)
-    (masks : HaveReadMasks (coord_view e.coord).masks e.seats.items) (steps : List PageStep)
-    (order : AreOrdered (coord_view e.coord).opening (coord_view e.coord).phase e.seats.items steps) where
+    (masks : HaveMasks setup plans site e h) (steps : List PageStep)
+    (order : IsOrderOf (slice_index (coord_view e.coord).opening.counts) (coord_view e.coord).phase
+    (posts setup plans site e h) steps) where
   -- what the worker of a log did
   fits-log : (worker : ℕ) (log : WorkerLog) → slice_get e.logs.items worker ≡ Some log
       → FitsRunList (known setup plans site e h) (earliest_first (steps_by worker steps)) log.ran.items
   fits-log worker log at =
       let s = left-at IsLogOf h.servers e.logs.items worker log h.logs at in
       let is = server-at setup plans site e h worker s.0 s.1.0 in
-      let seat = right-at IsSeatOf h.servers e.seats.items worker s.0 h.seats s.1.0 in
-      let own : HasDone steps (seat_meaning seat.0) =
-      subst (λ (x : WorkerSeat). HasDone steps (seat_meaning x))
-      (get_or_from_slice_get e.seats.items worker seat.0 seat.0 seat.1.0)
-      (order.each worker seat.0 (slice_get_within e.seats.items worker seat.0 seat.1.0))
-      in
-      let post : HasDone steps s.0.worker.post = subst (HasDone steps) seat.1.1 own in
+      let post : HasDone steps s.0.worker.post = at-post setup plans site e h (HasDone steps) order.each worker s.0 s.1.0 in
       let right = s.1.1.each (known setup plans site e h)
       (is.works (hot_known setup plans site e h), right-at-server setup plans site e h masks worker s.0 s.1.0) in
       subst (λ did. FitsRunList (known setup plans site e h) (earliest_first did) log.ran.items)
@@ -130,7 +128,9 @@ module _ (setup : Setup) (plans : List (List Request)) (site : Site) (e : Ended)
         (fits-log worker found.0 found.1)
     | inr past ↦
         subst (λ did. FitsRunList (known setup plans site e h) (earliest_first did) (run_of (runs_of e.logs.items) worker))
-        (sym (order.others worker (none-seated worker past)))
+        (sym (order.others worker
+        (sum-of-map (λ (p : PostView). cond {A = ℕ} (p.worker == worker) 1 0) seat_meaning e.seats.items
+        ∙ none-seated worker past)))
         (subst (FitsRunList (known setup plans site e h) [])
         (sym (no_run (runs_of e.logs.items) worker
         (omega (arith, past, length-map e.logs.items (λ (log : WorkerLog). log.ran.items)))))
@@ -143,8 +143,7 @@ module _ (setup : Setup) (plans : List (List Request)) (site : Site) (e : Ended)
       λ i page. (ap (λ (x : Opening). get_or x.counts page 0) h.opening
       ∙ initial-at (known setup plans site e h) page) i
 
-  pub one-order : AreCounted (coord_view e.coord) e.seats.items
-      → All (λ seat. IfSome (seat_meaning seat).last (λ sight. sight.number ≤ (coord_view e.coord).phase)) e.seats.items
+  pub one-order : HasCounted setup plans site e h → SawNoneLater setup plans site e h
       → HasOneOrder (served setup plans site e h) setup.workers (runs_of e.logs.items)
   one-order counted phases =
       let lists = logs_are_run_lists (served setup plans site e h) setup.workers e.phases e.logs.items

@@ -1,6 +1,6 @@
 -- What a run that has ended reports, end to end.
 use Rattle.std.proofs.Common.{◌≡◌, ℕ, false, zero, suc, ◌+◌, ◌<◌, ◌≤◌, ◌&&◌, nat_lt, cond, eqb, ltb, List, [], ◌∷◌, ◌++◌, append-nil, length, map, get_or, slice_get, Option, Some, None, option_map, IfSome, refl, sym, ap, ◌∙◌, subst, arith, inl, inr, zero-add}
-use Rattle.std.specs.List.{All, AllZip, filter, range_with_len, sum_by}
+use Rattle.std.specs.List.{All, AllZip, filter, range_with_len}
 use Rattle.std.specs.Option.{option_map_or, unwrap_or}
 use Rattle.std.proofs.Math.Nat.{mod-lt}
 use Rattle.std.proofs.lemmas.List.{get_or_past, length-map}
@@ -19,8 +19,12 @@ use Rattle.like_core.specs.declared.view.PageCount.{PageCount}
 use Rattle.like_core.specs.Additions.{added_before}
 use Rattle.like_core.specs.PhaseMasks.{mask_of, AreMasksOf}
 use Rattle.like_core.specs.Post.{PostView, additions_of}
+use Rattle.like_core.specs.WorkerState.{SawNoLater}
+use Rattle.like_core.specs.views.PostOrder.{posts_added, posts_before}
+use Rattle.like_core.specs.views.Reads.{IsCounted}
 use Rattle.like_board.specs.declared.worker_seat.WorkerSeat.{WorkerSeat}
-use Rattle.like_board.specs.Seats.{AreAll, AreCounted, BoardId, board_id, board_numbers, coord_view, last_count, seat_board, seat_meaning, seats_before, HaveReadMasks}
+use Rattle.like_board.specs.Closed.{count_with}
+use Rattle.like_board.specs.Seats.{AreAll, BoardId, board_id, board_numbers, coord_view, seat_board, seat_meaning}
 use Rattle.like_board.proofs.InOrder.{all_in_order}
 use Rattle.like_board.proofs.Meanings.{same_board}
 use Rattle.like_core.specs.declared.worker_state.WorkerState.TheVariants.{Gone}
@@ -55,6 +59,7 @@ use Rattle.like_crew.proofs.Hot.{hot-same, order-same, stashed-same, total}
 use Rattle.like_crew.proofs.Counted.{count-in-all, in_range, plan_of}
 use Rattle.like_crew.proofs.lists.Pairs.{pairs-at, pairs-length, pairs-sum}
 use Rattle.like_crew.proofs.lists.Sums.{sum-of-map}
+use Rattle.like_crew.proofs.Makings.{all-back}
 
 -- what matches an element that stands at a place
 pub left-at : {A B : Type 0} (R : A → B → Type 0) (xs : List A) (ys : List B) (k : ℕ) (y : B)
@@ -140,19 +145,38 @@ module _ (setup : Setup) (plans : List (List Request)) (site : Site) (e : Ended)
   pub seats-size : length e.seats.items ≡ setup.workers
   seats-size = sym (pairs-length IsSeatOf h.servers e.seats.items h.seats) ∙ servers-size
 
-  -- the masks that the workers read are those
-  pub right-at-server : HaveReadMasks (coord_view e.coord).masks e.seats.items → (worker : ℕ) (s : ServerView)
-      → slice_get h.servers worker ≡ Some s → ReadMasksOf known s
-  right-at-server masks worker s at =
-      let seat = right-at IsSeatOf h.servers e.seats.items worker s h.seats at in
-      let right : AreMasksOf (mask_of (coord_view e.coord).masks) (seat_meaning seat.0).masks =
-      subst (λ (x : WorkerSeat). AreMasksOf (mask_of (coord_view e.coord).masks) (seat_meaning x).masks)
-      (get_or_from_slice_get e.seats.items worker seat.0 seat.0 seat.1.0)
-      (masks worker seat.0 (slice_get_within e.seats.items worker seat.0 seat.1.0)) in
-      subst (λ (p : PostView). AreMasksOf hot_known p.masks) seat.1.1 right
+  -- what the seats that were left mean as posts
+  abbrev pub posts : List PostView
+  posts = map seat_meaning e.seats.items
 
-  pub log-at : HaveReadMasks (coord_view e.coord).masks e.seats.items → (worker : ℕ) (log : WorkerLog)
-      → slice_get e.logs.items worker ≡ Some log → IsLog known setup.workers worker log
+  -- what is true of all of them is true of a server's
+  pub at-post : (P : PostView → Type 0) → All P posts → (worker : ℕ) (s : ServerView)
+      → slice_get h.servers worker ≡ Some s → P s.worker.post
+  at-post P all worker s at =
+      let seat = right-at IsSeatOf h.servers e.seats.items worker s h.seats at in
+      subst P seat.1.1
+      (subst (λ (x : WorkerSeat). P (seat_meaning x))
+      (get_or_from_slice_get e.seats.items worker seat.0 seat.0 seat.1.0)
+      (all-back seat_meaning P e.seats.items all worker seat.0 (slice_get_within e.seats.items worker seat.0 seat.1.0)))
+
+  -- the masks that the workers read are those
+  abbrev pub HaveMasks : Type 0
+  HaveMasks = All (λ (p : PostView). AreMasksOf hot_known p.masks) posts
+
+  -- the counts that the coordinator read have all that was added by then
+  abbrev pub HasCounted : Type 0
+  HasCounted = All (IsCounted (coord_view e.coord).opening.counts (posts_before posts)) (coord_view e.coord).counted
+
+  -- no worker saw a later phase than the coordinator's
+  abbrev pub SawNoneLater : Type 0
+  SawNoneLater = All (λ (p : PostView). SawNoLater (coord_view e.coord).phase p.last) posts
+
+  pub right-at-server : HaveMasks → (worker : ℕ) (s : ServerView) → slice_get h.servers worker ≡ Some s
+      → ReadMasksOf known s
+  right-at-server masks worker s at = at-post (λ (p : PostView). AreMasksOf hot_known p.masks) masks worker s at
+
+  pub log-at : HaveMasks → (worker : ℕ) (log : WorkerLog) → slice_get e.logs.items worker ≡ Some log
+      → IsLog known setup.workers worker log
   log-at masks worker log at =
       let s = left-at IsLogOf h.servers e.logs.items worker log h.logs at in
       let is = server-at worker s.0 s.1.0 in
@@ -179,10 +203,10 @@ module _ (setup : Setup) (plans : List (List Request)) (site : Site) (e : Ended)
   below (Some sight) taken phase all le = λ k d within. omega (arith, all k d within, le)
 
   -- the additions of all seats are the accepted likes of all logs
-  pub all-likes : HaveReadMasks (coord_view e.coord).masks e.seats.items → (page : ℕ)
-      → sum_by (λ seat. additions_of (seat_meaning seat) page) e.seats.items ≡ likes known page (runs_of e.logs.items)
+  pub all-likes : HaveMasks → (page : ℕ) → posts_added posts page ≡ likes known page (runs_of e.logs.items)
   all-likes masks page =
-      sym (pairs-sum IsSeatOf (λ (s : ServerView). additions_of s.worker.post page)
+      sum-of-map (λ (p : PostView). additions_of p page) seat_meaning e.seats.items
+      ∙ sym (pairs-sum IsSeatOf (λ (s : ServerView). additions_of s.worker.post page)
       (λ (seat : WorkerSeat). additions_of (seat_meaning seat) page) h.servers e.seats.items
       (λ s seat m. ap (λ (p : PostView). additions_of p page) (sym m)) h.seats)
       ∙ pairs-sum (λ (s : ServerView)
@@ -243,26 +267,27 @@ module _ (setup : Setup) (plans : List (List Request)) (site : Site) (e : Ended)
       (all_in_order e.seats.items setup.workers seats-size seat-worker)
 
   -- the final counts
-  pub counts-are : HaveReadMasks (coord_view e.coord).masks e.seats.items → (counts : List ℕ)
+  pub counts-are : HaveMasks → (counts : List ℕ)
       → z.counts ≡ map (λ p. p.count) known.pages → length counts ≡ length known.pages
       → ((page : ℕ) → page < length known.pages
-      → get_or counts page 0 ≡ last_count (coord_view e.coord).opening e.seats.items page)
+      → get_or counts page 0 ≡ count_with (coord_view e.coord) e.seats.items page)
       → AreCounts served (runs_of e.logs.items) counts
   counts-are masks counts initial sized told =
       fill_by_all (λ page. initial_count known.pages page + likes served page (runs_of e.logs.items)) counts
       (length known.pages) 0 sized
       (λ page there.
       told page there
-      ∙ ap (λ x. last_count x e.seats.items page) h.opening
-      ∙ ap (λ cs. get_or cs page 0 + sum_by (λ seat. additions_of (seat_meaning seat) page) e.seats.items) initial
-      ∙ ap (λ n. n + sum_by (λ seat. additions_of (seat_meaning seat) page) e.seats.items) (initial-at known page)
+      ∙ ap (λ (x : Opening). get_or x.counts page 0 + posts_added posts page) h.opening
+      ∙ ap (λ cs. get_or cs page 0 + posts_added posts page) initial
+      ∙ ap (λ n. n + posts_added posts page) (initial-at known page)
       ∙ ap (λ n. initial_count known.pages page + n) (all-likes masks page))
 
   -- what all seats have added before a phase are the accepted likes that all workers ran before it
-  pub all-before : HaveReadMasks (coord_view e.coord).masks e.seats.items → (phase page : ℕ)
-      → seats_before e.seats.items phase page ≡ likes_below known page (runs_of e.logs.items) phase
+  pub all-before : HaveMasks → (phase page : ℕ)
+      → posts_before posts phase page ≡ likes_below known page (runs_of e.logs.items) phase
   all-before masks phase page =
-      sym (pairs-sum IsSeatOf (λ (s : ServerView). added_before phase page (additions_among s.worker.post.did))
+      sum-of-map (λ (p : PostView). added_before phase page (additions_among p.did)) seat_meaning e.seats.items
+      ∙ sym (pairs-sum IsSeatOf (λ (s : ServerView). added_before phase page (additions_among s.worker.post.did))
       (λ (seat : WorkerSeat). added_before phase page (additions_among (seat_meaning seat).did)) h.servers e.seats.items
       (λ s seat m. ap (λ (p : PostView). added_before phase page (additions_among p.did)) (sym m)) h.seats)
       ∙ pairs-sum (λ (s : ServerView) (log : WorkerLog). HasWorkedFor known s × IsLogOf s log)
@@ -276,12 +301,12 @@ module _ (setup : Setup) (plans : List (List Request)) (site : Site) (e : Ended)
       (λ (log : WorkerLog). log.ran.items) e.logs.items)
 
   -- the counts that the coordinator read are the totals by the run lists
-  are-totals : HaveReadMasks (coord_view e.coord).masks e.seats.items → AreCounted (coord_view e.coord) e.seats.items
+  are-totals : HaveMasks → HasCounted
       → AreTotals (total (workload_of setup plans) (runs_of e.logs.items) z.counts) (coord_view e.coord).counted
   are-totals masks counted = λ k d within.
       let r : PageCount = get_or (coord_view e.coord).counted k d in
       counted k d within
-      ∙ ap (λ (x : Opening). get_or x.counts r.page 0 + seats_before e.seats.items (r.phase + 1) r.page) h.opening
+      ∙ ap (λ (x : Opening). get_or x.counts r.page 0 + posts_before posts (r.phase + 1) r.page) h.opening
       ∙ ap (λ n. get_or z.counts r.page 0 + n) (all-before masks (r.phase + 1) r.page)
 
   -- the hot pages that were chosen by these totals are those that the run lists tell
@@ -300,15 +325,13 @@ module _ (setup : Setup) (plans : List (List Request)) (site : Site) (e : Ended)
       ∙ hot-same (workload_of setup plans) (runs_of e.logs.items) z.counts setup.hot (length setup.pages) k
 
   -- the phases were released with the masks of these pages
-  pub masks-known : HaveReadMasks (coord_view e.coord).masks e.seats.items
-      → AreCounted (coord_view e.coord) e.seats.items → (k : ℕ) → k ≤ e.phases → hot_known k ≡ served.hot k
+  pub masks-known : HaveMasks → HasCounted → (k : ℕ) → k ≤ e.phases → hot_known k ≡ served.hot k
   masks-known masks counted k within =
       (h.chose (total (workload_of setup plans) (runs_of e.logs.items) z.counts) (are-totals masks counted)).masks k
       (omega (arith, within, h.phases)) ∙ hot-is k
 
   -- the choices are those phases that have any
-  pub chosen-are : HaveReadMasks (coord_view e.coord).masks e.seats.items
-      → AreCounted (coord_view e.coord) e.seats.items → e.chosen.items ≡ chosen_below served.hot e.phases
+  pub chosen-are : HaveMasks → HasCounted → e.chosen.items ≡ chosen_below served.hot e.phases
   chosen-are masks counted =
       h.chosen ∙ (h.chose (total (workload_of setup plans) (runs_of e.logs.items) z.counts)
       (are-totals masks counted)).chosen
@@ -320,20 +343,12 @@ module _ (setup : Setup) (plans : List (List Request)) (site : Site) (e : Ended)
       (likes_lately (workload_of setup plans) (runs_of e.logs.items)) e.phases h.joined)
       ∙ append-nil (chosen_below served.hot e.phases)
 
-  pub logs-are : HaveReadMasks (coord_view e.coord).masks e.seats.items → AreCounted (coord_view e.coord) e.seats.items
-      → All (λ seat. IfSome (seat_meaning seat).last (λ sight. sight.number ≤ (coord_view e.coord).phase)) e.seats.items
-      → AreLogs served setup.workers e.phases e.logs.items
+  pub logs-are : HaveMasks → HasCounted → SawNoneLater → AreLogs served setup.workers e.phases e.logs.items
   logs-are masks counted phases worker log at =
       let s = left-at IsLogOf h.servers e.logs.items worker log h.logs at in
-      let seat = right-at IsSeatOf h.servers e.seats.items worker s.0 h.seats s.1.0 in
-      let seen : IfSome (seat_meaning seat.0).last (λ sight. sight.number ≤ (coord_view e.coord).phase) =
-      subst (λ (x : WorkerSeat). IfSome (seat_meaning x).last (λ sight. sight.number ≤ (coord_view e.coord).phase))
-      (get_or_from_slice_get e.seats.items worker seat.0 seat.0 seat.1.0)
-      (phases worker seat.0 (slice_get_within e.seats.items worker seat.0 seat.1.0)) in
       let saw : IfSome s.0.worker.post.last (λ sight. sight.number ≤ e.phases) =
       subst (λ n. IfSome s.0.worker.post.last (λ sight. sight.number ≤ n)) (sym h.phases)
-      (subst (λ (p : PostView). IfSome p.last (λ sight. sight.number ≤ (coord_view e.coord).phase)) seat.1.1
-      seen) in
+      (at-post (λ (p : PostView). SawNoLater (coord_view e.coord).phase p.last) phases worker s.0 s.1.0) in
       let within = below s.0.worker.post.last log.taken.items e.phases s.1.1.above saw in
       let it = log-at masks worker log at in (
         record {

@@ -12,7 +12,7 @@ use Rattle.like_core.specs.PageSteps.{additions_among}
 use Rattle.like_requests.specs.declared.request.PageRef.TheVariants.{Known, Unknown}
 use Rattle.like_requests.specs.declared.verdict.Verdict.TheVariants.{Accepted, UnknownUser, OtherHome, UnknownPage}
 use Rattle.like_requests.specs.Verdict.{is_known}
-use Rattle.like_seat.specs.StationView.{StationView, tally_of}
+use Rattle.like_seat.specs.StationView.{StationView, phase_at, tally_of}
 use Rattle.like_seat.specs.Steps.{CountsLike, holding}
 use Rattle.like_tables.specs.UserTable.{with_last}
 use Rattle.like_tables.specs.Waiting.{Waiting}
@@ -23,9 +23,8 @@ use Rattle.like_live.specs.declared.answer.TurnAnswer.{TurnAnswer}
 use Rattle.like_live.specs.declared.asked.Asked.{Asked}
 use Rattle.like_live.specs.LiveView.{IsSameSeat, KeepsTallies, LiveView, tally, with_station}
 use Rattle.like_live.specs.Calls as calls
-use Rattle.like_live.specs.Calls.{GlancesNow, LikesNow, LooksNow, TalliesLike, asked_now, full, last_after, liked, refused, told_of, verdict_at}
-use Rattle.like_live.specs.Moves.{Moves}
-use Rattle.like_live.proofs.Moving.{IsSized, Leaves-moves, same_seat}
+use Rattle.like_live.specs.Calls.{GlancesNow, LikesNow, LooksNow, TalliesLike, asked_in, full, last_after, liked, refused, told_of, verdict_at}
+use Rattle.like_live.proofs.Moving.{IsSized, same_seat}
 
 -- a request that is accepted has passed the last test
 last_test : (a b c : Bool)
@@ -185,7 +184,7 @@ LooksNow-leaves u v after user page tag answer turn (calls.no_room accepted spli
     subst (LeavesLikes u) (sym is) turn
 LooksNow-leaves u v after user page tag answer turn (calls.waits accepted split room a is) =
     subst (LeavesLikes u) (sym is)
-    (still-leaves u v v.station.post.did (holding v.station (asked_now v user page tag)).held refl turn)
+    (still-leaves u v v.station.post.did (holding v.station (asked_in (phase_at v.station) user page tag)).held refl turn)
 
 -- so does a glance
 pub GlancesNow-leaves : (u v after : LiveView) (user page : ℕ) (answer : GlanceAnswer)

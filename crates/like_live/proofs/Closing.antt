@@ -5,11 +5,13 @@ use Rattle.std.proofs.lemmas.List.{get_or-map, length-map}
 use Rattle.std.proofs.lemmas.List.Elements.{All-map, All-tail}
 use Rattle.std.proofs.lemmas.List.Sums.{sum_by-cons}
 use Rattle.like_board.specs.declared.worker_seat.WorkerSeat.{WorkerSeat}
-use Rattle.like_board.specs.Seats.{AreAll, BoardId, board_numbers, last_count, seat_board, seat_meaning}
+use Rattle.like_board.specs.Closed.{count_with}
+use Rattle.like_board.specs.Seats.{AreAll, BoardId, board_numbers, seat_board, seat_meaning}
 use Rattle.like_core.specs.Post.{PostView, additions_of}
+use Rattle.like_core.specs.views.PostOrder.{last_count}
 use Rattle.like_live.specs.Driver.{DriverView}
 use Rattle.like_live.specs.LiveView.{LiveView, tally}
-use Rattle.like_live.specs.Service.{AreBackFrom, AreGone, AreItsSeats, HasMergedOnceGone, total_of}
+use Rattle.like_live.specs.Service.{AreBackFrom, AreGone, AreItsSeats, HasMergedOnceGone}
 
 -- the numbers of a board tell it from others
 pub same-board : (a b : BoardId) → board_numbers a ≡ board_numbers b → a ≡ b
@@ -24,7 +26,7 @@ same-board a b e = λ i. record {
 }
 
 -- a sum over what a list stands for
-sum-of-map : {A B : Type 0} (f : B → ℕ) (g : A → B) (xs : List A) → sum_by f (map g xs) ≡ sum_by (λ x. f (g x)) xs
+pub sum-of-map : {A B : Type 0} (f : B → ℕ) (g : A → B) (xs : List A) → sum_by f (map g xs) ≡ sum_by (λ x. f (g x)) xs
 sum-of-map f g [] = refl
 sum-of-map f g (x ∷ xs) =
     sum_by-cons f (g x) (map g xs) ∙ ap (λ n. f (g x) + n) (sum-of-map f g xs) ∙ sym (sum_by-cons (λ y. f (g y)) x xs)
@@ -42,14 +44,17 @@ sum-equal f g (x ∷ xs) all =
     sum_by-cons f x xs ∙ (λ i. all 0 x (omega arith) i + sum-equal f g xs (All-tail (λ y. f y ≡ g y) x xs all) i)
     ∙ sym (sum_by-cons g x xs)
 
+-- what is true of all that a list stands for is true of what each element does
+pub all-of-map : {A B : Type 0} (P : B → Type 0) (f : A → B) (xs : List A) → All P (map f xs) → All (λ x. P (f x)) xs
+all-of-map P f xs all = λ k d below.
+    subst P (get_or-map f xs k d (f d) below) (all k (f d) (subst (λ n. k < n) (sym (length-map xs f)) below))
+
 -- what is true of all that one list stands for is true of all that the other does
 pub all-alike : {A B C : Type 0} (P : C → Type 0) (p : A → C) (q : B → C) (xs : List A) (ys : List B)
     → map p xs ≡ map q ys
     → All (λ y. P (q y)) ys
     → All (λ x. P (p x)) xs
-all-alike P p q xs ys same all = λ k d below.
-    subst P (get_or-map p xs k d (p d) below)
-    (subst (All P) (sym same) (All-map P q ys all) k (p d) (subst (λ n. k < n) (sym (length-map xs p)) below))
+all-alike P p q xs ys same all = all-of-map P p xs (subst (All P) (sym same) (All-map P q ys all))
 
 abbrev pub post_at : LiveView → PostView
 post_at s = s.station.post
@@ -78,9 +83,10 @@ pub last-total : (v : DriverView) (seats : List LiveView) (back : List WorkerSea
     → AreBackFrom seats back
     → All HasMergedOnceGone seats
     → AreGone seats
-    → last_count v.lead.seat.opening back page ≡ total_of v seats page
+    → count_with v.lead.seat back page ≡ slice_index v.lead.seat.opening.counts page + sum_by (λ s. tally s page) seats
 last-total v seats back page same merged gone =
-    ap (λ n. slice_index v.lead.seat.opening.counts page + n)
-    (sum-alike (λ (post : PostView). additions_of post page) seat_meaning post_at back seats same
+    ap (λ (posts : List PostView). last_count (slice_index v.lead.seat.opening.counts) posts page) same
+    ∙ ap (λ n. slice_index v.lead.seat.opening.counts page + n)
+    (sum-of-map (λ (post : PostView). additions_of post page) post_at seats
     ∙ sym (sum-equal (λ s. tally s page) (λ (s : LiveView). additions_of s.station.post page) seats
     (λ k d below. merged k d below (gone k d below) page)))

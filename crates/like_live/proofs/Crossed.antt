@@ -1,6 +1,5 @@
 -- Two looks that cross are not those of one thread.
-use Rattle.std.proofs.Common.{◌≡◌, ℕ, zero, suc, ◌+◌, ◌≤◌, ◌<◌, ◌==◌, inl, inr, List, [], ◌∷◌, ◌++◌, filter, take, length, get_or, slice_get, Some, refl, ap, sym, ◌∙◌, subst, arith}
-use Rattle.std.specs.List.{last_or}
+use Rattle.std.proofs.Common.{◌≡◌, ℕ, zero, suc, ◌+◌, ◌≤◌, ◌==◌, inl, inr, List, [], ◌∷◌, ◌++◌, filter, take, length, get_or, slice_get, Some, refl, ap, sym, ◌∙◌, subst, arith}
 use Rattle.std.proofs.lemmas.Bool.{cases_lt, ne_eqb}
 use Rattle.like_requests.specs.Verdict.{home}
 use Rattle.like_serial.proofs.Crossed.{take_most}
@@ -11,7 +10,7 @@ use Rattle.like_serial.proofs.Seen.{not_some, some_is}
 use Rattle.like_serial.proofs.Weigh.{sum-weigh, weigh}
 use Rattle.like_live.specs.declared.opening.Opening.{Opening}
 use Rattle.like_live.specs.CrossedLooks.{CrossedLooksAreNotSerial, IsForTwo, like_and_look}
-use Rattle.like_live.specs.Deeds.{Act, Deed, ShowsCount, ShowsLast, counted, deed, showed}
+use Rattle.like_live.specs.Deeds.{Deed, ShowsCount, ShowsLast, counted, deed, showed}
 use Rattle.like_live.specs.SerialService.{IsSerialService, count_after, deeds_by, last_after}
 use Rattle.like_live.proofs.DeedPhases.{phase_of_deed}
 use Rattle.like_live.proofs.DeedTotals.{likes_of_deed}

@@ -1,16 +1,16 @@
 -- Each deed shows its user's last like among the deeds before it.
-use Rattle.std.proofs.Common.{◌≡◌, ℕ, zero, suc, ◌<◌, Bool, true, false, cond, eqb, List, [], ◌∷◌, ◌++◌, length, map, take, drop, slice_get, Option, Some, None, refl, ap, sym, ◌∙◌, subst, arith, append-nil, append_assoc}
-use Rattle.std.specs.List.{All, cons_option, filter_map, last_or}
+use Rattle.std.proofs.Common.{◌≡◌, ℕ, zero, suc, ◌<◌, Bool, true, false, cond, eqb, List, [], ◌∷◌, ◌++◌, length, map, take, slice_get, Some, None, refl, ap, sym, ◌∙◌, subst, arith, append-nil, append_assoc}
+use Rattle.std.specs.List.{All, cons_option, last_or}
 use Rattle.std.proofs.lemmas.List.Elements.{All-tail, filter_map-append}
 use Rattle.like_serial.proofs.Seen.{not_some, some_is}
 use Rattle.like_tables.specs.UserTable.{last_of}
 use Rattle.like_live.specs.declared.asked.Found.{Found}
 use Rattle.like_live.specs.LiveView.{LiveView}
 use Rattle.like_live.specs.Moves.{IsFoundAt}
-use Rattle.like_live.specs.Deeds.{Act, Deed, DeedsShowLasts, ShowsLast, counted, deed, deed_found, glimpsed, page_counted, pages_counted, showed}
+use Rattle.like_live.specs.Deeds.{Deed, DeedsShowLasts, ShowsLast, counted, deed, deed_found, page_counted, pages_counted}
 use Rattle.like_live.proofs.Histories.{last_or-append}
 use Rattle.like_live.proofs.Standing.{IsKept, Stands, kept_by_calls}
-use Rattle.like_live.proofs.Stepping.{IsRequest, Step, acknowledges, adds_like, done_by, finds, glances, holds, looks, next, reads, reports, retires, returns, slices_like, takes}
+use Rattle.like_live.proofs.Stepping.{Step, acknowledges, adds_like, done_by, finds, glances, holds, looks, next, reads, reports, retires, returns, slices_like, takes}
 use Rattle.like_live.proofs.Telling.{last-more, user_there}
 
 -- P is true of each element and of those before it

@@ -1,5 +1,5 @@
 -- A seat's deeds are for its own users.
-use Rattle.std.proofs.Common.{◌≡◌, ℕ, ◌<◌, List, [], ◌∷◌, ◌++◌, map, ap, sym, subst, append-nil}
+use Rattle.std.proofs.Common.{◌≡◌, ℕ, ◌<◌, List, [], ◌∷◌, ◌++◌, map, sym, subst, append-nil}
 use Rattle.std.specs.List.{AllByRecursion}
 use Rattle.like_requests.specs.declared.verdict.Verdict.TheVariants.{Accepted}
 use Rattle.like_serial.proofs.Phases.{all_append}
@@ -7,11 +7,11 @@ use Rattle.like_tables.specs.Share.{Share}
 use Rattle.like_requests.specs.Verdict.{home}
 use Rattle.like_live.specs.declared.asked.Asked.{Asked}
 use Rattle.like_live.specs.declared.asked.Found.{Found}
-use Rattle.like_live.specs.LiveView.{LiveView, waiting}
+use Rattle.like_live.specs.LiveView.{LiveView}
 use Rattle.like_live.specs.Calls.{verdict_at}
 use Rattle.like_live.specs.Deeds.{Deed, deed_found}
 use Rattle.like_live.proofs.Standing.{IsHis, IsKept, Stands, is_his}
-use Rattle.like_live.proofs.Stepping.{IsRequest, Step, acknowledges, adds_like, done_by, finds, glances, holds, looks, next, reads, reports, retires, returns, slices_like, takes}
+use Rattle.like_live.proofs.Stepping.{Step, acknowledges, adds_like, done_by, finds, glances, holds, looks, next, reads, reports, retires, returns, slices_like, takes}
 
 module _ (first : LiveView) where
   abbrev pub AreHis : LiveView → List Deed → Type 0

@@ -1,5 +1,5 @@
 -- Phases never fall along a seat's deeds.
-use Rattle.std.proofs.Common.{◌≡◌, ◌≢◌, ℕ, ◌+◌, ◌≤◌, ◌<◌, Bool, true, false, cond, List, [], ◌∷◌, ◌++◌, map, get_or, set, refl, ap, sym, ◌∙◌, subst, arith, append-nil, eq-eqb}
+use Rattle.std.proofs.Common.{◌≡◌, ◌≢◌, ℕ, ◌+◌, ◌≤◌, ◌<◌, cond, List, [], ◌∷◌, ◌++◌, map, get_or, set, refl, ap, sym, ◌∙◌, subst, arith, append-nil, eq-eqb}
 use Rattle.std.specs.List.{All, AllByRecursion}
 use Rattle.std.proofs.lemmas.List.Elements.{All-head, All-tail}
 use Rattle.like_core.specs.declared.page_step.PageStep.{PageStep}
@@ -13,12 +13,12 @@ use Rattle.like_serial.proofs.Interleaved.{all_front, all_rest}
 use Rattle.like_serial.proofs.Phases.{Rises, all_append, all_then, rises-append, rises-same}
 use Rattle.like_live.specs.declared.asked.Found.{Found}
 use Rattle.like_live.specs.LiveView.{LiveView}
-use Rattle.like_live.specs.Moves.{IsFoundAt, step_for}
-use Rattle.like_live.specs.Deeds.{Act, Deed, counted, deed, deed_found, glimpsed, showed}
+use Rattle.like_live.specs.Moves.{step_for}
+use Rattle.like_live.specs.Deeds.{Deed, counted, deed, deed_found}
 use Rattle.like_live.proofs.Calling.{page_there, slice-more}
 use Rattle.like_live.proofs.Ordered.{IsOrdered, first_add, looked_phase, ordered_back, rises_to}
-use Rattle.like_live.proofs.Standing.{IsKept, Stands, runs_split, unsplit}
-use Rattle.like_live.proofs.Stepping.{IsRequest, Step, acknowledges, adds_like, done_by, finds, glances, holds, looks, next, reads, reports, reported, retires, returns, slices_like, takes}
+use Rattle.like_live.proofs.Standing.{IsKept, Stands, unsplit}
+use Rattle.like_live.proofs.Stepping.{Step, acknowledges, adds_like, done_by, finds, glances, holds, looks, next, reads, reports, reported, retires, returns, slices_like, takes}
 
 abbrev pub phase_of_deed : Deed → ℕ
 phase_of_deed d = d.phase

@@ -1,27 +1,25 @@
 -- A seat's deeds are its steps at pages that are not split then.
-use Rattle.std.proofs.Common.{◌≡◌, ◌≢◌, ℕ, ◌+◌, ◌%◌, ◌≤◌, ◌==◌, Bool, true, false, not, cond, List, [], ◌∷◌, ◌++◌, map, get_or, Option, Some, None, refl, ap, ap₂, sym, ◌∙◌, subst, arith, append-nil, append_assoc}
+use Rattle.std.proofs.Common.{◌≡◌, ℕ, ◌+◌, Bool, true, false, not, cond, List, [], ◌∷◌, ◌++◌, map, get_or, Option, Some, None, refl, ap, ap₂, sym, ◌∙◌, subst, arith, append-nil}
 use Rattle.std.specs.List.{All, AllByRecursion, cons_option, filter, filter_map}
-use Rattle.std.proofs.lemmas.Bool.{ne_eqb}
 use Rattle.std.proofs.lemmas.List.Elements.{All-head, All-tail, filter-append, filter_map-append}
 use Rattle.std.proofs.lemmas.List.{map-append}
 use Rattle.like_core.specs.declared.page_step.PageCall.TheVariants.{Add, Read, Glance}
 use Rattle.like_core.specs.declared.page_step.PageStep.{PageStep}
 use Rattle.like_core.specs.declared.view.Addition.{Addition}
 use Rattle.like_core.specs.PageSteps.{AddsSome, earliest_first, page_step, step_adding}
-use Rattle.like_core.specs.Post.{slices}
-use Rattle.like_core.specs.WorkerState.{RunsJoined, RunsSplit}
+use Rattle.like_core.specs.WorkerState.{RunsSplit}
 use Rattle.like_core.proofs.Steps.{then-earliest}
 use Rattle.like_seat.specs.StationView.{phase_at}
 use Rattle.like_serial.specs.StepsTold.{StepTold, step_told}
 use Rattle.like_serial.proofs.Interleaved.{all_rest}
 use Rattle.like_live.specs.declared.asked.Found.{Found}
 use Rattle.like_live.specs.LiveView.{LiveView}
-use Rattle.like_live.specs.Moves.{IsFoundAt, step_for}
+use Rattle.like_live.specs.Moves.{step_for}
 use Rattle.like_live.specs.Deeds.{Act, Deed, counted, deed, deed_found, glimpsed, showed}
 use Rattle.like_live.proofs.Finding.{plain, running}
 use Rattle.like_live.proofs.Ordered.{IsOrdered, ordered_back, slices_split, split_in}
 use Rattle.like_live.proofs.Standing.{IsKept, Stands}
-use Rattle.like_live.proofs.Stepping.{IsRequest, Step, acknowledges, adds_like, done_by, finds, glances, holds, looks, next, reads, reports, retires, returns, slices_like, split_runs, takes}
+use Rattle.like_live.proofs.Stepping.{Step, acknowledges, adds_like, done_by, finds, glances, holds, looks, next, reads, reports, retires, returns, slices_like, split_runs, takes}
 
 -- what a deed tells of the seat's step at a page, if it took one there that is not a merge's: a like of a page that isn't
 -- split adds 1, and a look reads what it shows

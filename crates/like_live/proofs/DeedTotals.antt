@@ -1,12 +1,10 @@
 -- In each phase a seat adds to a page as many likes as its deeds of the phase count.
-use Rattle.std.proofs.Common.{◌≡◌, ◌≢◌, ℕ, zero, suc, ◌+◌, ◌≤◌, ◌<◌, ◌==◌, ◌&&◌, ◌⊎◌, Bool, true, false, cond, eqb, List, [], ◌∷◌, ◌++◌, map, get_or, set, replicate, refl, ap, ap₂, sym, ◌∙◌, subst, arith, append-nil, eq-eqb, inl, inr}
-use Rattle.std.specs.List.{All, sum_by}
+use Rattle.std.proofs.Common.{◌≡◌, ◌≢◌, ℕ, zero, suc, ◌+◌, ◌<◌, ◌==◌, ◌&&◌, ◌⊎◌, Bool, true, false, cond, List, [], ◌∷◌, ◌++◌, map, get_or, replicate, refl, ap, sym, ◌∙◌, subst, arith, append-nil, inl, inr}
 use Rattle.std.proofs.lemmas.List.Sums.{sum_by-cons}
 use Rattle.like_core.specs.declared.page_step.PageCall.{PageCall}
 use Rattle.like_core.specs.declared.page_step.PageCall.TheVariants.{Add, Read, Glance}
 use Rattle.like_core.specs.declared.page_step.PageStep.{PageStep}
 use Rattle.like_core.specs.declared.view.Addition.{Addition}
-use Rattle.like_core.specs.declared.worker_state.WorkerState.{WorkerState}
 use Rattle.like_core.specs.Additions.{added_in}
 use Rattle.like_core.specs.PageSteps.{adds_to, earliest_first, page_step, step_adding}
 use Rattle.like_core.specs.Post.{pages_of}
@@ -15,15 +13,15 @@ use Rattle.like_core.proofs.Steps.{then-earliest}
 use Rattle.like_seat.specs.StationView.{phase_at}
 use Rattle.like_seat.proofs.MergedLikes.{added_in-phase, same_everywhere}
 use Rattle.like_serial.proofs.Totals.{only-none}
-use Rattle.like_serial.proofs.Weigh.{only, weigh, weigh-append, weigh-none}
+use Rattle.like_serial.proofs.Weigh.{only, weigh, weigh-append}
 use Rattle.like_live.specs.declared.asked.Found.{Found}
 use Rattle.like_live.specs.LiveView.{LiveView}
 use Rattle.like_live.specs.Moves.{step_for}
-use Rattle.like_live.specs.Deeds.{Act, Deed, counted, deed, deed_found, glimpsed, likes_counted, showed}
+use Rattle.like_live.specs.Deeds.{Deed, counted, deed, deed_found, glimpsed, likes_counted, showed}
 use Rattle.like_live.proofs.Calling.{page_there, slice-more}
 use Rattle.like_live.proofs.Ordered.{looked_phase}
 use Rattle.like_live.proofs.Standing.{IsKept, Stands, unsplit}
-use Rattle.like_live.proofs.Stepping.{IsRequest, Step, acknowledges, adds_like, done_by, finds, glances, holds, looks, next, reads, reports, retires, returns, slices_like, takes}
+use Rattle.like_live.proofs.Stepping.{Step, acknowledges, adds_like, done_by, finds, glances, holds, looks, next, reads, reports, retires, returns, slices_like, takes}
 
 -- how many likes of a page a deed counts, and how many in a phase
 abbrev pub likes_of_deed : ℕ → Deed → ℕ

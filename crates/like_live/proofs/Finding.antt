@@ -6,10 +6,8 @@ use Rattle.std.proofs.lemmas.List.{get_or-map, get_or_append_left, map-append, l
 use Rattle.std.proofs.lemmas.List.Elements.{All-append, All-nil, All-push, All-head, All-drop}
 use Rattle.like_core.specs.declared.view.Addition.{Addition}
 use Rattle.like_core.specs.declared.page_step.PageCall.TheVariants.{Read}
-use Rattle.like_core.specs.declared.page_step.PageStep.{PageStep}
-use Rattle.like_core.specs.declared.view.PageRead.{PageRead}
-use Rattle.like_core.specs.Additions.{added_to, page_read}
-use Rattle.like_core.specs.PageSteps.{additions_among, glances_among, page_step, reads_among, then_steps}
+use Rattle.like_core.specs.Additions.{added_to}
+use Rattle.like_core.specs.PageSteps.{additions_among, page_step, then_steps}
 use Rattle.like_core.specs.declared.worker_state.WorkerState.{WorkerState}
 use Rattle.like_core.specs.declared.worker_state.WorkerState.TheVariants as state
 use Rattle.like_core.specs.Post.{PostView, has_read, slices}

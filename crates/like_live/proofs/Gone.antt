@@ -134,9 +134,9 @@ seen-again : (v w : LeadView) (again : CoordSight) → StillEnded v → Sees v a
 seen-again v w again saw sees =
     let m = sees.event.moment in
     let z = v.seat.opening in
-    let fits : FitsCoord z m.state v.seat = m.shows.seats.each sees.event.place (Coord v.seat) sees.event.mine in
+    let fits : FitsCoord z m.shown.state v.seat = m.shown.shows.seats.each sees.event.place (Coord v.seat) sees.event.mine in
     let stays = subst (λ (o : Option CoordSight). IfSome o (λ s. s.ending ≡ true → s.all_in ≡ true
-    → CoordSees (numbers z m.state) s × (v.seat.word ≡ shown_word z m.state))) saw.last fits.phase.stays in
+    → CoordSees (numbers z m.shown.state) s × (v.seat.word ≡ shown_word z m.shown.state))) saw.last fits.phase.stays in
     let before = stays saw.ending saw.all_in in
     let told = sees.event.happen.tells in
     let same : told.0 ≡ again = cc (told.1) in

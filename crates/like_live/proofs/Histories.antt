@@ -8,6 +8,7 @@ use Rattle.like_core.specs.declared.worker_state.WorkerState.TheVariants as stat
 use Rattle.like_core.specs.Additions.{added_to}
 use Rattle.like_core.specs.Post.{PostView, slices}
 use Rattle.like_core.specs.PageSteps.{additions_among}
+use Rattle.like_seat.specs.StationView.{phase_at}
 use Rattle.like_seat.proofs.MergedLikes.{same_everywhere}
 use Rattle.like_tables.specs.Share.{owns}
 use Rattle.like_tables.specs.UserTable.{UserTable, last_in, last_of}
@@ -20,7 +21,7 @@ use Rattle.like_live.specs.declared.asked.Asked.{Asked}
 use Rattle.like_live.specs.declared.asked.Found.{Found}
 use Rattle.like_live.specs.LiveView.{LiveView, tally, waiting, with_station}
 use Rattle.like_live.specs.Calls as calls
-use Rattle.like_live.specs.Calls.{GlanceCase, GlancesNow, LikeCase, LikesNow, LookCase, LooksNow, TakesFound, asked_now}
+use Rattle.like_live.specs.Calls.{GlanceCase, GlancesNow, LikeCase, LikesNow, LookCase, LooksNow, TakesFound, asked_in}
 use Rattle.like_live.specs.History.{Ask, Does, HasDone, HistoriesAreCounted, IsUnused, NoneWaitsOnceGone, Told, ask_of, ask_taken, ask_told, ask_waiting, asks_left, asks_taken, asks_told, come_back, glance, like, like_told, likes_told, look, page_liked, pages_liked, retire, take_found, turn}
 use Rattle.like_live.proofs.Calling.{LikesNow-tallies}
 use Rattle.like_live.proofs.Telling.{IsQuiet, IsQuiet-both, IsQuiet-come_back, IsQuiet-moves, IsQuiet-retires, IsQuiet-same, IsTold, IsTold-after, IsTold-quiet, IsWhole, TellsNothing, is_counted, last-more, merged-asks, user_there}
@@ -92,9 +93,9 @@ told-look v after user page tag answer whole (calls.waits accepted split room a 
       tallies = λ p. omega arith;
       last = λ u. refl;
       asks =
-          ap (λ xs. map ask_of v.found ++ xs) (map-append ask_waiting (waiting v) (asked_now v user page tag ∷ []))
+          ap (λ xs. map ask_of v.found ++ xs) (map-append ask_waiting (waiting v) (asked_in (phase_at v.seat) user page tag ∷ []))
           ∙ sym (append_assoc (map ask_of v.found) (map ask_waiting (waiting v))
-          (ask_waiting (asked_now v user page tag) ∷ []));
+          (ask_waiting (asked_in (phase_at v.seat) user page tag) ∷ []));
     }))
   where
     -- no page is split for one that is gone

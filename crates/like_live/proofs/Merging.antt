@@ -1,5 +1,5 @@
 -- Lists of several workers' entries, merged as one order of all page steps says.
-use Rattle.std.proofs.Common.{◌≡◌, ℕ, zero, suc, ◌+◌, ◌≤◌, ◌<◌, Bool, true, false, not, cond, nat_lt, eqb, ◌==◌, List, [], ◌∷◌, ◌++◌, take, drop, map, filter, filter_map, reverse, slice_get, Option, Some, true≢false, subst, subst₂, ap, ap₂, sym, ◌∙◌, refl, arith, eqb-true}
+use Rattle.std.proofs.Common.{◌≡◌, ℕ, suc, ◌+◌, ◌≤◌, ◌<◌, Bool, true, false, not, cond, nat_lt, eqb, ◌==◌, List, [], ◌∷◌, ◌++◌, take, drop, map, filter, filter_map, reverse, slice_get, Option, Some, true≢false, subst, subst₂, ap, ap₂, sym, ◌∙◌, refl, arith, eqb-true}
 use Rattle.std.specs.List.{AllByRecursion, cons_option}
 use Rattle.std.specs.Option.{option_map_or}
 use Rattle.std.proofs.lemmas.List.Elements.{filter_map-append}

@@ -1,18 +1,18 @@
 -- The calls of all seats of a service are those of one thread.
-use Rattle.std.proofs.Common.{◌≡◌, ◌≢◌, ℕ, zero, suc, ◌+◌, ◌%◌, ◌≤◌, ◌<◌, ◌⊎◌, ◌&&◌, inl, inr, Bool, true, false, not, cond, eqb, nat_lt, ◌==◌, List, [], ◌∷◌, ◌++◌, filter, filter_map, map, take, drop, reverse, length, get_or, slice_get, Option, Some, None, true≢false, refl, ap, ap₂, sym, ◌∙◌, subst, arith, eq-eqb, eqb-true, ne_eqb}
-use Rattle.std.specs.List.{All, AllByRecursion, cons_option, count_by, last_or, sum_by}
+use Rattle.std.proofs.Common.{◌≡◌, ◌≢◌, ℕ, zero, suc, ◌+◌, ◌%◌, ◌≤◌, ◌<◌, ◌⊎◌, ◌&&◌, inl, inr, Bool, true, false, cond, eqb, nat_lt, ◌==◌, List, [], ◌∷◌, ◌++◌, filter, filter_map, map, take, drop, reverse, length, get_or, slice_get, Some, None, true≢false, refl, ap, ap₂, sym, ◌∙◌, subst, arith, eq-eqb, eqb-true, ne_eqb}
+use Rattle.std.specs.List.{All, AllByRecursion, AllPairs, cons_option, count_by, last_or, sum_by}
 use Rattle.std.specs.Option.{option_map_or}
 use Rattle.std.proofs.Math.Nat.{mod-eq_of_lt}
 use mathlib.Core.List.{reverse-cons}
 use Rattle.std.proofs.lemmas.Bool.{lt-ltb}
 use Rattle.std.proofs.lemmas.List.{length-map}
-use Rattle.std.proofs.lemmas.List.Elements.{All-head, All-tail, filter-append, filter_map-append}
+use Rattle.std.proofs.lemmas.List.Elements.{All-head, All-tail, filter-append}
 use Rattle.std.proofs.lemmas.List.FromFn.{get_or-map-range_with_len}
 use Rattle.std.proofs.lemmas.List.Sums.{sum_by-cons}
-use Rattle.like_board.specs.declared.worker_seat.WorkerSeat.{WorkerSeat}
-use Rattle.like_board.specs.Seats.{BoardId, seat_meaning, seats_before}
+use Rattle.std.proofs.lemmas.Option.{slice_get-get_or}
+use Rattle.like_board.specs.Seats.{BoardId}
 use Rattle.like_core.specs.declared.opening.Opening.{Opening as CoreOpening}
-use Rattle.like_core.specs.declared.page_step.PageCall.TheVariants.{Add, Read, Glance}
+use Rattle.like_core.specs.declared.page_step.PageCall.TheVariants.{Add}
 use Rattle.like_core.specs.declared.page_step.PageStep.{PageStep}
 use Rattle.like_core.specs.declared.worker_state.WorkerState.TheVariants.{Gone}
 use Rattle.like_core.specs.OpeningLimits.{service_limits}
@@ -22,9 +22,9 @@ use Rattle.like_core.specs.Phase.{is_marked, split_by}
 use Rattle.like_core.specs.PhaseMasks.{AreMasksOf, mask_of}
 use Rattle.like_core.specs.Post.{PostView}
 use Rattle.like_core.specs.WorkerState.{RunsSplit}
+use Rattle.like_core.specs.views.PostOrder.{posts_before}
 use Rattle.like_requests.specs.Verdict.{home}
 use Rattle.like_core.proofs.Steps.{by-earliest, earliest-reverse}
-use Rattle.like_seat.specs.declared.seen.Seen.{Seen}
 use Rattle.like_seat.specs.StationView.{phase_at}
 use Rattle.like_seat.proofs.MergedLikes.{same_everywhere}
 use Rattle.like_serial.specs.StepsTold.{step_told}
@@ -37,16 +37,16 @@ use Rattle.like_serial.proofs.Seen.{not_some, some_is}
 use Rattle.like_serial.proofs.Totals.{only-none, same_below, same_in_all, weigh-reverse}
 use Rattle.like_serial.proofs.Weigh.{only, sum-weigh, weigh, weigh-filter}
 use Rattle.like_tables.specs.Share.{Share, owns, share_of}
-use Rattle.like_tables.specs.UserTable.{UserTable, last_in, last_of, table_with_lasts}
+use Rattle.like_tables.specs.UserTable.{UserTable, last_in, last_of}
 use Rattle.like_live.specs.declared.opening.Opening.{Opening}
 use Rattle.like_live.specs.LiveView.{LiveView}
 use Rattle.like_live.specs.History.{IsUnused}
-use Rattle.like_live.specs.Driver.{DriverView}
+use Rattle.like_live.specs.Driver.{DriverView, IsSameDriver}
 use Rattle.like_live.specs.Opening.{board_opening}
-use Rattle.like_live.specs.Service.{AreOpenedSeats, IsOpenedSeat}
+use Rattle.like_live.specs.Service.{AreOpened, AreOpenedSeats, IsClosedService, IsOpenedSeat, posts_at}
 use Rattle.like_live.specs.Deeds.{Act, Deed, ShowsCount, ShowsLast, counted, glimpsed, likes_among, likes_counted, page_counted, pages_counted, showed}
-use Rattle.like_live.specs.SerialService.{IsSerialService, SeatHistory, ServicesAreSerial, count_after, deeds_in, last_after}
-use Rattle.like_live.proofs.Closing.{all-alike, post_at, sum-alike}
+use Rattle.like_live.specs.SerialService.{IsSerialService, SeatHistory, SeatsRise, ServicesAreSerial, count_after, deeds_in, last_after}
+use Rattle.like_live.proofs.Closing.{all-of-map, post_at, sum-of-map}
 use Rattle.like_live.proofs.DeedLasts.{deeds_show_lasts}
 use Rattle.like_live.proofs.DeedOwners.{AreHis, his_kept}
 use Rattle.like_live.proofs.DeedPhases.{HasRisen, phase_of_deed, risen_kept}
@@ -55,7 +55,7 @@ use Rattle.like_live.proofs.DeedTotals.{HasTotals, deed_in, is_none, likes_of_de
 use Rattle.like_live.proofs.Merging.{FitsAll, IsMerged, merged_serial, own_steps}
 use Rattle.like_live.proofs.Ordered.{IsOrdered, split_in}
 use Rattle.like_live.proofs.Snapshots.{at_number, before_steps, front_before}
-use Rattle.like_live.proofs.Standing.{IsHis, Stands, kept_by_calls, stands_by_calls}
+use Rattle.like_live.proofs.Standing.{Stands, kept_by_calls, stands_by_calls}
 
 -- one order of all that these seats did at pages, the latest step first
 pub record AreInOrder (counts : ℕ → ℕ) (phase : ℕ) (seats : List LiveView) (steps : List PageStep) : Type 0 where
@@ -507,35 +507,58 @@ module _ (o : Opening) (factor : ℕ) (board : BoardId) (hs : List SeatHistory) 
       (deeds_at hs) fits in
       (m.0, (is_serial m.0 m.1, all_before m.0 m.1))
 
+  -- phases never fall along the deeds of each seat
+  pub each_rises : All (λ h. AllPairs (λ d e. d.phase ≤ e.phase) (deeds_in h)) hs
+  each_rises = λ k h below.
+      pairs_of phase_of_deed (deeds_in (get_or hs k h)) (has_risen k (get_or hs k h) (slice_get-get_or hs k h below))
+
+-- the same of the seats of a service that was opened so and is closed
+module _ (o : Opening) (driver now : DriverView) (hs : List SeatHistory) (counts : List ℕ)
+    (opened : AreOpened o driver (map (λ (h : SeatHistory). h.first) hs)) (same : IsSameDriver driver now)
+    (service : IsClosedService now (map (λ (h : SeatHistory). h.last) hs) counts) where
+  opening_is : now.lead.seat.opening ≡ board_opening o opened.factor
+  opening_is = same.opening ∙ ap (λ (d : DriverView). d.lead.seat.opening) opened.new
+
+  masks_are : All (λ (s : LiveView). AreMasksOf (mask_of now.lead.seat.masks) s.station.post.masks)
+      (map (λ (h : SeatHistory). h.last) hs)
+  masks_are =
+      all-of-map (λ (p : PostView). AreMasksOf (mask_of now.lead.seat.masks) p.masks) post_at
+      (map (λ (h : SeatHistory). h.last) hs) service.closed.masks
+
+  in_order : AreInOrder (λ page. get_or o.counts.items page 0) now.lead.seat.phase (map (λ (h : SeatHistory). h.last) hs)
+      service.closed.steps
+  in_order = record {
+    in_turn =
+        subst (λ (z : CoreOpening). AreInTurn (λ page. get_or z.counts page 0) now.lead.seat.phase service.closed.steps)
+        opening_is service.closed.order.in_turn;
+    each = all-of-map (λ (p : PostView). steps_by p.worker service.closed.steps ≡ p.did) post_at
+        (map (λ (h : SeatHistory). h.last) hs) service.closed.order.each;
+    others = λ i none.
+        service.closed.order.others i
+        (sum-of-map (λ (p : PostView). cond {A = ℕ} (p.worker == i) 1 0) post_at (map (λ (h : SeatHistory). h.last) hs)
+        ∙ none);
+  }
+
 pub services_are_serial : ServicesAreSerial
-services_are_serial o driver now hs counts opened same closed gone =
+services_are_serial o driver now hs counts opened same service gone =
     let ends = map (λ (h : SeatHistory). h.last) hs in
-    let order = closed.order in
-    let opening : now.lead.seat.opening ≡ board_opening o opened.factor =
-    same.opening ∙ ap (λ (d : DriverView). d.lead.seat.opening) opened.new in
-    let one = one_thread o opened.factor driver.lead.board hs (mask_of now.lead.seat.masks) now.lead.seat.phase closed.steps
-    opened.fresh gone
-    (all-alike (λ (p : PostView). AreMasksOf (mask_of now.lead.seat.masks) p.masks) post_at seat_meaning ends closed.back
-    (sym closed.posts) closed.masks)
-    (record {
-      in_turn =
-          subst (λ (z : CoreOpening). AreInTurn (λ page. get_or z.counts page 0) now.lead.seat.phase closed.steps) opening
-          order.in_turn;
-      each = all-alike (λ (p : PostView). steps_by p.worker closed.steps ≡ p.did) post_at seat_meaning ends closed.back
-          (sym closed.posts) order.each;
-      others = λ i none.
-          order.others i
-          (sum-alike (λ (p : PostView). cond {A = ℕ} (p.worker == i) 1 0) seat_meaning post_at closed.back ends closed.posts
-          ∙ none);
-    }) in (
+    let one = one_thread o opened.factor driver.lead.board hs (mask_of now.lead.seat.masks) now.lead.seat.phase
+    service.closed.steps opened.fresh gone (masks_are o driver now hs counts opened same service)
+    (in_order o driver now hs counts opened same service) in (
       one.0,
       one.1.0,
       λ k d below.
           let r = get_or now.lead.seat.counted k d in
-          closed.snapshots k d below
-          ∙ ap (λ (z : CoreOpening). get_or z.counts r.page 0 + seats_before closed.back (r.phase + 1) r.page) opening
+          service.closed.counted k d below
+          ∙ ap (λ (z : CoreOpening). get_or z.counts r.page 0 + posts_before (posts_at ends) (r.phase + 1) r.page)
+          (opening_is o driver now hs counts opened same service)
           ∙ ap (λ n. get_or o.counts.items r.page 0 + n)
-          (sum-alike (λ (p : PostView). added_before (r.phase + 1) r.page (additions_among p.did)) seat_meaning post_at closed.back ends
-          closed.posts
+          (sum-of-map (λ (p : PostView). added_before (r.phase + 1) r.page (additions_among p.did)) post_at ends
           ∙ one.1.1 (r.phase + 1) r.page),
     )
+
+pub seats_rise : SeatsRise
+seats_rise o driver now hs counts opened same service gone =
+    each_rises o opened.factor driver.lead.board hs (mask_of now.lead.seat.masks) now.lead.seat.phase
+    service.closed.steps opened.fresh gone (masks_are o driver now hs counts opened same service)
+    (in_order o driver now hs counts opened same service)

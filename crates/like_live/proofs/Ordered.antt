@@ -1,5 +1,5 @@
 -- What one order of all steps says of those of one seat, at each time before it was closed.
-use Rattle.std.proofs.Common.{◌≡◌, ◌≢◌, ℕ, ◌+◌, ◌%◌, ◌≤◌, ◌<◌, ◌==◌, Bool, true, false, cond, List, [], ◌∷◌, ◌++◌, map, get_or, set, replicate, length, refl, ap, sym, ◌∙◌, subst, arith, inl, inr, eq-eqb}
+use Rattle.std.proofs.Common.{◌≡◌, ◌≢◌, ℕ, ◌+◌, ◌%◌, ◌≤◌, ◌<◌, ◌==◌, Bool, true, false, cond, List, [], ◌∷◌, ◌++◌, map, get_or, set, refl, ap, sym, ◌∙◌, subst, arith, inl, inr, eq-eqb}
 use Rattle.std.specs.List.{All, AllByRecursion}
 use Rattle.std.proofs.lemmas.Bool.{cases_eq}
 use Rattle.std.proofs.lemmas.List.{get_or-set_other}
@@ -12,19 +12,19 @@ use Rattle.like_core.specs.declared.worker_state.WorkerState.TheVariants as stat
 use Rattle.like_core.specs.Additions.{added_to}
 use Rattle.like_core.specs.PageSteps.{AddsSome, earliest_first, step_adding}
 use Rattle.like_core.specs.Phase.{IsSplit, is_marked, split_by}
-use Rattle.like_core.specs.PhaseMasks.{AreMasksOf, HasMask, KeepsMasks, mask_of}
-use Rattle.like_core.specs.Post.{PostView, slices}
+use Rattle.like_core.specs.PhaseMasks.{AreMasksOf, KeepsMasks}
+use Rattle.like_core.specs.Post.{slices}
 use Rattle.like_core.specs.WorkerState.{IsRunning, RunsSplit, phase_of, seen}
 use Rattle.like_core.proofs.PhaseMasks.{masks-before, split-known}
 use Rattle.like_core.proofs.Steps.{then-earliest}
-use Rattle.like_seat.specs.Steps.{masks_entered, masks_in, saw_at}
+use Rattle.like_seat.specs.Steps.{masks_entered, saw_at}
 use Rattle.like_seat.specs.StationView.{phase_at}
 use Rattle.like_serial.proofs.Interleaved.{all_front, all_rest}
-use Rattle.like_serial.proofs.Phases.{Rises, all_then}
+use Rattle.like_serial.proofs.Phases.{Rises}
 use Rattle.like_live.specs.LiveView.{LiveView}
 use Rattle.like_live.proofs.Calling.{page_there, slice-more}
 use Rattle.like_live.proofs.Standing.{Stands, unsplit}
-use Rattle.like_live.proofs.Stepping.{IsRequest, Step, acknowledges, adds_like, done_by, finds, glances, holds, looks, next, reads, reported, reports, retires, returns, slices_like, takes}
+use Rattle.like_live.proofs.Stepping.{Step, acknowledges, adds_like, finds, glances, holds, looks, next, reads, reported, reports, retires, returns, slices_like, takes}
 use Rattle.like_live.specs.Moves.{step_for}
 
 -- whether a page is split in a phase of a service, where these are the masks of all phases, by its seats' marks and limits

@@ -23,7 +23,7 @@ use Rattle.like_live.specs.declared.asked.Found.{Found}
 use Rattle.like_live.specs.LiveView.{LiveView, with_station}
 use Rattle.like_live.specs.Answers.{IfShown, IsRead, Shown, counted_now, found_count}
 use Rattle.like_live.specs.Calls as calls
-use Rattle.like_live.specs.Calls.{GlanceCase, GlancesNow, LikeCase, LikesNow, LookCase, LooksNow, RetireCase, TakesFound}
+use Rattle.like_live.specs.Calls.{GlanceCase, GlancesNow, LookCase, LooksNow, TakesFound}
 use Rattle.like_live.specs.History.{Does, Told, come_back, glance, like, look, retire, take_found, turn}
 use Rattle.like_live.specs.Moves as moves
 use Rattle.like_live.specs.Moves.{Moves, Works}

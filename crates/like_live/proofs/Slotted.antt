@@ -40,15 +40,15 @@ running state.Gone split = absurd split
 mask-slots : (z : Opening) (m : Moment z) (v : DriverView)
     → get_elem? m.views 0 ≡ some (Coord v.lead.seat)
     → IsService v
-    → IsSplit m.state.phase
-    → m.state.hot m.state.phase ≡ slots_mask v.splits.slots
+    → IsSplit m.shown.state.phase
+    → m.shown.state.hot m.shown.state.phase ≡ slots_mask v.splits.slots
 mask-slots z m v driver service odd =
     let c : CoordSeatView = v.lead.seat in
-    let fits : FitsCoord z m.state c = m.shows.seats.each 0 (Coord c) driver in
-    let present : c.phase ≡ m.state.phase = fits.phase.present in
+    let fits : FitsCoord z m.shown.state c = m.shown.shows.seats.each 0 (Coord c) driver in
+    let present : c.phase ≡ m.shown.state.phase = fits.phase.present in
     let split : IsSplit c.phase = subst IsSplit (sym present) odd in
     let past : 1 ≤ c.phase = omega (arith, split) in
-    sym (fits.choice.masks m.state.phase)
+    sym (fits.choice.masks m.shown.state.phase)
     ∙ ap (mask_of c.masks) (sym present ∙ sym (last-split c.phase split))
     ∙ service.splits.released past
 
@@ -69,15 +69,15 @@ plain-split limits phase page many hot is odd below few =
 pub slices_are_slots : SlicesAreSlots
 slices_are_slots z m v s driver service at station split page there =
     let c : CoordSeatView = v.lead.seat in
-    let fits : FitsCoord z m.state c = m.shows.seats.each 0 (Coord c) driver in
+    let fits : FitsCoord z m.shown.state c = m.shown.shows.seats.each 0 (Coord c) driver in
     let opening : c.opening ≡ z = fits.seats.opening in
     let limits : z.limits ≡ service_limits = sym (ap (λ (o : Opening). o.limits) opening) ∙ service.limits in
     let plain : z.marks ≡ replicate (length z.counts) false =
     subst (λ (o : Opening). o.marks ≡ replicate (length o.counts) false) opening service.plain in
     let few : length z.counts ≤ service_limits.pages =
     subst (λ (o : Opening). length o.counts ≤ service_limits.pages) opening service.few_pages in
-    let p = (reached_is_exclusive z m.state m.reachable).1 in
-    let odd : IsSplit m.state.phase = split-now z m.state at.view.worker _ p (state-at z m s at) split in
+    let p = (reached_is_exclusive z m.shown.state m.shown.reachable).1 in
+    let odd : IsSplit m.shown.state.phase = split-now z m.shown.state at.view.worker _ p (state-at z m s at) split in
     let seat : PostView = post_of at.view in
     let runs : RunsSplit seat.state = subst (λ (q : PostView). RunsSplit q.state) at.post split in
     let masked : HasPhaseMask seat = subst HasPhaseMask at.post station.masked in
@@ -85,8 +85,8 @@ slices_are_slots z m v s driver service at station split page there =
     let same : slices s.station.post page ≡ has_bit (slots_mask v.splits.slots) page =
     ap (λ (q : PostView). slices q page) at.post
     ∙ slices_are_split z m at.place at.view page at.there (running seat.state runs) knows
-    ∙ ap (λ (marks : List Bool). split_by z.limits.hot (is_marked marks) m.state.hot m.state.phase page) plain
-    ∙ plain-split z.limits m.state.phase page (length z.counts) m.state.hot limits odd there few
+    ∙ ap (λ (marks : List Bool). split_by z.limits.hot (is_marked marks) m.shown.state.hot m.shown.state.phase page) plain
+    ∙ plain-split z.limits m.shown.state.phase page (length z.counts) m.shown.state.hot limits odd there few
     ∙ ap (λ n. has_bit n page) (mask-slots z m v driver service odd) in
     let tells = slots_tell (λ i. get_or v.splits.slots.slots i 0) v.splits.slots.bits 64 page in
     (λ is. tells.0 (sym same ∙ is), λ is. same ∙ tells.1 is)

@@ -1,6 +1,6 @@
 -- What was added up to a phase, by the deeds in their order.
-use Rattle.std.proofs.Common.{◌≡◌, ℕ, zero, suc, ◌+◌, ◌≤◌, ◌<◌, ◌⊎◌, ◌==◌, ◌&&◌, inl, inr, Bool, true, false, cond, eqb, nat_lt, List, [], ◌∷◌, ◌++◌, length, map, take, get_or, slice_get, Option, Some, None, refl, ap, ap₂, sym, ◌∙◌, subst, arith, eq-eqb, ne_eqb}
-use Rattle.std.specs.List.{AllByRecursion, cons_option, count_by, filter_map, sum_by}
+use Rattle.std.proofs.Common.{◌≡◌, ℕ, zero, suc, ◌+◌, ◌≤◌, ◌<◌, ◌⊎◌, ◌==◌, ◌&&◌, inl, inr, Bool, true, false, cond, nat_lt, List, [], ◌∷◌, length, take, slice_get, Some, refl, ap, ap₂, sym, ◌∙◌, arith, eq-eqb, ne_eqb}
+use Rattle.std.specs.List.{AllByRecursion, count_by}
 use Rattle.std.proofs.lemmas.Bool.{cases_lt}
 use Rattle.std.proofs.lemmas.List.Sums.{sum_by-cons}
 use Rattle.like_core.specs.declared.page_step.PageCall.{PageCall}
@@ -10,7 +10,6 @@ use Rattle.like_core.specs.Additions.{added_before}
 use Rattle.like_core.specs.PageSteps.{additions_among, adds_to, and_addition, likes_of}
 use Rattle.like_core.proofs.core.Labels.{added_before-push}
 use Rattle.like_serial.proofs.Phases.{Rises, all_then, below, not_below}
-use Rattle.like_serial.proofs.Seen.{not_some, some_is}
 use Rattle.like_serial.proofs.Totals.{only-none}
 use Rattle.like_serial.proofs.Weigh.{only, weigh}
 

@@ -1,10 +1,9 @@
 -- What the steps of a seat keep.
-use Rattle.std.proofs.Common.{◌≡◌, ◌≢◌, ℕ, ◌+◌, ◌%◌, ◌<◌, ◌==◌, ◌&&◌, ◌||◌, Bool, true, false, not, cond, nat_lt, List, [], ◌∷◌, ◌++◌, drop, length, map, replicate, get_or, set, Some, None, refl, ap, sym, ◌∙◌, subst, arith, append-nil, append_assoc, eq-eqb, eqb-true, inl, inr}
+use Rattle.std.proofs.Common.{◌≡◌, ℕ, ◌+◌, ◌%◌, ◌<◌, ◌==◌, ◌&&◌, ◌||◌, Bool, true, false, not, cond, List, [], ◌∷◌, ◌++◌, length, get_or, set, Some, None, refl, ap, sym, ◌∙◌, subst, arith, append-nil, append_assoc, eq-eqb, eqb-true, inl, inr}
 use Rattle.std.specs.List.{AllByRecursion, list_any}
 use Rattle.std.proofs.lemmas.Bool.{cases_eq, cond-true}
 use Rattle.std.proofs.lemmas.List.{get_or-set_other, length-replicate, length-set}
 use Rattle.std.proofs.lemmas.List.FromFn.{length-map-range_with_len}
-use Rattle.like_core.specs.declared.limits.Limits.{Limits}
 use Rattle.like_core.specs.declared.view.PhaseMask.{PhaseMask}
 use Rattle.like_core.specs.declared.worker_state.WorkerState.{WorkerState}
 use Rattle.like_core.specs.declared.worker_state.WorkerState.TheVariants.{Runs, Answered, Gone}
@@ -12,24 +11,22 @@ use Rattle.like_core.specs.Phase.{IsSplit, is_hot_by, is_marked}
 use Rattle.like_core.specs.PhaseMasks.{HasMask, mask_of}
 use Rattle.like_core.specs.Post.{PostView, pages_of, slices}
 use Rattle.like_core.specs.WorkerState.{IsRunning, RunsJoined, RunsSplit, phase_of}
-use Rattle.like_requests.specs.declared.verdict.Verdict.{Verdict}
 use Rattle.like_requests.specs.declared.verdict.Verdict.TheVariants.{Accepted, UnknownUser, OtherHome, UnknownPage}
 use Rattle.like_requests.specs.Verdict.{home}
-use Rattle.like_seat.specs.StationView.{HasPhaseMask, IsSliceInSplit, StationView}
+use Rattle.like_seat.specs.StationView.{HasPhaseMask, IsSliceInSplit}
 use Rattle.like_seat.specs.Steps.{masks_entered}
 use Rattle.like_seat.proofs.Looking.{has-after, splits-after}
 use Rattle.like_seat.proofs.MergedLikes.{same_everywhere}
 use Rattle.like_serial.proofs.Phases.{all_append}
-use Rattle.like_tables.specs.Share.{Share, owns}
+use Rattle.like_tables.specs.Share.{owns}
 use Rattle.like_tables.specs.UserTable.{UserTable, last_in}
 use Rattle.like_tables.specs.Waiting.{Waiting}
 use Rattle.like_live.specs.declared.asked.Asked.{Asked}
-use Rattle.like_live.specs.declared.asked.Found.{Found}
 use Rattle.like_live.specs.LiveView.{LiveView, waiting}
 use Rattle.like_live.specs.Calls.{verdict_at}
-use Rattle.like_live.specs.Deeds.{Deed, deed_found, deeds_of}
+use Rattle.like_live.specs.Deeds.{Deed, deeds_of}
 use Rattle.like_live.specs.History.{HasDone, IsUnused, Told}
-use Rattle.like_live.proofs.Stepping.{FollowsSteps, IsRequest, Step, acknowledges, adds_like, by_calls, done_by, finds, glances, holds, looks, next, reads, reports, retires, returns, slices_like, takes}
+use Rattle.like_live.proofs.Stepping.{FollowsSteps, Step, acknowledges, adds_like, by_calls, done_by, finds, glances, holds, looks, next, reads, reports, retires, returns, slices_like, takes}
 use Rattle.like_live.proofs.Telling.{user_there}
 
 -- the user is one of the seat's

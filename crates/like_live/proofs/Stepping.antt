@@ -1,17 +1,17 @@
 -- A call as steps, each of which does one thing to a seat.
-use Rattle.std.proofs.Common.{◌≡◌, ◌≢◌, ℕ, Bool, true, false, cond, List, [], ◌∷◌, ◌++◌, drop, length, map, Option, Some, None, refl, ap, sym, ◌∙◌, subst, arith, append-nil, append_assoc}
+use Rattle.std.proofs.Common.{◌≡◌, ℕ, Bool, true, false, cond, List, [], ◌∷◌, ◌++◌, drop, length, map, Option, Some, None, refl, ap, sym, ◌∙◌, subst, arith, append-nil}
 use Rattle.std.specs.List.{All}
 use Rattle.std.proofs.Math.Seq.{drop-append_seam, drop-length}
-use Rattle.std.proofs.lemmas.List.{drop_all, length-drop}
+use Rattle.std.proofs.lemmas.List.{drop_all}
 use Rattle.like_core.specs.declared.sight.Sight.{Sight}
 use Rattle.like_core.specs.declared.view.Addition.{Addition}
 use Rattle.like_core.specs.declared.worker_state.WorkerState.TheVariants.{Runs, Answered, Gone}
 use Rattle.like_core.specs.Post.{answered, has_glanced, has_read, slices}
 use Rattle.like_core.specs.declared.worker_state.WorkerState.{WorkerState}
-use Rattle.like_core.specs.WorkerState.{IsRunning, RunsJoined, RunsSplit}
+use Rattle.like_core.specs.WorkerState.{IsRunning, IsSightOf, RunsJoined, RunsSplit}
 use Rattle.like_requests.specs.declared.verdict.Verdict.TheVariants.{Accepted}
 use Rattle.like_seat.specs.declared.seen.Seen.{Seen}
-use Rattle.like_seat.specs.Merge.{MergesAll, MergesAndReports, merged}
+use Rattle.like_seat.specs.Merge.{MergesAll, merged}
 use Rattle.like_seat.specs.StationView.{StationView, phase_at}
 use Rattle.like_seat.specs.Steps.{came_back, holding, liked_last, sliced, with_addition}
 use Rattle.like_tables.specs.UserTable.{last_of}
@@ -25,11 +25,11 @@ use Rattle.like_live.specs.declared.asked.Asked.{Asked}
 use Rattle.like_live.specs.declared.asked.Found.{Found}
 use Rattle.like_live.specs.LiveView.{LiveView, waiting, with_station}
 use Rattle.like_live.specs.Moves as moves
-use Rattle.like_live.specs.Moves.{CanSee, FindsAll, IsFoundAt, Moves, MovesBy, Works, acknowledged, looked, with_found}
+use Rattle.like_live.specs.Moves.{FindsAll, IsFoundAt, Moves, MovesBy, Works, acknowledged, looked, with_found}
 use Rattle.like_live.specs.Calls as calls
-use Rattle.like_live.specs.Calls.{ComeBackCase, GlanceCase, GlancesNow, LikeCase, LikesNow, LookCase, LooksNow, RetireCase, RetireWorks, TakesFound, asked_now, retired_seat, verdict_at}
+use Rattle.like_live.specs.Calls.{ComeBackCase, GlanceCase, GlancesNow, LikeCase, LikesNow, LookCase, LooksNow, RetireWorks, TakesFound, asked_in, retired_seat, verdict_at}
 use Rattle.like_live.specs.History.{Does, HasDone, Told, come_back, glance, like, look, retire, take_found, turn}
-use Rattle.like_live.specs.Deeds.{Act, Deed, counted, deed, deed_found, deeds_of, deeds_of_call, found_by, glimpsed, own_deed, showed}
+use Rattle.like_live.specs.Deeds.{Deed, counted, deed, deed_found, deeds_of, deeds_of_call, found_by, glimpsed, own_deed, showed}
 use Rattle.like_live.proofs.Finding.{running}
 
 -- who runs a split phase runs a phase
@@ -67,7 +67,7 @@ pub record IsRequest (v : LiveView) (user page : ℕ) (split : Bool) : Type 0 wh
 
 -- a step of a seat: what it does, and what is known then
 pub data Step (v : LiveView) : Type 0 where
-  looks : (sight : Sight) (mask : ℕ) → CanSee v sight → Step v
+  looks : (sight : Sight) (mask : ℕ) → IsSightOf v.station.post.state sight → Step v
   finds : (found : List Found) → RunsJoined v.station.post.state → map (λ f. f.asked) found ≡ waiting v
       → All (IsFoundAt v.station) found → Step v
   acknowledges : RunsJoined v.station.post.state → Step v
@@ -99,7 +99,7 @@ next v (reads user page shown is last) =
     with_station v (record v.station { post = has_read v.station.post page shown.count })
 next v (glances user page count shown is last) =
     with_station v (record v.station { post = has_glanced v.station.post page count })
-next v (holds user page tag is) = with_station v (holding v.station (asked_now v user page tag))
+next v (holds user page tag is) = with_station v (holding v.station (asked_in (phase_at v.station) user page tag))
 
 -- the deeds that it is
 abbrev pub done_by : (v : LiveView) → Step v → List Deed

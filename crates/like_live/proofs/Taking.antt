@@ -1,5 +1,5 @@
 -- The looks that calls find, and those that are taken.
-use Rattle.std.proofs.Common.{◌≡◌, ℕ, Bool, List, [], ◌∷◌, ◌++◌, drop, length, Option, Some, None, refl, ap, sym, ◌∙◌, subst, arith, append-nil, append_assoc}
+use Rattle.std.proofs.Common.{◌≡◌, ℕ, Bool, List, [], ◌∷◌, ◌++◌, drop, length, Option, ap, sym, ◌∙◌, subst, arith, append-nil, append_assoc}
 use Rattle.std.specs.List.{slice_get}
 use Rattle.std.proofs.Math.Seq.{drop-append_seam}
 use Rattle.std.proofs.lemmas.List.{drop_all}
@@ -10,9 +10,9 @@ use Rattle.like_live.specs.declared.answer.TurnAnswer.{TurnAnswer}
 use Rattle.like_live.specs.declared.asked.Found.{Found}
 use Rattle.like_live.specs.LiveView.{LiveView}
 use Rattle.like_live.specs.Moves as moves
-use Rattle.like_live.specs.Moves.{FindsAll, Moves, MovesBy, Works}
+use Rattle.like_live.specs.Moves.{FindsAll, MovesBy, Works}
 use Rattle.like_live.specs.Calls as calls
-use Rattle.like_live.specs.Calls.{ComeBackCase, GlanceCase, GlancesNow, LikeCase, LikesNow, LookCase, LooksNow, RetireCase, RetireWorks, TakesFound}
+use Rattle.like_live.specs.Calls.{ComeBackCase, GlanceCase, GlancesNow, LikeCase, LikesNow, LookCase, LooksNow, RetireWorks, TakesFound}
 use Rattle.like_live.specs.History.{Does, HasDone, Told, come_back, glance, like, look, retire, take_found, turn}
 use Rattle.like_live.specs.Deeds.{FoundAreTaken, all_found, all_taken, found_by, found_taken}
 

@@ -1,10 +1,10 @@
 -- The counts that a seat's calls were told, and what the seat read.
 use Rattle.std.specs.Prelude.{◌≡◌, ◌⊎◌, ℕ, ◌+◌, ◌≤◌, if◌then◌else◌, true, false, List, drop, slice_index, take, Contains, Some}
-use Rattle.std.specs.List.{sum_by}
 use Rattle.like_core.specs.declared.worker_state.WorkerState.TheVariants.{Runs}
-use Rattle.like_core.specs.Additions.{added_before, added_in, page_read}
+use Rattle.like_core.specs.Additions.{added_in, page_read}
 use Rattle.like_core.specs.Post.{additions_in, slices}
 use Rattle.like_core.specs.PageSteps.{additions_among, glances_among, reads_among}
+use Rattle.like_core.specs.views.PostOrder.{posts_before}
 use Rattle.like_seat.specs.StationView.{phase_at}
 use Rattle.like_live.specs.declared.answer.GlanceAnswer.TheVariants as glanced
 use Rattle.like_live.specs.declared.answer.LookAnswer.TheVariants as looked
@@ -12,7 +12,7 @@ use Rattle.like_live.specs.declared.asked.Found.{Found}
 use Rattle.like_live.specs.Driver.{DriverView}
 use Rattle.like_live.specs.LiveView.{LiveView}
 use Rattle.like_live.specs.History.{Does, HasDone, IsUnused, Told, glance, look, take_found}
-use Rattle.like_live.specs.Service.{AreGone, IsClosedService}
+use Rattle.like_live.specs.Service.{AreGone, IsClosedService, posts_at}
 
 -- a count that a call was told: the phase in which the call ran; the page; how many likes of the page the seat is known
 -- to have counted in that phase before; and the count
@@ -94,16 +94,12 @@ AnswersAreReads =
     → IsUnused v → IsCallOf v now after t
     → IfShown (IsRead after) (IsReadOrGlanced now after) now t
 
--- how much these seats have added to a page in the phases before one
-abbrev pub seats_added_before : List LiveView → ℕ → ℕ → ℕ
-seats_added_before seats phase page = sum_by (λ v. added_before phase page (additions_among v.station.post.did)) seats
-
 -- the count has the page's first count, all that these seats added in earlier phases, and the seat's own likes of the
 -- phase before; and nothing of a later phase
 pub record IsWithinAdded (v : DriverView) (seats : List LiveView) (s : Shown) : Type 0 where
   pub least :
-      slice_index v.lead.seat.opening.counts s.page + seats_added_before seats s.phase s.page + s.own ≤ s.count
-  pub most : s.count ≤ slice_index v.lead.seat.opening.counts s.page + seats_added_before seats (s.phase + 1) s.page
+      slice_index v.lead.seat.opening.counts s.page + posts_before (posts_at seats) s.phase s.page + s.own ≤ s.count
+  pub most : s.count ≤ slice_index v.lead.seat.opening.counts s.page + posts_before (posts_at seats) (s.phase + 1) s.page
 
 -- each count that a seat of a closed service was told is within these bounds
 abbrev pub AnswersAreBounded : Type 0

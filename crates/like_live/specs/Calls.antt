@@ -68,10 +68,6 @@ pub data LikeCase (v : LiveView) (user page : ℕ) (answer : LikeAnswer) (after 
 abbrev pub asked_in : ℕ → ℕ → ℕ → ℕ → Asked
 asked_in phase user page tag = record { tag = tag; user = user; page = page; phase = phase }
 
--- a look that is asked now
-abbrev pub asked_now : LiveView → ℕ → ℕ → ℕ → Asked
-asked_now v user page tag = asked_in (phase_at v.station) user page tag
-
 -- a look is put by: there was room for one more, and it waits behind all others
 pub record PutsBy (v : LiveView) (asked : Asked) (after : LiveView) : Type 0 where
   pub room : length (waiting v) + length v.found < room_of v
@@ -90,7 +86,7 @@ pub data LooksNow (v : LiveView) (user page tag : ℕ) (answer : LookAnswer) (af
       → answer ≡ look.NoRoom → after ≡ v → LooksNow v user page tag answer after
   waits : verdict_at v.station user page ≡ Accepted → slices v.station.post page ≡ true
       → length (waiting v) + length v.found < room_of v
-      → answer ≡ look.Waits → after ≡ with_station v (holding v.station (asked_now v user page tag))
+      → answer ≡ look.Waits → after ≡ with_station v (holding v.station (asked_in (phase_at v.station) user page tag))
       → LooksNow v user page tag answer after
 
 -- look case: the answer to a look, and the seat after; the phase work comes first

@@ -1,10 +1,9 @@
 -- The seats of a service at a moment of its board, which is between any two steps: what the board's rule says of them.
-use Rattle.std.specs.Prelude.{◌≡◌, ℕ, ◌+◌, ◌<◌, ◌↔◌, true, All, List, [], ◌∷◌, Contains, flat_map, length, map, slice_index, sum_by}
+use Rattle.std.specs.Prelude.{◌≡◌, ℕ, ◌+◌, ◌<◌, ◌↔◌, true, All, List, [], Contains, length, map, slice_index, sum_by}
 use mathlib.Core.Option.{some}
 use lib.ListN.{get_elem?}
 use Rattle.like_board.specs.Seats.{BoardId}
 use Rattle.like_core.specs.declared.opening.Opening.{Opening}
-use Rattle.like_core.specs.declared.view.View.{View}
 use Rattle.like_core.specs.declared.view.View.TheVariants.{Coord, Worker}
 use Rattle.like_core.specs.declared.view.WorkerSeatView.{WorkerSeatView}
 use Rattle.like_core.specs.core.Numbers.{AllGone}
@@ -12,6 +11,7 @@ use Rattle.like_core.specs.core.State.{numbers}
 use Rattle.like_core.specs.Post.{PostView, slices}
 use Rattle.like_core.specs.WorkerState.{RunsJoined, RunsSplit}
 use Rattle.like_core.specs.views.Places.{count_after}
+use Rattle.like_core.specs.views.PostOrder.{posts_of}
 use Rattle.like_core.specs.views.Shows.{Moment}
 use Rattle.like_core.specs.views.Views.{post_of}
 use Rattle.like_seat.specs.StationView.{IsStation}
@@ -31,49 +31,32 @@ pub record IsSeatAt (z : Opening) (m : Moment z) (s : LiveView) : Type 0 where
   pub there : get_elem? m.views place ≡ some (Worker view)
   pub post : post_in s ≡ post_of view
 
--- no like is in its slice
-abbrev pub HoldsNone : LiveView → Type 0
-HoldsNone s = (page : ℕ) → slice_index s.station.slice page ≡ 0
-
 -- exclusion: at any moment, while one seat runs a joined phase, no seat runs a split one, and none has a like in its
 -- slice
 abbrev pub SeatsAreExclusive : Type 0
 SeatsAreExclusive =
     (z : Opening) (m : Moment z) (a b : LiveView) → IsSeatAt z m a → IsSeatAt z m b → IsStation b.station
-    → RunsJoined a.station.post.state → ¬ RunsSplit b.station.post.state × HoldsNone b
+    → RunsJoined a.station.post.state
+    → ¬ RunsSplit b.station.post.state × ((page : ℕ) → slice_index b.station.slice page ≡ 0)
 
--- a view, if it is that of a worker's seat
-abbrev pub worker_in : View → List WorkerSeatView
-worker_in (Worker v) = v ∷ []
-worker_in v = []
-
--- the views of the workers' seats, in order
-abbrev pub workers_in : List View → List WorkerSeatView
-workers_in views = flat_map worker_in views
-
--- all seats at a moment: their posts are what the views of the workers' seats mean, and no seat was given back
-pub record AreSeatsAt (z : Opening) (m : Moment z) (seats : List LiveView) : Type 0 where
-  pub posts : map post_in seats ≡ map post_of (workers_in m.views)
-  pub none_back : m.shows.coord.joined ≡ []
+-- all seats at a moment: their posts are what the views of the workers' seats mean, those that were given back included
+abbrev pub AreSeatsAt : (z : Opening) → Moment z → List LiveView → Type 0
+AreSeatsAt z m seats = map post_in seats ≡ posts_of m.views
 
 -- last counts are tallies: at a moment at which all seats are gone, each page's count is its first count and the
 -- tallies of all seats
 abbrev pub LastCountsAreTallies : Type 0
 LastCountsAreTallies =
     (z : Opening) (m : Moment z) (seats : List LiveView) → AreSeatsAt z m seats → All (λ s. IsStation s.station) seats
-    → AllGone (numbers z m.state)
+    → AllGone (numbers z m.shown.state)
     → (page : ℕ) → count_after z.counts m.views page ≡ slice_index z.counts page + sum_by (λ s. tally s page) seats
-
--- a driver at a moment: this is what the coordinator's seat knows then
-abbrev pub IsDriverAt : (z : Opening) → Moment z → DriverView → Type 0
-IsDriverAt z m v = get_elem? m.views 0 ≡ some (Coord v.lead.seat)
 
 -- slices are those of slots: at any moment, a seat that runs a split phase slices exactly the pages in its driver's slots
 abbrev pub SlicesAreSlots : Type 0
 SlicesAreSlots =
-    (z : Opening) (m : Moment z) (v : DriverView) (s : LiveView) → IsDriverAt z m v → IsService v
-    → IsSeatAt z m s → IsStation s.station → RunsSplit s.station.post.state
-    → (page : ℕ) → page < length z.counts
+    (z : Opening) (m : Moment z) (v : DriverView) (s : LiveView)
+    → get_elem? m.views 0 ≡ some (Coord v.lead.seat) → IsService v → IsSeatAt z m s → IsStation s.station
+    → RunsSplit s.station.post.state → (page : ℕ) → page < length z.counts
     → (slices s.station.post page ≡ true) ↔ IsSlotted v.splits.slots page
 
 -- marked pages keep slots: whatever calls a driver was asked, each marked page is in a slot in use

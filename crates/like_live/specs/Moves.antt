@@ -66,20 +66,15 @@ pub data Works (v : LiveView) (ending : Bool) (answer : TurnAnswer) (after : Liv
   reports : (s : StationView Asked) → RunsSplit v.station.post.state → ending ≡ true
       → answer ≡ turn.Between → MergesAndReports v.station s → after ≡ with_station v s → Works v ending answer after
 
--- what a seat can see by a look at the phase word: the phase that it runs; or the one that it has answered, and then it
--- waits; or the next one. A seat that is gone sees nothing
-abbrev pub CanSee : LiveView → Sight → Type 0
-CanSee v sight = IsSightOf v.station.post.state sight
-
 -- a seat looks at the phase word, and acts on it: it is gone, and does not look; or it has answered a phase and waits,
 -- since the next is not released yet; or it runs the phase that it looked at, which it enters by that look if it is the
 -- next one, and then does this
 pub data MovesBy (Runs : LiveView → Bool → TurnAnswer → LiveView → Type 0) (v : LiveView) (answer : TurnAnswer)
     (after : LiveView) : Type 0 where
   is_gone : v.station.post.state ≡ Gone → answer ≡ turn.Gone → after ≡ v → MovesBy Runs v answer after
-  waits : (sight : Sight) (mask : ℕ) → CanSee v sight → sight.waits ≡ true
+  waits : (sight : Sight) (mask : ℕ) → IsSightOf v.station.post.state sight → sight.waits ≡ true
       → answer ≡ turn.Between → after ≡ looked v sight mask → MovesBy Runs v answer after
-  works : (sight : Sight) (mask : ℕ) → CanSee v sight → sight.waits ≡ false
+  works : (sight : Sight) (mask : ℕ) → IsSightOf v.station.post.state sight → sight.waits ≡ false
       → Runs (looked v sight mask) sight.ending answer after → MovesBy Runs v answer after
 
 -- the phase work of a seat

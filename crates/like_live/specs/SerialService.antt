@@ -70,11 +70,22 @@ ServicesAreSerial =
     → (serial : List Deed) × IsSerialService o (map deeds_in histories) serial
     × SnapshotsStand o now.lead.seat.counted serial
 
--- the same at a moment at which all seats are gone and none was given back: C gives none back
+-- a seat's phases never fall, also where it came back: of a service that was opened so and is closed, no deed of a seat
+-- is of an earlier phase than one before it
+abbrev pub SeatsRise : Type 0
+SeatsRise =
+    (o : Opening) (driver now : DriverView) (histories : List SeatHistory) (counts : List ℕ)
+    → AreOpened o driver (map (λ h. h.first) histories)
+    → IsSameDriver driver now
+    → IsClosedService now (map (λ h. h.last) histories) counts
+    → AreGone (map (λ h. h.last) histories)
+    → All (λ h. AllPairs (λ d e. d.phase ≤ e.phase) (deeds_in h)) histories
+
+-- the same at a moment at which all seats are gone, without the seats
 abbrev pub LastMomentsAreSerial : Type 0
 LastMomentsAreSerial =
     (o : Opening) (factor : ℕ) (board : BoardId) (histories : List SeatHistory) (m : Moment (board_opening o factor))
     → AreOpenedSeats o factor board (map (λ h. h.first) histories)
     → AreSeatsAt (board_opening o factor) m (map (λ h. h.last) histories)
-    → AllGone (numbers (board_opening o factor) m.state)
+    → AllGone (numbers (board_opening o factor) m.shown.state)
     → (serial : List Deed) × IsSerialService o (map deeds_in histories) serial

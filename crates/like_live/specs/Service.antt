@@ -1,10 +1,10 @@
 -- What a service is when it is opened, and what is known when it is closed.
 use Rattle.std.specs.Prelude.{◌≡◌, ℕ, ◌+◌, ◌<◌, ◌==◌, All, List, length, map, slice_get, slice_index, Some, count_by}
 use Rattle.std.specs.List.{AllZip, sum_by}
-use Rattle.like_board.specs.Seats.{AreCounted, AreOrdered, BoardId, HaveAddedWithin, HaveGlancedBetween, HavePlaces, HaveReadBetween, HaveReadMasks, board_numbers, seat_meaning}
+use Rattle.like_board.specs.Closed.{IsClosed}
+use Rattle.like_board.specs.Seats.{BoardId, board_numbers, seat_meaning}
 use Rattle.like_board.specs.declared.worker_seat.WorkerSeat.{WorkerSeat}
-use Rattle.like_core.specs.declared.page_step.PageStep.{PageStep}
-use Rattle.like_core.specs.Post.{IsFresh, additions_of}
+use Rattle.like_core.specs.Post.{IsFresh, PostView, additions_of}
 use Rattle.like_core.specs.OpeningLimits.{service_limits}
 use Rattle.like_core.specs.declared.worker_state.WorkerState.TheVariants.{Gone}
 use Rattle.like_tables.specs.Factors.{IsFirstApart}
@@ -59,28 +59,18 @@ AreGone seats = All (λ s. s.station.post.state ≡ Gone) seats
 abbrev pub HasMergedOnceGone : LiveView → Type 0
 HasMergedOnceGone s = s.station.post.state ≡ Gone → (page : ℕ) → tally s page ≡ additions_of s.station.post page
 
+-- what seats mean as posts
+abbrev pub posts_at : List LiveView → List PostView
+posts_at seats = map (λ s. s.station.post) seats
+
 -- the workers' seats that were given back by these seats
 abbrev pub AreBackFrom : List LiveView → List WorkerSeat → Type 0
-AreBackFrom seats back = map seat_meaning back ≡ map (λ s. s.station.post) seats
+AreBackFrom seats back = map seat_meaning back ≡ posts_at seats
 
--- a page's first count, and the tallies of all seats
-abbrev pub total_of : DriverView → List LiveView → ℕ → ℕ
-total_of v seats page = slice_index v.lead.seat.opening.counts page + sum_by (λ s. tally s page) seats
-
--- what is known of a closed service: each page's last count is its total; no seat added in a phase after the driver's;
--- each count that a seat read or glanced at is within its bounds; each snapshot has all additions up to its phase; each
--- phase had one mask; the additions of all seats tile each page's counts; and all that the seats did at pages has one
--- order
+-- what is known of a closed service: each page's last count is its first one and the tallies of all seats; and what is
+-- known of a closed board, where the driver has the coordinator's seat
 pub record IsClosedService (v : DriverView) (seats : List LiveView) (counts : List ℕ) : Type 0 where
   pub len : length counts ≡ length v.lead.seat.opening.counts
-  pub totals : (page : ℕ) → page < length counts → slice_index counts page ≡ total_of v seats page
-  pub back : List WorkerSeat
-  pub posts : AreBackFrom seats back
-  pub added : HaveAddedWithin v.lead.seat.phase back
-  pub reads : HaveReadBetween v.lead.seat.opening v.lead.seat.phase back
-  pub glances : HaveGlancedBetween v.lead.seat.opening v.lead.seat.phase back
-  pub snapshots : AreCounted v.lead.seat back
-  pub masks : HaveReadMasks v.lead.seat.masks back
-  pub places : HavePlaces v.lead.seat.opening back
-  pub steps : List PageStep
-  pub order : AreOrdered v.lead.seat.opening v.lead.seat.phase back steps
+  pub totals : (page : ℕ) → page < length counts
+      → slice_index counts page ≡ slice_index v.lead.seat.opening.counts page + sum_by (λ s. tally s page) seats
+  pub closed : IsClosed v.lead.seat (posts_at seats)

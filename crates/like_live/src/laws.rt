@@ -5,7 +5,7 @@ ghost use Rattle.like_live.specs.CrossedLooks.{CrossedLooksAreNotSerial};
 ghost use Rattle.like_live.specs.Deeds.{DeedsShowLasts, FoundAreTaken};
 ghost use Rattle.like_live.specs.Driver.{LastCountsStay};
 ghost use Rattle.like_live.specs.History.{HistoriesAreCounted, NoneWaitsOnceGone};
-ghost use Rattle.like_live.specs.SerialService.{LastMomentsAreSerial, ServicesAreSerial};
+ghost use Rattle.like_live.specs.SerialService.{LastMomentsAreSerial, SeatsRise, ServicesAreSerial};
 ghost use Rattle.like_live.specs.Moments.{LastCountsAreTallies, MarkedKeepSlots, SeatsAreExclusive, SlicesAreSlots};
 
 /// Whatever calls a fresh seat is asked: a page's tally is the number of its likes that were told `Liked`. A user's
@@ -84,12 +84,17 @@ pub fn services_are_serial()
     ensures { ServicesAreSerial }
 {}
 
+/// A seat's phases never fall, also where it came back: no deed of a seat is of an earlier phase than one before it.
+pub fn seats_rise()
+    ensures { SeatsRise }
+{}
+
 /// An example: two seats like a page each, and then each looks at the page that the other liked. Not both looks show 0.
 pub fn crossed_looks_are_not_serial()
     ensures { CrossedLooksAreNotSerial }
 {}
 
-/// There is such a list at each moment at which all seats are gone and none was given back, as in C.
+/// There is such a list at each moment at which all seats are gone, also where none is given back, as in C.
 pub fn last_moments_are_serial()
     ensures { LastMomentsAreSerial }
 {}

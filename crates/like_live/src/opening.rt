@@ -1,7 +1,6 @@
-ghost use Rattle.std.specs.Prelude.{◌≡◌, ◌⊎◌, ◌%◌, ◌<◌, ◌≤◌, ◌↔◌, All, IsTrue, MatchResult};
+ghost use Rattle.std.specs.Prelude.{◌≡◌, ◌%◌, ◌<◌, ◌≤◌, ◌↔◌, IsTrue, MatchResult};
 ghost use Rattle.like_requests.specs.Setup.{IsHotLimit};
 ghost use Rattle.like_tables.specs.Factors.{IsFirstApart};
-ghost use Rattle.like_tables.specs.LastLike.{no_page};
 ghost use Rattle.like_live.specs.Opening.{AreLasts, AreMarks, AreWithinLimits, Asking, IsFirstWrong, IsWithinLimits, asking};
 
 use crate::open_error::OpenError;

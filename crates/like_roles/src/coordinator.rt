@@ -1,5 +1,5 @@
 ghost use Rattle.std.specs.Prelude.{◌≡◌, ◌≤◌, [], IfErr, IfOk};
-ghost use Rattle.like_board.specs.Led.{IsLedBy, ShowsTold, led};
+ghost use Rattle.like_board.specs.Led.{IsLedBy, IsSightOf, ShowsTold, led};
 ghost use Rattle.like_board.specs.Seats.{board_id};
 ghost use Rattle.like_core.specs.Phase.{last_phase, IsJoined};
 ghost use Rattle.like_core.specs.OpeningLimits.{run_limits};
@@ -7,7 +7,7 @@ ghost use Rattle.like_core.specs.views.Actions.{Surveys};
 ghost use Rattle.like_core.specs.views.Views.{SawAllIn};
 ghost use Rattle.like_seat.specs.Lead.{saw_word};
 ghost use Rattle.like_roles.specs.coordinator.Choice.{Chooses, choice_of, first_choice, ReleasesNext};
-ghost use Rattle.like_roles.specs.coordinator.CoordTurns.{ChoseByCounts, CoordTurns, HasEndedJoined, IsBeforeEnd, IsCoordSight, TurnsAt};
+ghost use Rattle.like_roles.specs.coordinator.CoordTurns.{ChoseByCounts, CoordTurns, HasEndedJoined, IsBeforeEnd, TurnsAt};
 
 mod choices;
 
@@ -62,7 +62,7 @@ fn look_at_run<B, S: LeadsAt<B>>(lead: &mut LeadOf<S>, board: &mut B) -> CoordSi
     requires here { IsLedBy (S.tells board.old) lead.old.board lead.old.seat }
     requires run { lead.old.seat.opening.limits ≡ run_limits }
     ensures saw { lead.new ≡ saw_word lead.old lead.new.seat.word result }
-    ensures shows { IsCoordSight lead.old.seat result }
+    ensures shows { IsSightOf lead.old.seat result }
     ensures within { lead.old.seat.phase ≤ last_phase }
     ensures event { Surveys lead.old.seat result lead.new.seat }
     ensures fresh { ShowsTold (S.tells board.old) lead.old.seat.phase result }

@@ -11,8 +11,6 @@ use lib.ListN.{get_elem?}
 use Rattle.atomic_table.proofs.Lists.{at_set, at_snoc, at_longer, set_here}
 use Rattle.like_limits.specs.Limits.{hot_pages}
 use Rattle.like_core.specs.declared.opening.Opening.{Opening}
-use Rattle.like_core.specs.declared.view.Addition.{Addition}
-use Rattle.like_core.specs.declared.view.PageRead.{PageRead}
 use Rattle.like_core.specs.declared.view.PhaseMask.{PhaseMask}
 use Rattle.like_core.specs.declared.view.WorkerSeatView.{WorkerSeatView}
 use Rattle.like_core.specs.declared.view.CoordSeatView.{CoordSeatView}
@@ -22,7 +20,7 @@ use Rattle.like_core.specs.core.State.{CoreState}
 use Rattle.like_core.specs.word.ShownWord.{shown_word}
 use Rattle.like_core.specs.Additions.{added_before}
 use Rattle.like_core.specs.views.Views.{fresh, made_coord, seats_of}
-use Rattle.like_core.specs.views.Reads.{before_in, all_before, IsBetween, HaveBetween, IsCounted, StandsBetween}
+use Rattle.like_core.specs.views.Reads.{before_in, all_before, IsCounted}
 use Rattle.like_core.specs.views.Layout.{slot_in, word_of}
 use Rattle.like_core.specs.views.Shows.{Shows, Fits, FitsWorker, FitsCoord, FixesMask, IsChosen, mask_in}
 use Rattle.like_core.proofs.views.Apart.{word_of-past}

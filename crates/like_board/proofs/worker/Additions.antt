@@ -1,7 +1,7 @@
 -- An addition to a page's word is its events, and keeps what the board shows.
-use Rattle.std.proofs.Common.{◌≡◌, ◌≢◌, ℕ, ◌+◌, ◌*◌, ◌-◌, ◌%◌, ◌^◌, ◌<◌, ◌≤◌, ◌==◌, ◌&&◌, nat_lt, Bool, true, false, cond, inl, inr, List, ◌∷◌, ◌++◌, All, length, get_or, set, replicate, subst, ap, sym, ◌∙◌, refl, eq-eqb, arith}
+use Rattle.std.proofs.Common.{◌≡◌, ◌≢◌, ℕ, ◌+◌, ◌*◌, ◌-◌, ◌%◌, ◌^◌, ◌<◌, ◌≤◌, ◌==◌, ◌&&◌, Bool, true, false, cond, inl, inr, List, ◌∷◌, ◌++◌, All, length, get_or, set, replicate, subst, ap, sym, ◌∙◌, refl, eq-eqb, arith, fold}
 use Rattle.std.specs.List.{sum_by}
-use Rattle.std.proofs.lemmas.Bool.{cases_eq, cases_lt, lt-ltb, ne_eqb}
+use Rattle.std.proofs.lemmas.Bool.{cases_eq, cases_lt, ne_eqb}
 use Rattle.std.proofs.lemmas.List.{length-append, length-replicate}
 use Rattle.std.proofs.lemmas.List.Elements.{All-get_or}
 use mathlib.Core.Option.{some}
@@ -20,21 +20,20 @@ use Rattle.like_limits.specs.Limits.{max_count}
 use Rattle.like_core.specs.Functions.{update}
 use Rattle.like_core.specs.core.Table.{IsShown}
 use Rattle.like_core.specs.core.State.{CoreState, Label, is_split_now, labelled, after, numbers}
-use Rattle.like_core.specs.core.Reachable.{after_all}
 use Rattle.like_core.specs.core.Moves.{Reached, makes}
 use Rattle.like_core.specs.WorkerState.{IsIn, phase_of}
 use Rattle.like_core.specs.Post.{PostView, MayAdd, slices}
 use Rattle.like_core.specs.Additions.{added_to, added_in}
 use Rattle.like_core.specs.PageSteps.{additions_among, page_step}
 use Rattle.like_core.specs.views.Views.{added_view, post_of, likes_merged, adding}
-use Rattle.like_core.specs.views.Reads.{before_in, all_before, IsCounted}
+use Rattle.like_core.specs.views.Reads.{all_before, IsCounted}
 use Rattle.like_core.specs.views.Order.{AppliesTo, IsOrder}
 use Rattle.like_core.specs.views.Tallies.{Tallied, paged, room}
 use Rattle.like_core.specs.views.Layout.{word_of}
 use Rattle.like_core.specs.views.Shows.{Shows, ShowsSome, FitsWorker, FitsCoord, IsPageStep}
 use Rattle.like_core.proofs.Updates.{update-same, update-other, update_cases}
 use Rattle.like_core.proofs.core.Moved.{moved_in_phase, moves_by, moves_by_all}
-use Rattle.like_core.proofs.core.Labels.{label, labelled-append, labels_else, labels_here, added_in-push, added_before-push, added_to-push, added_in_else, added_to_here, added_to_else}
+use Rattle.like_core.proofs.core.Labels.{label, labelled-append, labels_else, labels_here, added_in-push, added_in_else, added_to_here, added_to_else}
 use Rattle.like_core.proofs.core.Adding.{Adding, with_applied, adds_either}
 use Rattle.like_core.proofs.views.KeptOrder.{page_step_keeps_order}
 use Rattle.like_core.proofs.views.KeptCounts.{addition_before, counted_on}
@@ -273,9 +272,9 @@ adds z words views place v page n some_state at may =
     (fits_added z s v page count n a.rest old present)
     (counted_added z s words views place v page count n sh at (here ∙ ap Runs now) present)
     in
-    let last : CoreState = after z (after_all z s (likes_merged v page n)) (adding v page) in
+    let last : CoreState = after z (fold (after z) s (likes_merged v page n)) (adding v page) in
     let reached : Reached z last =
-    moves_by z (after_all z s (likes_merged v page n)) (adding v page)
+    moves_by z (fold (after z) s (likes_merged v page n)) (adding v page)
     (moves_by_all z s (likes_merged v page n) some_state.reachable a.before)
     a.permits
     in
@@ -294,7 +293,7 @@ adds z words views place v page n some_state at may =
           happen = record {
             before = a.before;
             permits = a.permits;
-            tells = subst (λ (k : ℕ). IsShown (numbers z (after_all z s (likes_merged v page n))) (adding v page)
+            tells = subst (λ (k : ℕ). IsShown (numbers z (fold (after z) s (likes_merged v page n))) (adding v page)
                 (Old k)) (sym found) a.tells;
           };
           changed = word_of page;

@@ -24,7 +24,7 @@ use Rattle.like_core.specs.core.Moves.{NoneReturns}
 use Rattle.like_core.specs.word.ShownWord.{shown_word}
 use Rattle.like_core.specs.Additions.{added_before}
 use Rattle.like_core.specs.views.Views.{seats_of}
-use Rattle.like_core.specs.views.Reads.{all_before, HaveBetween, IsCounted}
+use Rattle.like_core.specs.views.Reads.{all_before, IsCounted}
 use Rattle.like_core.specs.views.Layout.{mask_place, slot_place, word_of}
 use Rattle.like_core.specs.views.Shows.{IsKnown, Shows, ShowsSome, Moment, Fits, FitsWorker, FitsCoord, FixesMask, IsChosen, mask_in}
 use Rattle.like_core.specs.views.Serves.{moved}
@@ -48,16 +48,7 @@ keeps_elsewhere words place word no_slot no_mask = record {
 
 -- the moment at which words and views show some state
 abbrev pub moment_of : (z : Opening) (words : List ℕ) (views : List View) → ShowsSome z words views → Moment z
-moment_of z words views some_state = record {
-  words = words;
-  views = views;
-  state = some_state.state;
-  reachable = some_state.reachable;
-  shows = some_state.shows;
-  tallied = some_state.tallied;
-  steps = some_state.steps;
-  order = some_state.order;
-}
+moment_of z words views some_state = record { words = words; views = views; shown = some_state }
 
 -- after a step of a seat at its place, its new view is known
 pub known_of : (z : Opening) (words : List ℕ) (views : List View) (place : ℕ) (v w : View)

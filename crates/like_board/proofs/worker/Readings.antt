@@ -29,8 +29,6 @@ use Rattle.like_core.specs.Slots.{IsChoice}
 use Rattle.like_core.specs.Additions.{added_before, added_in, added_to}
 use Rattle.like_core.specs.PageSteps.{additions_among, page_step}
 use Rattle.like_core.specs.views.Views.{read_view, glanced_view, masked_view, slotted_view, slots_read, MayReadSlot, post_of}
-use Rattle.like_core.specs.views.Reads.{all_before, HaveBetween}
-use Rattle.like_core.specs.views.Places.{count_after}
 use Rattle.like_core.specs.views.Order.{ComesNext, IsOrder}
 use Rattle.like_core.specs.views.Tallies.{paged}
 use Rattle.like_core.specs.views.Layout.{mask_place, slot_in, slot_place, word_of}

@@ -1,5 +1,5 @@
 //! How an answer goes into the phase word of a board that one thread owns.
-ghost use Rattle.std.specs.Prelude.{◌≡◌, length, slice_set};
+ghost use Rattle.std.specs.Prelude.{◌≡◌, slice_set};
 ghost use mathlib.Core.Option.{none, some};
 ghost use lib.ListN.{get_elem?};
 ghost use Rattle.atomic_table.specs.Table.{Allows, step};

@@ -1,5 +1,5 @@
 -- An addition to a page's count as events of the core: a like, or likes of a slice and their merge.
-use Rattle.std.proofs.Common.{◌≡◌, ℕ, zero, suc, ◌+◌, ◌<◌, Bool, true, false, cond, List, [], ◌∷◌, ◌++◌, length, get_or, replicate, subst, ap, sym, ◌∙◌, refl, eq-eqb, arith}
+use Rattle.std.proofs.Common.{◌≡◌, ℕ, zero, suc, ◌+◌, ◌<◌, Bool, true, false, cond, List, [], ◌∷◌, ◌++◌, length, get_or, replicate, subst, ap, sym, ◌∙◌, refl, eq-eqb, arith, fold}
 use Rattle.std.proofs.lemmas.Bool.{cond-false}
 use Rattle.like_core.specs.declared.worker_state.WorkerState.TheVariants.{Runs}
 use Rattle.like_core.specs.declared.event.Event.{Event}
@@ -11,7 +11,7 @@ use Rattle.like_core.specs.Functions.{sum_below, update, times}
 use Rattle.like_core.specs.core.Numbers.{total}
 use Rattle.like_core.specs.core.Table.{Permits, IsShown}
 use Rattle.like_core.specs.core.State.{Label, CoreState, without, is_split_now, after, numbers}
-use Rattle.like_core.specs.core.Reachable.{after_all, PermitsAll}
+use Rattle.like_core.specs.core.Reachable.{PermitsAll}
 use Rattle.like_core.proofs.Updates.{update-same, update-other, update_cases}
 use Rattle.like_core.proofs.Times.{times-cons_same}
 use Rattle.like_core.proofs.core.GivenLikes.{given_to, given_to-cons, given_to-nil, total-given_to, after-like}
@@ -47,7 +47,7 @@ likes_of : (z : Opening) (s : CoreState) (i page n : ℕ)
     → is_split_now z s page ≡ true
     → total (numbers z s) page + n < total_bound
     → PermitsAll z s (replicate n (Like i page))
-    × (after_all z s (replicate n (Like i page)) ≡ given_to s i (replicate n page))
+    × (fold (after z) s (replicate n (Like i page)) ≡ given_to s i (replicate n page))
 likes_of z s i page zero there on runs sliced room = (tt, sym (given_to-nil s i))
 likes_of z s i page (suc n) there on runs sliced room =
     let one : CoreState = given_to s i (page ∷ []) in
@@ -60,7 +60,7 @@ likes_of z s i page (suc n) there on runs sliced room =
     record { there = (there, on); suits = runs; leaves_last = tt; room = omega arith }
     in (
       (may, subst (λ (u : CoreState). PermitsAll z u (replicate n (Like i page))) (sym first) rest.0),
-      ap (λ (u : CoreState). after_all z u (replicate n (Like i page))) first ∙
+      ap (λ (u : CoreState). fold (after z) u (replicate n (Like i page))) first ∙
           (rest.1 ∙ given_to-cons s i page (replicate n page)),
     )
 
@@ -71,11 +71,11 @@ with_applied s rest page more = record s { unmerged = rest; applied = update s.a
 -- an addition of n by worker i to a page, as some events and a last one
 pub record Adding (z : Opening) (s : CoreState) (i page n : ℕ) (events : List Event) (event : Event) : Type 0 where
   pub before : PermitsAll z s events
-  pub permits : Permits (numbers z (after_all z s events)) event
-  pub tells : IsShown (numbers z (after_all z s events)) event (Old (get_or z.counts page 0 + length (s.applied page)))
+  pub permits : Permits (numbers z (fold (after z) s events)) event
+  pub tells : IsShown (numbers z (fold (after z) s events)) event (Old (get_or z.counts page 0 + length (s.applied page)))
   pub rest : ℕ → List ℕ
   pub merged : (j : ℕ) → rest j ≡ []
-  pub leads : after z (after_all z s events) event ≡ with_applied s rest page (replicate n (label i s.phase))
+  pub leads : after z (fold (after z) s events) event ≡ with_applied s rest page (replicate n (label i s.phase))
 
 -- a like of a page that is not sliced
 adds_plain : (z : Opening) (s : CoreState) (i page : ℕ)

@@ -1,11 +1,12 @@
-use Rattle.std.proofs.Common.{◌≡◌, List, [], ◌∷◌, subst, sym, ◌∙◌}
+use Rattle.std.proofs.Common.{◌≡◌, List, [], ◌∷◌, fold, subst, sym, ◌∙◌}
 use Rattle.like_core.specs.declared.event.Event.{Event}
 use Rattle.like_core.specs.declared.opening.Opening.{Opening}
 use Rattle.like_core.specs.declared.pure_core.Core.{Core}
 use Rattle.like_core.specs.core.Numbers.{Numbers}
-use Rattle.like_core.specs.core.Table.{Permits, PermitsEach, next, next_all}
+use Rattle.like_core.specs.core.Table.{Permits, next}
 use Rattle.like_core.specs.core.State.{CoreState, start, after, numbers}
-use Rattle.like_core.specs.core.Reachable.{after_all, PermitsAll}
+use Rattle.like_core.specs.core.Reachable.{PermitsAll}
+use Rattle.like_core.specs.Functions.{MayAll}
 use Rattle.like_core.specs.core.Exclusive.{ReachableIsExclusive}
 use Rattle.like_core.specs.core.Core.{numbers_of, StandsFor, IsReachable, KeepsReachable, IsCoreExclusive}
 use Rattle.like_core.proofs.core.NumbersAfter.{numbers-after}
@@ -19,11 +20,11 @@ reachable_is_exclusive z s r = let p = reached_in_phase z s r in (exclusive z s 
 
 -- events that the numbers of a state permit are permitted in the state
 pub PermitsAll_from_each : (z : Opening) (s : CoreState) (events : List Event)
-    → PermitsEach (numbers z s) events
+    → MayAll next Permits (numbers z s) events
     → PermitsAll z s events
 PermitsAll_from_each z s [] may = tt
 PermitsAll_from_each z s (event ∷ events) may =
-    let then_may = subst (λ (n : Numbers). PermitsEach n events) (sym (numbers-after z s event)) may.1 in
+    let then_may = subst (λ (n : Numbers). MayAll next Permits n events) (sym (numbers-after z s event)) may.1 in
     (may.0, PermitsAll_from_each z (after z s event) events then_may)
 
 -- a core that stands for the start stands for a state that can be reached
@@ -32,13 +33,13 @@ starts_reachable core z stands = record { state = start z; stands = stands; reac
 
 -- permitted events keep a core reachable
 pub keeps_reachable_all : (old new : Core) (events : List Event)
-    → PermitsEach (numbers_of old) events
-    → numbers_of new ≡ next_all (numbers_of old) events
+    → MayAll next Permits (numbers_of old) events
+    → numbers_of new ≡ fold next (numbers_of old) events
     → KeepsReachable old new
 keeps_reachable_all old new events may now z r =
-    let may_in = subst (λ (n : Numbers). PermitsEach n events) r.stands may in
+    let may_in = subst (λ (n : Numbers). MayAll next Permits n events) r.stands may in
     record {
-      state = after_all z r.state events;
+      state = fold (after z) r.state events;
       stands = takes_states_all old new events now z r.state r.stands;
       reachable = goes_on z r.state events r.reachable (PermitsAll_from_each z r.state events may_in);
     }

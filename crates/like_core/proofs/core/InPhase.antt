@@ -1,4 +1,4 @@
-use Rattle.std.proofs.Common.{◌≡◌, ◌≢◌, ℕ, ◌+◌, ◌%◌, ◌<◌, ◌≤◌, ◌==◌, nat_lt, ◌⊎◌, inl, inr, Bool, true, false, ◌||◌, cond, List, [], ◌∷◌, ◌++◌, subst, ap, sym, ◌∙◌, refl, arith}
+use Rattle.std.proofs.Common.{◌≡◌, ◌≢◌, ℕ, ◌+◌, ◌%◌, ◌<◌, ◌≤◌, ◌==◌, nat_lt, ◌⊎◌, inl, inr, Bool, true, false, ◌||◌, cond, List, [], ◌∷◌, ◌++◌, subst, ap, sym, ◌∙◌, refl, arith, fold}
 use Rattle.std.proofs.lemmas.Bool.{cases_lt, eqb-true, and_parts, cond-false, le-ltb}
 use Rattle.like_core.specs.declared.worker_state.WorkerState.{WorkerState}
 use Rattle.like_core.specs.declared.worker_state.WorkerState.TheVariants.{Runs, Answered, Gone}
@@ -11,7 +11,7 @@ use Rattle.like_core.specs.WorkerState.{IsIn, looked}
 use Rattle.like_core.specs.core.Numbers.{Numbers}
 use Rattle.like_core.specs.core.Table.{Permits}
 use Rattle.like_core.specs.core.State.{CoreState, Label, start, without, is_split_now, after, numbers}
-use Rattle.like_core.specs.core.Reachable.{Reachable, after_all, PermitsAll}
+use Rattle.like_core.specs.core.Reachable.{Reachable, PermitsAll}
 use Rattle.like_core.specs.core.Moves.{MayReturn, after_return}
 use Rattle.like_core.specs.core.Exclusive.{IsExclusive, IsInPhase}
 use Rattle.like_core.proofs.Updates.{update-other, update_cases}
@@ -261,7 +261,7 @@ return_in_phase z s i p may =
 pub keeps_in_phase_all : (z : Opening) (s : CoreState) (events : List Event)
     → IsInPhase z s
     → PermitsAll z s events
-    → IsInPhase z (after_all z s events)
+    → IsInPhase z (fold (after z) s events)
 keeps_in_phase_all z s [] p may = p
 keeps_in_phase_all z s (event ∷ events) p may =
     keeps_in_phase_all z (after z s event) events (keeps_in_phase z s event p may.0) may.1

@@ -1,29 +1,16 @@
 -- The states that moves reach.
-use Rattle.std.proofs.Common.{◌≡◌, ℕ, List, [], ◌∷◌, ◌++◌, subst, ap, sym, ◌∙◌, refl}
+use Rattle.std.proofs.Common.{ℕ, List, [], ◌∷◌, ◌++◌, subst, ap, sym, ◌∙◌, refl, fold}
+use Rattle.std.proofs.lemmas.List.Sums.{fold-append}
 use Rattle.like_core.specs.declared.event.Event.{Event}
 use Rattle.like_core.specs.declared.opening.Opening.{Opening}
 use Rattle.like_core.specs.core.Table.{Permits}
 use Rattle.like_core.specs.core.State.{CoreState, start, after, numbers}
-use Rattle.like_core.specs.core.Reachable.{Reachable, after_all, PermitsAll}
-use Rattle.like_core.specs.core.Moves.{Move, makes, comes_back, glances, LetsReturn, MayMove, MayMoveAll, MayReturn, NobodyReturns, Reached, after_move, after_moves, after_return}
+use Rattle.like_core.specs.core.Reachable.{Reachable, PermitsAll}
+use Rattle.like_core.specs.Functions.{MayAll}
+use Rattle.like_core.specs.core.Moves.{Move, makes, comes_back, glances, LetsReturn, MayMove, MayReturn, NobodyReturns, Reached, after_move, after_return}
 use Rattle.like_core.specs.core.Exclusive.{IsInPhase, ReachedIsExclusive}
 use Rattle.like_core.proofs.core.InPhase.{exclusive, keeps_in_phase, return_in_phase, start_in_phase}
-use Rattle.like_core.proofs.core.Reached.{start_reached, goes_on_by}
-
--- the state after two lists of moves
-after_moves-append : (z : Opening) (s : CoreState) (first more : List Move)
-    → after_moves z s (first ++ more) ≡ after_moves z (after_moves z s first) more
-after_moves-append z s [] more = refl
-after_moves-append z s (move ∷ first) more = after_moves-append z (after_move z s move) first more
-
--- two lists of moves may be made one after the other
-MayMoveAll-append : (z : Opening) (s : CoreState) (first more : List Move)
-    → MayMoveAll z s first
-    → MayMoveAll z (after_moves z s first) more
-    → MayMoveAll z s (first ++ more)
-MayMoveAll-append z s [] more may then_may = then_may
-MayMoveAll-append z s (move ∷ first) more may then_may =
-    (may.0, MayMoveAll-append z (after_move z s move) first more may.1 then_may)
+use Rattle.like_core.proofs.core.Reached.{MayAll-append, start_reached, goes_on_by}
 
 -- the start is reached
 pub moves_begin : (z : Opening) → Reached z (start z)
@@ -37,9 +24,9 @@ moves_on : (z : Opening) (s : CoreState) (move : Move)
 moves_on z s move r may = record {
   moves = r.moves ++ move ∷ [];
   may =
-      MayMoveAll-append z (start z) r.moves (move ∷ []) r.may
-      (subst (λ (t : CoreState). MayMoveAll z t (move ∷ [])) (sym r.reached) (may, tt));
-  reached = after_moves-append z (start z) r.moves (move ∷ []) ∙ ap (λ (t : CoreState). after_move z t move) r.reached;
+      MayAll-append (after_move z) (MayMove z) (start z) r.moves (move ∷ []) r.may
+      (subst (λ (t : CoreState). MayAll (after_move z) (MayMove z) t (move ∷ [])) (sym r.reached) (may, tt));
+  reached = fold-append (after_move z) (start z) r.moves (move ∷ []) ∙ ap (λ (t : CoreState). after_move z t move) r.reached;
 }
 
 -- after one permitted event more
@@ -53,7 +40,7 @@ moves_by z s event r may = moves_on z s (makes event) r may
 pub moves_by_all : (z : Opening) (s : CoreState) (events : List Event)
     → Reached z s
     → PermitsAll z s events
-    → Reached z (after_all z s events)
+    → Reached z (fold (after z) s events)
 moves_by_all z s [] r may = r
 moves_by_all z s (event ∷ events) r may =
     moves_by_all z (after z s event) events (moves_by z s event r may.0) may.1
@@ -73,8 +60,8 @@ move_in_phase z s (glances i page) p may = p
 
 moves_in_phase : (z : Opening) (s : CoreState) (moves : List Move)
     → IsInPhase z s
-    → MayMoveAll z s moves
-    → IsInPhase z (after_moves z s moves)
+    → MayAll (after_move z) (MayMove z) s moves
+    → IsInPhase z (fold (after_move z) s moves)
 moves_in_phase z s [] p may = p
 moves_in_phase z s (move ∷ moves) p may =
     moves_in_phase z (after_move z s move) moves (move_in_phase z s move p may.0) may.1
@@ -92,8 +79,8 @@ reached_is_exclusive z s r = let p = moved_in_phase z s r in (exclusive z s p, p
 events_alone : (z : Opening) (s : CoreState) (moves : List Move)
     → ¬ LetsReturn z.limits
     → Reachable z s
-    → MayMoveAll z s moves
-    → Reachable z (after_moves z s moves)
+    → MayAll (after_move z) (MayMove z) s moves
+    → Reachable z (fold (after_move z) s moves)
 events_alone z s [] nobody r may = r
 events_alone z s (makes event ∷ moves) nobody r may =
     events_alone z (after z s event) moves nobody (goes_on_by z s event r may.0) may.1

@@ -1,5 +1,5 @@
 -- Once all are in, nothing changes before the release but that its end is announced, where none may come back.
-use Rattle.std.proofs.Common.{◌≡◌, ◌≢◌, ℕ, ◌<◌, nat_lt, true, false, [], ◌∷◌, ◌⊎◌, inl, inr, subst, ap, sym, ◌∙◌, refl, arith}
+use Rattle.std.proofs.Common.{◌≡◌, ◌≢◌, ℕ, ◌<◌, nat_lt, true, false, [], ◌∷◌, ◌⊎◌, inl, inr, subst, ap, sym, ◌∙◌, refl, arith, fold}
 use Rattle.std.proofs.lemmas.Bool.{cond-false, le-ltb}
 use Rattle.like_core.specs.declared.worker_state.WorkerState.{WorkerState}
 use Rattle.like_core.specs.declared.worker_state.WorkerState.TheVariants.{Runs, Answered, Gone}
@@ -11,7 +11,8 @@ use Rattle.like_core.specs.WorkerState.{IsIn, looked}
 use Rattle.like_core.specs.core.Numbers.{AllIn}
 use Rattle.like_core.specs.core.Table.{Permits}
 use Rattle.like_core.specs.core.State.{CoreState, after, numbers}
-use Rattle.like_core.specs.core.Moves.{AllInStays, AllStayIn, MayMove, MayMoveAll, MayReturn, Move, NoneReturns, makes, comes_back, glances, after_move, after_moves}
+use Rattle.like_core.specs.Functions.{MayAll}
+use Rattle.like_core.specs.core.Moves.{AllInStays, AllStayIn, MayMove, MayReturn, Move, NoneReturns, makes, comes_back, glances, after_move}
 use Rattle.like_core.specs.views.Serves.{moved}
 use Rattle.like_core.proofs.Updates.{update_cases}
 
@@ -89,8 +90,8 @@ all_in_stays z s [] ending all may none = refl
 all_in_stays z s (move ∷ moves) ending all may none =
     let same : after_move z s move ≡ s =
     stays s (after_move z s move) ending (move_leaves z s move (λ _. ending) all may.0 none.0) in
-    ap (λ (t : CoreState). after_moves z t moves) same
-    ∙ all_in_stays z s moves ending all (subst (λ (t : CoreState). MayMoveAll z t moves) same may.1) none.1
+    ap (λ (t : CoreState). fold (after_move z) t moves) same
+    ∙ all_in_stays z s moves ending all (subst (λ (t : CoreState). MayAll (after_move z) (MayMove z) t moves) same may.1) none.1
 
 -- all stay in, and none may come back still
 move_keeps_in : (z : Opening) (s t : CoreState)

@@ -21,10 +21,10 @@ pub counted_now : (z : Opening) (c : CoordSeatView) (m : Moment z)
     → get_elem? m.views 0 ≡ some (Coord c)
     → All (λ r. r.phase ≡ c.phase → r.count ≡ count_after z.counts m.views r.page) c.counted
 counted_now z c m mine = λ k d below at.
-    let sh = m.shows in
+    let sh = m.shown.shows in
     let first = sh.seats.first in
     let same : sh.coord ≡ c = cc in
-    let fits : FitsCoord z m.state c = sh.seats.each 0 (Coord c) mine in
+    let fits : FitsCoord z m.shown.state c = sh.seats.each 0 (Coord c) mine in
     let counted : All (IsCounted z.counts (all_before m.views)) c.counted =
     subst (λ (e : CoordSeatView). All (IsCounted z.counts (all_before m.views)) e.counted) same sh.counted in
     let r : PageCount = get_or c.counted k d in
@@ -41,10 +41,10 @@ pub end_known : (z : Opening) (c : CoordSeatView) (sight : CoordSight)
     → IsLastMoment z c
 end_known z c sight known last ending all_in all_gone =
     let m = known.moment in
-    let fits : FitsCoord z m.state c = m.shows.seats.each known.place (Coord c) known.mine in
-    let place : known.place ≡ 0 = m.shows.seats.only known.place c known.mine in
+    let fits : FitsCoord z m.shown.state c = m.shown.shows.seats.each known.place (Coord c) known.mine in
+    let place : known.place ≡ 0 = m.shown.shows.seats.only known.place c known.mine in
     let sees = subst (λ (o : Option CoordSight). IfSome o (λ s. s.ending ≡ true → s.all_in ≡ true
-    → CoordSees (numbers z m.state) s × (c.word ≡ shown_word z m.state))) last fits.phase.stays ending all_in in
+    → CoordSees (numbers z m.shown.state) s × (c.word ≡ shown_word z m.shown.state))) last fits.phase.stays ending all_in in
     record {
       moment = m;
       mine = subst (λ i. get_elem? m.views i ≡ some (Coord c)) place known.mine;

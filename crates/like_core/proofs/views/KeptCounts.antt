@@ -1,6 +1,5 @@
 -- What stands of the counts that the coordinator read is kept by each step.
 use Rattle.std.proofs.Common.{◌≡◌, ℕ, ◌+◌, ◌≤◌, ◌==◌, List, All, get_or, slice_index, set, ap, sym, ◌∙◌, arith}
-use Rattle.std.specs.List.{sum_by}
 use mathlib.Core.Option.{some}
 use lib.ListN.{get_elem?}
 use Rattle.like_core.specs.declared.view.PageCount.{PageCount}

@@ -1,25 +1,20 @@
 -- What workers did at pages keeps its order with each step.
-use Rattle.std.proofs.Common.{◌≡◌, ◌≢◌, ℕ, zero, suc, ◌≤◌, ◌==◌, ◌⊎◌, inl, inr, Bool, true, false, cond, List, [], ◌∷◌, ◌++◌, filter, reverse, slice_index, set, subst, ap, sym, ◌∙◌, refl, arith, eq-eqb, append-nil}
+use Rattle.std.proofs.Common.{◌≡◌, ◌≢◌, ℕ, zero, suc, ◌≤◌, ◌==◌, ◌⊎◌, inl, inr, Bool, true, false, cond, List, [], ◌∷◌, ◌++◌, slice_index, set, subst, ap, sym, ◌∙◌, refl, arith, eq-eqb}
 use Rattle.std.specs.List.{count_by, sum_by}
 use Rattle.std.proofs.lemmas.Bool.{cond-true, ne_eqb}
-use Rattle.std.proofs.lemmas.List.Elements.{filter-append, filter_map-append}
 use Rattle.std.proofs.lemmas.List.Sums.{sum_by-cons, sum_by_push}
-use mathlib.Core.List.{reverse-cons}
 use mathlib.Core.Option.{some, some-injective, some-ne-none}
 use lib.ListN.{get_elem?}
-use Rattle.like_core.specs.declared.opening.Opening.{Opening}
-use Rattle.like_core.specs.declared.page_step.PageCall.{PageCall}
-use Rattle.like_core.specs.declared.page_step.PageCall.TheVariants.{Add, Read, Glance}
 use Rattle.like_core.specs.declared.page_step.PageStep.{PageStep}
 use Rattle.like_core.specs.declared.view.WorkerSeatView.{WorkerSeatView}
 use Rattle.like_core.specs.declared.view.CoordSeatView.{CoordSeatView}
 use Rattle.like_core.specs.declared.view.View.{View}
 use Rattle.like_core.specs.declared.view.View.TheVariants.{Coord, Worker, Spent}
-use Rattle.like_core.specs.PageSteps.{AddsSome, AreInTurn, adds_to, likes_of, page_step, steps_by}
+use Rattle.like_core.specs.PageSteps.{AreInTurn, adds_to, page_step, steps_by}
 use Rattle.like_core.specs.WorkerState.{phase_of}
 use Rattle.like_core.specs.core.State.{CoreState}
 use Rattle.like_core.specs.views.Views.{fresh, gathered_coord, made_coord, post_of, seats_of, stepped_view}
-use Rattle.like_core.specs.views.Order.{AppliesTo, HasDone, HasOrder, IsOrder, JoinKeepsOrder, NewSeatKeepsOrder, OtherStepKeepsOrder, PageStepKeepsOrder, SaysSame}
+use Rattle.like_core.specs.views.Order.{AppliesTo, HasDone, HasOrder, JoinKeepsOrder, NewSeatKeepsOrder, OtherStepKeepsOrder, PageStepKeepsOrder, SaysSame}
 use Rattle.like_core.proofs.views.ViewLists.{joined_other, kept, replaced, sum_gathered, sum_part, sum_set, sum_two, worker_other}
 
 -- a worker's own step comes behind its others

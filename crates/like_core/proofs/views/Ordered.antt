@@ -1,9 +1,9 @@
 -- What follows from one order of all that was done at pages.
-use Rattle.std.proofs.Common.{◌≡◌, ℕ, zero, suc, ◌+◌, ◌<◌, ◌≤◌, ◌==◌, Bool, true, false, ◌&&◌, nat_lt, cond, List, [], ◌∷◌, ◌++◌, All, length, get_or, map, slice_index, count_by, subst, ap, sym, ◌∙◌, refl, arith}
+use Rattle.std.proofs.Common.{◌≡◌, ℕ, suc, ◌+◌, ◌<◌, ◌≤◌, ◌==◌, Bool, true, false, ◌&&◌, nat_lt, cond, List, [], ◌∷◌, All, get_or, map, slice_index, count_by, subst, ap, sym, ◌∙◌, refl, arith}
 use Rattle.std.specs.List.{flat_map, sum_by}
 use Rattle.std.proofs.lemmas.List.Elements.{All-append, All-cons, All-nil, All-map}
 use Rattle.std.proofs.lemmas.List.Sums.{sum_by-append, sum_by-cons}
-use mathlib.Core.Option.{some, some-injective}
+use mathlib.Core.Option.{some}
 use lib.ListN.{get_elem?}
 use Rattle.like_core.specs.declared.opening.Opening.{Opening}
 use Rattle.like_core.specs.declared.page_step.PageStep.{PageStep}
@@ -18,9 +18,9 @@ use Rattle.like_core.specs.core.State.{CoreState}
 use Rattle.like_core.specs.views.Views.{post_of, seats_of}
 use Rattle.like_core.specs.views.Order.{HasDone, HasOrder, IsOrder}
 use Rattle.like_core.specs.views.Places.{AreTiles, Counting, HavePlaced}
-use Rattle.like_core.specs.views.PostOrder.{IsOrderOf, MomentsAreOrdered, OrderGivesBounds, OrderGivesPast, OrderGivesPlaces, posts_added, posts_before, posts_of, posts_passing, workers_of}
+use Rattle.like_core.specs.views.PostOrder.{IsOrderOf, MomentsAreOrdered, OrderGivesBounds, OrderGivesPast, OrderGivesPlaces, last_count, posts_added, posts_before, posts_of, posts_passing, workers_of}
 use Rattle.like_core.specs.views.Reads.{HaveBetween, all_before, before_in}
-use Rattle.like_core.specs.views.Shows.{Moment}
+use Rattle.like_core.specs.views.Shows.{Fits, FitsCoord, FitsWorker, Moment}
 use Rattle.like_core.specs.views.Tallies.{paged}
 use Rattle.like_core.proofs.Between.{AllBetween, own_between, steps_before}
 use Rattle.like_core.proofs.Tiled.{Placed, counting_in, own_placed, tiled}
@@ -63,16 +63,17 @@ order_gives_places first phase posts steps order =
     let all = tiled first phase steps order.in_turn in
     let same : counting_in (additions_among steps) ≡ posts_passing posts =
     λ i test. sym (all_posts first phase posts steps order (λ a. cond (test a) 1 0)) i in
-    let last : (λ page. first page + likes_in page steps) ≡ (λ page. first page + posts_added posts page) =
-    λ i page. (ap (λ n. first page + n) (sym (added_is first phase posts steps order page ∙ added-in page steps))) i in (
-      subst (λ f. AreTiles first f (posts_passing posts)) last
-          (subst (λ (c : Counting). AreTiles first (λ page. first page + likes_in page steps) c) same all.tiles),
-      λ k d below.
+    let last : (λ page. first page + likes_in page steps) ≡ last_count first posts =
+    λ i page. (ap (λ n. first page + n) (sym (added_is first phase posts steps order page ∙ added-in page steps))) i in
+    record {
+      tiles = subst (λ f. AreTiles first f (posts_passing posts)) last
+          (subst (λ (c : Counting). AreTiles first (λ page. first page + likes_in page steps) c) same all.tiles);
+      each = λ k d below.
           let v : PostView = get_or posts k d in
           subst (λ (c : Counting). HavePlaced first c v) same
           (subst (λ ds. Placed first (counting_in (additions_among steps)) (additions_among ds) (reads_among ds)
-          (glances_among ds)) (order.each k d below) (own_placed first phase v.worker steps order.in_turn)),
-    )
+          (glances_among ds)) (order.each k d below) (own_placed first phase v.worker steps order.in_turn));
+    }
 
 -- a sum over all views is one over all seats that they tell
 module _ (f : View → ℕ) (g : WorkerSeatView → ℕ) (each : (u : View) → f u ≡ sum_by g (workers_of u)) where
@@ -113,41 +114,53 @@ before_posts k page views =
       by (Worker v) = omega (arith, sum_by-cons (λ (w : WorkerSeatView). added_before k page (additions_among w.did)) v [])
       by Spent = refl
 
-added_posts : (page : ℕ) (views : List View) → sum_by (paged page) views ≡ posts_added (posts_of views) page
+pub added_posts : (page : ℕ) (views : List View) → sum_by (paged page) views ≡ posts_added (posts_of views) page
 added_posts page views = sum_posts (paged page) (λ v. added_to page (additions_among v.did)) views by where
   by : (u : View) → paged page u ≡ sum_by (λ v. added_to page (additions_among v.did)) (workers_of u)
   by (Coord c) = refl
   by (Worker v) = omega (arith, sum_by-cons (λ (w : WorkerSeatView). added_to page (additions_among w.did)) v [])
   by Spent = refl
 
+-- what is true at each place of a list is true of all that it has
+all_at : (P : WorkerSeatView → Type 0) (vs : List WorkerSeatView)
+    → ((place : ℕ) (v : WorkerSeatView) → get_elem? vs place ≡ some v → P v)
+    → All P vs
+all_at P [] has = All-nil P
+all_at P (v ∷ vs) has = All-cons P v vs (has 0 v refl) (all_at P vs (λ place w at. has (suc place) w at))
+
+-- what is true of all seats that each view tells is true of all that views tell
+all_told : (P : WorkerSeatView → Type 0) (views : List View)
+    → ((place : ℕ) (u : View) → get_elem? views place ≡ some u → All P (workers_of u))
+    → All P (flat_map workers_of views)
+all_told P [] has = All-nil P
+all_told P (u ∷ views) has =
+    All-append P (workers_of u) (flat_map workers_of views) (has 0 u refl)
+    (all_told P views (λ place w at. has (suc place) w at))
+
 -- what each view says that it did, its posts do
 done_posts : (steps : List PageStep) (views : List View)
     → ((place : ℕ) (u : View) → get_elem? views place ≡ some u → HasOrder steps u)
     → All (HasDone steps) (posts_of views)
-done_posts steps views each = All-map (HasDone steps) post_of (flat_map workers_of views) (all views each) where
-  Done : WorkerSeatView → Type 0
-  Done v = HasDone steps (post_of v)
+done_posts steps views each =
+    All-map (HasDone steps) post_of (flat_map workers_of views)
+    (all_told (λ v. HasDone steps (post_of v)) views (λ place u at. one u (each place u at))) where
+      one : (u : View) → HasOrder steps u → All (λ v. HasDone steps (post_of v)) (workers_of u)
+      one (Coord c) has = all_at (λ v. HasDone steps (post_of v)) c.joined has
+      one (Worker v) has =
+          All-cons (λ w. HasDone steps (post_of w)) v [] has (All-nil (λ w. HasDone steps (post_of w)))
+      one Spent has = All-nil (λ w. HasDone steps (post_of w))
 
-  joined : (vs : List WorkerSeatView)
-      → ((place : ℕ) (v : WorkerSeatView) → get_elem? vs place ≡ some v → HasDone steps (post_of v))
-      → All (λ v. HasDone steps (post_of v)) vs
-  joined [] has = All-nil (λ v. HasDone steps (post_of v))
-  joined (v ∷ vs) has =
-      All-cons (λ w. HasDone steps (post_of w)) v vs (has 0 v refl) (joined vs (λ place w at. has (suc place) w at))
-
-  one : (u : View) → HasOrder steps u → All (λ v. HasDone steps (post_of v)) (workers_of u)
-  one (Coord c) has = joined c.joined has
-  one (Worker v) has =
-      All-cons (λ w. HasDone steps (post_of w)) v [] has (All-nil (λ w. HasDone steps (post_of w)))
-  one Spent has = All-nil (λ w. HasDone steps (post_of w))
-
-  all : (us : List View)
-      → ((place : ℕ) (u : View) → get_elem? us place ≡ some u → HasOrder steps u)
-      → All (λ v. HasDone steps (post_of v)) (flat_map workers_of us)
-  all [] has = All-nil (λ v. HasDone steps (post_of v))
-  all (u ∷ us) has =
-      All-append (λ v. HasDone steps (post_of v)) (workers_of u) (flat_map workers_of us) (one u (has 0 u refl))
-      (all us (λ place w at. has (suc place) w at))
+-- at a moment, what each worker's seat knows is true, also of those that were given back
+pub all_fit : (z : Opening) (m : Moment z) → All (FitsWorker z m.shown.state) (flat_map workers_of m.views)
+all_fit z m =
+    all_told (FitsWorker z m.shown.state) m.views (λ place u at. one u (m.shown.shows.seats.each place u at)) where
+      one : (u : View) → Fits z m.shown.state u → All (FitsWorker z m.shown.state) (workers_of u)
+      one (Coord c) fits =
+          let known : FitsCoord z m.shown.state c = fits in
+          all_at (FitsWorker z m.shown.state) c.joined known.seats.joined
+      one (Worker v) fits =
+          All-cons (FitsWorker z m.shown.state) v [] fits (All-nil (FitsWorker z m.shown.state))
+      one Spent fits = All-nil (FitsWorker z m.shown.state)
 
 -- the order of a board is one of all posts, where no worker has two seats
 pub posts_ordered : (z : Opening) (s : CoreState) (views : List View) (steps : List PageStep)
@@ -181,13 +194,13 @@ one_or_none false = omega arith
 
 one_seat : (z : Opening) (m : Moment z) (i : ℕ) → sum_by (seats_of i) m.views ≤ 1
 one_seat z m i =
-    let same = m.shows.seats.once i in
-    let few = one_or_none (nat_lt i m.shows.coord.made) in
+    let same = m.shown.shows.seats.once i in
+    let few = one_or_none (nat_lt i m.shown.shows.coord.made) in
     omega arith
 
 pub moments_are_ordered : MomentsAreOrdered
-moments_are_ordered z m = posts_ordered z m.state m.views m.steps m.order (one_seat z m)
+moments_are_ordered z m = posts_ordered z m.shown.state m.views m.shown.steps m.shown.order (one_seat z m)
 
-pub past_now : (z : Opening) (m : Moment z) (later page : ℕ) → m.state.phase < later
+pub past_now : (z : Opening) (m : Moment z) (later page : ℕ) → m.shown.state.phase < later
     → all_before m.views later page ≡ sum_by (paged page) m.views
-past_now z m later page past = added_past z m.state m.views m.steps m.order (one_seat z m) later page past
+past_now z m later page past = added_past z m.shown.state m.views m.shown.steps m.shown.order (one_seat z m) later page past

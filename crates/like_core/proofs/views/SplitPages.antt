@@ -32,17 +32,17 @@ unmarked bound phase page mask marked odd below none =
 
 pub slots_are_exact : SlotsAreExact
 slots_are_exact z m slotted odd =
-    let s : CoreState = m.state in
+    let s : CoreState = m.shown.state in
     let word : ℕ = slice_index m.words mask_place in
     let slots : ℕ → ℕ = slot_in m.words in
     let mask : s.hot s.phase ≡ mask_of_slots slots word hot_pages =
-    sym (m.shows.board.mask (inl odd)) ∙ mask_by-slots z.limits slots word slotted
+    sym (m.shown.shows.board.mask (inl odd)) ∙ mask_by-slots z.limits slots word slotted
     in
-    let limits = m.shows.opening.limits in
+    let limits = m.shown.shows.opening.limits in
     let wide = limits.slotted slotted in
-    let few = m.shows.opening.few_pages in
+    let few = m.shown.shows.opening.few_pages in
     record {
-      choice = m.shows.board.chosen (inl odd) slotted;
+      choice = m.shown.shows.board.chosen (inl odd) slotted;
       split = λ page there none.
           let bit : is_split_now z s page ≡ has_bit (mask_of_slots slots word hot_pages) page =
           unmarked z.limits.hot s.phase page (s.hot s.phase) (is_marked z.marks) odd (omega arith) none
@@ -55,17 +55,17 @@ slots_are_exact z m slotted odd =
 -- who runs a phase runs the present one
 runs_present : (z : Opening) (m : Moment z) (v : WorkerSeatView) (state : WorkerState)
     → v.state ≡ state
-    → FitsWorker z m.state v
+    → FitsWorker z m.shown.state v
     → IsRunning state
-    → phase_of state ≡ m.state.phase
-runs_present z m v (Runs j) is f running = (moved_in_phase z m.state m.reachable).runs v.worker j (f.state ∙ is)
+    → phase_of state ≡ m.shown.state.phase
+runs_present z m v (Runs j) is f running = (moved_in_phase z m.shown.state m.shown.reachable).runs v.worker j (f.state ∙ is)
 runs_present z m v (Answered j) is f running = absurd running
 runs_present z m v Gone is f running = absurd running
 
 pub slices_are_split : SlicesAreSplit
 slices_are_split z m place v page here running knows =
-    let f : FitsWorker z m.state v = m.shows.seats.each place (Worker v) here in
+    let f : FitsWorker z m.shown.state v = m.shown.shows.seats.each place (Worker v) here in
     let present = runs_present z m v v.state refl f running in
-    sym (split-known v.opening.limits.hot (is_marked v.opening.marks) m.state.hot v.masks (phase_of v.state) page
+    sym (split-known v.opening.limits.hot (is_marked v.opening.marks) m.shown.state.hot v.masks (phase_of v.state) page
     (λ i d inside. (f.masks i d inside).1) knows)
-    ∙ (λ k. split_by (f.opening k).limits.hot (is_marked (f.opening k).marks) m.state.hot (present k) page)
+    ∙ (λ k. split_by (f.opening k).limits.hot (is_marked (f.opening k).marks) m.shown.state.hot (present k) page)

@@ -1,11 +1,11 @@
-use Rattle.std.specs.Prelude.{◌≡◌, List}
+use Rattle.std.specs.Prelude.{◌≡◌, List, fold}
 use Rattle.like_core.specs.declared.event.Event.{Event}
 use Rattle.like_core.specs.declared.pure_core.Core.{Core}
 use Rattle.like_core.specs.declared.opening.Opening.{Opening}
 use Rattle.like_core.specs.core.Numbers.{Numbers}
 use Rattle.like_core.specs.core.Kept.{kept}
 use Rattle.like_core.specs.core.State.{CoreState, start, after, numbers}
-use Rattle.like_core.specs.core.Reachable.{Reachable, after_all}
+use Rattle.like_core.specs.core.Reachable.{Reachable}
 use Rattle.like_core.specs.core.Exclusive.{IsExclusive, IsInPhase}
 
 -- the numbers that a core keeps
@@ -36,7 +36,7 @@ TakesStates old new event =
 -- the same of a list of events, one after the other
 abbrev pub TakesStatesAll : Core → Core → List Event → Type 0
 TakesStatesAll old new events =
-    (z : Opening) (s : CoreState) → StandsFor old z s → StandsFor new z (after_all z s events)
+    (z : Opening) (s : CoreState) → StandsFor old z s → StandsFor new z (fold (after z) s events)
 
 -- if the old core stands for a state that can be reached, so does the new one
 abbrev pub KeepsReachable : Core → Core → Type 0

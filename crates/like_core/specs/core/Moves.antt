@@ -1,6 +1,6 @@
 -- The moves of a board: the events, and what only a service's workers do: one that was gone comes back, and one glances
 -- at the count of a page that is sliced. These are no events.
-use Rattle.std.specs.Prelude.{◌≡◌, ◌≢◌, ℕ, ◌<◌, true, false, List, [], ◌∷◌, length}
+use Rattle.std.specs.Prelude.{◌≡◌, ◌≢◌, ℕ, ◌<◌, true, false, List, [], ◌∷◌, fold, length}
 use Rattle.like_core.specs.declared.worker_state.WorkerState.TheVariants.{Runs, Gone}
 use Rattle.like_core.specs.declared.event.Event.{Event}
 use Rattle.like_core.specs.declared.event.Event.TheVariants.{Release}
@@ -8,7 +8,7 @@ use Rattle.like_core.specs.declared.limits.Limits.{Limits}
 use Rattle.like_core.specs.declared.opening.Opening.{Opening}
 use Rattle.like_core.specs.declared.shown.Shown.{Shown}
 use Rattle.like_core.specs.declared.shown.Shown.TheVariants.{Seen, Count}
-use Rattle.like_core.specs.Functions.{update}
+use Rattle.like_core.specs.Functions.{MayAll, update}
 use Rattle.like_core.specs.WorkerState.{running_sight}
 use Rattle.like_core.specs.word.Forms.{form_of}
 use Rattle.like_core.specs.core.Numbers.{AllIn}
@@ -66,21 +66,11 @@ IsShownBy z s (makes event) shown = IsShown (numbers z s) event shown
 IsShownBy z s (comes_back i) shown = shown ≡ Seen (running_sight s.phase)
 IsShownBy z s (glances i page) shown = shown ≡ Count ((numbers z s).count page)
 
--- the state after a list of moves
-abbrev pub after_moves : Opening → CoreState → List Move → CoreState
-after_moves z s [] = s
-after_moves z s (move ∷ moves) = after_moves z (after_move z s move) moves
-
--- each move of the list may be made after those before it
-abbrev pub MayMoveAll : Opening → CoreState → List Move → Type 0
-MayMoveAll z s [] = Unit {0}
-MayMoveAll z s (move ∷ moves) = MayMove z s move × MayMoveAll z (after_move z s move) moves
-
 -- some list of moves leads from the start to the state
 pub record Reached (z : Opening) (s : CoreState) : Type 0 where
   pub moves : List Move
-  pub may : MayMoveAll z (start z) moves
-  pub reached : after_moves z (start z) moves ≡ s
+  pub may : MayAll (after_move z) (MayMove z) (start z) moves
+  pub reached : fold (after_move z) (start z) moves ≡ s
 
 -- moves reach what events reach, and where nobody comes back they reach nothing else
 abbrev pub NobodyReturns : Type 0
@@ -97,10 +87,10 @@ NoneReleases (move ∷ moves) = ((mask : ℕ) → move ≢ makes (Release mask))
 abbrev pub AllStayIn : Type 0
 AllStayIn =
     (z : Opening) (s : CoreState) (moves : List Move) → NoneReturns z s → AllIn (numbers z s)
-    → MayMoveAll z s moves → NoneReleases moves → AllIn (numbers z (after_moves z s moves))
+    → MayAll (after_move z) (MayMove z) s moves → NoneReleases moves → AllIn (numbers z (fold (after_move z) s moves))
 
 -- once all are in at an ending, no moves before the release change the state
 abbrev pub AllInStays : Type 0
 AllInStays =
     (z : Opening) (s : CoreState) (moves : List Move) → s.ending ≡ true → AllIn (numbers z s)
-    → MayMoveAll z s moves → NoneReleases moves → after_moves z s moves ≡ s
+    → MayAll (after_move z) (MayMove z) s moves → NoneReleases moves → fold (after_move z) s moves ≡ s

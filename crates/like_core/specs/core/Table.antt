@@ -1,4 +1,4 @@
-use Rattle.std.specs.Prelude.{List, [], ◌∷◌, take, slice_get, Some, ◌≡◌, ◌≢◌, ℕ, ◌+◌, ◌^◌, ◌<◌, true, false, if◌then◌else◌}
+use Rattle.std.specs.Prelude.{List, fold, take, slice_get, Some, ◌≡◌, ◌≢◌, ℕ, ◌+◌, ◌^◌, ◌<◌, true, false, if◌then◌else◌}
 use Rattle.like_core.specs.declared.worker_state.WorkerState.TheVariants.{Runs, Answered, Gone}
 use Rattle.like_core.specs.declared.sight.Sight.{Sight}
 use Rattle.like_core.specs.declared.sight.CoordSight.{CoordSight}
@@ -10,6 +10,7 @@ use Rattle.like_core.specs.declared.pure_core.refusal.NotNow.{NotNow}
 use Rattle.like_core.specs.declared.pure_core.refusal.Wrong.{Wrong}
 use Rattle.like_core.specs.declared.pure_core.refusal.NotNow.TheVariants.{NoSuch, Phase, Last, Full}
 use Rattle.like_limits.specs.Limits.{total_bound}
+use Rattle.like_core.specs.Functions.{MayAll}
 use Rattle.like_core.specs.Phase.{IsJoined, IsSplit}
 use Rattle.like_core.specs.core.Numbers.{Numbers, with_state, with_unmerged, sliced, total, AllIn, Sees, CoordSees, with_look, with_like, with_more}
 
@@ -100,19 +101,9 @@ next n (CoordRead page) = n
 next n Announce = record n { ending = true }
 next n (Release mask) = record n { phase = n.phase + 1; ending = false; hot = mask }
 
--- the numbers after a list of events
-abbrev pub next_all : Numbers → List Event → Numbers
-next_all n [] = n
-next_all n (event ∷ events) = next_all (next n event) events
-
--- each event of the list may happen after those before it
-abbrev pub PermitsEach : Numbers → List Event → Type 0
-PermitsEach n [] = Unit {0}
-PermitsEach n (event ∷ events) = Permits n event × PermitsEach (next n event) events
-
 -- the events before the index may happen, and the one there is refused for the reason
 pub record IsWrong (n : Numbers) (events : List Event) (wrong : Wrong) : Type 0 where
-  pub before : PermitsEach n (take wrong.index events)
+  pub before : MayAll next Permits n (take wrong.index events)
   pub event : Event
   pub at : slice_get events wrong.index ≡ Some event
-  pub refused : Refuses (next_all n (take wrong.index events)) event wrong.reason
+  pub refused : Refuses (fold next n (take wrong.index events)) event wrong.reason

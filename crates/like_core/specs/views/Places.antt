@@ -1,6 +1,6 @@
 -- The stretches of additions: each has the counts from the one that it found up to, but not including, the one it left.
 -- What is true of them.
-use Rattle.std.specs.Prelude.{◌≡◌, ◌⊎◌, ℕ, ◌+◌, ◌≤◌, ◌==◌, ◌&&◌, nat_le, nat_lt, All, AllPairs, Bool, if◌then◌else◌, List, length, take, drop, count_by, slice_index}
+use Rattle.std.specs.Prelude.{◌≡◌, ◌⊎◌, ℕ, ◌+◌, ◌≤◌, ◌==◌, ◌&&◌, nat_le, nat_lt, All, AllPairs, Bool, if◌then◌else◌, List, length, take, drop, slice_index}
 use Rattle.std.specs.List.{sum_by}
 use Rattle.like_core.specs.declared.view.Addition.{Addition}
 use Rattle.like_core.specs.declared.view.PageRead.{PageRead}

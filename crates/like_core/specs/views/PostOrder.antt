@@ -35,6 +35,16 @@ posts_before posts phase page = sum_by (λ v. added_before phase page (additions
 abbrev pub posts_passing : List PostView → Counting
 posts_passing posts test = sum_by (λ v. count_by test (additions_among v.did)) posts
 
+-- a page's last count: its first count, and all that posts have added to it
+abbrev pub last_count : (ℕ → ℕ) → List PostView → ℕ → ℕ
+last_count first posts page = first page + posts_added posts page
+
+-- the stretches of all additions of posts tile each page's counts, from the first to the last, and the calls of each post
+-- have their places
+pub record HavePlaces (first : ℕ → ℕ) (posts : List PostView) : Type 0 where
+  pub tiles : AreTiles first (last_count first posts) (posts_passing posts)
+  pub each : All (HavePlaced first (posts_passing posts)) posts
+
 -- the law of bounds: each count that was read or glanced at, and each addition's stretch, lies between what all have
 -- added
 abbrev pub OrderGivesBounds : Type 0
@@ -43,14 +53,11 @@ OrderGivesBounds =
     → IsOrderOf (slice_index counts) phase posts steps
     → All (HaveBetween counts (posts_before posts) phase) posts
 
--- the law of places: the stretches of all additions tile each page's counts, and the calls of each post have their
--- places
+-- the law of places: stretches tile, and calls have their places
 abbrev pub OrderGivesPlaces : Type 0
 OrderGivesPlaces =
     (first : ℕ → ℕ) (phase : ℕ) (posts : List PostView) (steps : List PageStep)
-    → IsOrderOf first phase posts steps
-    → AreTiles first (λ page. first page + posts_added posts page) (posts_passing posts)
-    × All (HavePlaced first (posts_passing posts)) posts
+    → IsOrderOf first phase posts steps → HavePlaces first posts
 
 -- nothing was added in a later phase
 abbrev pub OrderGivesPast : Type 0
@@ -72,4 +79,4 @@ posts_of views = map post_of (flat_map workers_of views)
 -- all that was done at pages up to a moment has one order, so at each moment all this holds
 abbrev pub MomentsAreOrdered : Type 0
 MomentsAreOrdered =
-    (z : Opening) (m : Moment z) → IsOrderOf (slice_index z.counts) m.state.phase (posts_of m.views) m.steps
+    (z : Opening) (m : Moment z) → IsOrderOf (slice_index z.counts) m.shown.state.phase (posts_of m.views) m.shown.steps

@@ -1,4 +1,4 @@
-use Rattle.std.specs.Prelude.{◌≡◌, ◌⊎◌, ℕ, Bool, false, ◌+◌, ◌^◌, ◌<◌, ◌≤◌, All, nat_lt, true, if◌then◌else◌, List, [], ◌∷◌, length, take, slice_index, slice_set, IfSome, IsSome}
+use Rattle.std.specs.Prelude.{◌≡◌, ◌⊎◌, ℕ, Bool, false, ◌+◌, ◌^◌, ◌<◌, ◌≤◌, All, nat_lt, true, if◌then◌else◌, List, [], ◌∷◌, length, take, slice_index, slice_set, IfSome, IsSome, fold}
 use Rattle.std.specs.List.{sum_by}
 use mathlib.Core.Option.{some}
 use lib.ListN.{get_elem?}
@@ -17,8 +17,8 @@ use Rattle.like_core.specs.OpeningLimits.{AreLimits, has_slots}
 use Rattle.like_core.specs.Slots.{IsChoice, mask_by}
 use Rattle.like_core.specs.PhaseMasks.{mask_of}
 use Rattle.like_core.specs.core.Numbers.{AllIn, AllGone, CoordSees}
-use Rattle.like_core.specs.core.State.{CoreState, labelled, numbers}
-use Rattle.like_core.specs.core.Reachable.{Reachable, after_all, PermitsAll}
+use Rattle.like_core.specs.core.State.{CoreState, after, labelled, numbers}
+use Rattle.like_core.specs.core.Reachable.{Reachable, PermitsAll}
 use Rattle.like_core.specs.core.Moves.{IsShownBy, LetsReturn, MayMove, Move, makes, NoneReturns, Reached, after_move}
 use Rattle.like_core.specs.core.Exclusive.{NoneUnmerged}
 use Rattle.like_core.specs.word.ShownWord.{shown_word}
@@ -178,17 +178,11 @@ pub record ShowsSome (z : Opening) (words : List ℕ) (views : List View) : Type
   pub steps : List PageStep
   pub order : IsOrder z state views steps
 
--- a moment of a board, between two steps: its words, the views of all its seats, and the state that they show, which
--- moves reach. The views' additions are the likes applied in it, and all that the views did at pages has one order
+-- a moment of a board, between two steps: its words, the views of all its seats, and what these show
 pub record Moment (z : Opening) : Type 0 where
   pub words : List ℕ
   pub views : List View
-  pub state : CoreState
-  pub reachable : Reached z state
-  pub shows : Shows z state words views
-  pub tallied : Tallied z.limits state views
-  pub steps : List PageStep
-  pub order : IsOrder z state views steps
+  pub shown : ShowsSome z words views
 
 -- a moment at which this is what some seat knows
 pub record IsKnown (z : Opening) (v : View) : Type 0 where
@@ -200,11 +194,11 @@ pub record IsKnown (z : Opening) (v : View) : Type 0 where
 pub record IsLastMoment (z : Opening) (c : CoordSeatView) : Type 0 where
   pub moment : Moment z
   pub mine : get_elem? moment.views 0 ≡ some (Coord c)
-  pub gone : AllGone (numbers z moment.state)
+  pub gone : AllGone (numbers z moment.shown.state)
 
 -- where nobody comes back, as in a run, events alone lead to the state of each moment
 abbrev pub MomentsAreReachable : Type 0
-MomentsAreReachable = (z : Opening) (m : Moment z) → ¬ LetsReturn z.limits → Reachable z m.state
+MomentsAreReachable = (z : Opening) (m : Moment z) → ¬ LetsReturn z.limits → Reachable z m.shown.state
 
 -- at a moment at which this is what the coordinator knows, each count that it read in its phase is its page's count at
 -- the start and all that the seats have added by then
@@ -217,8 +211,8 @@ CountsAreOfOneMoment =
 pub record Happen (z : Opening) (s : CoreState) (events : List Event) (move : Move) (shown : Shown)
     : Type 0 where
   pub before : PermitsAll z s events
-  pub permits : MayMove z (after_all z s events) move
-  pub tells : IsShownBy z (after_all z s events) move shown
+  pub permits : MayMove z (fold (after z) s events) move
+  pub tells : IsShownBy z (fold (after z) s events) move shown
 
 -- one step of a seat, whose view goes from v to w: at some moment these events happen, and this move is made last. Then
 -- at most one word has changed and the seat's view is w, and the words and views show the state after the move
@@ -228,20 +222,20 @@ pub record IsSteps (z : Opening) (events : List Event) (move : Move) (shown : Sh
   -- the seat's place among the views
   pub place : ℕ
   pub mine : get_elem? moment.views place ≡ some v
-  pub happen : Happen z moment.state events move shown
+  pub happen : Happen z moment.shown.state events move shown
   -- the word that may have changed, and what it is now
   pub changed : ℕ
   pub word : ℕ
   pub shows_after :
-      Shows z (after_move z (after_all z moment.state events) move)
+      Shows z (after_move z (fold (after z) moment.shown.state events) move)
       (slice_set moment.words changed word) (slice_set moment.views place w)
 
 -- one step of a seat that does this at a page: the order of the moment goes on, and this comes last in it
 pub record IsPageStep (z : Opening) (events : List Event) (move : Move) (shown : Shown) (step : PageStep) (v w : View)
     : Type 0 where
   pub is_step : IsSteps z events move shown v w
-  pub last : IsOrder z (after_move z (after_all z is_step.moment.state events) move)
-      (slice_set is_step.moment.views is_step.place w) (step ∷ is_step.moment.steps)
+  pub last : IsOrder z (after_move z (fold (after z) is_step.moment.shown.state events) move)
+      (slice_set is_step.moment.views is_step.place w) (step ∷ is_step.moment.shown.steps)
 
 -- one step of a seat is this move
 abbrev pub IsMove : Opening → Move → Shown → View → View → Type 0

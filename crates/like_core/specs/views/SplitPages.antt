@@ -20,17 +20,17 @@ use Rattle.like_core.specs.views.Shows.{Moment}
 pub record AreExact (z : Opening) (m : Moment z) : Type 0 where
   pub choice : IsChoice z.factor (length z.counts) (slot_in m.words) (slice_index m.words mask_place)
   pub split : (page : ℕ) → page < length z.counts → is_marked z.marks page ≡ false
-      → (is_split_now z m.state page ≡ true)
+      → (is_split_now z m.shown.state page ≡ true)
       ↔ IsInSlot (slot_in m.words) (slice_index m.words mask_place) hot_pages page
 
 -- so it is at each moment of a split phase of a service
 abbrev pub SlotsAreExact : Type 0
 SlotsAreExact =
-    (z : Opening) (m : Moment z) → has_slots z.limits ≡ true → IsSplit m.state.phase → AreExact z m
+    (z : Opening) (m : Moment z) → has_slots z.limits ≡ true → IsSplit m.shown.state.phase → AreExact z m
 
 -- at each moment, a worker that runs a phase and knows whether a page is sliced in it slices just what is split in it
 abbrev pub SlicesAreSplit : Type 0
 SlicesAreSplit =
     (z : Opening) (m : Moment z) (place : ℕ) (v : WorkerSeatView) (page : ℕ)
     → get_elem? m.views place ≡ some (Worker v) → IsRunning v.state → KnowsSlices (post_of v) page
-    → slices (post_of v) page ≡ is_split_now z m.state page
+    → slices (post_of v) page ≡ is_split_now z m.shown.state page

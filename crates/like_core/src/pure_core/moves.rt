@@ -1,6 +1,6 @@
-ghost use Rattle.std.specs.Prelude.{◌≡◌, ◌+◌, ◌-◌, ◌^◌, ◌<◌};
+ghost use Rattle.std.specs.Prelude.{◌≡◌, ◌+◌, ◌-◌, ◌<◌};
 ghost use Rattle.like_limits.specs.Limits.{total_bound};
-ghost use Rattle.like_core.specs.core.Numbers.{with_state, with_unmerged, with_count, total, Sees, CoordSees, with_look, with_like, with_more};
+ghost use Rattle.like_core.specs.core.Numbers.{with_state, with_unmerged, total, Sees, CoordSees, with_look, with_like, with_more};
 ghost use Rattle.like_core.specs.WorkerState.{looked};
 ghost use Rattle.like_core.specs.core.Table.{Permits, IsShown, next};
 ghost use Rattle.like_core.specs.core.Core.{numbers_of};

@@ -1,5 +1,6 @@
-ghost use Rattle.std.specs.Prelude.{◌≡◌, ◌↔◌, IsOk, OnOk, IfErr, take};
-ghost use Rattle.like_core.specs.core.Table.{PermitsEach, next_all, IsWrong};
+ghost use Rattle.std.specs.Prelude.{◌≡◌, ◌↔◌, IsOk, OnOk, IfErr, fold, take};
+ghost use Rattle.like_core.specs.Functions.{MayAll};
+ghost use Rattle.like_core.specs.core.Table.{IsWrong, Permits, next};
 ghost use Rattle.like_core.specs.core.Core.{numbers_of, TakesStatesAll, KeepsReachable, IsCoreExclusive};
 
 use super::{Core, Wrong};
@@ -7,13 +8,13 @@ use crate::event::Event;
 
 /// Makes the events in order, up to the first that may not happen. The core is then as after the events before it.
 pub fn check_events(core: &mut Core, events: &[Event]) -> Result<(), Wrong>
-    ensures permitted { IsOk result ↔ PermitsEach (numbers_of core.old) events.now }
-    ensures next { OnOk result (numbers_of core.new ≡ next_all (numbers_of core.old) events.now) }
+    ensures permitted { IsOk result ↔ MayAll next Permits (numbers_of core.old) events.now }
+    ensures next { OnOk result (numbers_of core.new ≡ fold next (numbers_of core.old) events.now) }
     ensures states { OnOk result (TakesStatesAll core.old core.new events.now) }
 
     ensures wrong { IfErr result (IsWrong (numbers_of core.old) events.now) }
     ensures before { IfErr result (λ wrong.
-        numbers_of core.new ≡ next_all (numbers_of core.old) (take wrong.index events.now)) }
+        numbers_of core.new ≡ fold next (numbers_of core.old) (take wrong.index events.now)) }
     ensures states_before { IfErr result (λ wrong.
         TakesStatesAll core.old core.new (take wrong.index events.now)) }
 

@@ -1,10 +1,10 @@
 -- The places of the additions of a run that has ended.
-use Rattle.std.proofs.Common.{◌≡◌, ℕ, suc, ◌+◌, ◌<◌, ◌≤◌, ◌&&◌, nat_le, nat_lt, Bool, true, cond, List, [], ◌∷◌, length, map, get_or, slice_get, count_by, Some, IfSome, refl, sym, ap, ◌∙◌, subst, arith, inl, inr}
+use Rattle.std.proofs.Common.{◌≡◌, ℕ, suc, ◌+◌, ◌<◌, ◌≤◌, ◌&&◌, nat_le, nat_lt, Bool, true, cond, List, [], ◌∷◌, length, map, get_or, slice_get, slice_index, count_by, Some, refl, sym, ap, ◌∙◌, subst, arith, inl, inr}
 use Rattle.std.specs.List.{All, AllZip, sum_by}
 use Rattle.std.proofs.lemmas.List.Sums.{sum_by-append, sum_by-cons}
 use Rattle.std.proofs.lemmas.Bool.{cases_lt}
 use Rattle.std.proofs.lemmas.List.{get_or_past, length-map}
-use Rattle.std.proofs.lemmas.Option.{get_or_from_slice_get, slice_get-get_or, slice_get_within}
+use Rattle.std.proofs.lemmas.Option.{slice_get-get_or}
 use Rattle.like_requests.specs.Pages.{Page}
 use Rattle.like_requests.specs.Setup.{AreThere}
 use Rattle.like_requests.specs.declared.request.Request.{Request}
@@ -12,12 +12,14 @@ use Rattle.like_requests.specs.declared.setup.Setup.{Setup}
 use Rattle.like_core.specs.declared.opening.Opening.{Opening}
 use Rattle.like_core.specs.declared.view.Addition.{Addition}
 use Rattle.like_core.specs.declared.view.PageRead.{PageRead}
-use Rattle.like_core.specs.views.Reads.{StandBetween, StandsBetween}
-use Rattle.like_core.specs.views.Places.{ArePlaced, AreTiles, Counting, covers}
+use Rattle.like_core.specs.views.Reads.{HaveBetween, StandBetween, StandsBetween}
+use Rattle.like_core.specs.views.Places.{ArePlaced, AreTiles, Counting, HavePlaced, covers}
+use Rattle.like_core.specs.views.PostOrder.{HavePlaces, posts_before, posts_passing}
 use Rattle.like_core.specs.Post.{PostView}
 use Rattle.like_core.specs.PageSteps.{additions_among, reads_among}
 use Rattle.like_board.specs.declared.worker_seat.WorkerSeat.{WorkerSeat}
-use Rattle.like_board.specs.Seats.{AreCounted, HaveAddedBetween, HavePlaces, HaveReadMasks, coord_view, last_count, seat_meaning, seats_before, seats_passing}
+use Rattle.like_board.specs.Closed.{count_with}
+use Rattle.like_board.specs.Seats.{coord_view, seat_meaning}
 use Rattle.like_promises.specs.declared.log.Added.{Added}
 use Rattle.like_promises.specs.declared.log.Ran.{Ran}
 use Rattle.like_promises.specs.declared.log.WorkerLog.{WorkerLog}
@@ -38,8 +40,9 @@ use Rattle.like_crew.proofs.additions.AddedPages.{adds-there, none-liked}
 use Rattle.like_crew.proofs.additions.AddedPhases.{of-likes-same, ran-within}
 use Rattle.like_crew.proofs.Makings.{all-back}
 use Rattle.like_crew.proofs.lists.Pairs.{pairs-sum}
+use Rattle.like_crew.proofs.lists.Sums.{sum-of-map}
 use Rattle.like_crew.proofs.additions.ReadsShown.{reads-are}
-use Rattle.like_crew.proofs.Whole.{all-before, all-likes, hot_known, initial-at, known, left-at, logs-are, masks-known, right-at, right-at-server, served, server-at, z}
+use Rattle.like_crew.proofs.Whole.{HasCounted, HaveMasks, SawNoneLater, all-before, all-likes, at-post, hot_known, initial-at, known, left-at, logs-are, masks-known, posts, right-at-server, served, server-at, z}
 
 -- the additions that a log notes
 abbrev additions_noted : WorkerLog → List Addition
@@ -82,8 +85,8 @@ stand-noted workload runs counts before last adds initial below stand k d within
     record { lower = omega (arith, b.least); upper = omega (arith, b.most) }
 
 module _ (setup : Setup) (plans : List (List Request)) (site : Site) (e : Ended) (h : IsEnded setup plans site e)
-    (masks : HaveReadMasks (coord_view e.coord).masks e.seats.items)
-    (counted : AreCounted (coord_view e.coord) e.seats.items) (notes : site.notes ≡ true) where
+    (masks : HaveMasks setup plans site e h) (counted : HasCounted setup plans site e h)
+    (notes : site.notes ≡ true) where
   -- the log of each worker has
   noted-by : (worker : ℕ) (s : ServerView) (log : WorkerLog) → slice_get h.servers worker ≡ Some s → IsLogOf s log
       → HasNoted setup plans site e h s log
@@ -110,8 +113,7 @@ module _ (setup : Setup) (plans : List (List Request)) (site : Site) (e : Ended)
       (s.0, (s.1.0, noted-by worker s.0 log s.1.0 s.1.1))
 
   -- of its accepted likes
-  pub of-likes : All
-      (λ seat. IfSome (seat_meaning seat).last (λ sight. sight.number ≤ (coord_view e.coord).phase)) e.seats.items
+  pub of-likes : SawNoneLater setup plans site e h
       → All (λ log. AddsItsLikes (served setup plans site e h) log.ran.items log.adds.items) e.logs.items
   of-likes phases worker d within =
       let log : WorkerLog = get_or e.logs.items worker d in
@@ -133,9 +135,11 @@ module _ (setup : Setup) (plans : List (List Request)) (site : Site) (e : Ended)
       (n.1.1.of_log.each (known setup plans site e h) n.1.1.worked).likes n.1.1.adds.each
 
   -- as many of the logs' additions pass a test as of the seats'
-  passing-same : (test : Addition → Bool) → seats_passing e.seats.items test ≡ count_by test (all_noted e.logs.items)
+  passing-same : (test : Addition → Bool)
+      → posts_passing (posts setup plans site e h) test ≡ count_by test (all_noted e.logs.items)
   passing-same test =
-      sym (pairs-sum IsSeatOf (λ (s : ServerView). count_by test (additions_among s.worker.post.did))
+      sum-of-map (λ (p : PostView). count_by test (additions_among p.did)) seat_meaning e.seats.items
+      ∙ sym (pairs-sum IsSeatOf (λ (s : ServerView). count_by test (additions_among s.worker.post.did))
       (λ (seat : WorkerSeat). count_by test (additions_among (seat_meaning seat).did)) h.servers e.seats.items
       (λ s seat m. ap (λ (p : PostView). count_by test (additions_among p.did)) (sym m)) h.seats)
       ∙ pairs-sum (λ (s : ServerView) (log : WorkerLog). (additions_among s.worker.post.did) ≡ additions_noted log)
@@ -166,9 +170,9 @@ module _ (setup : Setup) (plans : List (List Request)) (site : Site) (e : Ended)
 
   module _ (there : All (AreThere setup.pages) plans) (counts : List ℕ) (sized : length counts ≡ length setup.pages)
       (told : (page : ℕ) → page < length setup.pages
-      → get_or counts page 0 ≡ last_count (coord_view e.coord).opening e.seats.items page) where
+      → get_or counts page 0 ≡ count_with (coord_view e.coord) e.seats.items page) where
     -- and its last one
-    last-same : (page : ℕ) → last_count (coord_view e.coord).opening e.seats.items page ≡ get_or counts page 0
+    last-same : (page : ℕ) → count_with (coord_view e.coord) e.seats.items page ≡ get_or counts page 0
     last-same page = elim (cases_lt page (length setup.pages)) [
       | inl within ↦ sym (told page within)
       | inr past ↦
@@ -182,38 +186,36 @@ module _ (setup : Setup) (plans : List (List Request)) (site : Site) (e : Ended)
     ]
 
     -- each number of a page is in the stretch of one addition
-    pub tiles-are : HavePlaces (coord_view e.coord).opening e.seats.items → (page n : ℕ)
+    pub tiles-are : HavePlaces (slice_index (coord_view e.coord).opening.counts) (posts setup plans site e h)
+        → (page n : ℕ)
         → count_by (covers page n) (all_noted e.logs.items)
         ≡ cond (nat_le (initial_count setup.pages page) n && nat_lt n (get_or counts page 0)) 1 0
     tiles-are places page n =
         let first : (λ page. get_or (coord_view e.coord).opening.counts page 0) ≡ initial_count setup.pages =
         λ i page. first-same page i in
-        let last : last_count (coord_view e.coord).opening e.seats.items ≡ (λ page. get_or counts page 0) =
+        let last : count_with (coord_view e.coord) e.seats.items ≡ (λ page. get_or counts page 0) =
         λ i page. last-same page i in
         sym (passing-same (covers page n))
-        ∙ (subst (λ (f : ℕ → ℕ). AreTiles (initial_count setup.pages) f (seats_passing e.seats.items)) last
-        (subst (λ (f : ℕ → ℕ). AreTiles f (last_count (coord_view e.coord).opening e.seats.items)
-        (seats_passing e.seats.items)) first places.tiles)).tiled page n
+        ∙ (subst (λ (f : ℕ → ℕ). AreTiles (initial_count setup.pages) f
+        (posts_passing (posts setup plans site e h))) last
+        (subst (λ (f : ℕ → ℕ). AreTiles f (count_with (coord_view e.coord) e.seats.items)
+        (posts_passing (posts setup plans site e h))) first places.tiles)).tiled page n
 
   -- the calls of each worker are placed
-  pub placed-are : HavePlaces (coord_view e.coord).opening e.seats.items
+  pub placed-are : HavePlaces (slice_index (coord_view e.coord).opening.counts) (posts setup plans site e h)
       → All (λ log. ArePlaced (initial_count setup.pages) (λ test. count_by test (all_noted e.logs.items))
       (additions_noted log) (reads_of (served setup plans site e h) log)) e.logs.items
   placed-are places worker d within =
       let log : WorkerLog = get_or e.logs.items worker d in
       let n = noted-at worker log (slice_get-get_or e.logs.items worker d within) in
-      let seat = right-at IsSeatOf h.servers e.seats.items worker n.0 h.seats n.1.0 in
-      let P : PostView → Type 0 =
-      λ p. ArePlaced (λ page. get_or (coord_view e.coord).opening.counts page 0)
-      (seats_passing e.seats.items) (additions_among p.did) (reads_among p.did) in
-      let own : P (seat_meaning seat.0) =
-      subst (λ (x : WorkerSeat). P (seat_meaning x)) (get_or_from_slice_get e.seats.items worker seat.0 seat.0 seat.1.0)
-      (places.each worker seat.0 (slice_get_within e.seats.items worker seat.0 seat.1.0))
-      in
-      let post : P n.0.worker.post = subst P seat.1.1 own in
+      let all : Counting = posts_passing (posts setup plans site e h) in
+      let post : ArePlaced (λ page. get_or (coord_view e.coord).opening.counts page 0) all
+      (additions_among n.0.worker.post.did) (reads_among n.0.worker.post.did) =
+      (at-post setup plans site e h (HavePlaced (λ page. get_or (coord_view e.coord).opening.counts page 0) all)
+      places.each worker n.0 n.1.0).0 in
       let first : (λ page. get_or (coord_view e.coord).opening.counts page 0) ≡ initial_count setup.pages =
       λ i page. first-same page i in
-      let passing : seats_passing e.seats.items ≡ (λ test. count_by test (all_noted e.logs.items)) =
+      let passing : all ≡ (λ test. count_by test (all_noted e.logs.items)) =
       λ i test. passing-same test i in
       let reads : reads_of (known setup plans site e h) log ≡ (reads_among n.0.worker.post.did) =
       reads-are (known setup plans site e h) log (additions_among n.0.worker.post.did) (reads_among n.0.worker.post.did)
@@ -221,31 +223,28 @@ module _ (setup : Setup) (plans : List (List Request)) (site : Site) (e : Ended)
       in
       subst (λ (c : Counting). ArePlaced (initial_count setup.pages) c (additions_noted log)
       (reads_of (known setup plans site e h) log)) passing
-      (subst (λ (f : ℕ → ℕ). ArePlaced f (seats_passing e.seats.items) (additions_noted log)
+      (subst (λ (f : ℕ → ℕ). ArePlaced f all (additions_noted log)
       (reads_of (known setup plans site e h) log)) first
       (subst (λ (rs : List PageRead). ArePlaced (λ page. get_or (coord_view e.coord).opening.counts page 0)
-      (seats_passing e.seats.items) (additions_noted log) rs) (sym reads)
+      all (additions_noted log) rs) (sym reads)
       (subst (λ (made : List Addition). ArePlaced (λ page. get_or (coord_view e.coord).opening.counts page 0)
-      (seats_passing e.seats.items) made (reads_among n.0.worker.post.did)) n.1.1.additions post)))
+      all made (reads_among n.0.worker.post.did)) n.1.1.additions post)))
 
   -- their stretches stand in the order of phases
-  pub stand-are : HaveAddedBetween (coord_view e.coord).opening (coord_view e.coord).phase e.seats.items
+  pub stand-are : All (HaveBetween (coord_view e.coord).opening.counts (posts_before (posts setup plans site e h))
+      (coord_view e.coord).phase) (posts setup plans site e h)
       → All (λ log. All
       (λ a. Between (served setup plans site e h) (runs_of e.logs.items) a.phase a.page a.old 0 a.n) log.adds.items)
       e.logs.items
   stand-are stand worker d within =
       let log : WorkerLog = get_or e.logs.items worker d in
       let n = noted-at worker log (slice_get-get_or e.logs.items worker d within) in
-      let seat = right-at IsSeatOf h.servers e.seats.items worker n.0 h.seats n.1.0 in
       let counts : List ℕ = (coord_view e.coord).opening.counts in
       let last : ℕ = (coord_view e.coord).phase in
-      let P : List Addition → Type 0 = StandBetween counts (seats_before e.seats.items) last in
-      let own : P (additions_among (seat_meaning seat.0).did) =
-      subst (λ (x : WorkerSeat). P (additions_among (seat_meaning x).did))
-      (get_or_from_slice_get e.seats.items worker seat.0 seat.0 seat.1.0)
-      (stand worker seat.0 (slice_get_within e.seats.items worker seat.0 seat.1.0))
-      in
-      let post : P (additions_among n.0.worker.post.did) = subst (λ (p : PostView). P (additions_among p.did)) seat.1.1 own in
+      let before : ℕ → ℕ → ℕ = posts_before (posts setup plans site e h) in
+      let P : List Addition → Type 0 = StandBetween counts before last in
+      let post : P (additions_among n.0.worker.post.did) =
+      (at-post setup plans site e h (HaveBetween counts before last) stand worker n.0 n.1.0).2 in
       stand-noted (served setup plans site e h) (runs_of e.logs.items) counts
-      (seats_before e.seats.items) last log.adds.items first-same (all-before setup plans site e h masks)
+      before last log.adds.items first-same (all-before setup plans site e h masks)
       (subst P n.1.1.additions post)

@@ -23,7 +23,7 @@ use Rattle.like_roles.specs.declared.turn.Turn.{Turn}
 use Rattle.like_roles.specs.declared.turn.Turn.TheVariants as turn
 use Rattle.like_roles.specs.worker.Serve.{Runs}
 use Rattle.like_roles.specs.worker.Turns as turns
-use Rattle.like_roles.specs.worker.Turns.{Gives, TakesAsk, Turns, Works, held_from, saw, settled, trying, with_taken, without_first}
+use Rattle.like_roles.specs.worker.Turns.{Gives, Turns, Works, held_from, saw, settled, trying, with_taken, without_first}
 use Rattle.like_roles.specs.worker.WorkerView.{TookAllEnds, WorkerView, has_to_wait, submitter_at}
 use Rattle.like_roles.proofs.Effects.{Runs-effects}
 use Rattle.like_ending.specs.Progress.{WorkerProgress}

@@ -4,14 +4,14 @@ use Rattle.like_core.specs.declared.sight.CoordSight.{CoordSight}
 use Rattle.like_core.specs.views.Views.{announced_coord}
 use Rattle.like_core.specs.Phase.{IsJoined, IsSplit}
 use Rattle.like_core.specs.views.Actions.{Surveys}
-use Rattle.like_board.specs.Led.{BoardView, ShowsTold}
+use Rattle.like_board.specs.Led.{BoardView, IsSightOf, ShowsTold}
 use Rattle.like_seat.specs.Lead.{LeadView, saw_word}
 use Rattle.like_promises.specs.declared.chosen.Chosen.{Chosen}
 use Rattle.like_roles.specs.declared.coord_turn.CoordTurn.{CoordTurn}
 use Rattle.like_roles.specs.declared.coord_turn.CoordTurn.TheVariants.{Ended}
 use Rattle.like_roles.proofs.choice.Choosing.{release-gone}
 use Rattle.like_roles.proofs.choice.Releasing.{release-on}
-use Rattle.like_roles.specs.coordinator.CoordTurns.{Acts, ends, counts, stays, announces, releases, waits, ChoseByCounts, CoordinatorView, CoordTurns, HasEndedJoined, IsBeforeEnd, IsCoordSight, looks, surveyed, coordinator_of, TurnsAt}
+use Rattle.like_roles.specs.coordinator.CoordTurns.{Acts, ends, counts, stays, announces, releases, waits, ChoseByCounts, CoordinatorView, CoordTurns, HasEndedJoined, IsBeforeEnd, surveyed, coordinator_of, TurnsAt}
 
 -- no turn releases a split phase after all are gone
 pub before_end : (v : CoordinatorView) (answer : CoordTurn) (after : CoordinatorView)
@@ -62,7 +62,7 @@ ended_joined v answer after t before is = shown t.acts
 pub by_case : (b : BoardView) (v : CoordinatorView) (lead after : LeadView) (turns left phase : ℕ) (chosen : List Chosen)
     (sight : CoordSight) (answer : CoordTurn) (w : CoordinatorView)
     → coordinator_of lead turns left phase chosen ≡ v
-    → IsCoordSight lead.seat sight
+    → IsSightOf lead.seat sight
     → Surveys lead.seat sight after.seat
     → after ≡ saw_word lead after.seat.word sight
     → ShowsTold b lead.seat.phase sight
@@ -74,7 +74,7 @@ by_case b v lead after turns left phase chosen sight answer w is shows event saw
         word = after.seat.word;
         sight = sight;
         shows = shows;
-        event = looks (subst (λ (x : LeadView). Surveys lead.seat sight x.seat) saw event);
+        event = subst (λ (x : LeadView). Surveys lead.seat sight x.seat) saw event;
         acts =
             subst (λ (x : LeadView). Acts (coordinator_of x turns left sight.number chosen) sight answer w) saw acts;
       };

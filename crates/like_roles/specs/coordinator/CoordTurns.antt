@@ -5,7 +5,7 @@ use Rattle.like_core.specs.declared.view.CoordSeatView.{CoordSeatView}
 use Rattle.like_core.specs.Phase.{last_phase, IsJoined, IsSplit}
 use Rattle.like_core.specs.views.Actions.{Surveys}
 use Rattle.like_core.specs.views.Views.{announced_coord, looked_coord}
-use Rattle.like_board.specs.Led.{BoardView, ShowsTold}
+use Rattle.like_board.specs.Led.{BoardView, IsSightOf, ShowsTold}
 use Rattle.like_board.specs.Seats.{BoardId}
 use Rattle.like_seat.specs.Lead.{LeadView}
 use Rattle.like_promises.specs.declared.chosen.Chosen.{Chosen}
@@ -34,14 +34,6 @@ coordinator_of lead turns left phase chosen = record {
   choice = choice_of lead chosen;
 }
 
--- what a look can show: the present phase, and whether it is ending; all in, once a look at this phase showed that; and
--- all gone in a split phase only where the last sight before its release showed that
-pub record IsCoordSight (c : CoordSeatView) (sight : CoordSight) : Type 0 where
-  pub number : sight.number ≡ c.phase
-  pub ending : sight.ending ≡ c.ending
-  pub all_in : c.all_in ≡ true → sight.all_in ≡ true
-  pub all_gone : IsSplit c.phase → sight.all_gone ≡ true → c.gone ≡ true
-
 -- the coordinator after a look at a word
 abbrev pub surveyed : CoordinatorView → ℕ → CoordSight → CoordinatorView
 surveyed v word sight = record v { seat = looked_coord v.seat word sight; phase = sight.number }
@@ -64,17 +56,13 @@ pub data Acts (v : CoordinatorView) (sight : CoordSight) (answer : CoordTurn)
   waits : sight.all_gone ≡ false → sight.ending ≡ true → sight.all_in ≡ false
       → answer ≡ Waiting → after ≡ v → Acts v sight answer after
 
--- a look of the seat at this word is the event of the core, and shows what the core shows
-pub data IsLook (c : CoordSeatView) (word : ℕ) (sight : CoordSight) : Type 0 where
-  looks : Surveys c sight (looked_coord c word sight) → IsLook c word sight
-
 -- turn case of the coordinator: it looks, and does what the sight asks for; its answer, and the coordinator after
 pub record CoordTurns (v : CoordinatorView) (answer : CoordTurn) (after : CoordinatorView)
     : Type 0 where
   pub word : ℕ
   pub sight : CoordSight
-  pub shows : IsCoordSight v.seat sight
-  pub event : IsLook v.seat word sight
+  pub shows : IsSightOf v.seat sight
+  pub event : Surveys v.seat sight (looked_coord v.seat word sight)
   pub acts : Acts (surveyed v word sight) sight answer after
 
 -- the same at a board: where that tells what all its seats know, the look shows it

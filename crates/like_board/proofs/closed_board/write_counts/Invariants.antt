@@ -1,8 +1,7 @@
 use Rattle.std.proofs.Common.{◌≡◌, ℕ, ◌<◌, List, length, slice_index}
 use Rattle.like_core.specs.declared.view.CoordSeatView.{CoordSeatView}
 use Rattle.like_board.specs.declared.worker_seat.WorkerSeat.{WorkerSeat}
-use Rattle.like_board.specs.Seats.{last_count}
-use Rattle.like_board.specs.Closed.{HasAllBack}
+use Rattle.like_board.specs.Closed.{HasAllBack, count_with}
 use Rattle.like_board.proofs.closed_board.write_counts.Given as goal
 
 abbrev pub invariant-loop-page : goal.invariant-loop-page
@@ -11,5 +10,5 @@ invariant-loop-page l = record {
   view : l.coord.me.0 ≡ l.fn.coord.me.0;
   counts : (c : CoordSeatView) (seats : List WorkerSeat) → HasAllBack l.fn.coord.me.0 c seats
       → length c.opening.counts ≡ length l.fn.counts → (k : ℕ) → k < l.page
-      → slice_index l.counts k ≡ last_count c.opening seats k;
+      → slice_index l.counts k ≡ count_with c seats k;
 }

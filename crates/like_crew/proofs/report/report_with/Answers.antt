@@ -163,7 +163,7 @@ returns-clause-places c notes =
           (λ page there. told.totals page (omega (arith, there, pages))) closed.places;
       ends = λ worker d within. (placed worker d within).ends;
       order = λ worker d within. (placed worker d within).order;
-      in_time = stand-are setup plans c.args.site e h closed.masks closed.counted notes closed.stand;
+      in_time = stand-are setup plans c.args.site e h closed.masks closed.counted notes closed.between;
       rows = subst (λ (n : ℕ). P n e.logs.items) c.len-2.ensures.len
           (subst (P c.len-2.result) c.deref-2.ensures.value (c.in_ok-places.ensures.noted notes));
     }

@@ -1,13 +1,11 @@
-use Rattle.std.proofs.Common.{◌≡◌, ◌+◌, ◌<◌, ◌≤◌, ℕ, suc, List, length, ap, subst, sym, refl, ◌∙◌, arith}
+use Rattle.std.proofs.Common.{◌≡◌, ◌+◌, ℕ, suc, List, length, ap, subst, sym, refl, ◌∙◌, arith}
 use mathlib.Core.Option.{some}
 use lib.ListN.{get_elem?}
 use Rattle.own_table.specs.Table.{views_of}
 use Rattle.like_core.specs.declared.view.View.{View}
 use Rattle.like_core.specs.declared.view.View.TheVariants.{Worker}
 use Rattle.like_core.specs.views.Views.{fresh}
-use Rattle.like_core.specs.views.Shows.{ShowsSome}
 use Rattle.like_board.specs.declared.key.Key.{Key}
-use Rattle.like_board.specs.NewViews.{new_views, new_workers}
 use Rattle.like_board.specs.Rule.{opening_of}
 use Rattle.like_board.proofs.AllSeats.{shows_made, worker_is, workers_long}
 use Rattle.like_board.proofs.Opens.{AreFirst, opens_key}

@@ -1,7 +1,5 @@
-use Rattle.std.proofs.Common.{◌≡◌, ◌<◌, ℕ, List, length, get_or, ap, subst, sym, ◌∙◌, arith}
-use mathlib.Core.Option.{some}
+use Rattle.std.proofs.Common.{ℕ, List, length, get_or, ap, sym, ◌∙◌, arith}
 use lib.ListN.{get_elem?}
-use Rattle.own_table.specs.Table.{words_of}
 use Rattle.like_core.specs.declared.opening.Opening.{Opening}
 use Rattle.like_core.specs.declared.view.View.{View}
 use Rattle.like_core.specs.views.Layout.{word_of}

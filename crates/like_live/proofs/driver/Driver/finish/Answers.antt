@@ -1,8 +1,9 @@
 use Rattle.std.proofs.Common.{◌≡◌, ◌<◌, length, ap, sym, ◌∙◌, subst}
 use Rattle.like_core.specs.declared.view.CoordSeatView.{CoordSeatView}
-use Rattle.like_board.specs.Closed.{IsClosed}
-use Rattle.like_board.specs.Seats.{board_id, coord_view, last_count}
+use Rattle.like_board.specs.Closed.{IsClosed, count_with}
+use Rattle.like_board.specs.Seats.{board_id, coord_view}
 use Rattle.like_live.specs.Driver.{DriverView}
+use Rattle.like_live.specs.Service.{posts_at}
 use Rattle.like_live.proofs.Closing.{back-all, back-here, last-total}
 use Rattle.like_live.proofs.driver.Driver.finish.Goals as goal
 
@@ -25,23 +26,13 @@ returns g c =
     let is = c.last_counts.ensures in
     let seat_is : coord_view c.finish.result ≡ c.args.self.lead.seat =
     c.finish.ensures.view ∙ ap (λ (d : DriverView). d.lead.seat) c.self.view_is in
-    let closed : IsClosed c.args.self.lead.seat back =
-    subst (λ (d : CoordSeatView). IsClosed d back) seat_is is.closed in
     record {
       len = is.len ∙ ap (λ (d : CoordSeatView). length d.opening.counts) seat_is;
       totals = λ page there.
           is.totals page there
-          ∙ ap (λ (d : CoordSeatView). last_count d.opening back page) seat_is
+          ∙ ap (λ (d : CoordSeatView). count_with d back page) seat_is
           ∙ last-total c.args.self c.args.seats.items back page c.give_back.ensures.back c.give_back.ensures.merged
           c.requires.gone;
-      back = back;
-      posts = c.give_back.ensures.back;
-      added = closed.added;
-      reads = closed.reads;
-      glances = closed.glances;
-      snapshots = closed.counted;
-      masks = closed.masks;
-      places = closed.places;
-      steps = closed.steps;
-      order = closed.order;
+      closed = subst (λ (d : CoordSeatView). IsClosed d (posts_at c.args.seats.items)) seat_is
+          (subst (IsClosed (coord_view c.finish.result)) c.give_back.ensures.back is.closed);
     }

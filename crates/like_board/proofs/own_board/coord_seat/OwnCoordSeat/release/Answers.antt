@@ -1,15 +1,14 @@
-use Rattle.std.proofs.Common.{◌≡◌, ◌+◌, ◌<◌, length, ap, sym, subst, ◌∙◌, arith}
+use Rattle.std.proofs.Common.{length, ap, sym, subst, ◌∙◌, arith}
 use mathlib.Core.Option.{some}
 use lib.ListN.{get_elem?}
-use Rattle.own_table.specs.Table.{key_of, words_of}
+use Rattle.own_table.specs.Table.{key_of}
 use Rattle.like_core.specs.declared.limits.Limits.{Limits}
 use Rattle.like_core.specs.word.Forms.{form_of}
 use Rattle.like_core.specs.views.Actions.{Releases}
 use Rattle.like_core.proofs.views.Apart.{word_of-past}
 use Rattle.like_board.specs.Known.{coord_view_of}
-use Rattle.like_board.specs.Own.{ShowsWorkers, own_coord, own_opening, own_views}
+use Rattle.like_board.specs.Own.{own_coord, own_opening, own_views}
 use Rattle.like_board.proofs.Allowed.{releasing}
-use Rattle.like_board.proofs.Fresh.{coord_opens, coord_sight_is, shows_workers}
 use Rattle.like_board.proofs.own_board.coord_seat.OwnCoordSeat.release.Goals as goal
 
 pub swap-requires : goal.swap-requires

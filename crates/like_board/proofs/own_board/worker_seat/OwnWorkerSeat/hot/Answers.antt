@@ -1,4 +1,4 @@
-use Rattle.std.proofs.Common.{◌+◌, ◌<◌, ap, sym, ◌∙◌, length, arith}
+use Rattle.std.proofs.Common.{ap, sym, ◌∙◌, length, arith}
 use mathlib.Core.Option.{some}
 use Rattle.own_table.specs.Table.{key_of}
 use Rattle.like_core.proofs.views.Apart.{word_of-past}

@@ -1,6 +1,6 @@
-use Rattle.std.proofs.Common.{◌≡◌, ◌+◌, ◌<◌, ap, sym, ◌∙◌, subst, refl, length, arith}
+use Rattle.std.proofs.Common.{ap, sym, ◌∙◌, subst, length, arith}
 use mathlib.Core.Option.{some}
-use Rattle.own_table.specs.Table.{key_of, views_of, words_of}
+use Rattle.own_table.specs.Table.{key_of, words_of}
 use Rattle.like_core.proofs.views.Apart.{word_of-past}
 use Rattle.like_board.specs.Own.{ShowsPhase, own_opening, own_view, own_views}
 use Rattle.like_board.proofs.Allowed.{looking}

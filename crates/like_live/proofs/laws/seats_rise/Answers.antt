@@ -1,0 +1,5 @@
+use Rattle.like_live.proofs.OneThread.{seats_rise}
+use Rattle.like_live.proofs.laws.seats_rise.Goals as goal
+
+pub returns : goal.returns
+returns c = seats_rise
