@@ -1,11 +1,11 @@
 -- How a batch is run, row by row.
-use Rattle.std.proofs.Common.{◌≡◌, ℕ, zero, suc, ◌+◌, ◌<◌, Bool, true, false, List, [], ◌∷◌, length, get_or, set, take, Result, Some, refl, ap, sym, ◌∙◌, subst, arith}
+use Rattle.std.proofs.Common.{◌≡◌, ℕ, zero, suc, ◌+◌, ◌<◌, Bool, true, false, List, [], ◌∷◌, length, get_or, set, take, Result, Ok, Some, refl, ap, sym, ◌∙◌, subst, arith}
 use Rattle.std.proofs.lemmas.Option.{slice_get-get_or}
 use Rattle.std.specs.List.{slice_get}
 use Rattle.like_live.specs.declared.call.Answer.{Answer}
 use Rattle.like_live.specs.declared.call.Call.{Call}
 use Rattle.like_live.specs.LiveView.{LiveView}
-use Rattle.like_live.specs.Batch.{AnswersRow, AnswersRows, RunCase, stops_at}
+use Rattle.like_live.specs.Batch.{AnswersRow, AnswersRows, RunCase, has_no_call, makes_call, stops_at}
 
 -- one row more
 rows-push : {R T : Type 0} (asks : R → Result Call T) (tells : Answer → T) (i : ℕ) (rows : List R) (answers : List T)
@@ -28,6 +28,16 @@ rows-push asks tells zero (x ∷ rows) (y ∷ answers) v now after row told at t
     )
 rows-push asks tells (suc i) (x ∷ rows) (y ∷ answers) v now after row told at there done d =
     (done.0, (done.1.0, rows-push asks tells i rows answers done.0 now after row told at (omega arith) done.1.1 d))
+
+-- a row whose call is made is answered
+pub row-answered : {R T : Type 0} (asks : R → Result Call T) (tells : Answer → T) (v after : LiveView) (row : R)
+    (call : Call) (told : T) (put_off : Bool)
+    → asks row ≡ Ok call
+    → AnswersRow Ok tells v call told put_off after
+    → AnswersRow asks tells v row told put_off after
+row-answered asks tells v after row call told put_off asked (makes_call c a is made written again) =
+    makes_call c a (asked ∙ is) made written again
+row-answered asks tells v after row call told put_off asked (has_no_call none no_more same) = cc none
 
 -- an element that was written is there
 set-there : {T : Type 0} → (xs : List T) (i : ℕ) (x : T) → i < length xs → slice_get (set xs i x) i ≡ Some x
