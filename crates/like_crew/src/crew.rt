@@ -26,6 +26,7 @@ use std::alloc::{AllocError, Global};
 mod coordinator_at;
 mod hands;
 mod new_servers;
+mod run_coordinator;
 mod server;
 mod servers;
 
