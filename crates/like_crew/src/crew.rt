@@ -31,7 +31,7 @@ mod server;
 mod servers;
 
 pub use coordinator_at::CoordinatorAt;
-pub use server::Server;
+pub use server::{OwnServer, OwnTurn, Server};
 
 /// The crew of a run: the coordinator at its board, and for each worker, in order, its server, which takes from inboxes
 /// of one kind.

@@ -14,3 +14,4 @@ pub mod counts
 pub mod notes
 pub mod Started
 pub mod choice
+pub mod Moved

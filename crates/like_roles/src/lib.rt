@@ -15,4 +15,4 @@ pub use coordinator::{Coordinator, CoordinatorOf, NoCoordinator, OwnCoordinator}
 pub use like_promises::{Added, Chosen, Ran, Reply, Took, WorkerLog};
 pub use like_requests::{Gate, NoGate};
 pub use turn::Turn;
-pub use worker::{NoWorker, Worker};
+pub use worker::{NoWorker, SuspendedWorker, Worker};

@@ -14,8 +14,10 @@ ghost use Rattle.like_seat.specs.StationView.{IsSliceInSplit};
 
 mod desk;
 mod places;
+mod suspended;
 
 use self::desk::Desk;
+pub use self::suspended::SuspendedWorker;
 use crate::turn::Turn;
 use like_core::Post;
 use like_promises::WorkerLog;
