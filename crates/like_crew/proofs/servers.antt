@@ -11,3 +11,4 @@ pub mod Finishing
 pub mod Leaving
 pub mod Modelled
 pub mod Turning
+pub mod Owned

@@ -2,6 +2,7 @@ pub mod Crew
 pub mod Ended
 pub mod Fresh
 pub mod Gathered
+pub mod OwnServer
 pub mod Progress
 pub mod Server
 pub mod ServerTurns

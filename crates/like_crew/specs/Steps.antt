@@ -2,6 +2,7 @@
 use Rattle.std.specs.Prelude.{◌≡◌, ◌↔◌, ℕ, Bool, true, List, length, slice_get, slice_set, Some}
 use Rattle.std.specs.List.{AllZip}
 use Rattle.like_tables.specs.Share.{worker_of}
+use Rattle.like_board.specs.Led.{BoardView, ShowsTold}
 use Rattle.like_roles.specs.coordinator.CoordTurns.{CoordTurns, CoordinatorView}
 use Rattle.like_roles.specs.declared.coord_turn.CoordTurn.{CoordTurn}
 use Rattle.like_roles.specs.declared.coord_turn.CoordTurn.TheVariants.{Ended}
@@ -33,6 +34,11 @@ pub record Leads (ended : Bool) (v w : CoordinatorView) : Type 0 where
   pub answer : CoordTurn
   pub turn : CoordTurns v answer w
   pub tells : (ended ≡ true) ↔ (answer ≡ Ended)
+
+-- the same at a board: where that tells what all its seats know, the look shows it
+pub record LeadsThere (b : BoardView) (ended : Bool) (v w : CoordinatorView) : Type 0 where
+  pub leads : Leads ended v w
+  pub fresh : ShowsTold b v.seat.phase leads.turn.sight
 
 -- a round: a turn of the coordinator, and one of each worker. The run ended with it if the coordinator answered that it
 -- has, and all workers are gone

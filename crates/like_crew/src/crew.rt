@@ -26,11 +26,12 @@ use std::alloc::{AllocError, Global};
 mod coordinator_at;
 mod hands;
 mod new_servers;
+mod run_coordinator;
 mod server;
 mod servers;
 
 pub use coordinator_at::CoordinatorAt;
-pub use server::Server;
+pub use server::{OwnServer, OwnTurn, Server};
 
 /// The crew of a run: the coordinator at its board, and for each worker, in order, its server, which takes from inboxes
 /// of one kind.

@@ -7,7 +7,7 @@ mod ended;
 mod report;
 mod site;
 
-pub use crew::{CoordinatorAt, Crew, Server};
+pub use crew::{CoordinatorAt, Crew, OwnServer, OwnTurn, Server};
 pub use ended::Ended;
 pub use report::{report_in_parallel, report_of};
 pub use site::{Seats, Site};

@@ -24,7 +24,8 @@ use Rattle.like_live.specs.declared.asked.Asked.{Asked}
 use Rattle.like_live.specs.LiveView.{IsSameSeat, KeepsTallies, LiveView, tally, with_station}
 use Rattle.like_live.specs.Calls as calls
 use Rattle.like_live.specs.Calls.{GlancesNow, LikesNow, LooksNow, TalliesLike, asked_in, full, last_after, liked, refused, told_of, verdict_at}
-use Rattle.like_live.proofs.Moving.{IsSized, same_seat}
+use Rattle.like_live.specs.Moves.{Moves}
+use Rattle.like_live.proofs.Moving.{IsSized, Leaves-moves, same_seat}
 
 -- a request that is accepted has passed the last test
 last_test : (a b c : Bool)

@@ -93,9 +93,9 @@ told-look v after user page tag answer whole (calls.waits accepted split room a 
       tallies = λ p. omega arith;
       last = λ u. refl;
       asks =
-          ap (λ xs. map ask_of v.found ++ xs) (map-append ask_waiting (waiting v) (asked_in (phase_at v.seat) user page tag ∷ []))
+          ap (λ xs. map ask_of v.found ++ xs) (map-append ask_waiting (waiting v) (asked_in (phase_at v.station) user page tag ∷ []))
           ∙ sym (append_assoc (map ask_of v.found) (map ask_waiting (waiting v))
-          (ask_waiting (asked_in (phase_at v.seat) user page tag) ∷ []));
+          (ask_waiting (asked_in (phase_at v.station) user page tag) ∷ []));
     }))
   where
     -- no page is split for one that is gone

@@ -5,8 +5,9 @@ ghost use Rattle.like_roles.specs.coordinator.CoordTurns.{CoordTurns, HasEndedJo
 ghost use Rattle.like_crew.specs.Crew.{CoordinatorGoesOn};
 ghost use Rattle.like_crew.specs.Steps.{Leads};
 
+use crate::crew::run_coordinator::RunCoordinator;
 use like_board::{Board, CoordSeat};
-use like_roles::{CoordTurn, Coordinator};
+use like_roles::CoordTurn;
 use std::alloc::{AllocError, Global};
 use std::marker::Model;
 
@@ -14,20 +15,19 @@ use std::marker::Model;
 #[derive(Drop)]
 pub struct CoordinatorAt<'a> {
     board: &'a Board,
-    pub(crate) coordinator: Coordinator,
+    pub(crate) coordinator: RunCoordinator<CoordSeat>,
 }
 
 impl<'a> Model for CoordinatorAt<'a> {
     ghost use Rattle.std.specs.Prelude.{◌≡◌};
     ghost use Rattle.like_board.specs.Seats.{board_id};
-    ghost use Rattle.like_roles.specs.coordinator.CoordTurns.{ChoseByCounts, CoordinatorView, IsBeforeEnd};
+    ghost use Rattle.like_roles.specs.coordinator.CoordTurns.{CoordinatorView};
 
     ghost Value = { CoordinatorView };
 
     ghost view = { λ l. l.coordinator };
 
-    ghost invariant = { λ l. (l.coordinator.board ≡ board_id l.board.now) × IsBeforeEnd l.coordinator
-        × ChoseByCounts l.coordinator };
+    ghost invariant = { λ l. l.coordinator.board ≡ board_id l.board.now };
 }
 
 impl<'a> CoordinatorAt<'a> {
@@ -52,10 +52,8 @@ impl<'a> CoordinatorAt<'a> {
         ensures left { IfOk result (λ coordinator. coordinator.left ≡ turns) }
         ensures hot { IfOk result (λ coordinator. coordinator.choice.hot ≡ hot) }
     {
-        match Coordinator::new(alloc, seat, turns, hot, counts) {
-            Ok(coordinator) => Ok(CoordinatorAt { board, coordinator }),
-            Err(_) => Err(AllocError),
-        }
+        let coordinator = RunCoordinator::new(alloc, seat, turns, hot, counts)?;
+        Ok(CoordinatorAt { board, coordinator })
     }
 
     /// Makes its next turn.
@@ -64,8 +62,8 @@ impl<'a> CoordinatorAt<'a> {
         ensures goes_on { CoordinatorGoesOn self.old self.new }
         ensures ended { result ≡ CoordTurn.Ended → HasEndedJoined self.new }
     {
-        let board = self.board;
-        self.coordinator.turn(board)
+        let mut at = self.board;
+        self.coordinator.turn_at(&mut at)
     }
 
     /// Makes its next turn, and says whether it found the run ended.
@@ -74,9 +72,7 @@ impl<'a> CoordinatorAt<'a> {
         ensures goes_on { CoordinatorGoesOn self.old self.new }
         ensures ended { result ≡ true → HasEndedJoined self.new }
     {
-        match self.turn() {
-            CoordTurn::Ended => true,
-            _ => false,
-        }
+        let mut at = self.board;
+        self.coordinator.ends_at(&mut at)
     }
 }

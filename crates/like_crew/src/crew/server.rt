@@ -9,6 +9,9 @@ ghost use Rattle.like_crew.specs.Fresh.{IsModelled};
 ghost use Rattle.like_crew.specs.Server.{AreInboxesFor, AreOwnPlans, IsLogOf, ServerGoesOn, WorksFor};
 ghost use Rattle.like_crew.specs.ServerTurns.{OpensAll, OpensOne, OpensWhole, ServerTurns, place_at};
 
+mod own_server;
+
+pub use self::own_server::{OwnServer, OwnTurn};
 use like_core::Post;
 use like_promises::WorkerLog;
 use like_queue::{Inbox, ListInbox, TakeWith};
