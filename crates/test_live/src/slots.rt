@@ -202,12 +202,28 @@ fn gets_hot(rt: &impl Abort, service: &mut Service<Guided>) {
     plays(rt, service, splits_500());
 }
 
+#[test]
+fn live_hot(rt: HostRuntime) -> Result<(), Fail> {
+    let mut service = opened_hot(rt.alloc(), Some(1))?;
+    gets_hot(&rt, &mut service);
+    drop(service);
+    Ok(())
+}
+
 // Likes make no page hot. A host can have pages split all the same.
 fn gets_none_hot(rt: &impl Abort, service: &mut Service<Guided>) {
     likes_500(rt, &mut service.seats, 0, 2_000);
     plays(rt, service, runs());
     service.driver.propose(&[999]);
     plays(rt, service, splits_999());
+}
+
+#[test]
+fn none_gets_hot(rt: HostRuntime) -> Result<(), Fail> {
+    let mut service = opened_hot(rt.alloc(), None)?;
+    gets_none_hot(&rt, &mut service);
+    drop(service);
+    Ok(())
 }
 
 // 380 likes are too few: 1 to 511 for `hot` act as 512. Of 1,000 likes and 4,000 looks, the looks are more.
@@ -223,6 +239,14 @@ fn is_not_popular(rt: &impl Abort, service: &mut Service<Guided>) {
     plays(rt, service, runs());
 }
 
+#[test]
+fn few_likes_make_none_hot(rt: HostRuntime) -> Result<(), Fail> {
+    let mut service = opened_hot(rt.alloc(), Some(1))?;
+    is_not_popular(&rt, &mut service);
+    drop(service);
+    Ok(())
+}
+
 // Page 500 gets hot by 1,000 likes, and then 4,000 looks at it wait.
 fn looks_wait(rt: &impl Abort, service: &mut Service<Guided>) {
     likes_500(rt, &mut service.seats, 0, 1_000);
@@ -232,48 +256,10 @@ fn looks_wait(rt: &impl Abort, service: &mut Service<Guided>) {
     plays(rt, service, runs());
 }
 
-// What happens to the popularity of pages.
-#[derive(Clone, Copy)]
-enum Popular {
-    OneByLikes,
-    NoneEver,
-    NoneByFewLikes,
-    NoneByLooks,
-}
-
-// Opens a service of 1,000 pages, and makes the calls for this.
-fn happens(rt: &impl Abort, alloc: Global, popular: Popular) -> Result<(), Fail> {
-    let hot = match popular {
-        Popular::NoneEver => None,
-        _ => Some(1),
-    };
-    let mut service = opened_hot(alloc, hot)?;
-    match popular {
-        Popular::OneByLikes => gets_hot(rt, &mut service),
-        Popular::NoneEver => gets_none_hot(rt, &mut service),
-        Popular::NoneByFewLikes => is_not_popular(rt, &mut service),
-        Popular::NoneByLooks => looks_wait(rt, &mut service),
-    }
-    drop(service);
-    Ok(())
-}
-
-#[test]
-fn live_hot(rt: HostRuntime) -> Result<(), Fail> {
-    happens(&rt, rt.alloc(), Popular::OneByLikes)
-}
-
-#[test]
-fn none_gets_hot(rt: HostRuntime) -> Result<(), Fail> {
-    happens(&rt, rt.alloc(), Popular::NoneEver)
-}
-
-#[test]
-fn few_likes_make_none_hot(rt: HostRuntime) -> Result<(), Fail> {
-    happens(&rt, rt.alloc(), Popular::NoneByFewLikes)
-}
-
 #[test]
 fn looks_that_wait_cost_a_slot(rt: HostRuntime) -> Result<(), Fail> {
-    happens(&rt, rt.alloc(), Popular::NoneByLooks)
+    let mut service = opened_hot(rt.alloc(), Some(1))?;
+    looks_wait(&rt, &mut service);
+    drop(service);
+    Ok(())
 }
