@@ -9,6 +9,7 @@
 ///   phases.
 /// - `runs-files`: three submitters, each with the likes of its own user: in another order, they would be refused. And
 ///   `plain-likes`, which is done in phase 0 long before the coordinator has counted a million turns.
+/// - `runs-on-80-threads`: 16 workers and 64 submitters, whose file is one without requests.
 /// - `writes-a-summary`: each number but the seconds. And `tells-refused-requests`: those files without a summary.
 /// - `tells-no-progress`: of work that takes less than two seconds, nothing is told.
 /// - `tells-two-inputs`: standard input is two files, and none is opened.
@@ -47,6 +48,11 @@ plain-p.csv>name,count,split\na,10,no\n&plain-r.csv>op,user,page\nlike,0,a\nlike
 run --workers 1 --users 2 --turns 1000000 plain-p.csv plain-r.csv|0|\
 row,id,number,phase,answer,page,count\nreply,0,1,0,liked,,\nreply,0,2,0,liked,,\nreply,0,3,0,liked,,\n\
 page,0,,,,a,13\nuser,0,,,,a,\nuser,1,,,,a,\n|;\
+runs-on-80-threads|\
+many.csv>name,count,split\na,10,no\n&r>op,user,page\n&|\
+run --workers 16 many.csv r r r r r r r r r r r r r r r r r r r r r r r r r r r r r r r r \
+r r r r r r r r r r r r r r r r r r r r r r r r r r r r r r r r|0|\
+row,id,number,phase,answer,page,count\npage,0,,,,a,10\n|;\
 writes-a-summary|\
 summary-p.csv>name,count,split\na,10,no\n&\
 summary-0.csv>op,user,page\nlike,0,a\nlook,0,a\nlike,0,a\nlook,1,a\n&\
