@@ -1,10 +1,11 @@
 -- What the program has done for its words, by what its parts answered.
 use Rattle.std.proofs.Common.{◌≡◌, ◌==◌, ℕ, List, [], ◌∷◌, inl, inr, Option, Result, Ok, Err, IfErr, IfOk, ap, false, length, map, refl, subst, sym, true≢false}
-use Rattle.std.specs.Prelude.{◌⊎◌}
+use Rattle.std.specs.Prelude.{◌⊎◌, MatchResult}
 use Rattle.like_command.specs.Asked.{Asks, AsksForHelp, Words}
 use Rattle.like_files.specs.Faults.{IsBeforeOutput}
+use Rattle.like_files.specs.Outcome.{TellsWrite}
 use Rattle.like_program.specs.Fault.{of_files}
-use Rattle.like_program.specs.Program.{HasDone, HasServed, IsFilesFault, IsServeFault, IsWordsFault}
+use Rattle.like_program.specs.Program.{HasDone, HasServed, IsFilesFault, IsServeFault, IsWordsFault, TellsProgram}
 use Rattle.like_command.specs.declared.asked.Asked.{Asked}
 use Rattle.like_command.specs.declared.asked.Asked.TheVariants.{Run, Replay}
 use Rattle.like_command.specs.declared.options.Options.{Options}
@@ -43,6 +44,13 @@ pub of_files-ok : {A : Type 0} (P : A → Type 0) (options : Options) (done : Re
     → IfOk (of_files options done) P
 of_files-ok P options (Ok x) h = h
 of_files-ok P options (Err fault) h = tt
+
+-- what a run or a replay tells of its output, the program tells
+pub of_files-told : {A W : Type 0} (Failed : W → Type 0) (options : Options) (done : Result A DriverFault) (old new : W)
+    → MatchResult done (λ _. Failed new → Failed old) (TellsWrite Failed old new)
+    → MatchResult (of_files options done) (λ _. Failed new → Failed old) (TellsProgram Failed old new)
+of_files-told Failed options (Ok x) old new told = told
+of_files-told Failed options (Err fault) old new told = told
 
 -- why a run or a replay was not done
 pub files-fault : {A W : Type 0} (contents : W → Option (List ℕ)) (options : Options) (done : Result A DriverFault)

@@ -1,6 +1,6 @@
 use Rattle.std.proofs.lemmas.Result.{IfOk-weaker}
 use Rattle.like_program.specs.Program.{HasReplayedExample}
-use Rattle.like_program.proofs.Serving.{of_files-ok}
+use Rattle.like_program.proofs.Serving.{of_files-ok, of_files-told}
 use Rattle.like_program.proofs.example.replay_example.Goals as goal
 
 pub returns-clause-replayed : goal.returns-clause-replayed
@@ -17,3 +17,9 @@ returns-clause-replayed g c =
       replayed = rw (c.as_bytes-pages.ensures.value, c.in_ok-requests.ensures) at done;
     })
     c.replay_opened-done.ensures.replayed.done))
+
+pub returns-clause-told : goal.returns-clause-told
+returns-clause-told g c =
+    rw c.with_options.ensures
+    (of_files-told g.W.Output.has_failed c.in_ok-options.options c.replay_opened-done.result c.args.out.now
+    c.replay_opened-done.new.out c.replay_opened-done.ensures.output.told)
