@@ -31,10 +31,10 @@ own_views board = views_of board.table
 
 -- what a worker's seat knows, and its place among the views
 abbrev pub own_view : OwnWorkerSeat → WorkerSeatView
-own_view seat = worker_view_of seat.seat.me.0
+own_view seat = worker_view_of seat.access.me.0
 
 abbrev pub own_place : OwnWorkerSeat → ℕ
-own_place seat = seat.seat.id
+own_place seat = seat.access.id
 
 -- what a worker's seat means as a post, its board aside
 abbrev pub own_meaning : OwnWorkerSeat → PostView
@@ -42,7 +42,7 @@ own_meaning seat = post_of (own_view seat)
 
 -- what the coordinator's seat knows
 abbrev pub own_coord : OwnCoordSeat → CoordSeatView
-own_coord seat = coord_view_of seat.seat.me.0
+own_coord seat = coord_view_of seat.access.me.0
 
 -- the seat at this place of the board knows this
 abbrev pub Knows : OwnBoard → ℕ → View → Type 0

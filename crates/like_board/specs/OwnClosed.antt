@@ -11,7 +11,7 @@ use Rattle.like_board.specs.Own.{own_view}
 -- a seat that knows the same, at a board that threads share
 abbrev pub as_shared : OwnWorkerSeat → WorkerSeat
 as_shared s = record {
-  seat = record {
+  access = record {
     marker = record {};
     table_id = record {
       words = word_of (length (own_view s).opening.marks);
@@ -22,8 +22,8 @@ as_shared s = record {
       offset = 0;
       slot_names = [];
     };
-    id = s.seat.id;
-    me = s.seat.me;
+    id = s.access.id;
+    me = s.access.me;
   };
   number = s.number;
   form = s.form;

@@ -21,19 +21,19 @@ board_id board = board.table.shared.table_id
 
 -- the board of the coordinator's seat
 abbrev pub coord_board : CoordSeat → TableId
-coord_board seat = seat.seat.table_id
+coord_board seat = seat.access.table_id
 
 -- what the coordinator's seat knows
 abbrev pub coord_view : CoordSeat → CoordSeatView
-coord_view seat = coord_view_of seat.seat.me.0
+coord_view seat = coord_view_of seat.access.me.0
 
 -- the board of a worker's seat
 abbrev pub seat_board : WorkerSeat → TableId
-seat_board seat = seat.seat.table_id
+seat_board seat = seat.access.table_id
 
 -- what a worker's seat knows
 abbrev pub seat_view : WorkerSeat → WorkerSeatView
-seat_view seat = worker_view_of seat.seat.me.0
+seat_view seat = worker_view_of seat.access.me.0
 
 -- the board of a post
 abbrev pub post_board : {B : Type 0} {held : _} → PostAt B held → TableId

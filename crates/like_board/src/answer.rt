@@ -14,23 +14,23 @@ use like_core::{Form, View};
 
 /// Puts an answer or a retirement into the phase word, in one step of the word's form. Gives the word found.
 pub(crate) fn put_answer<P: Play<(), View>>(
-    seat: &mut Seat<(), View>,
+    access: &mut Seat<(), View>,
     board: &Board,
     form: Form,
     answer: u64,
 ) -> u64
-    requires here { seat.old.table_id ≡ board_id board.now }
+    requires here { access.old.table_id ≡ board_id board.now }
     requires allowed { let table = board.now.table.shared in
-        Allows (IsShowing table.key) table.table_id.slots seat.old.id seat.old.me phase_place
+        Allows (IsShowing table.key) table.table_id.slots access.old.id access.old.me phase_place
         (λ word. (form_of form).put word answer)
-        (P.then (step table.table_id.slots phase_place answer 0 none) seat.old.me) }
-    ensures board { seat.new.table_id ≡ seat.old.table_id }
+        (P.then (step table.table_id.slots phase_place answer 0 none) access.old.me) }
+    ensures board { access.new.table_id ≡ access.old.table_id }
     ensures told { let table = board.now.table.shared in
-        P.then (step table.table_id.slots phase_place answer 0 none) seat.old.me result seat.new.me }
+        P.then (step table.table_id.slots phase_place answer 0 none) access.old.me result access.new.me }
 {
     let shared = &board.table.shared;
     match form {
-        Form::Bits => shared.fetch_or::<P>(seat, PHASE_WORD, answer),
-        Form::Counts => shared.fetch_add::<P>(seat, PHASE_WORD, answer),
+        Form::Bits => shared.fetch_or::<P>(access, PHASE_WORD, answer),
+        Form::Counts => shared.fetch_add::<P>(access, PHASE_WORD, answer),
     }
 }

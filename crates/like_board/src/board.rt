@@ -129,11 +129,11 @@ impl Board {
     {
         let first = key.limits.form.first(key.workers);
         let words = first_words(alloc, first, counts)?;
-        let (table, mut seat) = Table::of_words(alloc, words.as_slice(), &key)?;
+        let (table, mut access) = Table::of_words(alloc, words.as_slice(), &key)?;
         let board = Board { table };
-        let seats = make_seats(alloc, &board, &mut seat, key.workers, key.limits.form)?;
+        let seats = make_seats(alloc, &board, &mut access, key.workers, key.limits.form)?;
         let coord = CoordSeat {
-            seat,
+            access,
             seen: first,
             workers: key.workers,
             phase: 0,

@@ -28,8 +28,8 @@ fn gather(board: &Board, coord: &mut Seat<(), View>, mut seats: Vec<WorkerSeat>)
         (Coord (gathered_all (coord_view_of coord.old.me.0) (map seat_view seats.items)), []) }
 {
     while let Some(seat) = seats.pop() {
-        let WorkerSeat { seat, .. } = seat;
-        board.table.shared.join_seat::<Gathers>(coord, seat);
+        let WorkerSeat { access, .. } = seat;
+        board.table.shared.join_seat::<Gathers>(coord, access);
     }
 }
 
@@ -60,7 +60,7 @@ impl Board {
         ensures { IsClosedBoard (coord_view coord) seats.items counts.new }
     {
         let CoordSeat {
-            seat: mut coord,
+            access: mut coord,
             ..
         } = coord;
         gather(self, &mut coord, seats);

@@ -16,7 +16,7 @@ use like_core::{CoordSight, Limits, View};
 /// The coordinator's right to step on a board.
 #[derive(Drop)]
 pub struct CoordSeat {
-    pub(crate) seat: Seat<(), View>,
+    pub(crate) access: Seat<(), View>,
     /// The phase word that it saw last.
     pub(crate) seen: u64,
     /// How many workers there are.
@@ -25,18 +25,18 @@ pub struct CoordSeat {
     pub(crate) phase: u64,
     /// The limits of its board.
     pub(crate) limits: Limits,
-    ghost is_coord: { seat.me ≡ (Coord (coord_view_of seat.me.0), []) },
-    ghost saw: { seen ≡ (coord_view_of seat.me.0).word },
-    ghost told: { IsSome (coord_view_of seat.me.0).last → (form_of limits.form).phase_in seen ≤ limits.last_phase },
-    ghost all: { workers ≡ (coord_view_of seat.me.0).opening.workers },
+    ghost is_coord: { access.me ≡ (Coord (coord_view_of access.me.0), []) },
+    ghost saw: { seen ≡ (coord_view_of access.me.0).word },
+    ghost told: { IsSome (coord_view_of access.me.0).last → (form_of limits.form).phase_in seen ≤ limits.last_phase },
+    ghost all: { workers ≡ (coord_view_of access.me.0).opening.workers },
     ghost few: { workers ≤ limits.seats },
-    ghost sized: { seat.table_id.words ≡ word_of (length (coord_view_of seat.me.0).opening.counts) },
-    ghost few_pages: { length (coord_view_of seat.me.0).opening.counts < 2 ^ 32 },
-    ghost present: { phase ≡ (coord_view_of seat.me.0).phase },
-    ghost within: { let c = coord_view_of seat.me.0 in IsSome c.last → c.phase ≤ limits.last_phase },
-    ghost made_all: { (coord_view_of seat.me.0).made ≡ (coord_view_of seat.me.0).opening.workers },
-    ghost none_back: { (coord_view_of seat.me.0).joined ≡ [] },
-    ghost limited: { limits ≡ (coord_view_of seat.me.0).opening.limits },
+    ghost sized: { access.table_id.words ≡ word_of (length (coord_view_of access.me.0).opening.counts) },
+    ghost few_pages: { length (coord_view_of access.me.0).opening.counts < 2 ^ 32 },
+    ghost present: { phase ≡ (coord_view_of access.me.0).phase },
+    ghost within: { let c = coord_view_of access.me.0 in IsSome c.last → c.phase ≤ limits.last_phase },
+    ghost made_all: { (coord_view_of access.me.0).made ≡ (coord_view_of access.me.0).opening.workers },
+    ghost none_back: { (coord_view_of access.me.0).joined ≡ [] },
+    ghost limited: { limits ≡ (coord_view_of access.me.0).opening.limits },
     ghost lawful: { AreLimits limits },
 }
 
@@ -81,7 +81,7 @@ impl CoordSeat {
         let word = board
             .table
             .shared
-            .load::<Surveying>(&mut self.seat, PHASE_WORD);
+            .load::<Surveying>(&mut self.access, PHASE_WORD);
         self.seen = word;
         self.limits.form.coord_sight_in(word, self.workers)
     }
@@ -97,7 +97,7 @@ impl CoordSeat {
         board
             .table
             .shared
-            .fetch_add::<Announcing>(&mut self.seat, PHASE_WORD, 1);
+            .fetch_add::<Announcing>(&mut self.access, PHASE_WORD, 1);
     }
 
     /// A page's count at the end of a joined phase: its count at the start and all that was added up to that phase.
@@ -110,7 +110,7 @@ impl CoordSeat {
         ensures event { Counts (coord_view self.old) page result (coord_view self.new) }
     {
         let word = word_of(page);
-        board.table.shared.load::<Counting>(&mut self.seat, word)
+        board.table.shared.load::<Counting>(&mut self.access, word)
     }
 
     /// Stores the mask of hot pages with which the split phase that comes next is to be released, on a board without
@@ -124,7 +124,7 @@ impl CoordSeat {
         board
             .table
             .shared
-            .store::<Publishing>(&mut self.seat, MASK_WORD, mask);
+            .store::<Publishing>(&mut self.access, MASK_WORD, mask);
     }
 
     /// Puts a page into a slot, while all are in. It is no event of the core. What was published before must be
@@ -139,7 +139,7 @@ impl CoordSeat {
         board
             .table
             .shared
-            .store::<Putting>(&mut self.seat, word, page as u64);
+            .store::<Putting>(&mut self.access, word, page as u64);
     }
 
     /// Stores which slots are in use, by bits: their pages are hot in the split phase that comes next.
@@ -153,7 +153,7 @@ impl CoordSeat {
         board
             .table
             .shared
-            .store::<PublishingSlots>(&mut self.seat, MASK_WORD, bits);
+            .store::<PublishingSlots>(&mut self.access, MASK_WORD, bits);
     }
 
     /// Releases the next phase, a split one with the mask that was published last.
@@ -168,7 +168,7 @@ impl CoordSeat {
         board
             .table
             .shared
-            .store::<Releasing>(&mut self.seat, PHASE_WORD, next);
+            .store::<Releasing>(&mut self.access, PHASE_WORD, next);
         self.phase += 1;
     }
 }

@@ -31,9 +31,9 @@ fn make_seat(board: &Board, coord: &mut Seat<(), View>, number: u32, form: Form)
     ensures seat_view { seat_view result ≡ fresh (coord_view_of coord.old.me.0).opening number }
     ensures fresh { IsFresh (seat_meaning result) }
 {
-    let seat = board.table.shared.split_seat::<MakesWorker>(coord);
+    let access = board.table.shared.split_seat::<MakesWorker>(coord);
     WorkerSeat {
-        seat,
+        access,
         number,
         form,
         turn: 1,

@@ -96,7 +96,7 @@ impl OwnBoard {
             table: OwnTable::open::<AllSeats>(&key, words),
         };
         let coord = OwnCoordSeat {
-            seat: board.table.seat(0),
+            access: board.table.seat(0),
             seen: first,
             workers: key.workers,
             phase: 0,

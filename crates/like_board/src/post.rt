@@ -12,7 +12,7 @@ use std::sync::Arc;
 pub struct PostAt<B: HoldsBoard> {
     pub(crate) board: B,
     pub(crate) seat: WorkerSeat,
-    ghost here: { seat.seat.table_id ≡ B.held board },
+    ghost here: { seat.access.table_id ≡ B.held board },
 }
 
 /// At a board that it borrows.

@@ -31,18 +31,18 @@ fn for_any_thread<T: Send>(value: T) -> T
 /// A worker's right to step on a board. It borrows nothing, so any thread may take it.
 #[derive(Drop)]
 pub struct WorkerSeat {
-    pub(crate) seat: Seat<(), View>,
+    pub(crate) access: Seat<(), View>,
     pub(crate) number: u32,
     /// The form of its board's phase word.
     pub(crate) form: Form,
     /// Whether it has answered an odd phase last: 1 or 0. A worker that runs a phase has answered the one before.
     pub(crate) turn: u64,
-    ghost is_worker: { seat.me ≡ (Worker (worker_view_of seat.me.0), []) },
-    ghost numbered: { number ≡ (worker_view_of seat.me.0).worker },
-    ghost formed: { form ≡ (worker_view_of seat.me.0).opening.limits.form },
+    ghost is_worker: { access.me ≡ (Worker (worker_view_of access.me.0), []) },
+    ghost numbered: { number ≡ (worker_view_of access.me.0).worker },
+    ghost formed: { form ≡ (worker_view_of access.me.0).opening.limits.form },
     ghost few: { number < most_seats form },
-    ghost turned: { turn ≡ turn_of (worker_view_of seat.me.0).state },
-    ghost sized: { seat.table_id.words ≡ word_of (length (worker_view_of seat.me.0).opening.marks) },
+    ghost turned: { turn ≡ turn_of (worker_view_of access.me.0).state },
+    ghost sized: { access.table_id.words ≡ word_of (length (worker_view_of access.me.0).opening.marks) },
 }
 
 impl WorkerSeat {
@@ -91,7 +91,7 @@ impl WorkerSeat {
         let word = board
             .table
             .shared
-            .load::<Looking>(&mut self.seat, PHASE_WORD);
+            .load::<Looking>(&mut self.access, PHASE_WORD);
         self.form.sight_in(word, self.turn)
     }
 
@@ -104,7 +104,7 @@ impl WorkerSeat {
         ensures event { Acknowledges (seat_view self.old) (seat_view self.new) }
     {
         let answer = self.form.answer(self.number);
-        put_answer::<Acknowledging>(&mut self.seat, board, self.form, answer);
+        put_answer::<Acknowledging>(&mut self.access, board, self.form, answer);
         self.turn = 0;
     }
 
@@ -117,7 +117,7 @@ impl WorkerSeat {
         ensures event { Reports (seat_view self.old) (seat_view self.new) }
     {
         let answer = self.form.answer(self.number);
-        put_answer::<Reporting>(&mut self.seat, board, self.form, answer);
+        put_answer::<Reporting>(&mut self.access, board, self.form, answer);
         self.turn = 1;
     }
 
@@ -129,7 +129,7 @@ impl WorkerSeat {
         ensures event { Retires (seat_view self.old) (seat_view self.new) }
     {
         let retirement = self.form.retirement(self.number);
-        put_answer::<Retiring>(&mut self.seat, board, self.form, retirement);
+        put_answer::<Retiring>(&mut self.access, board, self.form, retirement);
     }
 
     /// Takes the worker off the count of those gone, if the phase isn't ending and no other step changes the phase word
@@ -153,7 +153,7 @@ impl WorkerSeat {
             return None;
         }
         let next = word - retirement;
-        let found = shared.compare_exchange::<Returning>(&mut self.seat, PHASE_WORD, word, next);
+        let found = shared.compare_exchange::<Returning>(&mut self.access, PHASE_WORD, word, next);
         if found != word {
             return None;
         }
@@ -175,7 +175,7 @@ impl WorkerSeat {
         board
             .table
             .shared
-            .fetch_add::<Adding>(&mut self.seat, word, n)
+            .fetch_add::<Adding>(&mut self.access, word, n)
     }
 
     #[inline(always)]
@@ -188,7 +188,7 @@ impl WorkerSeat {
         ensures event { Reads (seat_view self.old) page result (seat_view self.new) }
     {
         let word = word_of(page);
-        board.table.shared.load::<Reading>(&mut self.seat, word)
+        board.table.shared.load::<Reading>(&mut self.access, word)
     }
 
     #[inline(always)]
@@ -202,7 +202,7 @@ impl WorkerSeat {
         ensures event { Glances (seat_view self.old) page result (seat_view self.new) }
     {
         let word = word_of(page);
-        board.table.shared.load::<Glancing>(&mut self.seat, word)
+        board.table.shared.load::<Glancing>(&mut self.access, word)
     }
 
     pub(crate) fn hot(&mut self, board: &Board) -> u64
@@ -216,7 +216,7 @@ impl WorkerSeat {
         board
             .table
             .shared
-            .load::<ReadingMask>(&mut self.seat, MASK_WORD)
+            .load::<ReadingMask>(&mut self.access, MASK_WORD)
     }
 
     /// The page that a slot holds in the split phase that the worker runs.
@@ -227,7 +227,10 @@ impl WorkerSeat {
         ensures view { seat_view self.new ≡ slotted_view (seat_view self.old) slot result }
     {
         let word = slot_place(slot);
-        board.table.shared.load::<ReadingSlot>(&mut self.seat, word) as u32
+        board
+            .table
+            .shared
+            .load::<ReadingSlot>(&mut self.access, word) as u32
     }
 
     /// The pages that the slots hold, each by its slot.
@@ -260,6 +263,6 @@ impl WorkerSeat {
         board
             .table
             .shared
-            .load::<ReadingSlots>(&mut self.seat, MASK_WORD)
+            .load::<ReadingSlots>(&mut self.access, MASK_WORD)
     }
 }

@@ -16,22 +16,22 @@ use own_table::OwnSeat;
 
 /// Puts an answer or a retirement into the phase word, by the word's form. Gives the word found.
 pub(crate) fn put_own_answer<P: Play<(), View>>(
-    seat: &mut OwnSeat<View>,
+    access: &mut OwnSeat<View>,
     board: &mut OwnBoard,
     form: Form,
     answer: u64,
 ) -> u64
-    requires here { get_elem? (views_of board.old.table) seat.old.id ≡ some seat.old.me.0 }
-    requires allowed { Allows (IsShowing (key_of board.old.table)) 0 seat.old.id seat.old.me phase_place
-        (λ word. (form_of form).put word answer) (P.then (step 0 phase_place answer 0 none) seat.old.me) }
-    ensures id { seat.new.id ≡ seat.old.id }
+    requires here { get_elem? (views_of board.old.table) access.old.id ≡ some access.old.me.0 }
+    requires allowed { Allows (IsShowing (key_of board.old.table)) 0 access.old.id access.old.me phase_place
+        (λ word. (form_of form).put word answer) (P.then (step 0 phase_place answer 0 none) access.old.me) }
+    ensures id { access.new.id ≡ access.old.id }
     ensures key { key_of board.new.table ≡ key_of board.old.table }
     ensures views { views_of board.new.table
-        ≡ slice_set (views_of board.old.table) seat.old.id seat.new.me.0 }
-    ensures told { P.then (step 0 phase_place answer 0 none) seat.old.me result seat.new.me }
+        ≡ slice_set (views_of board.old.table) access.old.id access.new.me.0 }
+    ensures told { P.then (step 0 phase_place answer 0 none) access.old.me result access.new.me }
 {
     match form {
-        Form::Bits => board.table.fetch_or::<P>(seat, PHASE_WORD, answer),
-        Form::Counts => board.table.fetch_add::<P>(seat, PHASE_WORD, answer),
+        Form::Bits => board.table.fetch_or::<P>(access, PHASE_WORD, answer),
+        Form::Counts => board.table.fetch_add::<P>(access, PHASE_WORD, answer),
     }
 }

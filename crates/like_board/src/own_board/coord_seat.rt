@@ -13,7 +13,7 @@ use own_table::OwnSeat;
 /// The coordinator's right to step on a board that one thread owns.
 #[derive(Drop)]
 pub struct OwnCoordSeat {
-    pub(crate) seat: OwnSeat<View>,
+    pub(crate) access: OwnSeat<View>,
     /// The phase word that it saw last.
     pub(crate) seen: u64,
     /// How many workers there are.
@@ -22,18 +22,18 @@ pub struct OwnCoordSeat {
     pub(crate) phase: u64,
     /// The limits of its board.
     pub(crate) limits: Limits,
-    ghost first: { seat.id ≡ 0 },
-    ghost is_coord: { seat.me ≡ (Coord (coord_view_of seat.me.0), []) },
-    ghost saw: { seen ≡ (coord_view_of seat.me.0).word },
-    ghost told: { IsSome (coord_view_of seat.me.0).last → (form_of limits.form).phase_in seen ≤ limits.last_phase },
-    ghost all: { workers ≡ (coord_view_of seat.me.0).opening.workers },
+    ghost first: { access.id ≡ 0 },
+    ghost is_coord: { access.me ≡ (Coord (coord_view_of access.me.0), []) },
+    ghost saw: { seen ≡ (coord_view_of access.me.0).word },
+    ghost told: { IsSome (coord_view_of access.me.0).last → (form_of limits.form).phase_in seen ≤ limits.last_phase },
+    ghost all: { workers ≡ (coord_view_of access.me.0).opening.workers },
     ghost few: { workers ≤ limits.seats },
-    ghost few_pages: { length (coord_view_of seat.me.0).opening.counts < 2 ^ 32 },
-    ghost present: { phase ≡ (coord_view_of seat.me.0).phase },
-    ghost within: { let c = coord_view_of seat.me.0 in IsSome c.last → c.phase ≤ limits.last_phase },
-    ghost made_all: { (coord_view_of seat.me.0).made ≡ (coord_view_of seat.me.0).opening.workers },
-    ghost none_back: { (coord_view_of seat.me.0).joined ≡ [] },
-    ghost limited: { limits ≡ (coord_view_of seat.me.0).opening.limits },
+    ghost few_pages: { length (coord_view_of access.me.0).opening.counts < 2 ^ 32 },
+    ghost present: { phase ≡ (coord_view_of access.me.0).phase },
+    ghost within: { let c = coord_view_of access.me.0 in IsSome c.last → c.phase ≤ limits.last_phase },
+    ghost made_all: { (coord_view_of access.me.0).made ≡ (coord_view_of access.me.0).opening.workers },
+    ghost none_back: { (coord_view_of access.me.0).joined ≡ [] },
+    ghost limited: { limits ≡ (coord_view_of access.me.0).opening.limits },
     ghost lawful: { AreLimits limits },
 }
 
@@ -66,7 +66,7 @@ impl OwnCoordSeat {
         ensures board { Steps board.old board.new 0 (Coord (own_coord self.new)) }
         ensures fresh { ShowsWorkers (own_coord self.old).phase (own_views board.old) result }
     {
-        let word = board.table.load::<Surveying>(&mut self.seat, PHASE_WORD);
+        let word = board.table.load::<Surveying>(&mut self.access, PHASE_WORD);
         self.seen = word;
         self.limits.form.coord_sight_in(word, self.workers)
     }
@@ -81,7 +81,7 @@ impl OwnCoordSeat {
     {
         board
             .table
-            .fetch_add::<Announcing>(&mut self.seat, PHASE_WORD, 1);
+            .fetch_add::<Announcing>(&mut self.access, PHASE_WORD, 1);
     }
 
     /// A page's count at the end of a joined phase.
@@ -96,7 +96,7 @@ impl OwnCoordSeat {
     {
         board.table.tell();
         let word = word_of(page);
-        board.table.load::<Counting>(&mut self.seat, word)
+        board.table.load::<Counting>(&mut self.access, word)
     }
 
     /// Stores the mask of hot pages with which the split phase that comes next is to be released.
@@ -108,7 +108,7 @@ impl OwnCoordSeat {
     {
         board
             .table
-            .swap::<Publishing>(&mut self.seat, MASK_WORD, mask);
+            .swap::<Publishing>(&mut self.access, MASK_WORD, mask);
     }
 
     /// Releases the next phase, a split one with the mask that was published last.
@@ -122,7 +122,7 @@ impl OwnCoordSeat {
         let next = self.limits.form.released(self.seen);
         board
             .table
-            .swap::<Releasing>(&mut self.seat, PHASE_WORD, next);
+            .swap::<Releasing>(&mut self.access, PHASE_WORD, next);
         self.phase += 1;
     }
 }

@@ -22,7 +22,7 @@ fn own_seat(board: &OwnBoard, number: u32, form: Form) -> OwnWorkerSeat
     ensures fresh { IsFresh (own_meaning result) }
 {
     OwnWorkerSeat {
-        seat: board.table.seat(number as usize + 1),
+        access: board.table.seat(number as usize + 1),
         number,
         form,
         turn: 1,

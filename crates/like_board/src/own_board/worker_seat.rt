@@ -15,18 +15,18 @@ use own_table::OwnSeat;
 /// A worker's right to step on a board that one thread owns.
 #[derive(Drop)]
 pub struct OwnWorkerSeat {
-    pub(crate) seat: OwnSeat<View>,
+    pub(crate) access: OwnSeat<View>,
     pub(crate) number: u32,
     /// The form of its board's phase word.
     pub(crate) form: Form,
     /// Whether it has answered an odd phase last: 1 or 0. A worker that runs a phase has answered the one before.
     pub(crate) turn: u64,
-    ghost placed: { seat.id ≡ number + 1 },
-    ghost is_worker: { seat.me ≡ (Worker (worker_view_of seat.me.0), []) },
-    ghost numbered: { number ≡ (worker_view_of seat.me.0).worker },
-    ghost formed: { form ≡ (worker_view_of seat.me.0).opening.limits.form },
+    ghost placed: { access.id ≡ number + 1 },
+    ghost is_worker: { access.me ≡ (Worker (worker_view_of access.me.0), []) },
+    ghost numbered: { number ≡ (worker_view_of access.me.0).worker },
+    ghost formed: { form ≡ (worker_view_of access.me.0).opening.limits.form },
     ghost few: { number < most_seats form },
-    ghost turned: { turn ≡ turn_of (worker_view_of seat.me.0).state },
+    ghost turned: { turn ≡ turn_of (worker_view_of access.me.0).state },
 }
 
 impl OwnWorkerSeat {
@@ -53,7 +53,7 @@ impl OwnWorkerSeat {
         ensures board { Steps board.old board.new (own_place self.old) (Worker (own_view self.new)) }
         ensures fresh { ShowsPhase (own_views board.old) result }
     {
-        let word = board.table.load::<Looking>(&mut self.seat, PHASE_WORD);
+        let word = board.table.load::<Looking>(&mut self.access, PHASE_WORD);
         self.form.sight_in(word, self.turn)
     }
 
@@ -68,7 +68,7 @@ impl OwnWorkerSeat {
         ensures board { Steps board.old board.new (own_place self.old) (Worker (own_view self.new)) }
     {
         let answer = self.form.answer(self.number);
-        put_own_answer::<Acknowledging>(&mut self.seat, board, self.form, answer);
+        put_own_answer::<Acknowledging>(&mut self.access, board, self.form, answer);
         self.turn = 0;
     }
 
@@ -83,7 +83,7 @@ impl OwnWorkerSeat {
         ensures board { Steps board.old board.new (own_place self.old) (Worker (own_view self.new)) }
     {
         let answer = self.form.answer(self.number);
-        put_own_answer::<Reporting>(&mut self.seat, board, self.form, answer);
+        put_own_answer::<Reporting>(&mut self.access, board, self.form, answer);
         self.turn = 1;
     }
 
@@ -97,7 +97,7 @@ impl OwnWorkerSeat {
         ensures board { Steps board.old board.new (own_place self.old) (Worker (own_view self.new)) }
     {
         let retirement = self.form.retirement(self.number);
-        put_own_answer::<Retiring>(&mut self.seat, board, self.form, retirement);
+        put_own_answer::<Retiring>(&mut self.access, board, self.form, retirement);
     }
 
     /// Adds to a page's count, and returns the count before, which has all that was added by then.
@@ -114,7 +114,7 @@ impl OwnWorkerSeat {
     {
         board.table.tell();
         let word = word_of(page);
-        board.table.fetch_add::<Adding>(&mut self.seat, word, n)
+        board.table.fetch_add::<Adding>(&mut self.access, word, n)
     }
 
     /// The count of a page that is not sliced, which has all that was added by then.
@@ -131,7 +131,7 @@ impl OwnWorkerSeat {
     {
         board.table.tell();
         let word = word_of(page);
-        board.table.load::<Reading>(&mut self.seat, word)
+        board.table.load::<Reading>(&mut self.access, word)
     }
 
     /// The mask of the hot pages of the split phase that the worker runs.
@@ -144,6 +144,6 @@ impl OwnWorkerSeat {
         ensures event { ReadsMask (own_view self.old) result (own_view self.new) }
         ensures board { Steps board.old board.new (own_place self.old) (Worker (own_view self.new)) }
     {
-        board.table.load::<ReadingMask>(&mut self.seat, MASK_WORD)
+        board.table.load::<ReadingMask>(&mut self.access, MASK_WORD)
     }
 }

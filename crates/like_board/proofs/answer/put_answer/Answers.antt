@@ -20,7 +20,7 @@ fetch_or-requires g c = (
   c.requires.here,
   c.args.board.now.some_word,
   by_form _ _ _ _ _
-      (g.P.Play.then (step c.args.board.now.table.shared.table_id.slots 0 c.args.answer 0 none) c.args.seat.now.me)
+      (g.P.Play.then (step c.args.board.now.table.shared.table_id.slots 0 c.args.answer 0 none) c.args.access.now.me)
       _ Bits c.in-Bits.is c.requires.allowed,
 )
 
@@ -29,6 +29,6 @@ fetch_add-requires g c = (
   c.requires.here,
   c.args.board.now.some_word,
   by_form _ _ _ _ _
-      (g.P.Play.then (step c.args.board.now.table.shared.table_id.slots 0 c.args.answer 0 none) c.args.seat.now.me)
+      (g.P.Play.then (step c.args.board.now.table.shared.table_id.slots 0 c.args.answer 0 none) c.args.access.now.me)
       _ Counts c.in-Counts.is c.requires.allowed,
 )

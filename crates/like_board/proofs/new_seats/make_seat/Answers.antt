@@ -4,8 +4,8 @@ use Rattle.like_board.proofs.Allowed.{making, fresh_seat}
 use Rattle.like_board.proofs.Meanings.{is_fresh}
 use Rattle.like_board.proofs.new_seats.make_seat.Goals as goal
 
-pub split_seat-seat-requires : goal.split_seat-seat-requires
-split_seat-seat-requires c =
+pub split_seat-access-requires : goal.split_seat-access-requires
+split_seat-access-requires c =
     let known = coord_view_of c.args.coord.now.me.0 in (
       c.requires.here,
       c.args.board.now.some_word,
@@ -14,4 +14,4 @@ split_seat-seat-requires c =
     )
 
 pub returns-clause-fresh : goal.returns-clause-fresh
-returns-clause-fresh c = is_fresh _ _ (fresh_seat _ _ _ c.split_seat-seat.ensures.4)
+returns-clause-fresh c = is_fresh _ _ (fresh_seat _ _ _ c.split_seat-access.ensures.4)

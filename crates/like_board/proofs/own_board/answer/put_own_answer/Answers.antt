@@ -25,7 +25,7 @@ pub fetch_or-requires : goal.fetch_or-requires
 fetch_or-requires g c = record {
   here = c.requires.here;
   there = first_word _ _ c.args.board.now.sized;
-  allowed = by_form _ _ _ _ (g.P.Play.then (step 0 0 c.args.answer 0 none) c.args.seat.now.me) _ Bits c.in-Bits.is
+  allowed = by_form _ _ _ _ (g.P.Play.then (step 0 0 c.args.answer 0 none) c.args.access.now.me) _ Bits c.in-Bits.is
       c.requires.allowed;
 }
 
@@ -33,6 +33,6 @@ pub fetch_add-requires : goal.fetch_add-requires
 fetch_add-requires g c = record {
   here = c.requires.here;
   there = first_word _ _ c.args.board.now.sized;
-  allowed = by_form _ _ _ _ (g.P.Play.then (step 0 0 c.args.answer 0 none) c.args.seat.now.me) _ Counts c.in-Counts.is
+  allowed = by_form _ _ _ _ (g.P.Play.then (step 0 0 c.args.answer 0 none) c.args.access.now.me) _ Counts c.in-Counts.is
       c.requires.allowed;
 }

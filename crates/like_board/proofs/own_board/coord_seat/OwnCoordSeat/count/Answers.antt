@@ -26,7 +26,7 @@ load-requires c =
     let sized = c.args.board.now.sized in
     let same = ap (λ (l : List ℕ). length l) told.words in
     record {
-      here = ap (λ (l : List View). get_elem? l seat.seat.id) told.views
+      here = ap (λ (l : List View). get_elem? l seat.access.id) told.views
           ∙ ap (get_elem? (own_views c.args.board.now)) seat.first ∙ c.requires.here
           ∙ ap (λ m. some m.0) (sym seat.is_coord);
       there = omega (arith, word, before, sized, same);

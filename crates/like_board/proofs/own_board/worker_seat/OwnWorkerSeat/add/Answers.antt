@@ -28,7 +28,7 @@ fetch_add-requires c =
     let sized = c.args.board.now.sized in
     let same = ap (λ (l : List ℕ). length l) told.words in
     record {
-      here = ap (λ (l : List View). get_elem? l seat.seat.id) told.views ∙ c.requires.here
+      here = ap (λ (l : List View). get_elem? l seat.access.id) told.views ∙ c.requires.here
           ∙ ap (λ m. some m.0) (sym seat.is_worker);
       there = omega (arith, word, before, sized, same);
       allowed = adding_to (key_of c.tell.new.self) _ _ _ c.args.page _ c.args.n word seat.is_worker c.requires.may;
