@@ -19,10 +19,19 @@ abbrev pub is_accepted : ℕ → ℕ → ℕ → Request → Bool
 is_accepted users submitters submitter r =
     nat_lt r.user users && (home submitters r.user == submitter) && is_known r.page
 
--- the first of the three that fails
+-- the verdict on a user: the first of these that fails: the user exists, the submitter is the user's home; or else what
+-- the verdict on the rest is
+abbrev pub user_verdict : ℕ → ℕ → ℕ → ℕ → Verdict → Verdict
+user_verdict users submitters submitter user rest =
+    if not (nat_lt user users) then UnknownUser
+    else (if not (home submitters user == submitter) then OtherHome
+    else rest)
+
+-- the verdict on a page, by whether it exists
+abbrev pub page_verdict : Bool → Verdict
+page_verdict exists = if not exists then UnknownPage else Accepted
+
+-- the verdict on a request: the first of the three that fails
 abbrev pub verdict_of : ℕ → ℕ → ℕ → Request → Verdict
 verdict_of users submitters submitter r =
-    if not (nat_lt r.user users) then UnknownUser
-    else (if not (home submitters r.user == submitter) then OtherHome
-    else (if not (is_known r.page) then UnknownPage
-    else Accepted))
+    user_verdict users submitters submitter r.user (page_verdict (is_known r.page))

@@ -23,4 +23,4 @@ pub use setup::{
     MAX_HOT, MAX_REQUESTS, MAX_STASH, MAX_SUBMITTERS, MAX_TURNS, MAX_USERS, MAX_WORKERS,
     SettingsFault, Setup, check_setup,
 };
-pub use verdict::{Verdict, judge};
+pub use verdict::{Verdict, judge, judge_user};

@@ -1,5 +1,5 @@
 ghost use Rattle.std.specs.Prelude.{◌≡◌, ◌≤◌, ◌↔◌, IsTrue};
-ghost use Rattle.like_requests.specs.Verdict.{is_accepted, verdict_of};
+ghost use Rattle.like_requests.specs.Verdict.{is_accepted, user_verdict, verdict_of};
 
 use crate::request::{PageRef, Request};
 
@@ -15,6 +15,21 @@ pub enum Verdict {
     UnknownPage,
 }
 
+/// Judges a user who asks `submitter`, one of `submitters`, where `users` users are served.
+#[inline(always)]
+pub fn judge_user(user: u32, submitter: u32, submitters: u32, users: u32) -> Verdict
+    requires { 1 ≤ submitters }
+    ensures { result ≡ user_verdict users submitters submitter user Verdict.Accepted }
+{
+    if user >= users {
+        return Verdict::UnknownUser;
+    }
+    if user % submitters != submitter {
+        return Verdict::OtherHome;
+    }
+    Verdict::Accepted
+}
+
 /// Judges a request of `submitter`, one of `submitters`, where `users` users are served.
 pub fn judge(request: &Request, submitter: u32, submitters: u32, users: u32) -> Verdict
     requires { 1 ≤ submitters }
@@ -22,14 +37,8 @@ pub fn judge(request: &Request, submitter: u32, submitters: u32, users: u32) -> 
     ensures accepted { (result ≡ Verdict.Accepted)
         ↔ IsTrue (is_accepted users submitters submitter request.now) }
 {
-    if request.user >= users {
-        return Verdict::UnknownUser;
-    }
-    if request.user % submitters != submitter {
-        return Verdict::OtherHome;
-    }
-    match request.page {
-        PageRef::Known(_) => Verdict::Accepted,
-        PageRef::Unknown => Verdict::UnknownPage,
+    match judge_user(request.user, submitter, submitters, users) {
+        Verdict::Accepted if request.page == PageRef::Unknown => Verdict::UnknownPage,
+        verdict => verdict,
     }
 }

@@ -1,5 +1,5 @@
 ghost use Rattle.std.specs.Prelude.{◌≡◌, ◌≢◌, ◌+◌, ◌<◌, ◌≤◌, ◌↔◌, ℕ, None, Some, IfOk, IsTrue, false, length, slice_index_or};
-ghost use Rattle.like_requests.specs.Verdict.{is_accepted, verdict_of};
+ghost use Rattle.like_requests.specs.Verdict.{is_accepted, user_verdict, verdict_of};
 ghost use Rattle.like_tables.specs.Home.{IsHomeOf};
 ghost use Rattle.like_tables.specs.LastLike.{no_page};
 ghost use Rattle.like_tables.specs.Placed.{IsPlaced, placed_at, placed_in};
@@ -11,7 +11,7 @@ use crate::home::Home;
 use crate::last_like::LastLike;
 use crate::placed::Placed;
 use crate::share::UserShare;
-use like_requests::{Request, Verdict, judge};
+use like_requests::{Request, Verdict, judge, judge_user};
 use std::alloc::{AllocError, Global};
 use std::marker::Model;
 
@@ -105,6 +105,15 @@ impl Users {
         ensures { result ≡ submitter_of self.now.share.workers self.now.share.worker place }
     {
         self.share.submitter_at(place)
+    }
+
+    /// Judges a user who asks `submitter`.
+    #[inline(always)]
+    pub fn judge_user(&self, submitter: u32, user: u32) -> Verdict
+        ensures { result ≡ user_verdict self.now.share.users self.now.share.submitters submitter user
+            Verdict.Accepted }
+    {
+        judge_user(user, submitter, self.share.submitters, self.share.users)
     }
 
     /// Judges a request of `submitter`.
