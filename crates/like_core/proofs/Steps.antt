@@ -4,7 +4,7 @@ use Rattle.std.proofs.lemmas.List.Elements.{filter-append}
 use mathlib.Core.List.{reverse-cons}
 use Rattle.like_core.specs.declared.page_step.PageStep.{PageStep}
 use Rattle.like_core.specs.declared.view.Addition.{Addition}
-use Rattle.like_core.specs.PageSteps.{additions_among, earliest_first, glances_among, reads_among, step_adding, steps_by, then_steps}
+use Rattle.like_core.specs.PageSteps.{additions_among, earliest_first, step_adding, steps_by, then_steps}
 
 -- steps in their order are those that `reverse` gives
 pub earliest-reverse : (steps : List PageStep) → earliest_first steps ≡ reverse steps
@@ -50,15 +50,3 @@ then-additions worker before [] = sym (append-nil (additions_among before))
 then-additions worker before (a ∷ adds) =
     then-additions worker (step_adding worker a ∷ before) adds
     ∙ append_assoc (additions_among before) (a ∷ []) adds
-
--- and read nothing
-pub then-reads : (worker : ℕ) (before : List PageStep) (adds : List Addition)
-    → reads_among (then_steps before (map (step_adding worker) adds)) ≡ reads_among before
-then-reads worker before [] = refl
-then-reads worker before (a ∷ adds) = then-reads worker (step_adding worker a ∷ before) adds
-
--- nor do they glance
-pub then-glances : (worker : ℕ) (before : List PageStep) (adds : List Addition)
-    → glances_among (then_steps before (map (step_adding worker) adds)) ≡ glances_among before
-then-glances worker before [] = refl
-then-glances worker before (a ∷ adds) = then-glances worker (step_adding worker a ∷ before) adds

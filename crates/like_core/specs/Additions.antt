@@ -1,18 +1,12 @@
--- Additions to pages' counts, and reads of them; and how many likes the additions of a list have.
+-- Additions to pages' counts, and how many likes those of a list have.
 use Rattle.std.specs.Prelude.{ℕ, ◌==◌, ◌&&◌, nat_lt, if◌then◌else◌, List}
 use Rattle.std.specs.List.{sum_by}
 use Rattle.like_core.specs.declared.view.Addition.{Addition}
-use Rattle.like_core.specs.declared.view.PageRead.{PageRead}
 
 -- likes that were added to a page in a phase, when its count was `old`
 abbrev pub addition : ℕ → ℕ → ℕ → ℕ → Addition
 addition phase page old likes =
     record { phase = phase; page = page; old = old; likes = likes }
-
--- a page's count that was read in a phase, after this many additions
-abbrev pub page_read : ℕ → ℕ → ℕ → ℕ → PageRead
-page_read phase page count after =
-    record { phase = phase; page = page; count = count; after = after }
 
 -- how many likes were added in all
 abbrev pub all_added : List Addition → ℕ

@@ -1,5 +1,5 @@
 -- What workers do at the counts of pages, one atomic step after another.
-use Rattle.std.specs.Prelude.{◌≡◌, ℕ, ◌+◌, ◌≤◌, ◌==◌, if◌then◌else◌, List, [], ◌∷◌, ◌++◌, filter, length}
+use Rattle.std.specs.Prelude.{◌≡◌, ℕ, ◌+◌, ◌≤◌, ◌==◌, if◌then◌else◌, List, [], ◌∷◌, ◌++◌, filter, length, map}
 use Rattle.std.specs.List.{sum_by}
 use Rattle.like_core.specs.declared.page_step.PageCall.{PageCall}
 use Rattle.like_core.specs.declared.page_step.PageCall.TheVariants.{Add, Read, Glance}
@@ -7,8 +7,7 @@ use Rattle.like_core.specs.declared.page_step.PageStep.{PageStep}
 use Rattle.like_core.specs.declared.sight.Sight.{Sight}
 use Rattle.like_core.specs.declared.view.Addition.{Addition}
 use Rattle.like_core.specs.declared.view.Look.{Look}
-use Rattle.like_core.specs.declared.view.PageRead.{PageRead}
-use Rattle.like_core.specs.Additions.{addition, page_read}
+use Rattle.like_core.specs.Additions.{addition}
 
 -- a worker's step in a phase at a page, whose count was this
 abbrev pub page_step : ℕ → ℕ → ℕ → ℕ → PageCall → PageStep
@@ -76,26 +75,10 @@ abbrev pub additions_among : List PageStep → List Addition
 additions_among [] = []
 additions_among (s ∷ before) = and_addition (additions_among before) s.phase s.page s.found s.call
 
--- reads after this many additions, and one more if a call is one
-abbrev pub and_read : List PageRead → ℕ → ℕ → ℕ → ℕ → PageCall → List PageRead
-and_read earlier after phase page found (Add n) = earlier
-and_read earlier after phase page found Read = earlier ++ page_read phase page found after ∷ []
-and_read earlier after phase page found Glance = earlier
+-- a step's stretch: from the count that it found to the one that it left, which of a read or a glance is the same
+abbrev pub stretch_of : PageStep → Addition
+stretch_of s = addition s.phase s.page s.found (likes_of s.call)
 
--- the reads among steps, in their order
-abbrev pub reads_among : List PageStep → List PageRead
-reads_among [] = []
-reads_among (s ∷ before) =
-    and_read (reads_among before) (length (additions_among before)) s.phase s.page s.found s.call
-
--- glances after this many additions, and one more if a call is one
-abbrev pub and_glance : List PageRead → ℕ → ℕ → ℕ → ℕ → PageCall → List PageRead
-and_glance earlier after phase page found (Add n) = earlier
-and_glance earlier after phase page found Read = earlier
-and_glance earlier after phase page found Glance = earlier ++ page_read phase page found after ∷ []
-
--- the glances among steps, in their order
-abbrev pub glances_among : List PageStep → List PageRead
-glances_among [] = []
-glances_among (s ∷ before) =
-    and_glance (glances_among before) (length (additions_among before)) s.phase s.page s.found s.call
+-- the stretches of steps, in their order
+abbrev pub stretches_of : List PageStep → List Addition
+stretches_of steps = map stretch_of (earliest_first steps)

@@ -37,7 +37,5 @@ pub use returns::Returns;
 pub use shown::Shown;
 pub use sight::{CoordSight, Sight};
 pub use slot_post::SlotPost;
-pub use view::{
-    Addition, CoordSeatView, Look, PageCount, PageRead, PhaseMask, View, WorkerSeatView,
-};
+pub use view::{Addition, CoordSeatView, Look, PageCount, PhaseMask, View, WorkerSeatView};
 pub use worker_state::WorkerState;

@@ -14,15 +14,6 @@ pub struct Addition {
     pub likes: u64,
 }
 
-/// A count that a worker read.
-pub struct PageRead {
-    pub phase: u64,
-    pub page: u32,
-    pub count: u64,
-    /// How many additions the worker had made before.
-    pub after: u64,
-}
-
 /// A look that a worker made at the phase word: what it saw, and how much it had done before.
 pub struct Look {
     pub sight: Sight,

@@ -12,18 +12,18 @@ use Rattle.like_core.specs.declared.view.WorkerSeatView.{WorkerSeatView}
 use Rattle.like_core.specs.declared.view.View.{View}
 use Rattle.like_core.specs.declared.view.View.TheVariants.{Coord, Worker, Spent}
 use Rattle.like_core.specs.Additions.{added_before, added_to}
-use Rattle.like_core.specs.PageSteps.{additions_among, glances_among, likes_in, reads_among, steps_by}
+use Rattle.like_core.specs.PageSteps.{additions_among, likes_in, steps_by, stretches_of}
 use Rattle.like_core.specs.Post.{PostView}
 use Rattle.like_core.specs.core.State.{CoreState}
 use Rattle.like_core.specs.views.Views.{post_of, seats_of}
 use Rattle.like_core.specs.views.Order.{HasDone, HasOrder, IsOrder}
-use Rattle.like_core.specs.views.Places.{AreTiles, Counting, HavePlaced}
+use Rattle.like_core.specs.views.Places.{ArePlaced, AreTiles, Counting}
 use Rattle.like_core.specs.views.PostOrder.{IsOrderOf, MomentsAreOrdered, OrderGivesBounds, OrderGivesPast, OrderGivesPlaces, last_count, posts_added, posts_before, posts_of, posts_passing, workers_of}
-use Rattle.like_core.specs.views.Reads.{HaveBetween, all_before, before_in}
+use Rattle.like_core.specs.views.Reads.{IsBetween, all_before, before_in}
 use Rattle.like_core.specs.views.Shows.{Fits, FitsCoord, FitsWorker, Moment}
 use Rattle.like_core.specs.views.Tallies.{paged}
-use Rattle.like_core.proofs.Between.{AllBetween, own_between, steps_before}
-use Rattle.like_core.proofs.Tiled.{Placed, counting_in, own_placed, tiled}
+use Rattle.like_core.proofs.Between.{own_between, steps_before}
+use Rattle.like_core.proofs.Tiled.{counting_in, own_placed, tiled}
 use Rattle.like_core.proofs.Totals.{added-in, none_later, sum_alike, totals}
 
 module _ (first : ℕ → ℕ) (phase : ℕ) (posts : List PostView) (steps : List PageStep)
@@ -54,9 +54,9 @@ order_gives_bounds counts phase posts steps order k d below =
     let v : PostView = get_or posts k d in
     let same : steps_before steps ≡ posts_before posts =
     λ i j page. sym (before_is (slice_index counts) phase posts steps order j page) i in
-    subst (λ f. HaveBetween counts f phase v) same
-    (subst (λ ds. AllBetween counts (steps_before steps) phase (additions_among ds) (reads_among ds) (glances_among ds))
-    (order.each k d below) (own_between counts phase v.worker steps order.in_turn))
+    λ later s earlier is.
+    subst (λ f. (s.phase ≤ phase) × IsBetween counts f later s earlier) same
+    (own_between counts phase v.worker steps later s earlier order.in_turn (order.each k d below ∙ is))
 
 pub order_gives_places : OrderGivesPlaces
 order_gives_places first phase posts steps order =
@@ -70,9 +70,9 @@ order_gives_places first phase posts steps order =
           (subst (λ (c : Counting). AreTiles first (λ page. first page + likes_in page steps) c) same all.tiles);
       each = λ k d below.
           let v : PostView = get_or posts k d in
-          subst (λ (c : Counting). HavePlaced first c v) same
-          (subst (λ ds. Placed first (counting_in (additions_among steps)) (additions_among ds) (reads_among ds)
-          (glances_among ds)) (order.each k d below) (own_placed first phase v.worker steps order.in_turn));
+          subst (λ (c : Counting). ArePlaced first c (stretches_of v.did)) same
+          (subst (λ ds. ArePlaced first (counting_in (additions_among steps)) (stretches_of ds))
+          (order.each k d below) (own_placed first phase v.worker steps order.in_turn));
     }
 
 -- a sum over all views is one over all seats that they tell

@@ -1,13 +1,10 @@
 -- The stretches of additions: each has the counts from the one that it found up to, but not including, the one it left.
 -- What is true of them.
-use Rattle.std.specs.Prelude.{◌≡◌, ◌⊎◌, ℕ, ◌+◌, ◌≤◌, ◌==◌, ◌&&◌, nat_le, nat_lt, All, AllPairs, Bool, if◌then◌else◌, List, length, take, drop, slice_index}
+use Rattle.std.specs.Prelude.{◌≡◌, ◌⊎◌, ℕ, ◌+◌, ◌≤◌, ◌==◌, ◌&&◌, nat_le, nat_lt, All, AllPairs, Bool, if◌then◌else◌, List, slice_index}
 use Rattle.std.specs.List.{sum_by}
 use Rattle.like_core.specs.declared.view.Addition.{Addition}
-use Rattle.like_core.specs.declared.view.PageRead.{PageRead}
 use Rattle.like_core.specs.declared.view.View.{View}
 use Rattle.like_core.specs.views.Tallies.{paged}
-use Rattle.like_core.specs.Post.{PostView}
-use Rattle.like_core.specs.PageSteps.{additions_among, glances_among, reads_among}
 
 -- the count that an addition left: where its stretch ends
 abbrev pub end_of : Addition → ℕ
@@ -41,30 +38,11 @@ pub record AreTiles (first last : ℕ → ℕ) (counting : Counting) : Type 0 wh
 abbrev pub IsEnd : (ℕ → ℕ) → Counting → ℕ → ℕ → Type 0
 IsEnd first counting page count = (count ≡ first page) ⊎ (1 ≤ counting (ends_at page count))
 
--- on its page, a read finds at least where its worker's additions before it end, and at most where those after it begin
-pub record IsInPlace (own : List Addition) (r : PageRead) : Type 0 where
-  pub after : r.after ≤ length own
-  pub before : All (λ a. a.page ≡ r.page → end_of a ≤ r.count) (take r.after own)
-  pub later : All (λ a. a.page ≡ r.page → r.count ≤ a.old) (drop r.after own)
-
--- a worker's calls on a page find counts in order: each addition begins at or behind the end of each before it, each
--- read finds at least what each read before it found, and each read is in its place between the additions
-pub record AreInOrder (own : List Addition) (reads : List PageRead) : Type 0 where
-  pub added : AllPairs (λ a b. b.page ≡ a.page → end_of a ≤ b.old) own
-  pub read : AllPairs (λ r s. s.page ≡ r.page → r.count ≤ s.count) reads
-  pub both : All (IsInPlace own) reads
-
--- a worker's additions and reads are in order, and each count that it read is the first one or the end of a stretch
-pub record ArePlaced (first : ℕ → ℕ) (counting : Counting) (own : List Addition)
-    (reads : List PageRead) : Type 0 where
-  pub ends : All (λ r. IsEnd first counting r.page r.count) reads
-  pub order : AreInOrder own reads
-
--- that is so of a worker's additions with its reads, and with its glances
-abbrev pub HavePlaced : (ℕ → ℕ) → Counting → PostView → Type 0
-HavePlaced first counting v =
-    ArePlaced first counting (additions_among v.did) (reads_among v.did)
-    × ArePlaced first counting (additions_among v.did) (glances_among v.did)
+-- calls, each with its stretch, find counts in order: each begins at or behind the end of each before it at its page;
+-- and each found the first count or the end of a stretch
+pub record ArePlaced (first : ℕ → ℕ) (counting : Counting) (calls : List Addition) : Type 0 where
+  pub ends : All (λ c. IsEnd first counting c.page c.old) calls
+  pub order : AllPairs (λ b c. c.page ≡ b.page → end_of b ≤ c.old) calls
 
 -- a page's count after all additions of the views, with these counts at the start
 abbrev pub count_after : List ℕ → List View → ℕ → ℕ

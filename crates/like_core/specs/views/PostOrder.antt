@@ -7,11 +7,11 @@ use Rattle.like_core.specs.declared.view.WorkerSeatView.{WorkerSeatView}
 use Rattle.like_core.specs.declared.view.View.{View}
 use Rattle.like_core.specs.declared.view.View.TheVariants.{Coord, Worker, Spent}
 use Rattle.like_core.specs.Additions.{added_before, added_to}
-use Rattle.like_core.specs.PageSteps.{AreInTurn, additions_among, steps_by}
+use Rattle.like_core.specs.PageSteps.{AreInTurn, additions_among, steps_by, stretches_of}
 use Rattle.like_core.specs.Post.{PostView}
 use Rattle.like_core.specs.views.Views.{post_of}
 use Rattle.like_core.specs.views.Reads.{HaveBetween}
-use Rattle.like_core.specs.views.Places.{AreTiles, Counting, HavePlaced}
+use Rattle.like_core.specs.views.Places.{ArePlaced, AreTiles, Counting}
 use Rattle.like_core.specs.views.Order.{HasDone}
 use Rattle.like_core.specs.views.Shows.{Moment}
 
@@ -43,10 +43,9 @@ last_count first posts page = first page + posts_added posts page
 -- have their places
 pub record HavePlaces (first : ℕ → ℕ) (posts : List PostView) : Type 0 where
   pub tiles : AreTiles first (last_count first posts) (posts_passing posts)
-  pub each : All (HavePlaced first (posts_passing posts)) posts
+  pub each : All (λ v. ArePlaced first (posts_passing posts) (stretches_of v.did)) posts
 
--- the law of bounds: each count that was read or glanced at, and each addition's stretch, lies between what all have
--- added
+-- the law of bounds: each step lies between what all have added
 abbrev pub OrderGivesBounds : Type 0
 OrderGivesBounds =
     (counts : List ℕ) (phase : ℕ) (posts : List PostView) (steps : List PageStep)
