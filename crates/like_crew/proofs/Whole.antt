@@ -20,7 +20,7 @@ use Rattle.like_core.specs.Additions.{added_before}
 use Rattle.like_core.specs.PhaseMasks.{mask_of, AreMasksOf}
 use Rattle.like_core.specs.Post.{PostView, additions_of}
 use Rattle.like_core.specs.WorkerState.{SawNoLater}
-use Rattle.like_core.specs.views.PostOrder.{posts_added, posts_before}
+use Rattle.like_core.specs.views.Posts.{posts_added, posts_before}
 use Rattle.like_core.specs.views.Reads.{IsCounted}
 use Rattle.like_board.specs.declared.worker_seat.WorkerSeat.{WorkerSeat}
 use Rattle.like_board.specs.Closed.{count_with}

@@ -6,7 +6,7 @@ use Rattle.like_core.specs.declared.page_step.PageCall.TheVariants.{Glance, Read
 use Rattle.like_core.specs.declared.worker_state.WorkerState.TheVariants.{Gone}
 use Rattle.like_core.specs.Post.{slices}
 use Rattle.like_core.specs.views.Reads.{HaveBetween}
-use Rattle.like_core.specs.views.PostOrder.{posts_before}
+use Rattle.like_core.specs.views.Posts.{posts_before}
 use Rattle.like_core.specs.PageSteps.{page_step}
 use Rattle.like_live.specs.Driver.{DriverView}
 use Rattle.like_live.specs.LiveView.{LiveView}

@@ -7,7 +7,7 @@ use Rattle.like_core.specs.declared.worker_state.WorkerState.TheVariants.{Runs}
 use Rattle.like_core.specs.Additions.{added_in}
 use Rattle.like_core.specs.Post.{additions_in, slices}
 use Rattle.like_core.specs.PageSteps.{additions_among, page_step}
-use Rattle.like_core.specs.views.PostOrder.{posts_before}
+use Rattle.like_core.specs.views.Posts.{posts_before}
 use Rattle.like_seat.specs.StationView.{phase_at}
 use Rattle.like_live.specs.declared.answer.GlanceAnswer.TheVariants as glanced
 use Rattle.like_live.specs.declared.answer.LookAnswer.TheVariants as looked

@@ -13,7 +13,8 @@ use Rattle.like_core.specs.declared.opening.Opening.{Opening}
 use Rattle.like_core.specs.declared.view.Addition.{Addition}
 use Rattle.like_core.specs.views.Reads.{HaveBetween}
 use Rattle.like_core.specs.views.Places.{ArePlaced, AreTiles, Counting, covers}
-use Rattle.like_core.specs.views.PostOrder.{HavePlaces, posts_before, posts_passing}
+use Rattle.like_core.specs.views.PostOrder.{HavePlaces, posts_passing}
+use Rattle.like_core.specs.views.Posts.{posts_before}
 use Rattle.like_core.specs.Post.{PostView}
 use Rattle.like_core.specs.PageSteps.{additions_among, earliest_first, likes_of, stretch_of, stretches_of}
 use Rattle.like_core.proofs.Steps.{all_split}
