@@ -42,8 +42,8 @@ module _ (driver : DriverView) (seats : List LiveView) (after : LiveView) (there
   -- a count that was read is within its bounds
   read-bounded : (s : Shown) → IsRead after s → IsWithinAdded driver seats s
   read-bounded s r =
-      let is = (fit r.later (page_step after.station.post.worker s.phase s.page s.count Read) r.earlier r.read).1 in
-      let own = r.own in
+      let is = (fit r.0 (page_step after.station.post.worker s.phase s.page s.count Read) r.1 r.2).1 in
+      let own = r.3 in
       let least = is.least in
       let most = is.most in
       record { least = omega arith; most = omega arith }

@@ -87,12 +87,8 @@ read-later : (v after : LiveView) (more : List PageStep) (s : Shown)
     → after.station.post.worker ≡ v.station.post.worker
     → IsRead v s
     → IsRead after s
-read-later v after more s did worker r = record {
-  later = more ++ r.later;
-  earlier = r.earlier;
-  read = called-later v after more s.phase s.page s.count Read r.later r.earlier did worker r.read;
-  own = r.own;
-}
+read-later v after more s did worker r =
+    (more ++ r.0, r.1, called-later v after more s.phase s.page s.count Read r.0 r.1 did worker r.2, r.3)
 
 pub IsRead-later : (v after : LiveView) (s : Shown) → Keeps v after → IsRead v s → IsRead after s
 IsRead-later v after s keeps r = read-later v after keeps.more s keeps.did keeps.worker r
@@ -159,7 +155,7 @@ Keeps-finds v after f = subst (Keeps v) (sym f.rest) (record {
       (λ k d below. read-later v now more (found_count (get_or v.found k d)) did refl (all k d below))
       (λ k d below.
       let r = found-among worker v.station.post.did f.found k d below in
-      record { later = r.0; earlier = r.1; read = r.2; own = omega arith });
+      (r.0, r.1, r.2, omega arith));
 })
   where
     worker : ℕ

@@ -116,7 +116,7 @@ shows-look v after user page tag answer d = by_case d
         (subst (λ w. IfShown (IsRead w) (IsJustRead w) w (look user page tag (looked.Seen shown)))
         (sym (is ∙ ap (with_station now) reads.read))
         (let own = counted-is now page false plain in
-        record { later = []; earlier = now.station.post.did; read = refl; own = omega arith }))
+        ([], now.station.post.did, refl, omega arith)))
 
     by_case : LookCase v user page tag answer after → P answer
     by_case (calls.gone m a) = subst P (sym a) tt
@@ -141,7 +141,7 @@ shows-glance v after user page answer d = by_case d
         (record {
           plain = λ _.
               let own = counted-is now page false plain in
-              record { later = []; earlier = now.station.post.did; read = refl; own = omega arith };
+              ([], now.station.post.did, refl, omega arith);
           split = λ split. absurd (cc (sym plain ∙ split));
         }))
     now_case now runs (calls.split shown s accepted split a glances is) =

@@ -55,11 +55,10 @@ HasCalled v phase page count call later earlier =
     v.station.post.did ≡ later ++ page_step v.station.post.worker phase page count call ∷ earlier
 
 -- the seat read this count of this page in this phase, after it had added its own likes
-pub record IsRead (v : LiveView) (s : Shown) : Type 0 where
-  pub later : List PageStep
-  pub earlier : List PageStep
-  pub read : HasCalled v s.phase s.page s.count Read later earlier
-  pub own : s.own ≤ added_in s.phase s.page (additions_among earlier)
+abbrev pub IsRead : LiveView → Shown → Type 0
+IsRead v s =
+    (later : List PageStep) × (earlier : List PageStep) × HasCalled v s.phase s.page s.count Read later earlier
+    × (s.own ≤ added_in s.phase s.page (additions_among earlier))
 
 -- n likes of a page that the seat had in its slice in a phase, before these later steps: it has added them in that phase,
 -- or it runs that phase and has them in its slice still
