@@ -48,7 +48,8 @@ use Rattle.like_promises.specs.Collected.{entries_in, entries_of}
 use Rattle.like_crew.specs.declared.ended.Ended.{Ended}
 use Rattle.like_crew.specs.declared.site.Site.{Site}
 use Rattle.like_promises.specs.EndToEnd.{AreCounts, AreLastLikes, AreLogs, runs_of}
-use Rattle.like_crew.specs.Gathered.{AreTables, RunsOnce}
+use Rattle.like_crew.specs.Gathered.{AreTables}
+use Rattle.like_crew.proofs.Once.{RunsOnce}
 use Rattle.like_promises.specs.Log.{IsLog}
 use Rattle.like_crew.specs.Server.{NoneAbove, HasWorkedFor, IsLogOf, ReadMasksOf, ServerView}
 use Rattle.like_promises.specs.WorkloadOf.{workload_of_run, workload_of}
