@@ -20,6 +20,7 @@ use Rattle.like_core.specs.WorkerState.{IsIn, turn_of}
 use Rattle.like_core.specs.word.Forms.{form_of}
 use Rattle.like_core.specs.core.Numbers.{AllIn, AllGone, CoordSees, Sees}
 use Rattle.like_core.specs.core.State.{CoreState, numbers}
+use Rattle.like_core.proofs.views.Ordered.{applied_now}
 use Rattle.like_core.specs.views.Layout.{word_of}
 use Rattle.like_core.specs.views.Places.{count_after}
 use Rattle.like_core.specs.views.Sights.{sight_in, coord_sight_in}
@@ -30,6 +31,7 @@ use Rattle.like_core.proofs.word.Serving.{coord_sees, serves, worker_sees}
 use Rattle.like_board.specs.Known.{coord_view_of}
 use Rattle.like_board.specs.Own.{ShowsPhase, ShowsWorkers}
 use Rattle.like_board.specs.Plays.{coord_sight_at, sight_at}
+use Rattle.like_board.proofs.worker.Moves.{moment_of}
 
 -- the opening in a worker's view is the board's
 pub worker_opens : (z : Opening) (words : List ℕ) (views : List View) (place : ℕ) (v : WorkerSeatView)
@@ -199,4 +201,4 @@ pub present_count : (z : Opening) (words : List ℕ) (views : List View) (page :
     → get_or words (word_of page) 0 ≡ count_after z.counts views page
 present_count z words views page some_state below =
     some_state.shows.board.pages page below
-    ∙ ap (λ n. slice_index z.counts page + n) (some_state.tallied.sums page)
+    ∙ ap (λ n. slice_index z.counts page + n) (applied_now z (moment_of z words views some_state) page)

@@ -15,17 +15,20 @@ use Rattle.like_core.specs.core.State.{CoreState}
 use Rattle.like_core.specs.Additions.{added_to, added_before}
 use Rattle.like_core.specs.PageSteps.{additions_among, steps_by}
 use Rattle.like_core.specs.views.Views.{gathered_coord, seats_of}
-use Rattle.like_core.specs.views.Reads.{before_in, all_before, IsCounted}
+use Rattle.like_core.specs.views.Reads.{IsCounted}
+use Rattle.like_core.specs.views.Posts.{posts_before, posts_of}
 use Rattle.like_core.specs.Post.{PostView}
 use Rattle.like_core.specs.views.Order.{HasDone}
 use Rattle.like_core.specs.views.PostOrder.{IsOrderOf}
-use Rattle.like_core.specs.views.Tallies.{paged, left_to, room}
+use Rattle.like_core.specs.views.Tallies.{left_to, room}
+use Rattle.like_core.proofs.views.ViewSums.{added_posts, before_in, before_posts, paged}
+use Rattle.like_core.proofs.views.Ordered.{applied_now}
 use Rattle.like_core.specs.views.Layout.{word_of}
 use Rattle.like_core.specs.views.Shows.{Shows, ShowsSome, Fits, FitsWorker, FitsCoord}
 use Rattle.like_core.proofs.views.ViewLists.{within, sum_two, sum_lone, sum_gathered, sum_part}
 use Rattle.like_core.proofs.views.KeptOrder.{join_keeps_order}
 use Rattle.like_core.proofs.views.KeptCounts.{counted_on}
-use Rattle.like_board.proofs.worker.Moves.{same_coord, has_seat, once_at_most}
+use Rattle.like_board.proofs.worker.Moves.{moment_of, same_coord, has_seat, once_at_most}
 use Rattle.like_board.proofs.coordinator.Fitting.{same_phase, same_choice}
 use Rattle.like_board.proofs.coordinator.Leads.{of_coord}
 
@@ -118,26 +121,21 @@ gathers z words views place other c v some_state at apart mine =
             ]
           ];
         };
-        counted = counted_on z.counts (all_before views) (all_before (gathered views place other c v)) c.counted
+        counted = counted_on z.counts (posts_before (posts_of views)) (posts_before (posts_of (gathered views place other c v))) c.counted
             (λ i r inside.
             let k : ℕ = (get_or c.counted i r).phase + 1 in
             let p : ℕ = (get_or c.counted i r).page in
-            sum_gathered (before_in k p) views place other c v at mine refl
-            (sum_by-cons (λ (w : WorkerSeatView). added_before k p (additions_among w.did)) v c.joined))
+            sym (before_posts k p (gathered views place other c v))
+            ∙ sum_gathered (before_in k p) views place other c v at mine refl
+            (sum_by-cons (λ (w : WorkerSeatView). added_before k p (additions_among w.did)) v c.joined)
+            ∙ before_posts k p views)
             known.1;
       };
-      tallied = record {
-        sums = λ page.
-            some_state.tallied.sums page ∙
-            sym
-            (sum_gathered (paged page) views place other c v at mine refl
-            (sum_by-cons (λ (w : WorkerSeatView). added_to page (additions_among w.did)) v c.joined));
-        rooms = λ page.
-            let before = some_state.tallied.rooms page in
-            let more = sum_by-cons (λ (w : WorkerSeatView). left_to z.limits.likes page w) v c.joined in
-            let same = sum_gathered (room z.limits page) views place other c v at mine refl (omega arith) in
-            omega arith;
-      };
+      tallied = λ page.
+          let before = some_state.tallied page in
+          let more = sum_by-cons (λ (w : WorkerSeatView). left_to z.limits.likes page w) v c.joined in
+          let same = sum_gathered (room z.limits page) views place other c v at mine refl (omega arith) in
+          omega arith;
       steps = some_state.steps;
       order = join_keeps_order z s views some_state.steps place other c v at there some_state.order;
     }
@@ -200,7 +198,8 @@ last_word z words views place c some_state at all page on =
     let s = some_state.state in
     let sh = some_state.shows in
     let lone = sum_coord (paged page) z s words views place c refl sh at all in
-    let sums = some_state.tallied.sums page in
+    let sums = applied_now z (moment_of z words views some_state) page in
+    let same = added_posts page views in
     let found = sh.board.pages page on in
     omega arith
 
@@ -213,11 +212,11 @@ pub last_counted : (z : Opening) (words : List ℕ) (views : List View) (place :
 last_counted z words views place c some_state at all =
     let s = some_state.state in
     let sh = some_state.shows in
-    counted_on z.counts (all_before views) (λ phase page. before_in phase page (Coord c)) c.counted
+    counted_on z.counts (posts_before (posts_of views)) (λ phase page. before_in phase page (Coord c)) c.counted
     (λ i r inside.
     let k : ℕ = (get_or c.counted i r).phase + 1 in
     let p : ℕ = (get_or c.counted i r).page in
-    sym (sum_coord (before_in k p) z s words views place c refl sh at all))
+    sym (sum_coord (before_in k p) z s words views place c refl sh at all) ∙ before_posts k p views)
     (of_coord z s words views place c sh at).1
 
 -- what all those workers did at pages has one order

@@ -15,14 +15,16 @@ use Rattle.like_core.specs.declared.view.View.TheVariants.{Coord}
 use Rattle.like_core.specs.Additions.{added_to, added_before}
 use Rattle.like_core.specs.PageSteps.{additions_among}
 use Rattle.like_core.specs.views.Views.{post_of, seats_of}
-use Rattle.like_core.specs.views.Reads.{before_in, IsCounted}
+use Rattle.like_core.specs.views.Reads.{IsCounted}
+use Rattle.like_core.proofs.views.ViewSums.{before_in}
 use Rattle.like_core.specs.PhaseMasks.{mask_of, AreMasksOf}
 use Rattle.like_core.specs.views.Layout.{word_of}
 use Rattle.like_core.specs.views.Shows.{ShowsSome, FitsWorker, FitsCoord}
 use Rattle.like_core.specs.Post.{PostView, additions_of}
 use Rattle.like_core.specs.views.Order.{HasDone}
 use Rattle.like_core.specs.WorkerState.{SawNoLater}
-use Rattle.like_core.specs.views.PostOrder.{IsOrderOf, posts_before}
+use Rattle.like_core.specs.views.PostOrder.{IsOrderOf}
+use Rattle.like_core.specs.views.Posts.{posts_before}
 use Rattle.like_core.proofs.views.KeptCounts.{counted_on}
 use Rattle.like_core.proofs.views.Ordered.{order_gives_bounds, order_gives_places}
 use Rattle.like_board.specs.declared.worker_seat.WorkerSeat.{WorkerSeat}

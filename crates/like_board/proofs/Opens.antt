@@ -16,7 +16,8 @@ use Rattle.like_limits.specs.Limits.{hot_pages}
 use Rattle.like_core.specs.core.Numbers.{AllIn}
 use Rattle.like_core.specs.core.State.{start, numbers}
 use Rattle.like_core.specs.views.Views.{fresh_coord}
-use Rattle.like_core.specs.views.Reads.{all_before, IsCounted}
+use Rattle.like_core.specs.views.Reads.{IsCounted}
+use Rattle.like_core.specs.views.Posts.{posts_before, posts_of}
 use Rattle.like_core.specs.views.Layout.{mask_place, slot_in, word_of}
 use Rattle.like_core.specs.views.Shows.{IsOpening, ShowsSome, Fits, FitsCoord}
 use Rattle.like_core.proofs.views.Chosen.{mask_in-none, chosen-none}
@@ -89,15 +90,12 @@ opens z words opening width word pages mask_word slots =
           once = λ i. sym (counts_none (nat_lt i 0) (le-ltb i 0 (omega arith)));
           slots = no_worker c;
         };
-        counted = All-nil (IsCounted z.counts (all_before (Coord c ∷ [])));
+        counted = All-nil (IsCounted z.counts (posts_before (posts_of (Coord c ∷ []))));
       };
-      tallied = record {
-        sums = λ page. refl;
-        rooms = λ page.
-            let none_made : z.limits.seats - c.made ≡ z.limits.seats = omega arith in
-            let whole = ap (λ (n : ℕ). z.limits.likes * n) none_made in
-            omega arith;
-      };
+      tallied = λ page.
+          let none_made : z.limits.seats - c.made ≡ z.limits.seats = omega arith in
+          let whole = ap (λ (n : ℕ). z.limits.likes * n) none_made in
+          omega arith;
       steps = [];
       order = record {
         in_turn = tt;

@@ -11,27 +11,21 @@ use Rattle.like_core.specs.declared.view.View.{View}
 use Rattle.like_core.specs.declared.view.View.TheVariants.{Coord, Worker}
 use Rattle.like_core.specs.core.State.{CoreState, Label}
 use Rattle.like_core.specs.views.Views.{fresh, made_coord}
-use Rattle.like_core.specs.views.Tallies.{Tallied, paged, room}
+use Rattle.like_core.specs.views.Tallies.{Tallied, room}
 use Rattle.like_core.proofs.views.ViewLists.{sum_set, sum_swap}
 
 -- after a step that applies no like, with a new view that has the same additions
 pub tallied_on : (l : Limits) (s t : CoreState) (views : List View) (place : ℕ) (a b : View)
     → ((page : ℕ) → t.applied page ≡ s.applied page)
     → get_elem? views place ≡ some a
-    → ((page : ℕ) → paged page b ≡ paged page a)
     → ((page : ℕ) → room l page b ≡ room l page a)
     → Tallied l s views
     → Tallied l t (set views place b)
-tallied_on l s t views place a b applied at same_pages same_rooms old = record {
-  sums = λ page.
-      ap (λ (ls : List Label). length ls) (applied page) ∙
-      (old.sums page ∙ sym (sum_set (paged page) views place a b at (same_pages page)));
-  rooms = λ page.
-      let sized = ap (λ (ls : List Label). length ls) (applied page) in
-      let same = sum_set (room l page) views place a b at (same_rooms page) in
-      let before = old.rooms page in
-      omega arith;
-}
+tallied_on l s t views place a b applied at same_rooms old = λ page.
+    let sized = ap (λ (ls : List Label). length ls) (applied page) in
+    let same = sum_set (room l page) views place a b at (same_rooms page) in
+    let before = old page in
+    omega arith
 
 -- so much room has one more worker
 room_of_one : (seats likes made : ℕ)
@@ -52,18 +46,10 @@ tallied_made z s views place c at few old =
     let d : CoordSeatView = made_coord c in
     let new : View = Worker (fresh z c.made) in
     let changed : List View = set views place (Coord d) in
-    record {
-      sums = λ page.
-          let before = old.sums page in
-          let same = sum_set (paged page) views place (Coord c) (Coord d) at refl in
-          let more = sum_by_push (paged page) changed new in
-          let none : paged page new ≡ 0 = refl in
-          omega arith;
-      rooms = λ page.
-          let before = old.rooms page in
-          let swap = sum_swap (room z.limits page) views place (Coord c) (Coord d) at in
-          let more = sum_by_push (room z.limits page) changed new in
-          let all : room z.limits page new ≡ z.limits.likes = omega arith in
-          let one = room_of_one z.limits.seats z.limits.likes c.made few in
-          omega arith;
-    }
+    λ page.
+    let before = old page in
+    let swap = sum_swap (room z.limits page) views place (Coord c) (Coord d) at in
+    let more = sum_by_push (room z.limits page) changed new in
+    let all : room z.limits page new ≡ z.limits.likes = omega arith in
+    let one = room_of_one z.limits.seats z.limits.likes c.made few in
+    omega arith

@@ -9,7 +9,8 @@ use Rattle.like_core.specs.Post.{PostView}
 use Rattle.like_core.specs.WorkerState.{SawNoLater}
 use Rattle.like_core.specs.views.Views.{gathered_all}
 use Rattle.like_core.specs.views.Layout.{word_of}
-use Rattle.like_core.specs.views.PostOrder.{HavePlaces, IsOrderOf, last_count, posts_before}
+use Rattle.like_core.specs.views.PostOrder.{HavePlaces, IsOrderOf}
+use Rattle.like_core.specs.views.Posts.{last_count, posts_before}
 use Rattle.like_core.specs.views.Reads.{HaveBetween, IsCounted}
 use Rattle.like_board.specs.declared.worker_seat.WorkerSeat.{WorkerSeat}
 use Rattle.like_board.specs.Seats.{seat_view, seat_meaning, AreAll}

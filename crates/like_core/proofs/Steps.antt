@@ -1,10 +1,11 @@
 -- Lists of page steps, the latest first.
-use Rattle.std.proofs.Common.{◌≡◌, ℕ, ◌==◌, Bool, true, false, cond, List, [], ◌∷◌, ◌++◌, filter, reverse, map, ap, sym, ◌∙◌, refl, append-nil, append_assoc}
-use Rattle.std.proofs.lemmas.List.Elements.{filter-append}
+use Rattle.std.proofs.Common.{All, ◌≡◌, ℕ, ◌==◌, Bool, true, false, cond, List, [], ◌∷◌, ◌++◌, filter, reverse, map, ap, sym, ◌∙◌, refl, append-nil, append_assoc}
+use Rattle.std.proofs.lemmas.List.{map-append}
+use Rattle.std.proofs.lemmas.List.Elements.{All-cons, All-head, All-nil, All-push, All-tail, filter-append}
 use mathlib.Core.List.{reverse-cons}
 use Rattle.like_core.specs.declared.page_step.PageStep.{PageStep}
 use Rattle.like_core.specs.declared.view.Addition.{Addition}
-use Rattle.like_core.specs.PageSteps.{additions_among, earliest_first, step_adding, steps_by, then_steps}
+use Rattle.like_core.specs.PageSteps.{additions_among, earliest_first, step_adding, steps_by, stretch_of, stretches_of, then_steps}
 
 -- steps in their order are those that `reverse` gives
 pub earliest-reverse : (steps : List PageStep) → earliest_first steps ≡ reverse steps
@@ -50,3 +51,42 @@ then-additions worker before [] = sym (append-nil (additions_among before))
 then-additions worker before (a ∷ adds) =
     then-additions worker (step_adding worker a ∷ before) adds
     ∙ append_assoc (additions_among before) (a ∷ []) adds
+
+-- the stretch of one step more comes last
+pub stretches-push : (s : PageStep) (before : List PageStep)
+    → stretches_of (s ∷ before) ≡ stretches_of before ++ stretch_of s ∷ []
+stretches-push s before = map-append stretch_of (earliest_first before) (s ∷ [])
+
+-- and those of additions, one after the other
+pub then-stretches : (worker : ℕ) (before : List PageStep) (adds : List Addition)
+    → stretches_of (then_steps before (map (step_adding worker) adds)) ≡ stretches_of before ++ adds
+then-stretches worker before adds =
+    ap (map stretch_of) (then-earliest before (map (step_adding worker) adds))
+    ∙ map-append stretch_of (earliest_first before) (map (step_adding worker) adds)
+    ∙ ap (λ xs. stretches_of before ++ xs) (again adds)
+  where
+    again : (xs : List Addition) → map stretch_of (map (step_adding worker) xs) ≡ xs
+    again [] = refl
+    again (x ∷ xs) = ap (λ ys. x ∷ ys) (again xs)
+
+-- what is true of each step, by what came after and before it, is true of all in their order
+pub all_split : (P : PageStep → Type 0) (steps : List PageStep)
+    → ((later : List PageStep) (s : PageStep) (earlier : List PageStep) → steps ≡ later ++ s ∷ earlier → P s)
+    → All P (earliest_first steps)
+all_split P [] each = All-nil P
+all_split P (s ∷ before) each =
+    All-push P (earliest_first before) s
+    (all_split P before (λ later t earlier is. each (s ∷ later) t earlier (ap (λ xs. s ∷ xs) is))) (each [] s before refl)
+
+-- what is true of each step before and of each behind is true of all
+pub all_then : (P : PageStep → Type 0) (steps before : List PageStep)
+    → All P before → All P steps → All P (then_steps before steps)
+all_then P [] before old new = old
+all_then P (s ∷ steps) before old new =
+    all_then P steps (s ∷ before) (All-cons P s before (All-head P s steps new) old) (All-tail P s steps new)
+
+-- steps that are made behind others leave these as they are
+pub then-behind : (later before steps : List PageStep)
+    → then_steps (later ++ before) steps ≡ then_steps later steps ++ before
+then-behind later before [] = refl
+then-behind later before (s ∷ steps) = then-behind (s ∷ later) before steps

@@ -1,6 +1,7 @@
 -- What seats know of a board, what its words and all views show, and what calls change of it.
 pub mod Sights
 pub mod Views
+pub mod Posts
 pub mod Reads
 pub mod Tallies
 pub mod Places

@@ -8,9 +8,15 @@ use Rattle.like_collection.specs.declared.collect_fault.CollectFault.TheVariants
 use Rattle.like_collection.specs.CollectFaults.{IsCollectFault, IsFirstBadEntry}
 use Rattle.like_promises.specs.declared.replies.Replies.{Replies}
 use Rattle.like_promises.specs.Collected.{IsCollected, entries_of, rows_of}
-use Rattle.like_collection.specs.Entries.{is_of}
+use Rattle.like_collection.specs.Entries.{IsRequest, is_of}
 use Rattle.like_requests.specs.Verdict.{home}
-use Rattle.like_crew.specs.Gathered.{RunsOnce}
+
+-- each request has one entry, and there is no other entry
+pub record RunsOnce (sizes : List ℕ) (entries : List Ran) : Type 0 where
+  pub requests : (submitter number : ℕ) → IsRequest sizes submitter number
+      → length (entries_of submitter number entries) ≡ 1
+  pub others : (submitter number : ℕ) → ¬ IsRequest sizes submitter number
+      → length (entries_of submitter number entries) ≡ 0
 
 -- how many pass a test, where one that does stands between others
 count-parts : (p : Ran → Bool) (before after : List Ran) (x : Ran)

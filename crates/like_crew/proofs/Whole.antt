@@ -20,7 +20,7 @@ use Rattle.like_core.specs.Additions.{added_before}
 use Rattle.like_core.specs.PhaseMasks.{mask_of, AreMasksOf}
 use Rattle.like_core.specs.Post.{PostView, additions_of}
 use Rattle.like_core.specs.WorkerState.{SawNoLater}
-use Rattle.like_core.specs.views.PostOrder.{posts_added, posts_before}
+use Rattle.like_core.specs.views.Posts.{posts_added, posts_before}
 use Rattle.like_core.specs.views.Reads.{IsCounted}
 use Rattle.like_board.specs.declared.worker_seat.WorkerSeat.{WorkerSeat}
 use Rattle.like_board.specs.Closed.{count_with}
@@ -48,7 +48,8 @@ use Rattle.like_promises.specs.Collected.{entries_in, entries_of}
 use Rattle.like_crew.specs.declared.ended.Ended.{Ended}
 use Rattle.like_crew.specs.declared.site.Site.{Site}
 use Rattle.like_promises.specs.EndToEnd.{AreCounts, AreLastLikes, AreLogs, runs_of}
-use Rattle.like_crew.specs.Gathered.{AreTables, RunsOnce}
+use Rattle.like_crew.specs.Gathered.{AreTables}
+use Rattle.like_crew.proofs.Once.{RunsOnce}
 use Rattle.like_promises.specs.Log.{IsLog}
 use Rattle.like_crew.specs.Server.{NoneAbove, HasWorkedFor, IsLogOf, ReadMasksOf, ServerView}
 use Rattle.like_promises.specs.WorkloadOf.{workload_of_run, workload_of}

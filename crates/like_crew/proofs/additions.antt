@@ -1,6 +1,5 @@
--- The additions that a run leaves, and the looks beside them.
+-- The additions that a run leaves.
 pub mod Earlier
 pub mod AddedPages
 pub mod AddedPhases
-pub mod ReadsShown
 pub mod Tiled

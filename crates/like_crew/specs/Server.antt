@@ -9,11 +9,10 @@ use Rattle.like_core.specs.declared.sight.Sight.{Sight}
 use Rattle.like_core.specs.declared.worker_state.WorkerState.TheVariants.{Gone}
 use Rattle.like_core.specs.PhaseMasks.{AreMasksOf}
 use Rattle.like_core.specs.Post.{additions_in, additions_of, pages_of}
-use Rattle.like_core.specs.PageSteps.{additions_among, earliest_first, reads_among}
+use Rattle.like_core.specs.PageSteps.{earliest_first}
 use Rattle.like_queue.specs.Inbox.{InboxView}
 use Rattle.like_tables.specs.Share.{Share, dealt, place_of, serves}
-use Rattle.like_roles.specs.worker.Follows.{AreNoted, Follows}
-use Rattle.like_roles.specs.worker.Shown.{shown_by, shown_in}
+use Rattle.like_roles.specs.worker.Follows.{ArePlainReads, AreNoted, Follows}
 use Rattle.like_promises.specs.declared.log.Took.{Took}
 use Rattle.like_promises.specs.declared.log.WorkerLog.{WorkerLog}
 use Rattle.like_promises.specs.Likes.{likes_among, likes_within}
@@ -117,15 +116,15 @@ abbrev pub HasWorkedFor : Workload → ServerView → Type 0
 HasWorkedFor workload s = WorksFor workload s × ReadMasksOf workload s
 
 -- a server's log is right for a workload: it is a log of the workload; its accepted likes are the additions of the
--- server's post, in all and phase by phase; its accepted looks are the post's reads; the plain steps of its entries are
--- the post's; and the additions are noted if they are to be
+-- server's post, in all and phase by phase; the plain steps of its entries are the post's, and each step that adds nothing
+-- is plain; and the additions are noted if they are to be
 pub record IsLogFor (workload : Workload) (s : ServerView) (log : WorkerLog) : Type 0 where
   pub is_log : IsLog workload s.worker.last.share.workers s.worker.last.share.worker log
   pub likes : (page : ℕ) → likes_among workload page log.ran.items ≡ additions_of s.worker.post page
   pub by_phase : (phase page : ℕ)
       → likes_within workload page log.ran.items phase ≡ additions_in s.worker.post phase page
-  pub looks : shown_in workload log.ran.items ≡ map (shown_by (additions_among s.worker.post.did)) (reads_among s.worker.post.did)
   pub steps : plain_told workload (earliest_first s.worker.post.did) ≡ steps_ran workload log.ran.items
+  pub reads : ArePlainReads workload s.worker.post.did
   pub noted : s.worker.notes ≡ true → AreNoted workload s.worker
 
 -- a server leaves this log: it is what its worker ran and noted, has nothing taken above the phase that it saw last,

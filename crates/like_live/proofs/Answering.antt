@@ -1,12 +1,13 @@
 -- The law of answers.
-use Rattle.std.proofs.Common.{List, [], ◌∷◌, get_or, refl, sym, subst}
+use Rattle.std.proofs.Common.{List, [], ◌∷◌, ◌++◌, get_or, refl, sym, subst}
 use Rattle.std.specs.List.{All}
 use Rattle.std.proofs.lemmas.List.Elements.{All-nil}
+use Rattle.like_core.specs.declared.page_step.PageCall.TheVariants.{Glance}
 use Rattle.like_live.specs.LiveView.{LiveView}
 use Rattle.like_live.specs.Answers.{AnswersAreReads, IsRead, IsReadOrGlanced, Shown, found_count}
 use Rattle.like_live.specs.History.{HasDone, Told}
 use Rattle.like_live.proofs.Histories.{told-does, whole_at_first}
-use Rattle.like_live.proofs.Keeping.{AreFound, IsRead-later, Keeps, Keeps-all, Keeps-both, own-later}
+use Rattle.like_live.proofs.Keeping.{AreFound, IsRead-later, Keeps, Keeps-all, Keeps-both, called-later}
 use Rattle.like_live.proofs.Telling.{IsWhole}
 use Rattle.like_live.proofs.CallsKeep.{Keeps-does}
 use Rattle.like_live.proofs.Showing.{IfShown-map, IsJustRead, shows}
@@ -31,14 +32,15 @@ still now after s keeps h = record {
   split = λ split.
       let g = h.split split in
       record {
-        after = g.from;
+        later = keeps.more ++ [];
+        earlier = g.earlier;
         board = g.board;
         sliced = get_or now.station.slice s.page 0;
-        there = keeps.glances _ g.there;
+        glanced = called-later now after keeps.more s.phase s.page g.board Glance [] g.earlier keeps.did keeps.worker g.glanced;
         sliced_is = refl;
         count_is = g.count_is;
-        own = own-later now after s.phase s.page g.from s.own _ keeps g.own;
-        kept = (keeps.held s.phase s.page _ _ g.held).kept;
+        own = g.own;
+        kept = (keeps.held s.phase s.page [] _ g.held).1;
       };
 }
 

@@ -2,14 +2,12 @@
 use Rattle.std.proofs.Common.{◌≡◌, ℕ, ◌⊎◌, ◌≤◌, Bool, true, false, List, refl, sym, ◌∙◌, inl, inr, arith}
 use Rattle.std.specs.List.{All, Contains}
 use Rattle.std.proofs.lemmas.List.Elements.{All-contains}
-use Rattle.like_core.specs.declared.view.Addition.{Addition}
-use Rattle.like_core.specs.declared.view.PageRead.{PageRead}
+use Rattle.like_core.specs.declared.page_step.PageCall.TheVariants.{Glance, Read}
 use Rattle.like_core.specs.declared.worker_state.WorkerState.TheVariants.{Gone}
-use Rattle.like_core.specs.Additions.{page_read}
 use Rattle.like_core.specs.Post.{slices}
-use Rattle.like_core.specs.views.Reads.{AreBetween, HaveBetween, IsBetween}
-use Rattle.like_core.specs.views.PostOrder.{posts_before}
-use Rattle.like_core.specs.PageSteps.{additions_among, glances_among, reads_among}
+use Rattle.like_core.specs.views.Reads.{HaveBetween}
+use Rattle.like_core.specs.views.Posts.{posts_before}
+use Rattle.like_core.specs.PageSteps.{page_step}
 use Rattle.like_live.specs.Driver.{DriverView}
 use Rattle.like_live.specs.LiveView.{LiveView}
 use Rattle.like_live.specs.Answers.{AnswersAreBounded, IsGlanced, IsRead, IsReadOrGlanced, IsWithinAdded, Shown}
@@ -17,15 +15,6 @@ use Rattle.like_live.specs.Service.{posts_at}
 use Rattle.like_live.proofs.Closing.{all-of-map, post_at}
 use Rattle.like_live.proofs.Showing.{IfShown-map}
 use Rattle.like_live.proofs.Answering.{answers_are_reads}
-
--- each of a list of reads is within its bounds
-is_between : (counts : List ℕ) (before : ℕ → ℕ → ℕ) (last : ℕ) (own : List Addition) (reads : List PageRead)
-    (r : PageRead)
-    → AreBetween counts before last own reads
-    → Contains reads r
-    → IsBetween counts before own r
-is_between counts before last own reads r all there =
-    (All-contains (λ (x : PageRead). (x.phase ≤ last) × IsBetween counts before own x) reads r all there).1
 
 -- a glance's count is one or the other
 either : (now after : LiveView) (s : Shown) → IsReadOrGlanced now after s → IsRead after s ⊎ IsGlanced now after s
@@ -53,9 +42,8 @@ module _ (driver : DriverView) (seats : List LiveView) (after : LiveView) (there
   -- a count that was read is within its bounds
   read-bounded : (s : Shown) → IsRead after s → IsWithinAdded driver seats s
   read-bounded s r =
-      let is = is_between first before driver.lead.seat.phase (additions_among after.station.post.did) (reads_among after.station.post.did)
-      (page_read s.phase s.page s.count r.0) fit.0 r.1 in
-      let own = r.2 in
+      let is = (fit r.0 (page_step after.station.post.worker s.phase s.page s.count Read) r.1 r.2).1 in
+      let own = r.3 in
       let least = is.least in
       let most = is.most in
       record { least = omega arith; most = omega arith }
@@ -66,8 +54,7 @@ module _ (driver : DriverView) (seats : List LiveView) (after : LiveView) (there
       → IsGlanced now after s
       → IsWithinAdded driver seats s
   glance-bounded now s gone g =
-      let is = is_between first before driver.lead.seat.phase (additions_among after.station.post.did) (glances_among after.station.post.did)
-      (page_read s.phase s.page g.board g.after) fit.1 g.there in
+      let is = (fit g.later (page_step after.station.post.worker s.phase s.page g.board Glance) g.earlier g.glanced).1 in
       let own = g.own in
       let least = is.least in
       let most = is.most in

@@ -1,9 +1,8 @@
--- What each call keeps of what the seat read and glanced at.
-use Rattle.std.proofs.Common.{◌≡◌, ℕ, ◌<◌, inl, inr, Bool, length, Option, ap, sym, ◌∙◌, subst, [], append-nil}
+-- What each call keeps of what the seat did at pages.
+use Rattle.std.proofs.Common.{◌≡◌, ℕ, ◌<◌, inl, inr, Bool, length, Option, ap, sym, ◌∙◌, subst, [], refl}
 use Rattle.std.proofs.lemmas.List.Elements.{All-drop}
 use Rattle.like_core.specs.WorkerState.{RunsJoined}
 use Rattle.like_core.specs.declared.worker_state.WorkerState.TheVariants.{Gone}
-use Rattle.like_core.specs.PageSteps.{additions_among}
 use Rattle.like_seat.specs.Steps.{came_back}
 use Rattle.like_live.specs.declared.answer.GlanceAnswer.{GlanceAnswer}
 use Rattle.like_live.specs.declared.answer.LikeAnswer.{LikeAnswer}
@@ -48,11 +47,10 @@ Keeps-looks v after user page tag answer (calls.seen shown s accepted plain a re
     subst (Keeps v) (sym (is ∙ ap (with_station v) reads.read)) (Keeps-read v page shown.count)
 Keeps-looks v after user page tag answer (calls.waits accepted split room a is) =
     subst (Keeps v) (sym is) (record {
-      reads = λ r there. there;
-      glances = λ r there. there;
       more = [];
-      additions = sym (append-nil (additions_among v.station.post.did));
-      held = λ phase other from n h. record { within = h.within; split = h.split; kept = h.kept };
+      did = refl;
+      worker = refl;
+      held = λ phase other later n h. h;
       found = λ all. all;
     })
 
@@ -67,11 +65,10 @@ Keeps-glances v after user page answer (calls.split shown s accepted split a gla
 
 Keeps-takes : (v after : LiveView) (taken : Option Found) → TakesFound v taken after → Keeps v after
 Keeps-takes v after taken takes = subst (Keeps v) (sym takes.1) (record {
-  reads = λ r there. there;
-  glances = λ r there. there;
   more = [];
-  additions = sym (append-nil (additions_among v.station.post.did));
-  held = λ phase other from n h. record { within = h.within; split = h.split; kept = h.kept };
+  did = refl;
+  worker = refl;
+  held = λ phase other later n h. h;
   found = λ all. All-drop (λ f. IsRead v (found_count f)) 1 v.found all;
 })
 
@@ -93,19 +90,13 @@ Keeps-retires v after answer sized m = Keeps-by RetireWorks Keeps-retire_works v
 Keeps-came_back : (v : LiveView) (phase mask : ℕ) → v.station.post.state ≡ Gone
     → Keeps v (with_station v (came_back v.station phase mask))
 Keeps-came_back v phase mask gone = record {
-  reads = λ r there. there;
-  glances = λ r there. there;
   more = [];
-  additions = sym (append-nil (additions_among v.station.post.did));
-  held = λ phase other from n h. record {
-    within = h.within;
-    split = h.split;
-    kept =
-        elim h.kept [
-          | inl added ↦ inl added
-          | inr still ↦ absurd (cc (gone, still.0))
-        ];
-  };
+  did = refl;
+  worker = refl;
+  held = λ phase other later n h. (
+    h.0,
+    elim h.1 [ inl added ↦ inl added | inr still ↦ absurd (cc (gone, still.0)) ],
+  );
   found = λ all. all;
 }
 

@@ -8,7 +8,7 @@ use Rattle.like_board.specs.declared.worker_seat.WorkerSeat.{WorkerSeat}
 use Rattle.like_board.specs.Closed.{count_with}
 use Rattle.like_board.specs.Seats.{AreAll, BoardId, board_numbers, seat_board, seat_meaning}
 use Rattle.like_core.specs.Post.{PostView, additions_of}
-use Rattle.like_core.specs.views.PostOrder.{last_count}
+use Rattle.like_core.specs.views.Posts.{last_count}
 use Rattle.like_live.specs.Driver.{DriverView}
 use Rattle.like_live.specs.LiveView.{LiveView, tally}
 use Rattle.like_live.specs.Service.{AreBackFrom, AreGone, AreItsSeats, HasMergedOnceGone}

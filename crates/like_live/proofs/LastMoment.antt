@@ -6,7 +6,7 @@ use Rattle.like_core.specs.PageSteps.{steps_by}
 use Rattle.like_core.specs.PhaseMasks.{AreMasksOf}
 use Rattle.like_core.specs.Post.{PostView}
 use Rattle.like_core.specs.views.Order.{HasDone}
-use Rattle.like_core.specs.views.PostOrder.{workers_of}
+use Rattle.like_core.specs.views.Posts.{workers_of}
 use Rattle.like_core.specs.views.Views.{post_of}
 use Rattle.like_core.proofs.views.Ordered.{all_fit, moments_are_ordered}
 use Rattle.like_live.specs.Moments.{post_in}

@@ -12,9 +12,9 @@ use Rattle.like_core.specs.WorkerState.{RunsJoined, RunsSplit}
 use Rattle.like_core.specs.core.Exclusive.{IsInPhase}
 use Rattle.like_core.specs.core.State.{CoreState}
 use Rattle.like_core.specs.views.Shows.{FitsWorker, Moment}
-use Rattle.like_core.specs.views.PostOrder.{posts_added, workers_of}
+use Rattle.like_core.specs.views.Posts.{posts_added, workers_of}
 use Rattle.like_core.specs.views.Views.{post_of}
-use Rattle.like_core.proofs.views.Ordered.{added_posts, all_fit}
+use Rattle.like_core.proofs.views.Ordered.{all_fit}
 use Rattle.like_core.proofs.core.Moved.{reached_is_exclusive}
 use Rattle.like_seat.specs.StationView.{IsStation}
 use Rattle.like_live.specs.LiveView.{LiveView, tally}
@@ -83,5 +83,5 @@ last_counts_are_tallies z m seats at live gone page =
     let merged = sum-equal (λ s. tally s page) (λ (s : LiveView). additions_of s.station.post page) seats
     (λ k d below. merged-once-gone (get_or seats k d) (live k d below) (are_gone k d below) page) in
     ap (λ n. slice_index z.counts page + n)
-    (added_posts page m.views ∙ ap (λ (posts : List PostView). posts_added posts page) (sym at)
+    (ap (λ (posts : List PostView). posts_added posts page) (sym at)
     ∙ sum-of-map (λ (p : PostView). additions_of p page) post_in seats ∙ sym merged)

@@ -22,7 +22,7 @@ use Rattle.like_core.specs.Phase.{is_marked, split_by}
 use Rattle.like_core.specs.PhaseMasks.{AreMasksOf, mask_of}
 use Rattle.like_core.specs.Post.{PostView}
 use Rattle.like_core.specs.WorkerState.{RunsSplit}
-use Rattle.like_core.specs.views.PostOrder.{posts_before}
+use Rattle.like_core.specs.views.Posts.{posts_before}
 use Rattle.like_requests.specs.Verdict.{home}
 use Rattle.like_core.proofs.Steps.{by-earliest, earliest-reverse}
 use Rattle.like_seat.specs.StationView.{phase_at}

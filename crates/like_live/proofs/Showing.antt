@@ -1,17 +1,17 @@
 -- What each call shows, right after it.
-use Rattle.std.proofs.Common.{◌≡◌, ℕ, ◌+◌, ◌≤◌, Bool, true, false, List, [], ◌∷◌, cond, drop, take, get_or, length, Option, Some, None, refl, ap, sym, ◌∙◌, subst, inr, arith}
-use Rattle.std.specs.List.{All, Contains, slice_get}
+use Rattle.std.proofs.Common.{◌≡◌, ℕ, ◌+◌, ◌≤◌, Bool, true, false, List, [], ◌∷◌, cond, drop, get_or, Option, Some, None, refl, ap, sym, ◌∙◌, subst, inr, arith}
+use Rattle.std.specs.List.{All, slice_get}
 use Rattle.std.proofs.lemmas.Bool.{and_parts, eqb-true}
-use Rattle.std.proofs.lemmas.List.Elements.{All-head, Contains-push}
-use Rattle.std.proofs.Math.Seq.{take-length}
-use Rattle.like_core.specs.declared.view.Addition.{Addition}
+use Rattle.std.proofs.lemmas.List.Elements.{All-head}
+use Rattle.like_core.specs.declared.page_step.PageCall.TheVariants.{Glance}
+use Rattle.like_core.specs.declared.page_step.PageStep.{PageStep}
 use Rattle.like_core.specs.declared.worker_state.WorkerState.{WorkerState}
 use Rattle.like_core.specs.declared.worker_state.WorkerState.TheVariants as state
-use Rattle.like_core.specs.Additions.{added_in, page_read}
+use Rattle.like_core.specs.Additions.{added_in}
 use Rattle.like_core.specs.Phase.{IsSplit}
 use Rattle.like_core.specs.Post.{PostView, slices}
 use Rattle.like_core.specs.WorkerState.{IsRunning, RunsSplit, phase_of}
-use Rattle.like_core.specs.PageSteps.{additions_among, glances_among, reads_among}
+use Rattle.like_core.specs.PageSteps.{additions_among}
 use Rattle.like_seat.specs.StationView.{phase_at}
 use Rattle.like_live.specs.declared.answer.GlanceAnswer.{GlanceAnswer}
 use Rattle.like_live.specs.declared.answer.GlanceAnswer.TheVariants as glanced
@@ -21,7 +21,7 @@ use Rattle.like_live.specs.declared.answer.TurnAnswer.{TurnAnswer}
 use Rattle.like_live.specs.declared.answer.TurnAnswer.TheVariants as turned
 use Rattle.like_live.specs.declared.asked.Found.{Found}
 use Rattle.like_live.specs.LiveView.{LiveView, with_station}
-use Rattle.like_live.specs.Answers.{IfShown, IsRead, Shown, counted_now, found_count}
+use Rattle.like_live.specs.Answers.{HasCalled, IfShown, IsRead, Shown, counted_now, found_count}
 use Rattle.like_live.specs.Calls as calls
 use Rattle.like_live.specs.Calls.{GlanceCase, GlancesNow, LookCase, LooksNow, TakesFound}
 use Rattle.like_live.specs.History.{Does, Told, come_back, glance, like, look, retire, take_found, turn}
@@ -77,12 +77,12 @@ split_phase post page split = eqb-true _ _ ((and_parts _ _ split).0)
 
 -- right after a glance at a split page: what it was told is a count on the board and the slice, which is held
 pub record IsJustGlanced (now : LiveView) (s : Shown) : Type 0 where
-  pub from : ℕ
+  pub earlier : List PageStep
   pub board : ℕ
-  pub there : Contains (glances_among now.station.post.did) (page_read s.phase s.page board from)
+  pub glanced : HasCalled now s.phase s.page board Glance [] earlier
   pub count_is : s.count ≡ board + get_or now.station.slice s.page 0
-  pub own : s.own ≤ added_in s.phase s.page (take from (additions_among now.station.post.did)) + get_or now.station.slice s.page 0
-  pub held : AreHeld now s.phase s.page from (get_or now.station.slice s.page 0)
+  pub own : s.own ≤ added_in s.phase s.page (additions_among earlier) + get_or now.station.slice s.page 0
+  pub held : AreHeld now s.phase s.page [] (get_or now.station.slice s.page 0)
 
 -- right after a glance
 pub record IsJustRead (now : LiveView) (s : Shown) : Type 0 where
@@ -93,12 +93,10 @@ pub record IsJustRead (now : LiveView) (s : Shown) : Type 0 where
 counted-is : (v : LiveView) (page : ℕ) (split : Bool)
     → slices v.station.post page ≡ split
     → counted_now v page
-    ≡ added_in (phase_at v.station) page (take (length (additions_among v.station.post.did)) (additions_among v.station.post.did))
-    + cond split (get_or v.station.slice page 0) 0
+    ≡ added_in (phase_at v.station) page (additions_among v.station.post.did) + cond split (get_or v.station.slice page 0) 0
 counted-is v page split is =
-    let all : List Addition = additions_among v.station.post.did in
-    ap (λ (b : Bool). added_in (phase_at v.station) page all + cond b (get_or v.station.slice page 0) 0) is
-    ∙ ap (λ xs. added_in (phase_at v.station) page xs + cond split (get_or v.station.slice page 0) 0) (sym (take-length all))
+    ap (λ (b : Bool). added_in (phase_at v.station) page (additions_among v.station.post.did)
+    + cond b (get_or v.station.slice page 0) 0) is
 
 -- right after the call: what a look was told
 shows-look : (v after : LiveView) (user page tag : ℕ) (answer : LookAnswer)
@@ -118,7 +116,7 @@ shows-look v after user page tag answer d = by_case d
         (subst (λ w. IfShown (IsRead w) (IsJustRead w) w (look user page tag (looked.Seen shown)))
         (sym (is ∙ ap (with_station now) reads.read))
         (let own = counted-is now page false plain in
-        (length (additions_among now.station.post.did), Contains-push (reads_among now.station.post.did) _, omega arith)))
+        ([], now.station.post.did, refl, omega arith)))
 
     by_case : LookCase v user page tag answer after → P answer
     by_case (calls.gone m a) = subst P (sym a) tt
@@ -143,7 +141,7 @@ shows-glance v after user page answer d = by_case d
         (record {
           plain = λ _.
               let own = counted-is now page false plain in
-              (length (additions_among now.station.post.did), Contains-push (reads_among now.station.post.did) _, omega arith);
+              ([], now.station.post.did, refl, omega arith);
           split = λ split. absurd (cc (sym plain ∙ split));
         }))
     now_case now runs (calls.split shown s accepted split a glances is) =
@@ -153,16 +151,15 @@ shows-glance v after user page answer d = by_case d
         (record {
           plain = λ plain. absurd (cc (sym plain ∙ split));
           split = λ _. record {
-            from = length (additions_among now.station.post.did);
+            earlier = now.station.post.did;
             board = glances.count;
-            there = Contains-push (glances_among now.station.post.did) _;
+            glanced = refl;
             count_is = glances.counts;
             own = let own = counted-is now page true split in omega arith;
-            held = record {
-              within = omega arith;
-              split = split_phase now.station.post page split;
-              kept = inr (runs_this now.station.post.state runs, omega arith);
-            };
+            held = (
+              split_phase now.station.post page split,
+              inr (runs_this now.station.post.state runs, omega arith),
+            );
           };
         }))
 

@@ -1,10 +1,13 @@
 -- The counts that a seat's calls were told, and what the seat read.
-use Rattle.std.specs.Prelude.{◌≡◌, ◌⊎◌, ℕ, ◌+◌, ◌≤◌, if◌then◌else◌, true, false, List, drop, slice_index, take, Contains, Some}
+use Rattle.std.specs.Prelude.{◌≡◌, ◌⊎◌, ℕ, ◌+◌, ◌≤◌, if◌then◌else◌, true, false, List, ◌∷◌, ◌++◌, slice_index, Contains, Some}
+use Rattle.like_core.specs.declared.page_step.PageCall.{PageCall}
+use Rattle.like_core.specs.declared.page_step.PageCall.TheVariants.{Glance, Read}
+use Rattle.like_core.specs.declared.page_step.PageStep.{PageStep}
 use Rattle.like_core.specs.declared.worker_state.WorkerState.TheVariants.{Runs}
-use Rattle.like_core.specs.Additions.{added_in, page_read}
+use Rattle.like_core.specs.Additions.{added_in}
 use Rattle.like_core.specs.Post.{additions_in, slices}
-use Rattle.like_core.specs.PageSteps.{additions_among, glances_among, reads_among}
-use Rattle.like_core.specs.views.PostOrder.{posts_before}
+use Rattle.like_core.specs.PageSteps.{additions_among, page_step}
+use Rattle.like_core.specs.views.Posts.{posts_before}
 use Rattle.like_seat.specs.StationView.{phase_at}
 use Rattle.like_live.specs.declared.answer.GlanceAnswer.TheVariants as glanced
 use Rattle.like_live.specs.declared.answer.LookAnswer.TheVariants as looked
@@ -46,30 +49,36 @@ IfShown P Q now (glance user page (glanced.Seen shown)) = Q (shown_now now page 
 IfShown P Q now (take_found (Some f)) = P (found_count f)
 IfShown P Q now told = Unit {0}
 
+-- the seat made this call at a page in a phase, which found this count: later steps came after it, and earlier ones before
+abbrev pub HasCalled : LiveView → (phase page count : ℕ) → PageCall → (later earlier : List PageStep) → Type 0
+HasCalled v phase page count call later earlier =
+    v.station.post.did ≡ later ++ page_step v.station.post.worker phase page count call ∷ earlier
+
 -- the seat read this count of this page in this phase, after it had added its own likes
 abbrev pub IsRead : LiveView → Shown → Type 0
 IsRead v s =
-    (after : ℕ) × Contains (reads_among v.station.post.did) (page_read s.phase s.page s.count after)
-    × (s.own ≤ added_in s.phase s.page (take after (additions_among v.station.post.did)))
+    (later : List PageStep) × (earlier : List PageStep) × HasCalled v s.phase s.page s.count Read later earlier
+    × (s.own ≤ added_in s.phase s.page (additions_among earlier))
 
--- n likes of a page that the seat had in its slice in a phase, after this many additions: it has added them in that
--- phase, or it runs that phase and has them in its slice still
-abbrev pub AreKept : LiveView → (phase page after n : ℕ) → Type 0
-AreKept v phase page after n =
-    (n ≤ added_in phase page (drop after (additions_among v.station.post.did)))
+-- n likes of a page that the seat had in its slice in a phase, before these later steps: it has added them in that phase,
+-- or it runs that phase and has them in its slice still
+abbrev pub AreKept : LiveView → (phase page : ℕ) → (later : List PageStep) → (n : ℕ) → Type 0
+AreKept v phase page later n =
+    (n ≤ added_in phase page (additions_among later))
     ⊎ ((v.station.post.state ≡ Runs phase) × (n ≤ slice_index v.station.slice page))
 
 -- the seat glanced at this page in this phase. The count is the board's at that glance plus the likes of the page in
 -- the seat's slice, which are kept. The seat's own likes were added before the glance, or are in that slice
 pub record IsGlanced (now v : LiveView) (s : Shown) : Type 0 where
-  pub after : ℕ
+  pub later : List PageStep
+  pub earlier : List PageStep
   pub board : ℕ
   pub sliced : ℕ
-  pub there : Contains (glances_among v.station.post.did) (page_read s.phase s.page board after)
+  pub glanced : HasCalled v s.phase s.page board Glance later earlier
   pub sliced_is : sliced ≡ slice_index now.station.slice s.page
   pub count_is : s.count ≡ board + sliced
-  pub own : s.own ≤ added_in s.phase s.page (take after (additions_among v.station.post.did)) + sliced
-  pub kept : AreKept v s.phase s.page after sliced
+  pub own : s.own ≤ added_in s.phase s.page (additions_among earlier) + sliced
+  pub kept : AreKept v s.phase s.page later sliced
 
 -- the count that a glance was told. If the page isn't split then, the seat read it; otherwise the seat glanced at the
 -- page, and its own likes are added

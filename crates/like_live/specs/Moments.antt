@@ -11,7 +11,7 @@ use Rattle.like_core.specs.core.State.{numbers}
 use Rattle.like_core.specs.Post.{PostView, slices}
 use Rattle.like_core.specs.WorkerState.{RunsJoined, RunsSplit}
 use Rattle.like_core.specs.views.Places.{count_after}
-use Rattle.like_core.specs.views.PostOrder.{posts_of}
+use Rattle.like_core.specs.views.Posts.{posts_of}
 use Rattle.like_core.specs.views.Shows.{Moment}
 use Rattle.like_core.specs.views.Views.{post_of}
 use Rattle.like_seat.specs.StationView.{IsStation}

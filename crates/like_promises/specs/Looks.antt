@@ -4,6 +4,7 @@ use Rattle.like_requests.specs.declared.request.Op.{Op}
 use Rattle.like_requests.specs.declared.request.Op.TheVariants.{Like, Look}
 use Rattle.like_requests.specs.declared.request.PageRef.{PageRef}
 use Rattle.like_requests.specs.declared.request.PageRef.TheVariants.{Known, Unknown}
+use Rattle.like_promises.specs.declared.log.Ran.{Ran}
 use Rattle.like_promises.specs.declared.reply.Reply.{Reply}
 use Rattle.like_promises.specs.declared.reply.Reply.TheVariants.{Liked, Seen, Refused}
 use Rattle.like_promises.specs.Accepted.{accepted_at}
@@ -19,6 +20,10 @@ page_looked_at Look Unknown = None
 abbrev pub look_at : Workload → ℕ → ℕ → Option ℕ
 look_at workload submitter number =
     option_and_then (λ a. Some a.page) (accepted_at Look workload submitter number)
+
+-- the page of the accepted look that an entry ran, if it ran one
+abbrev pub look_ran : Workload → Ran → Option ℕ
+look_ran workload e = look_at workload e.submitter e.number
 
 -- the count in a reply, and 0 where it has none
 abbrev pub count_in : Reply → ℕ

@@ -8,7 +8,7 @@ use Rattle.like_promises.specs.declared.reply.Reply.{Reply}
 use Rattle.like_promises.specs.declared.reply.Reply.TheVariants.{Liked, Seen, Refused}
 use Rattle.like_promises.specs.Accepted.{verdict_on}
 use Rattle.like_promises.specs.Likes.{Between, last_like, likes_within}
-use Rattle.like_promises.specs.Looks.{count_in, look_at}
+use Rattle.like_promises.specs.Looks.{count_in, look_ran}
 use Rattle.like_promises.specs.Workload.{Workload, request_of}
 
 -- the reply to a submitter's request, after these entries, its count aside: an accepted like is liked, an accepted look
@@ -34,6 +34,6 @@ HasRightAnswers workload ran =
 -- right counts: the count in the reply to an accepted look is between the bounds, by the likes before and after it
 abbrev pub HasRightCounts : Workload → List (List Ran) → List Ran → Type 0
 HasRightCounts workload runs ran =
-    (i page : ℕ) (e : Ran) → slice_get ran i ≡ Some e → look_at workload e.submitter e.number ≡ Some page
+    (i page : ℕ) (e : Ran) → slice_get ran i ≡ Some e → look_ran workload e ≡ Some page
     → Between workload runs e.phase page (count_in e.reply) (likes_within workload page (take i ran) e.phase)
     (likes_within workload page (drop (suc i) ran) e.phase)

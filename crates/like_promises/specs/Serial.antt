@@ -3,7 +3,7 @@ use Rattle.std.specs.Prelude.{◌≡◌, ℕ, ◌+◌, ◌≤◌, ◌==◌, List
 use Rattle.like_tables.specs.Share.{worker_of}
 use Rattle.like_promises.specs.declared.log.Ran.{Ran}
 use Rattle.like_promises.specs.Likes.{initial_count, likes_among}
-use Rattle.like_promises.specs.Looks.{count_in, look_at}
+use Rattle.like_promises.specs.Looks.{count_in, look_ran}
 use Rattle.like_promises.specs.Replies.{HasRightAnswers}
 use Rattle.like_promises.specs.Workload.{Workload}
 
@@ -23,7 +23,7 @@ AreRising entries = AllPairs (λ d e. d.phase ≤ e.phase) entries
 -- page among the entries before it
 abbrev pub HasExactCounts : Workload → List Ran → Type 0
 HasExactCounts workload serial =
-    (i page : ℕ) (e : Ran) → slice_get serial i ≡ Some e → look_at workload e.submitter e.number ≡ Some page
+    (i page : ℕ) (e : Ran) → slice_get serial i ≡ Some e → look_ran workload e ≡ Some page
     → count_in e.reply ≡ initial_count workload.pages page + likes_among workload page (take i serial)
 
 -- serial: the entries of each worker, in their order, are its run list, and there are no others; phases never fall; and

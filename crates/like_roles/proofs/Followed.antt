@@ -6,7 +6,7 @@ use Rattle.std.proofs.lemmas.List.Elements.{All-head, All-map, All-tail, All-pus
 use Rattle.std.specs.List.{All}
 use Rattle.std.specs.Option.{option_map_or}
 use Rattle.std.specs.Prelude.{option_and_then}
-use Rattle.like_core.proofs.Steps.{then-additions, then-earliest, then-reads}
+use Rattle.like_core.proofs.Steps.{all_then, then-earliest}
 use Rattle.like_requests.specs.Pages.{marks_of}
 use Rattle.like_requests.specs.Verdict.{is_accepted}
 use Rattle.like_requests.specs.declared.request.Numbered.{Numbered}
@@ -18,7 +18,7 @@ use Rattle.like_core.specs.declared.worker_state.WorkerState.{WorkerState}
 use Rattle.like_core.specs.declared.worker_state.WorkerState.TheVariants as state
 use Rattle.like_core.specs.declared.view.Addition.{Addition}
 use Rattle.like_core.specs.declared.view.PhaseMask.{PhaseMask}
-use Rattle.like_core.specs.PageSteps.{additions_among, earliest_first, reads_among, step_adding}
+use Rattle.like_core.specs.PageSteps.{earliest_first, likes_of, step_adding}
 use Rattle.like_core.specs.PhaseMasks.{AreMasksOf, mask_of}
 use Rattle.like_core.proofs.PhaseMasks.{masks-before, split-known}
 use Rattle.like_core.specs.declared.limits.Limits.{Limits}
@@ -48,14 +48,11 @@ use Rattle.like_roles.proofs.Keeps.{runs-keeps, works-keeps}
 use Rattle.like_seat.proofs.Looking.{has-after, splits-after}
 use Rattle.like_roles.proofs.PageMerged as merge
 use Rattle.like_seat.proofs.MergedLikes.{cond_same}
-use Rattle.like_roles.proofs.notes.NotedMerge.{merge-noted, merges-split}
+use Rattle.like_roles.proofs.notes.NotedMerge.{merge-noted, merges-some, merges-split}
 use Rattle.like_roles.proofs.notes.Noting.{GivesReply-noted, running-unmerged, unmerged-running, unmerged-seen}
 use Rattle.like_roles.proofs.Served.{runs-split}
-use Rattle.like_roles.proofs.counts.Shown.{after-more, shown_by-more}
 use Rattle.like_roles.proofs.counts.Steps.{plain_told-split}
 use Rattle.like_roles.proofs.counts.Tallied.{GivesReply-tallied, accepted-true}
-use Rattle.like_roles.specs.worker.Shown.{shown_by}
-use Rattle.like_core.specs.declared.view.PageRead.{PageRead}
 use Rattle.like_serial.specs.StepsTold.{plain_told}
 
 -- a worker that runs a phase follows the plans
@@ -64,7 +61,7 @@ follows-running : (workload : Workload) (v : WorkerView)
     → IsServed workload v
     → IsSized v
     → IsTallied workload v
-    → (v.notes ≡ true → IsNoted workload (additions_among v.post.did) (reads_among v.post.did) v.adds v.ran)
+    → (v.notes ≡ true → IsNoted workload v.post.did v.adds v.ran)
     → (v.notes ≡ true → IsUnmerged workload v.adds v.post.state)
     → All (IsAsked workload) v.held.held
     → FitsStash workload v.taken
@@ -106,7 +103,7 @@ follows-run : (workload : Workload) (v after : WorkerView) (h : Held) (stashed :
     → IsServed workload v
     → IsSized v
     → IsTallied workload v
-    → (v.notes ≡ true → IsNoted workload (additions_among v.post.did) (reads_among v.post.did) v.adds v.ran)
+    → (v.notes ≡ true → IsNoted workload v.post.did v.adds v.ran)
     → (v.notes ≡ true → IsUnmerged workload v.adds v.post.state)
     → HasPhaseMask v.post
     → IsAsked workload h
@@ -130,11 +127,11 @@ follows-run workload v after h stashed run here none served sized t was un has a
     alike run.serves in
     let all : IsServed workload after × IsSized after × IsTallied workload after
     × (v.notes ≡ true
-    → IsNoted workload (additions_among after.post.did) (reads_among after.post.did) after.adds after.ran
+    → IsNoted workload after.post.did after.adds after.ran
     × IsUnmerged workload after.adds (state.Runs (phase_at v))) =
     subst (λ x. IsServed workload x × IsSized x × IsTallied workload x
     × (v.notes ≡ true
-    → IsNoted workload (additions_among x.post.did) (reads_among x.post.did) x.adds x.ran
+    → IsNoted workload x.post.did x.adds x.ran
     × IsUnmerged workload x.adds (state.Runs (phase_at v)))) (sym run.noted) (
       record {
         users =
@@ -267,10 +264,8 @@ follows-saw workload v sight masks right f kept here none = record {
         λ phase page. f.tallied.by_phase phase page
         ∙ ap (λ n. additions_in v.post phase page + n)
         (saw-kept v.slice sight v.post.state (λ p some. (kept p some).0) here phase page);
-    looks =
-        f.tallied.looks;
-    after = f.tallied.after;
     steps = f.tallied.steps;
+    reads = f.tallied.reads;
     replies = f.tallied.replies;
     last = f.tallied.last;
   };
@@ -321,10 +316,8 @@ follows-held workload v first rest after none f kept j e run =
           f.tallied.likes;
       by_phase =
           f.tallied.by_phase;
-      looks =
-          f.tallied.looks;
-      after = f.tallied.after;
       steps = f.tallied.steps;
+      reads = f.tallied.reads;
       replies = f.tallied.replies;
       last = f.tallied.last;
     })
@@ -367,10 +360,8 @@ follows-trying workload v place f run empty =
           f.tallied.likes;
       by_phase =
           f.tallied.by_phase;
-      looks =
-          f.tallied.looks;
-      after = f.tallied.after;
       steps = f.tallied.steps;
+      reads = f.tallied.reads;
       replies = f.tallied.replies;
       last = f.tallied.last;
     })
@@ -403,10 +394,8 @@ follows-answered workload v P f run none empty =
             f.tallied.likes;
         by_phase =
             f.tallied.by_phase;
-        looks =
-            f.tallied.looks;
-        after = f.tallied.after;
         steps = f.tallied.steps;
+        reads = f.tallied.reads;
         replies = f.tallied.replies;
         last = f.tallied.last;
       };
@@ -432,8 +421,6 @@ follows-reported workload v adds merges f run none kept has =
     let odd = runs-phase IsSplit v.post.state run in
     let here = runs-weaker IsSplit (λ _. Unit {0}) v.post.state (λ _ _. tt) run in
     let alike = slices-alike workload v f.served here has in
-    let then_added = then-additions v.post.worker v.post.did adds in
-    let then_read = then-reads v.post.worker v.post.did adds in
     let noted = λ (notes : v.notes ≡ true).
     merge-noted workload v adds merges f.tallied notes (f.noted notes)
     (unmerged-running workload v.adds IsSplit v.post.state run (f.unmerged notes))
@@ -456,20 +443,18 @@ follows-reported workload v adds merges f run none kept has =
         likes = λ page. f.tallied.likes page ∙ sym (merge.merged-tally (seat_of v) adds merges f.sized.slice page);
         by_phase = λ phase page. f.tallied.by_phase phase page
             ∙ sym (merge.merged-in (seat_of v) adds merges f.sized.slice phase page);
-        looks = f.tallied.looks ∙ sym (shown_by-more (additions_among v.post.did) adds (reads_among v.post.did) f.tallied.after)
-            ∙ ap₂ (λ xs rs. map (shown_by xs) rs) (sym then_added) (sym then_read);
-        after = subst₂ (λ xs rs. All (λ (r : PageRead). r.after ≤ length xs) rs) (sym then_added) (sym then_read)
-            (after-more (additions_among v.post.did) adds (reads_among v.post.did) f.tallied.after);
         steps = ap (plain_told workload) (then-earliest v.post.did (map (step_adding v.post.worker) adds))
             ∙ plain_told-split workload (earliest_first v.post.did) (map (step_adding v.post.worker) adds)
             (All-map (λ s. is_split_in workload s.phase s.page ≡ true) (step_adding v.post.worker) adds
             (merges-split workload v adds merges kept alike))
             ∙ f.tallied.steps;
+        reads = all_then (λ s. likes_of s.call ≡ 0 → is_split_in workload s.phase s.page ≡ false) (map (step_adding v.post.worker) adds) v.post.did f.tallied.reads
+            (All-map (λ s. likes_of s.call ≡ 0 → is_split_in workload s.phase s.page ≡ false) (step_adding v.post.worker) adds
+            (λ i d inside none. absurd (merges-some v adds merges i d inside none)));
         replies = f.tallied.replies;
         last = f.tallied.last;
       };
-      noted = λ notes. subst₂ (λ xs rs. IsNoted workload xs rs (merged v adds).adds v.ran) (sym then_added) (sym then_read)
-          (noted notes).0;
+      noted = λ notes. (noted notes).0;
       unmerged = λ notes. (noted notes).1;
       in_order = f.in_order;
       fits = f.fits;
@@ -515,10 +500,8 @@ follows-works workload v ending answer after none f kept has (turns.retires j e 
         by_phase =
             λ phase page. f.tallied.by_phase phase page
             ∙ ap (λ n. additions_in v.post phase page + n) (empties phase page);
-        looks =
-            f.tallied.looks;
-        after = f.tallied.after;
         steps = f.tallied.steps;
+        reads = f.tallied.reads;
         replies = f.tallied.replies;
         last = f.tallied.last;
       };
@@ -593,10 +576,8 @@ follows-settled workload v f = record {
         f.tallied.likes;
     by_phase =
         f.tallied.by_phase;
-    looks =
-        f.tallied.looks;
-    after = f.tallied.after;
     steps = f.tallied.steps;
+    reads = f.tallied.reads;
     replies = f.tallied.replies;
     last = f.tallied.last;
   };
@@ -727,10 +708,8 @@ follows-takes workload v place ask answer after none f kept has run empty asked 
           f.tallied.likes;
       by_phase =
           f.tallied.by_phase;
-      looks =
-          f.tallied.looks;
-      after = f.tallied.after;
       steps = f.tallied.steps;
+      reads = f.tallied.reads;
       replies = f.tallied.replies;
       last = f.tallied.last;
     })
@@ -779,10 +758,8 @@ follows-takes workload v place ask answer after none f kept has run empty asked 
           f.tallied.likes;
       by_phase =
           f.tallied.by_phase;
-      looks =
-          f.tallied.looks;
-      after = f.tallied.after;
       steps = f.tallied.steps;
+      reads = f.tallied.reads;
       replies = f.tallied.replies;
       last = f.tallied.last;
     })
@@ -833,10 +810,8 @@ follows-give workload v took answer after can asked kept has room (turns.ends pl
           f.tallied.likes;
       by_phase =
           f.tallied.by_phase;
-      looks =
-          f.tallied.looks;
-      after = f.tallied.after;
       steps = f.tallied.steps;
+      reads = f.tallied.reads;
       replies = f.tallied.replies;
       last = f.tallied.last;
     })

@@ -84,9 +84,8 @@ Follows-moved workload v board f = record {
   tallied = record {
     likes = f.tallied.likes;
     by_phase = f.tallied.by_phase;
-    looks = f.tallied.looks;
-    after = f.tallied.after;
     steps = f.tallied.steps;
+    reads = f.tallied.reads;
     replies = f.tallied.replies;
     last = f.tallied.last;
   };

@@ -1,5 +1,5 @@
 -- The ends of a worker's life: it starts as the plans say, and ends so.
-use Rattle.std.proofs.Common.{◌≡◌, ℕ, ◌≤◌, ◌==◌, cond, All, Bool, true, List, [], ◌++◌, length, map, get_or, Some, None, refl, ap, sym, ◌∙◌, inl, inr, arith, subst, append-nil}
+use Rattle.std.proofs.Common.{false, ◌≡◌, ℕ, ◌≤◌, ◌==◌, cond, All, Bool, true, List, [], ◌++◌, length, map, get_or, Some, None, refl, ap, sym, ◌∙◌, inl, inr, arith, subst, append-nil}
 use Rattle.std.proofs.lemmas.Bool.{cases_eq}
 use Rattle.std.proofs.lemmas.List.{length-map, length-replicate}
 use Rattle.std.proofs.lemmas.List.Elements.{All-nil}
@@ -11,16 +11,15 @@ use Rattle.like_core.specs.WorkerState.{RunsSplit}
 use Rattle.like_core.specs.Additions.{added_in, added_to}
 use Rattle.like_core.specs.PhaseMasks.{AreMasksOf}
 use Rattle.like_core.specs.Post.{PostView, additions_in, additions_of, pages_of}
-use Rattle.like_core.specs.PageSteps.{additions_among, earliest_first, reads_among}
+use Rattle.like_core.specs.PageSteps.{additions_among, earliest_first, likes_of}
 use Rattle.like_tables.specs.UserTable.{last_of}
 use Rattle.like_roles.specs.declared.turn.Turn.{Turn}
 use Rattle.like_roles.specs.declared.turn.Turn.TheVariants as turn
-use Rattle.like_roles.specs.worker.Follows.{adds_to, Follows, IsDone, IsNoted, IsWorkloadOf, IsUnmerged, HasNothingLater, Stands, entry_held, next_joined}
+use Rattle.like_roles.specs.worker.Follows.{adds_to, ArePlainReads, Follows, IsDone, IsNoted, IsWorkloadOf, IsUnmerged, HasNothingLater, Stands, entry_held, next_joined}
 use Rattle.like_promises.specs.Likes.{likes_within}
-use Rattle.like_roles.specs.worker.Shown.{shown_by, shown_in}
 use Rattle.like_roles.specs.worker.New.{IsNew, IsPostOf}
 use Rattle.like_promises.specs.Order.{entry_of}
-use Rattle.like_promises.specs.Workload.{Workload}
+use Rattle.like_promises.specs.Workload.{Workload, is_split_in}
 use Rattle.like_roles.specs.worker.Turns as turns
 use Rattle.like_roles.specs.worker.Turns.{Pends, Turns, Works}
 use Rattle.like_roles.specs.worker.WorkerView.{WorkerView, phase_at, submitter_at}
@@ -45,7 +44,6 @@ follows-new s sizes worker post notes v workload p new same =
     let additions : additions_among v.post.did ≡ [] = ap additions_among did_is in
     let state_is : v.post.state ≡ state.Runs 0 = ap (λ x. x.state) new.at_post ∙ p.fresh.runs in
     let held : v.held.held ≡ [] = ap (λ x. x.held) new.held in
-    let reads : reads_among v.post.did ≡ [] = ap reads_among did_is in
     let did : earliest_first v.post.did ≡ [] = ap earliest_first did_is in
     let masks : v.post.masks ≡ [] = ap (λ x. x.masks) new.at_post ∙ p.fresh.no_masks in
     let nothing : (page : ℕ) → additions_of v.post page ≡ 0 = λ page. ap (added_to page) additions in
@@ -78,18 +76,16 @@ follows-new s sizes worker post notes v workload p new same =
             let none_kept : cond (phase_at v == phase) (get_or v.slice page 0) 0 ≡ 0 =
             ap (λ (n : ℕ). cond (phase_at v == phase) n 0) (in_slice page) ∙ cond_same (phase_at v == phase) 0 in
             rw new.ran (omega (arith, none, none_kept));
-        looks = ap (shown_in workload) new.ran ∙ sym (ap (map (shown_by (additions_among v.post.did))) reads);
-        after = subst (All (λ r. r.after ≤ length (additions_among v.post.did))) (sym reads)
-            (All-nil (λ r. r.after ≤ length (additions_among v.post.did)));
         steps = ap (plain_told workload) did ∙ sym (ap (steps_ran workload) new.ran);
+        reads = subst (ArePlainReads workload) (sym did_is)
+            (All-nil (λ s. likes_of s.call ≡ 0 → is_split_in workload s.phase s.page ≡ false));
         replies = λ i e h. let k : None ≡ Some e = rw new.ran at h in cc k;
         last = λ user. ap (λ x. last_of x user) new.last ∙ same_everywhere s.users user None ∙ rw new.ran refl;
       };
       noted = λ _.
-          subst (λ xs. IsNoted workload xs (reads_among v.post.did) v.adds v.ran) (sym additions)
-          (subst (λ xs. IsNoted workload [] xs v.adds v.ran) (sym reads)
-          (subst (λ xs. IsNoted workload [] [] xs v.ran) (sym new.adds)
-          (subst (λ xs. IsNoted workload [] [] [] xs) (sym new.ran) (noted-nothing workload))));
+          subst (λ xs. IsNoted workload xs v.adds v.ran) (sym did_is)
+          (subst (λ xs. IsNoted workload [] xs v.ran) (sym new.adds)
+          (subst (λ xs. IsNoted workload [] [] xs) (sym new.ran) (noted-nothing workload)));
       unmerged = λ _. subst (IsUnmerged workload v.adds) (sym state_is) (
         λ i d inside. absurd (omega (arith, ap length new.adds)),
         λ page is. ap (adds_to 0 page) new.adds,
@@ -137,8 +133,8 @@ follows-done workload v f gone s =
       fits = f.fits;
       likes = λ page. f.tallied.likes page ∙ omega (arith, empty-gone v gone s page);
       by_phase = in_phase;
-      looks = f.tallied.looks;
       steps = f.tallied.steps;
+      reads = f.tallied.reads;
       noted = λ notes. (
           let noted = f.noted notes in
           record {
@@ -148,10 +144,10 @@ follows-done workload v f gone s =
               rising = noted.rising;
               plain = noted.plain;
               split = λ phase page is.
-                  one-of_likes workload (additions_among v.post.did) (reads_among v.post.did) v.adds v.ran phase page noted is
+                  one-of_likes workload v.post.did v.adds v.ran phase page noted is
                   (in_phase phase page);
             };
-            reads = noted.looks;
+            calls = noted.calls;
           });
       replies = f.tallied.replies;
       last = f.tallied.last;

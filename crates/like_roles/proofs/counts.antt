@@ -1,4 +1,3 @@
--- What running requests does to likes, and which counts looks are shown.
+-- What running requests does to likes and to what was done at pages.
 pub mod Tallied
-pub mod Shown
 pub mod Steps

@@ -1,6 +1,5 @@
 -- A worker: what contracts see of it, its turns, what it keeps, and how it follows the plans.
 pub mod WorkerView
-pub mod Shown
 pub mod Serve
 pub mod Merges
 pub mod Turns

@@ -4,7 +4,7 @@ use Rattle.std.specs.List.{filter_map}
 use Rattle.like_promises.specs.declared.log.Ran.{Ran}
 use Rattle.like_promises.specs.Accepted.{AcceptedRequest}
 use Rattle.like_promises.specs.Likes.{like_ran}
-use Rattle.like_promises.specs.Looks.{count_in, look_at}
+use Rattle.like_promises.specs.Looks.{count_in, look_ran}
 use Rattle.like_promises.specs.Workload.{Workload, is_split_in}
 use Rattle.like_core.specs.declared.page_step.PageCall.{PageCall}
 use Rattle.like_core.specs.declared.page_step.PageCall.TheVariants.{Add, Read, Glance}
@@ -47,7 +47,7 @@ look_or_like workload e None None = None
 
 -- the plain step that an entry took, if it took one
 abbrev pub step_ran : Workload → Ran → Option StepTold
-step_ran workload e = look_or_like workload e (look_at workload e.submitter e.number) (like_ran workload e)
+step_ran workload e = look_or_like workload e (look_ran workload e) (like_ran workload e)
 
 -- the plain steps that the entries of a run list took
 abbrev pub steps_ran : Workload → List Ran → List StepTold

@@ -23,11 +23,12 @@ use Rattle.like_core.specs.core.Numbers.{AllIn}
 use Rattle.like_core.specs.core.Table.{Permits}
 use Rattle.like_core.specs.core.State.{CoreState, numbers}
 use Rattle.like_core.specs.views.Views.{counted_coord, published_coord, slotted_coord, slots_put, SawAllIn, MayCount, MayPublish, MayPut, MayPublishSlots}
-use Rattle.like_core.specs.views.Reads.{all_before, IsCounted}
-use Rattle.like_core.specs.views.Tallies.{paged, room}
+use Rattle.like_core.specs.views.Reads.{IsCounted}
+use Rattle.like_core.specs.views.Posts.{posts_before, posts_of}
+use Rattle.like_core.specs.views.Tallies.{room}
 use Rattle.like_core.specs.views.Layout.{mask_place, slot_in, slot_place, word_of}
 use Rattle.like_core.specs.views.Shows.{Shows, ShowsSome, FitsWorker, FitsCoord, FixesMask, IsStep}
-use Rattle.like_core.proofs.views.Ordered.{past_now}
+use Rattle.like_core.proofs.views.Ordered.{applied_now, past_now}
 use Rattle.like_core.proofs.Slots.{choice-same, mask-below, mask_by-plain, mask_by-slots, mask_of_slots-same}
 use Rattle.like_core.proofs.views.Apart.{word_of-past}
 use Rattle.like_core.proofs.views.KeptOrder.{other_step_keeps_order, same_coord}
@@ -58,13 +59,13 @@ counts z words views place c page some_state at may =
     let known = of_coord z s words views place c sh at in
     let on : page < length z.counts = subst (λ (y : Opening). page < length y.counts) old.seats.opening may.2 in
     let found_is = sh.board.pages page on in
-    let sums = some_state.tallied.sums page in
+    let sums = applied_now z (moment_of z words views some_state) page in
     let past = past_now z (moment_of z words views some_state) (s.phase + 1) page (omega arith) in
     let P : PageCount → Type 0 =
     λ x. (x.phase ≤ s.phase) × (x.phase ≡ s.phase → AllIn (numbers z s) × (s.ending ≡ true)) in
-    let Q : ℕ → Type 0 = λ k. found ≡ slice_index z.counts page + all_before views (k + 1) page in
+    let Q : ℕ → Type 0 = λ k. found ≡ slice_index z.counts page + posts_before (posts_of views) (k + 1) page in
     let all_found : Q s.phase = omega arith in
-    let counted : IsCounted z.counts (all_before views) r = subst Q (sym old.phase.present) all_found in
+    let counted : IsCounted z.counts (posts_before (posts_of views)) r = subst Q (sym old.phase.present) all_found in
     let phase = old.phase.present in
     let fits : FitsCoord z s d =
     record {
@@ -85,7 +86,7 @@ counts z words views place c page some_state at may =
     sh.board.mask
     sh.board.chosen
     (choice_same z words views c d refl known.0)
-    (All-cons (IsCounted z.counts (all_before views)) r c.counted counted known.1)
+    (All-cons (IsCounted z.counts (posts_before (posts_of views))) r c.counted counted known.1)
     fits
     (λ v f. f))
     in
@@ -104,7 +105,7 @@ counts z words views place c page some_state at may =
         state = s;
         reachable = some_state.reachable;
         shows = after_it;
-        tallied = tallied_on z.limits s s views place (Coord c) (Coord d) (λ _. refl) at (λ _. refl)
+        tallied = tallied_on z.limits s s views place (Coord c) (Coord d) (λ _. refl) at
             (λ _. refl) some_state.tallied;
         steps = some_state.steps;
         order = other_step_keeps_order z s s views some_state.steps place (Coord c) (Coord d) at
@@ -168,11 +169,10 @@ chooses z words views place c d changed word some_state at all_in joined rest la
           (λ fixed. absurd (none_fixed s.phase s.ending even now.ending fixed))
           (λ fixed. absurd (none_fixed s.phase s.ending even now.ending fixed))
           (choice now.all_in)
-          (subst (λ (e : CoordSeatView). All (IsCounted z.counts (all_before views)) e.counted) (sym rest) known.1)
+          (subst (λ (e : CoordSeatView). All (IsCounted z.counts (posts_before (posts_of views))) e.counted) (sym rest) known.1)
           fits
           (λ v f. f);
       tallied = tallied_on z.limits s s views place (Coord c) (Coord d) (λ _. refl) at
-          (λ page. ap (λ (e : CoordSeatView). paged page (Coord e)) rest)
           (λ page. ap (λ (e : CoordSeatView). room z.limits page (Coord e)) rest) some_state.tallied;
       steps = some_state.steps;
       order = other_step_keeps_order z s s views some_state.steps place (Coord c) (Coord d) at

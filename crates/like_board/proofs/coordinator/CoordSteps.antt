@@ -113,7 +113,7 @@ surveys z words views place c some_state at =
         state = s;
         reachable = some_state.reachable;
         shows = after_it;
-        tallied = tallied_on z.limits s s views place (Coord c) (Coord d) (λ _. refl) at (λ _. refl)
+        tallied = tallied_on z.limits s s views place (Coord c) (Coord d) (λ _. refl) at
             (λ _. refl) some_state.tallied;
         steps = some_state.steps;
         order = other_step_keeps_order z s s views some_state.steps place (Coord c) (Coord d) at
@@ -226,7 +226,7 @@ announces z words views place c some_state at may =
         state = t;
         reachable = reachable;
         shows = after_it;
-        tallied = tallied_on z.limits s t views place (Coord c) (Coord d) (λ _. refl) at (λ _. refl)
+        tallied = tallied_on z.limits s t views place (Coord c) (Coord d) (λ _. refl) at
             (λ _. refl) some_state.tallied;
         steps = some_state.steps;
         order = other_step_keeps_order z s t views some_state.steps place (Coord c) (Coord d) at
@@ -410,7 +410,7 @@ releases z words views place c seen some_state at may seen_is =
         state = t;
         reachable = moves_by z s (Release mask) some_state.reachable permits;
         shows = after_it;
-        tallied = tallied_on z.limits s t views place (Coord c) (Coord d) (λ _. refl) at (λ _. refl)
+        tallied = tallied_on z.limits s t views place (Coord c) (Coord d) (λ _. refl) at
             (λ _. refl) some_state.tallied;
         steps = some_state.steps;
         order = other_step_keeps_order z s t views some_state.steps place (Coord c) (Coord d) at

@@ -20,7 +20,9 @@ use Rattle.like_core.specs.core.State.{CoreState}
 use Rattle.like_core.specs.word.ShownWord.{shown_word}
 use Rattle.like_core.specs.Additions.{added_before}
 use Rattle.like_core.specs.views.Views.{fresh, made_coord, seats_of}
-use Rattle.like_core.specs.views.Reads.{before_in, all_before, IsCounted}
+use Rattle.like_core.specs.views.Reads.{IsCounted}
+use Rattle.like_core.specs.views.Posts.{posts_before, posts_of}
+use Rattle.like_core.proofs.views.ViewSums.{before_in, before_posts}
 use Rattle.like_core.specs.views.Layout.{slot_in, word_of}
 use Rattle.like_core.specs.views.Shows.{Shows, Fits, FitsWorker, FitsCoord, FixesMask, IsChosen, mask_in}
 use Rattle.like_core.proofs.views.Apart.{word_of-past}
@@ -49,7 +51,7 @@ pub record ShowsChoice (z : Opening) (words : List ℕ) (views : List View) (c :
 pub of_coord : (z : Opening) (s : CoreState) (words : List ℕ) (views : List View) (place : ℕ) (c : CoordSeatView)
     → Shows z s words views
     → get_elem? views place ≡ some (Coord c)
-    → ShowsChoice z words views c × All (IsCounted z.counts (all_before views)) c.counted
+    → ShowsChoice z words views c × All (IsCounted z.counts (posts_before (posts_of views))) c.counted
 of_coord z s words views place c sh at =
     let is = same_coord z s words views place c sh at in
     let own : ShowsChoice z words views sh.coord =
@@ -63,7 +65,7 @@ of_coord z s words views place c sh at =
     }
     in (
       subst (ShowsChoice z words views) is.1 own,
-      subst (λ (e : CoordSeatView). All (IsCounted z.counts (all_before views)) e.counted) is.1 sh.counted,
+      subst (λ (e : CoordSeatView). All (IsCounted z.counts (posts_before (posts_of views))) e.counted) is.1 sh.counted,
     )
 
 -- the same of words that keep the choice, and of a view that does
@@ -122,7 +124,7 @@ pub leads : (z : Opening) (s : CoreState) (words : List ℕ) (views : List View)
     → (FixesMask phase ending → mask_in z later ≡ hot phase)
     → (FixesMask phase ending → IsChosen z later)
     → ShowsChoice z later views d
-    → All (IsCounted z.counts (all_before views)) d.counted
+    → All (IsCounted z.counts (posts_before (posts_of views))) d.counted
     → FitsCoord z (phased s phase ending hot) d
     → ((v : WorkerSeatView) → FitsWorker z s v → FitsWorker z (phased s phase ending hot) v)
     → Shows z (phased s phase ending hot) later (set views place (Coord d))
@@ -213,7 +215,7 @@ leads_word z s words views place c d phase ending hot word sh at made joined cou
     (λ fixed. mask_in-kept z words (set words 0 word) keeps ∙ mask_is fixed)
     (λ fixed. chosen-kept z words (set words 0 word) keeps (chosen_is fixed))
     (choice_kept z words (set words 0 word) views d d keeps refl choice)
-    (subst (All (IsCounted z.counts (all_before views))) (sym counted) (of_coord z s words views place c sh at).1)
+    (subst (All (IsCounted z.counts (posts_before (posts_of views)))) (sym counted) (of_coord z s words views place c sh at).1)
     fits
     workers
 
@@ -319,13 +321,15 @@ splits z s words views place c sh at room =
               subst (λ (x : WorkerSeatView). x.slots ≡ take (length x.slots) c.slots) (worker-injective new v last) refl
         ];
       };
-      counted = counted_on z.counts (all_before views) (all_before (changed ++ Worker new ∷ [])) c.counted
+      counted = counted_on z.counts (posts_before (posts_of views)) (posts_before (posts_of (changed ++ Worker new ∷ []))) c.counted
           (λ i r inside.
           let k : ℕ = (get_or c.counted i r).phase + 1 in
           let p : ℕ = (get_or c.counted i r).page in
           let push = sum_by_push (before_in k p) changed (Worker new) in
           let none : before_in k p (Worker new) ≡ 0 = refl in
           let same = sum_set (before_in k p) views place (Coord c) (Coord d) at refl in
+          let now = before_posts k p (changed ++ Worker new ∷ []) in
+          let was = before_posts k p views in
           omega arith)
           known.1;
     }

@@ -26,9 +26,12 @@ use Rattle.like_core.specs.Post.{PostView, MayAdd, slices}
 use Rattle.like_core.specs.Additions.{added_to, added_in}
 use Rattle.like_core.specs.PageSteps.{additions_among, page_step}
 use Rattle.like_core.specs.views.Views.{added_view, post_of, likes_merged, adding}
-use Rattle.like_core.specs.views.Reads.{all_before, IsCounted}
+use Rattle.like_core.specs.views.Reads.{IsCounted}
+use Rattle.like_core.specs.views.Posts.{posts_before, posts_of}
 use Rattle.like_core.specs.views.Order.{AppliesTo, IsOrder}
-use Rattle.like_core.specs.views.Tallies.{Tallied, paged, room}
+use Rattle.like_core.specs.views.Tallies.{Tallied, room}
+use Rattle.like_core.proofs.views.ViewSums.{added_posts, paged}
+use Rattle.like_core.proofs.views.Ordered.{applied_now}
 use Rattle.like_core.specs.views.Layout.{word_of}
 use Rattle.like_core.specs.views.Shows.{Shows, ShowsSome, FitsWorker, FitsCoord, IsPageStep}
 use Rattle.like_core.proofs.Updates.{update-same, update-other, update_cases}
@@ -132,37 +135,17 @@ tallied_added : (l : Limits) (s : CoreState) (views : List View) (place : ℕ) (
     (set views place (Worker (added_view v page count n)))
 tallied_added l s views place v page count n rest at present few old =
     let w : WorkerSeatView = added_view v page count n in
-    let sums_now : (q : ℕ) → length (applied_by s v.worker page n q) ≡ sum_by (paged q) (set views place (Worker w)) =
     λ q.
     elim (cases_eq q page) [
       | inl same ↦
           rw same
-          (let before = old.sums page in
-          let swap = sum_swap (paged page) views place (Worker v) (Worker w) at in
-          let more = added_to_here (additions_among v.did) (phase_of v.state) page count n in
-          let long = applied_here s v.worker page n in
-          omega arith)
-      | inr other ↦
-          applied_else s v.worker page n q other ∙
-          (old.sums q ∙
-          sym (sum_set (paged q) views place (Worker v) (Worker w) at
-          (added_to_else (additions_among v.did) (phase_of v.state) page count n q other)))
-    ]
-    in
-    let rooms_now : (q : ℕ)
-    → length (applied_by s v.worker page n q) + sum_by (room l q) (set views place (Worker w))
-    ≤ l.likes * l.seats =
-    λ q.
-    elim (cases_eq q page) [
-      | inl same ↦
-          rw same
-          (let before = old.rooms page in
+          (let before = old page in
           let swap = sum_swap (room l page) views place (Worker v) (Worker w) at in
           let more = added_to_here (additions_among v.did) (phase_of v.state) page count n in
           let long = applied_here s v.worker page n in
           omega arith)
       | inr other ↦
-          let before = old.rooms q in
+          let before = old q in
           let long = applied_else s v.worker page n q other in
           let same =
           sum_set (room l q) views place (Worker v) (Worker w) at
@@ -170,8 +153,6 @@ tallied_added l s views place v page count n rest at present few old =
           in
           omega arith
     ]
-    in
-    record { sums = sums_now; rooms = rooms_now }
 
 -- the counts that the coordinator read have none of it: in their phases nobody runs any more
 counted_added : (z : Opening) (s : CoreState) (words : List ℕ) (views : List View) (place : ℕ) (v : WorkerSeatView)
@@ -180,12 +161,12 @@ counted_added : (z : Opening) (s : CoreState) (words : List ℕ) (views : List V
     → get_elem? views place ≡ some (Worker v)
     → s.state v.worker ≡ Runs s.phase
     → phase_of v.state ≡ s.phase
-    → All (IsCounted z.counts (all_before (set views place (Worker (added_view v page count n))))) sh.coord.counted
+    → All (IsCounted z.counts (posts_before (posts_of (set views place (Worker (added_view v page count n)))))) sh.coord.counted
 counted_added z s words views place v page count n sh at runs present =
     let old : FitsWorker z s v = sh.seats.each place (Worker v) at in
     let coord : FitsCoord z s sh.coord = sh.seats.each 0 (Coord sh.coord) sh.seats.first in
-    counted_on z.counts (all_before views)
-    (all_before (set views place (Worker (added_view v page count n)))) sh.coord.counted
+    counted_on z.counts (posts_before (posts_of views))
+    (posts_before (posts_of (set views place (Worker (added_view v page count n))))) sh.coord.counted
     (λ k d inside.
     let r : PageCount = get_or sh.coord.counted k d in
     let of = coord.choice.counted k d inside in
@@ -246,8 +227,9 @@ adds z words views place v page n some_state at may =
     let own_room = sum_part (room z.limits page) views place (Worker v) at in
     let bound = sh.opening.limits.likes in
     let low = count_low z.counts page on sh.opening.counts in
-    let full = some_state.tallied.rooms page in
-    let sums = some_state.tallied.sums page in
+    let full = some_state.tallied page in
+    let sums = applied_now z (moment_of z words views some_state) page in
+    let posts = added_posts page views in
     let part = sum_part (paged page) views place (Worker v) at in
     let found : get_or words (word_of page) 0 ≡ get_or z.counts page 0 + length (s.applied page) =
     sh.board.pages page on in

@@ -24,7 +24,8 @@ use Rattle.like_core.specs.core.Moves.{NoneReturns}
 use Rattle.like_core.specs.word.ShownWord.{shown_word}
 use Rattle.like_core.specs.Additions.{added_before}
 use Rattle.like_core.specs.views.Views.{seats_of}
-use Rattle.like_core.specs.views.Reads.{all_before, IsCounted}
+use Rattle.like_core.specs.views.Reads.{IsCounted}
+use Rattle.like_core.specs.views.Posts.{posts_before, posts_of}
 use Rattle.like_core.specs.views.Layout.{mask_place, slot_place, word_of}
 use Rattle.like_core.specs.views.Shows.{IsKnown, Shows, ShowsSome, Moment, Fits, FitsWorker, FitsCoord, FixesMask, IsChosen, mask_in}
 use Rattle.like_core.specs.views.Serves.{moved}
@@ -241,7 +242,7 @@ pub worker_steps : (z : Opening) (s t : CoreState) (words later : List ℕ) (vie
     → w.slots ≡ take (length w.slots) sh.coord.slots
     → ((u : View) → seats_of v.worker u ≡ 0 → ((c : CoordSeatView) → u ≡ Coord c → v.worker < c.made) → Fits z s u
     → Fits z t u)
-    → All (IsCounted z.counts (all_before (set views place (Worker w)))) sh.coord.counted
+    → All (IsCounted z.counts (posts_before (posts_of (set views place (Worker w))))) sh.coord.counted
     → Shows z t later (set views place (Worker w))
 worker_steps z s t words later views place v w sh at number width word pages keeps mask chosen merged fits slots others
     counted =

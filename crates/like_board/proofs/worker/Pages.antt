@@ -18,7 +18,8 @@ use Rattle.like_core.specs.Post.{slices, KnowsSlices}
 use Rattle.like_core.specs.core.State.{CoreState, Label, is_split_now, labelled, numbers}
 use Rattle.like_core.specs.word.ShownWord.{shown_word}
 use Rattle.like_core.specs.views.Views.{post_of, seats_of}
-use Rattle.like_core.specs.views.Reads.{all_before, IsCounted}
+use Rattle.like_core.specs.views.Reads.{IsCounted}
+use Rattle.like_core.specs.views.Posts.{posts_before, posts_of}
 use Rattle.like_core.specs.views.Layout.{word_of}
 use Rattle.like_core.specs.views.Shows.{Shows, Fits, FitsWorker}
 use Rattle.like_core.proofs.PhaseMasks.{split-known}
@@ -127,7 +128,7 @@ pub page_steps : (z : Opening) (s : CoreState) (unmerged : ℕ → List ℕ) (ap
     → ((j : ℕ) → unmerged j ≡ [])
     → KeepsOthers s applied v.worker
     → FitsWorker z (with_likes s unmerged applied) w
-    → All (IsCounted z.counts (all_before (set views place (Worker w)))) sh.coord.counted
+    → All (IsCounted z.counts (posts_before (posts_of (set views place (Worker w))))) sh.coord.counted
     → Shows z (with_likes s unmerged applied) (set words (word_of page) word) (set views place (Worker w))
 page_steps z s unmerged applied words views place v w page word sh at number same_slots on word_is others merged
     keeps fits counted =

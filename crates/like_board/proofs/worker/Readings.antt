@@ -30,7 +30,8 @@ use Rattle.like_core.specs.Additions.{added_before, added_in, added_to}
 use Rattle.like_core.specs.PageSteps.{additions_among, page_step}
 use Rattle.like_core.specs.views.Views.{read_view, glanced_view, masked_view, slotted_view, slots_read, MayReadSlot, post_of}
 use Rattle.like_core.specs.views.Order.{ComesNext, IsOrder}
-use Rattle.like_core.specs.views.Tallies.{paged}
+use Rattle.like_core.proofs.views.ViewSums.{added_posts, paged}
+use Rattle.like_core.proofs.views.Ordered.{applied_now}
 use Rattle.like_core.specs.views.Layout.{mask_place, slot_in, slot_place, word_of}
 use Rattle.like_core.specs.views.Shows.{Shows, ShowsSome, FitsWorker, IsPageStep, IsStep, mask_in}
 use Rattle.like_core.proofs.core.Moved.{moved_in_phase}
@@ -99,7 +100,8 @@ reads_word z words views place v page move call ds some_state at running may_the
     let on : page < length z.counts = omega arith in
     let same : is_split_now z s page ≡ slices (post_of v) page =
     slices_are z s v page old present knows in
-    let sums = some_state.tallied.sums page in
+    let sums = applied_now z (moment_of z words views some_state) page in
+    let posts = added_posts page views in
     let part = sum_part (paged page) views place (Worker v) at in
     let count : ℕ = get_or words (word_of page) 0 in
     let found : count ≡ get_or z.counts page 0 + length (s.applied page) = sh.board.pages page on in
@@ -154,7 +156,7 @@ reads_word z words views place v page move call ds some_state at running may_the
         reachable = some_state.reachable;
         shows = shows;
         tallied = tallied_on z.limits s s views place (Worker v) (Worker w) (λ _. refl) at
-            (λ q. ap (added_to q) same_adds) (λ q. ap (λ xs. z.limits.likes - added_to q xs) same_adds)
+            (λ q. ap (λ xs. z.limits.likes - added_to q xs) same_adds)
             some_state.tallied;
         steps = step ∷ some_state.steps;
         order = order;
@@ -163,7 +165,7 @@ reads_word z words views place v page move call ds some_state at running may_the
       omega (
         arith,
         count_low z.counts page on sh.opening.counts,
-        some_state.tallied.rooms page,
+        some_state.tallied page,
         sh.opening.limits.likes,
         found,
       ),
@@ -248,8 +250,7 @@ word_read z words views place v masks slots word some_state at shows =
       state = s;
       reachable = some_state.reachable;
       shows = shows;
-      tallied = tallied_on z.limits s s views place (Worker v) (Worker w) (λ _. refl) at
-          (λ _. refl) (λ _. refl) some_state.tallied;
+      tallied = tallied_on z.limits s s views place (Worker v) (Worker w) (λ _. refl) at (λ _. refl) some_state.tallied;
       steps = some_state.steps;
       order = other_step_keeps_order z s s views some_state.steps place (Worker v) (Worker w) at
           (same_worker v w refl refl) (omega arith) (λ _. refl) some_state.order;

@@ -183,8 +183,7 @@ looks z words views place v some_state at there =
         state = t;
         reachable = moves_by z s (Look i) some_state.reachable permits;
         shows = shows_after;
-        tallied = tallied_on z.limits s t views place (Worker v) (Worker w) (λ _. refl) at
-            (λ _. refl) (λ _. refl) some_state.tallied;
+        tallied = tallied_on z.limits s t views place (Worker v) (Worker w) (λ _. refl) at (λ _. refl) some_state.tallied;
         steps = some_state.steps;
         order = other_step_keeps_order z s t views some_state.steps place (Worker v) (Worker w) at
             (same_worker v w refl refl) (omega arith) (λ _. refl) some_state.order;
@@ -277,7 +276,7 @@ acknowledges z words views place v some_state at joined saw =
         tallied =
             tallied_on z.limits s (moved s v.worker (Answered s.phase)) views place (Worker v)
             (Worker (answered_view v))
-            (λ _. refl) at (λ _. refl) (λ _. refl) some_state.tallied;
+            (λ _. refl) at (λ _. refl) some_state.tallied;
         steps = some_state.steps;
         order = other_step_keeps_order z s (moved s v.worker (Answered s.phase)) views some_state.steps place
             (Worker v) (Worker (answered_view v)) at
@@ -333,7 +332,7 @@ reports z words views place v some_state at split saw =
         tallied =
             tallied_on z.limits s (moved s v.worker (Answered s.phase)) views place (Worker v)
             (Worker (answered_view v))
-            (λ _. refl) at (λ _. refl) (λ _. refl) some_state.tallied;
+            (λ _. refl) at (λ _. refl) some_state.tallied;
         steps = some_state.steps;
         order = other_step_keeps_order z s (moved s v.worker (Answered s.phase)) views some_state.steps place
             (Worker v) (Worker (answered_view v)) at
@@ -401,7 +400,7 @@ retires z words views place v some_state at joined =
         shows = after_it;
         tallied =
             tallied_on z.limits s (moved s i Gone) views place (Worker v) (Worker (retired_view v))
-            (λ _. refl) at (λ _. refl)
+            (λ _. refl) at
             (λ _. refl) some_state.tallied;
         steps = some_state.steps;
         order = other_step_keeps_order z s (moved s i Gone) views some_state.steps place (Worker v)
@@ -485,8 +484,7 @@ returns z words views place v new some_state at gone lets even new_is =
         state = t;
         reachable = moves_back z s i some_state.reachable may;
         shows = shows_after;
-        tallied = tallied_on z.limits s t views place (Worker v) (Worker w) (λ _. refl) at
-            (λ _. refl) (λ _. refl) some_state.tallied;
+        tallied = tallied_on z.limits s t views place (Worker v) (Worker w) (λ _. refl) at (λ _. refl) some_state.tallied;
         steps = some_state.steps;
         order = other_step_keeps_order z s t views some_state.steps place (Worker v) (Worker w) at
             (same_worker v w refl refl) (omega arith) (λ _. refl) some_state.order;

@@ -12,7 +12,8 @@ use Rattle.like_core.specs.core.Numbers.{CoordSees}
 use Rattle.like_core.specs.core.State.{numbers}
 use Rattle.like_core.specs.word.ShownWord.{shown_word}
 use Rattle.like_core.specs.views.Places.{count_after}
-use Rattle.like_core.specs.views.Reads.{IsCounted, all_before}
+use Rattle.like_core.specs.views.Reads.{IsCounted}
+use Rattle.like_core.specs.views.Posts.{posts_before, posts_of}
 use Rattle.like_core.specs.views.Shows.{FitsCoord, IsLastMoment, IsKnown, Moment}
 use Rattle.like_core.proofs.views.Ordered.{past_now}
 
@@ -25,8 +26,8 @@ counted_now z c m mine = λ k d below at.
     let first = sh.seats.first in
     let same : sh.coord ≡ c = cc in
     let fits : FitsCoord z m.shown.state c = sh.seats.each 0 (Coord c) mine in
-    let counted : All (IsCounted z.counts (all_before m.views)) c.counted =
-    subst (λ (e : CoordSeatView). All (IsCounted z.counts (all_before m.views)) e.counted) same sh.counted in
+    let counted : All (IsCounted z.counts (posts_before (posts_of m.views))) c.counted =
+    subst (λ (e : CoordSeatView). All (IsCounted z.counts (posts_before (posts_of m.views))) e.counted) same sh.counted in
     let r : PageCount = get_or c.counted k d in
     let present = fits.phase.present in
     counted k d below ∙ ap (λ n. slice_index z.counts r.page + n) (past_now z m (r.phase + 1) r.page (omega arith))

@@ -9,31 +9,35 @@ use Rattle.like_core.specs.declared.view.View.TheVariants.{Worker}
 use Rattle.like_core.specs.PageSteps.{additions_among}
 use Rattle.like_core.specs.WorkerState.{phase_of}
 use Rattle.like_core.specs.views.Views.{added_view}
-use Rattle.like_core.specs.views.Reads.{before_in, all_before, IsCounted}
+use Rattle.like_core.specs.views.Reads.{IsCounted}
+use Rattle.like_core.specs.views.Posts.{posts_before, posts_of}
 use Rattle.like_core.proofs.Between.{not_before}
 use Rattle.like_core.proofs.core.Labels.{added_before-push}
-use Rattle.like_core.proofs.views.ViewLists.{sum_swap}
+use Rattle.like_core.proofs.views.ViewLists.{sum_set}
+use Rattle.like_core.proofs.views.ViewSums.{before_in, before_posts}
 
 -- a view that has added what the one before it had, in its place
 pub same_before : (views : List View) (place : ℕ) (a b : View)
     → get_elem? views place ≡ some a
     → ((k p : ℕ) → before_in k p b ≡ before_in k p a)
     → (k p : ℕ)
-    → all_before (set views place b) k p ≡ all_before views k p
+    → posts_before (posts_of (set views place b)) k p ≡ posts_before (posts_of views) k p
 same_before views place a b at same k p =
-    let swap = sum_swap (before_in k p) views place a b at in let here = same k p in omega arith
+    sym (before_posts k p (set views place b)) ∙ sum_set (before_in k p) views place a b at (same k p)
+    ∙ before_posts k p views
 
 -- an addition counts for none before its phase, nor for one that is not later
 pub addition_before : (views : List View) (place : ℕ) (v : WorkerSeatView) (page old n k p : ℕ)
     → get_elem? views place ≡ some (Worker v)
     → k ≤ phase_of v.state
-    → all_before (set views place (Worker (added_view v page old n))) k p ≡ all_before views k p
+    → posts_before (posts_of (set views place (Worker (added_view v page old n)))) k p ≡ posts_before (posts_of views) k p
 addition_before views place v page old n k p at past =
     let now : ℕ = phase_of v.state in
-    let swap = sum_swap (before_in k p) views place (Worker v) (Worker (added_view v page old n)) at in
     let push = added_before-push (additions_among v.did) now page old n k p in
     let none = not_before now k n (page == p) past in
-    omega arith
+    sym (before_posts k p (set views place (Worker (added_view v page old n))))
+    ∙ sum_set (before_in k p) views place (Worker v) (Worker (added_view v page old n)) at (omega arith)
+    ∙ before_posts k p views
 
 -- counts stay those up to their phases, where as much was added before
 pub counted_on : (counts : List ℕ) (f g : ℕ → ℕ → ℕ) (rs : List PageCount)
@@ -48,8 +52,8 @@ counted_on counts f g rs same all = λ i d inside.
 pub counted_same : (counts : List ℕ) (views : List View) (place : ℕ) (a b : View) (rs : List PageCount)
     → get_elem? views place ≡ some a
     → ((k p : ℕ) → before_in k p b ≡ before_in k p a)
-    → All (IsCounted counts (all_before views)) rs
-    → All (IsCounted counts (all_before (set views place b))) rs
+    → All (IsCounted counts (posts_before (posts_of views))) rs
+    → All (IsCounted counts (posts_before (posts_of (set views place b)))) rs
 counted_same counts views place a b rs at same =
-    counted_on counts (all_before views) (all_before (set views place b)) rs
+    counted_on counts (posts_before (posts_of views)) (posts_before (posts_of (set views place b))) rs
     (λ i d inside. let r : PageCount = get_or rs i d in same_before views place a b at same (r.phase + 1) r.page)

@@ -1,8 +1,7 @@
 -- What follows from one order of all that was done at pages.
-use Rattle.std.proofs.Common.{◌≡◌, ℕ, suc, ◌+◌, ◌<◌, ◌≤◌, ◌==◌, Bool, true, false, ◌&&◌, nat_lt, cond, List, [], ◌∷◌, All, get_or, map, slice_index, count_by, subst, ap, sym, ◌∙◌, refl, arith}
+use Rattle.std.proofs.Common.{◌≡◌, ℕ, suc, ◌+◌, ◌<◌, ◌≤◌, ◌==◌, Bool, true, false, ◌&&◌, nat_lt, cond, List, [], ◌∷◌, All, get_or, length, slice_index, subst, ap, sym, ◌∙◌, refl, arith}
 use Rattle.std.specs.List.{flat_map, sum_by}
 use Rattle.std.proofs.lemmas.List.Elements.{All-append, All-cons, All-nil, All-map}
-use Rattle.std.proofs.lemmas.List.Sums.{sum_by-append, sum_by-cons}
 use mathlib.Core.Option.{some}
 use lib.ListN.{get_elem?}
 use Rattle.like_core.specs.declared.opening.Opening.{Opening}
@@ -11,17 +10,18 @@ use Rattle.like_core.specs.declared.view.Addition.{Addition}
 use Rattle.like_core.specs.declared.view.WorkerSeatView.{WorkerSeatView}
 use Rattle.like_core.specs.declared.view.View.{View}
 use Rattle.like_core.specs.declared.view.View.TheVariants.{Coord, Worker, Spent}
-use Rattle.like_core.specs.Additions.{added_before, added_to}
+use Rattle.like_core.specs.Additions.{added_to}
 use Rattle.like_core.specs.PageSteps.{additions_among, likes_in, steps_by, stretches_of}
 use Rattle.like_core.specs.Post.{PostView}
 use Rattle.like_core.specs.core.State.{CoreState}
 use Rattle.like_core.specs.views.Views.{post_of, seats_of}
 use Rattle.like_core.specs.views.Order.{HasDone, HasOrder, IsOrder}
 use Rattle.like_core.specs.views.Places.{ArePlaced, AreTiles, Counting}
-use Rattle.like_core.specs.views.PostOrder.{IsOrderOf, MomentsAreOrdered, OrderGivesBounds, OrderGivesPast, OrderGivesPlaces, last_count, posts_added, posts_before, posts_of, posts_passing, workers_of}
-use Rattle.like_core.specs.views.Reads.{IsBetween, all_before, before_in}
+use Rattle.like_core.specs.views.PostOrder.{IsOrderOf, MomentsAreOrdered, OrderGivesBounds, OrderGivesPast, OrderGivesPlaces, posts_passing}
+use Rattle.like_core.specs.views.Posts.{last_count, posts_added, posts_before, posts_of, workers_of}
+use Rattle.like_core.specs.views.Reads.{IsBetween}
+use Rattle.like_core.proofs.views.ViewSums.{seats_posts}
 use Rattle.like_core.specs.views.Shows.{Fits, FitsCoord, FitsWorker, Moment}
-use Rattle.like_core.specs.views.Tallies.{paged}
 use Rattle.like_core.proofs.Between.{own_between, steps_before}
 use Rattle.like_core.proofs.Tiled.{counting_in, own_placed, tiled}
 use Rattle.like_core.proofs.Totals.{added-in, none_later, sum_alike, totals}
@@ -74,52 +74,6 @@ order_gives_places first phase posts steps order =
           (subst (λ ds. ArePlaced first (counting_in (additions_among steps)) (stretches_of ds))
           (order.each k d below) (own_placed first phase v.worker steps order.in_turn));
     }
-
--- a sum over all views is one over all seats that they tell
-module _ (f : View → ℕ) (g : WorkerSeatView → ℕ) (each : (u : View) → f u ≡ sum_by g (workers_of u)) where
-  sum_seats : (views : List View) → sum_by f views ≡ sum_by (λ v. g v) (flat_map workers_of views)
-  sum_seats [] = refl
-  sum_seats (u ∷ views) =
-      let here = each u in
-      let rest = sum_seats views in
-      omega (arith, sum_by-cons f u views, sum_by-append g (workers_of u) (flat_map workers_of views))
-
--- so it is one over their posts
-sum_posts : (f : View → ℕ) (g : PostView → ℕ) (views : List View)
-    → ((u : View) → f u ≡ sum_by (λ v. g (post_of v)) (workers_of u))
-    → sum_by f views ≡ sum_by g (posts_of views)
-sum_posts f g views each =
-    sum_seats f (λ v. g (post_of v)) each views ∙ mapped (flat_map workers_of views)
-  where
-    mapped : (vs : List WorkerSeatView) → sum_by (λ v. g (post_of v)) vs ≡ sum_by g (map post_of vs)
-    mapped [] = refl
-    mapped (v ∷ vs) =
-        let rest = mapped vs in
-        omega (arith, sum_by-cons (λ w. g (post_of w)) v vs, sum_by-cons g (post_of v) (map post_of vs))
-
--- how many seats of a worker a view has is how many of its posts are
-seats_posts : (i : ℕ) (views : List View)
-    → sum_by (seats_of i) views ≡ count_by (λ v. v.worker == i) (posts_of views)
-seats_posts i views = sum_posts (seats_of i) (λ v. cond (v.worker == i) 1 0) views by where
-  by : (u : View) → seats_of i u ≡ sum_by (λ v. cond (v.worker == i) 1 0) (workers_of u)
-  by (Coord c) = refl
-  by (Worker v) = omega (arith, sum_by-cons (λ (w : WorkerSeatView). cond {A = ℕ} (w.worker == i) 1 0) v [])
-  by Spent = refl
-
-before_posts : (k page : ℕ) (views : List View) → all_before views k page ≡ posts_before (posts_of views) k page
-before_posts k page views =
-    sum_posts (before_in k page) (λ v. added_before k page (additions_among v.did)) views by where
-      by : (u : View) → before_in k page u ≡ sum_by (λ v. added_before k page (additions_among v.did)) (workers_of u)
-      by (Coord c) = refl
-      by (Worker v) = omega (arith, sum_by-cons (λ (w : WorkerSeatView). added_before k page (additions_among w.did)) v [])
-      by Spent = refl
-
-pub added_posts : (page : ℕ) (views : List View) → sum_by (paged page) views ≡ posts_added (posts_of views) page
-added_posts page views = sum_posts (paged page) (λ v. added_to page (additions_among v.did)) views by where
-  by : (u : View) → paged page u ≡ sum_by (λ v. added_to page (additions_among v.did)) (workers_of u)
-  by (Coord c) = refl
-  by (Worker v) = omega (arith, sum_by-cons (λ (w : WorkerSeatView). added_to page (additions_among w.did)) v [])
-  by Spent = refl
 
 -- what is true at each place of a list is true of all that it has
 all_at : (P : WorkerSeatView → Type 0) (vs : List WorkerSeatView)
@@ -174,19 +128,6 @@ posts_ordered z s views steps order once = record {
   others = λ i none. order.others i (seats_posts i views ∙ none);
 }
 
--- so nothing was added in a later phase
-pub added_past : (z : Opening) (s : CoreState) (views : List View) (steps : List PageStep)
-    → IsOrder z s views steps
-    → ((i : ℕ) → sum_by (seats_of i) views ≤ 1)
-    → (later page : ℕ)
-    → s.phase < later
-    → all_before views later page ≡ sum_by (paged page) views
-added_past z s views steps order once later page past =
-    before_posts later page views
-    ∙ order_gives_past (slice_index z.counts) s.phase later page (posts_of views) steps
-    (posts_ordered z s views steps order once) past
-    ∙ sym (added_posts page views)
-
 -- a worker has one seat or none
 pub one_or_none : (b : Bool) → cond {A = ℕ} b 1 0 ≤ 1
 one_or_none true = omega arith
@@ -201,6 +142,18 @@ one_seat z m i =
 pub moments_are_ordered : MomentsAreOrdered
 moments_are_ordered z m = posts_ordered z m.shown.state m.views m.shown.steps m.shown.order (one_seat z m)
 
+-- so nothing was added in a later phase
 pub past_now : (z : Opening) (m : Moment z) (later page : ℕ) → m.shown.state.phase < later
-    → all_before m.views later page ≡ sum_by (paged page) m.views
-past_now z m later page past = added_past z m.shown.state m.views m.shown.steps m.shown.order (one_seat z m) later page past
+    → posts_before (posts_of m.views) later page ≡ posts_added (posts_of m.views) page
+past_now z m later page past =
+    order_gives_past (slice_index z.counts) m.shown.state.phase later page (posts_of m.views) m.shown.steps
+    (moments_are_ordered z m) past
+
+-- and the likes applied to a page are all that were added to it
+pub applied_now : (z : Opening) (m : Moment z) (page : ℕ)
+    → length (m.shown.state.applied page) ≡ posts_added (posts_of m.views) page
+applied_now z m page =
+    m.shown.order.applied page
+    ∙ sym (added-in page m.shown.steps)
+    ∙ sym (added_is (slice_index z.counts) m.shown.state.phase (posts_of m.views) m.shown.steps
+    (moments_are_ordered z m) page)

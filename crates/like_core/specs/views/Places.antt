@@ -1,10 +1,9 @@
 -- The stretches of additions: each has the counts from the one that it found up to, but not including, the one it left.
 -- What is true of them.
 use Rattle.std.specs.Prelude.{◌≡◌, ◌⊎◌, ℕ, ◌+◌, ◌≤◌, ◌==◌, ◌&&◌, nat_le, nat_lt, All, AllPairs, Bool, if◌then◌else◌, List, slice_index}
-use Rattle.std.specs.List.{sum_by}
 use Rattle.like_core.specs.declared.view.Addition.{Addition}
 use Rattle.like_core.specs.declared.view.View.{View}
-use Rattle.like_core.specs.views.Tallies.{paged}
+use Rattle.like_core.specs.views.Posts.{last_count, posts_of}
 
 -- the count that an addition left: where its stretch ends
 abbrev pub end_of : Addition → ℕ
@@ -46,4 +45,4 @@ pub record ArePlaced (first : ℕ → ℕ) (counting : Counting) (calls : List A
 
 -- a page's count after all additions of the views, with these counts at the start
 abbrev pub count_after : List ℕ → List View → ℕ → ℕ
-count_after counts views page = slice_index counts page + sum_by (paged page) views
+count_after counts views = last_count (slice_index counts) (posts_of views)

@@ -1,15 +1,11 @@
 -- One order of all that some posts did at pages; and what follows from it.
-use Rattle.std.specs.Prelude.{◌≡◌, ℕ, ◌+◌, ◌==◌, ◌<◌, ◌≤◌, All, List, [], ◌∷◌, count_by, map, slice_index}
-use Rattle.std.specs.List.{flat_map, sum_by}
+use Rattle.std.specs.Prelude.{◌≡◌, ℕ, ◌==◌, ◌<◌, ◌≤◌, All, List, [], count_by, slice_index}
+use Rattle.std.specs.List.{sum_by}
 use Rattle.like_core.specs.declared.opening.Opening.{Opening}
 use Rattle.like_core.specs.declared.page_step.PageStep.{PageStep}
-use Rattle.like_core.specs.declared.view.WorkerSeatView.{WorkerSeatView}
-use Rattle.like_core.specs.declared.view.View.{View}
-use Rattle.like_core.specs.declared.view.View.TheVariants.{Coord, Worker, Spent}
-use Rattle.like_core.specs.Additions.{added_before, added_to}
 use Rattle.like_core.specs.PageSteps.{AreInTurn, additions_among, steps_by, stretches_of}
 use Rattle.like_core.specs.Post.{PostView}
-use Rattle.like_core.specs.views.Views.{post_of}
+use Rattle.like_core.specs.views.Posts.{last_count, posts_added, posts_before, posts_of}
 use Rattle.like_core.specs.views.Reads.{HaveBetween}
 use Rattle.like_core.specs.views.Places.{ArePlaced, AreTiles, Counting}
 use Rattle.like_core.specs.views.Order.{HasDone}
@@ -24,20 +20,9 @@ pub record IsOrderOf (first : ℕ → ℕ) (phase : ℕ) (posts : List PostView)
   pub once : (i : ℕ) → count_by (λ v. v.worker == i) posts ≤ 1
   pub others : (i : ℕ) → count_by (λ v. v.worker == i) posts ≡ 0 → steps_by i steps ≡ []
 
--- how much posts have added to a page, and how much in the phases before one
-abbrev pub posts_added : List PostView → ℕ → ℕ
-posts_added posts page = sum_by (λ v. added_to page (additions_among v.did)) posts
-
-abbrev pub posts_before : List PostView → ℕ → ℕ → ℕ
-posts_before posts phase page = sum_by (λ v. added_before phase page (additions_among v.did)) posts
-
 -- how many additions of posts pass a test
 abbrev pub posts_passing : List PostView → Counting
 posts_passing posts test = sum_by (λ v. count_by test (additions_among v.did)) posts
-
--- a page's last count: its first count, and all that posts have added to it
-abbrev pub last_count : (ℕ → ℕ) → List PostView → ℕ → ℕ
-last_count first posts page = first page + posts_added posts page
 
 -- the stretches of all additions of posts tile each page's counts, from the first to the last, and the calls of each post
 -- have their places
@@ -64,16 +49,6 @@ OrderGivesPast =
     (first : ℕ → ℕ) (phase later page : ℕ) (posts : List PostView) (steps : List PageStep)
     → IsOrderOf first phase posts steps → phase < later
     → posts_before posts later page ≡ posts_added posts page
-
--- the workers' seats that a view tells: its own, or those that were given back to the coordinator's
-abbrev pub workers_of : View → List WorkerSeatView
-workers_of (Coord c) = c.joined
-workers_of (Worker v) = v ∷ []
-workers_of Spent = []
-
--- what all those of some views mean as posts
-abbrev pub posts_of : List View → List PostView
-posts_of views = map post_of (flat_map workers_of views)
 
 -- all that was done at pages up to a moment has one order, so at each moment all this holds
 abbrev pub MomentsAreOrdered : Type 0

@@ -1,24 +1,10 @@
 -- What is true of the counts that workers and the coordinator read.
 use Rattle.std.specs.Prelude.{◌≡◌, ℕ, ◌+◌, ◌≤◌, List, ◌∷◌, ◌++◌, slice_index}
-use Rattle.std.specs.List.{sum_by}
 use Rattle.like_core.specs.declared.page_step.PageStep.{PageStep}
 use Rattle.like_core.specs.declared.view.PageCount.{PageCount}
-use Rattle.like_core.specs.declared.view.View.{View}
-use Rattle.like_core.specs.declared.view.View.TheVariants.{Coord, Worker, Spent}
-use Rattle.like_core.specs.Additions.{added_in, added_before}
+use Rattle.like_core.specs.Additions.{added_in}
 use Rattle.like_core.specs.Post.{PostView}
 use Rattle.like_core.specs.PageSteps.{additions_among, likes_of}
-
--- how much a view has added to a page in the phases before one: the coordinator's has what the seats that were given
--- back to it added
-abbrev pub before_in : ℕ → ℕ → View → ℕ
-before_in phase page (Coord c) = sum_by (λ v. added_before phase page (additions_among v.did)) c.joined
-before_in phase page (Worker v) = added_before phase page (additions_among v.did)
-before_in phase page Spent = 0
-
--- how much all views have added to a page in the phases before one
-abbrev pub all_before : List View → ℕ → ℕ → ℕ
-all_before views phase page = sum_by (before_in phase page) views
 
 -- a worker's step lies between what was added: `before` tells how much all have added to a page before a phase, `later`
 -- are the worker's steps after this one, and `earlier` those before it

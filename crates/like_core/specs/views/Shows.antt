@@ -25,7 +25,8 @@ use Rattle.like_core.specs.word.ShownWord.{shown_word}
 use Rattle.like_core.specs.WorkerState.{IsRunning, RunsSplit, SawEnding, SawNoLater}
 use Rattle.like_core.specs.Additions.{added_in}
 use Rattle.like_core.specs.views.Views.{seats_of}
-use Rattle.like_core.specs.views.Reads.{all_before, IsCounted}
+use Rattle.like_core.specs.views.Reads.{IsCounted}
+use Rattle.like_core.specs.views.Posts.{posts_before, posts_of}
 use Rattle.like_core.specs.views.Tallies.{Tallied}
 use Rattle.like_core.specs.views.Places.{count_after}
 use Rattle.like_core.specs.views.Order.{IsOrder}
@@ -165,14 +166,14 @@ pub record Shows (z : Opening) (s : CoreState) (words : List ℕ) (views : List 
   pub board : WordsShow z s words
   pub seats : SeatsFit z s coord views
   -- each count that the coordinator read is the one at the start plus all that was added up to its phase
-  pub counted : All (IsCounted z.counts (all_before views)) coord.counted
+  pub counted : All (IsCounted z.counts (posts_before (posts_of views))) coord.counted
 
 -- the words and the views show some state that moves reach
 pub record ShowsSome (z : Opening) (words : List ℕ) (views : List View) : Type 0 where
   pub state : CoreState
   pub reachable : Reached z state
   pub shows : Shows z state words views
-  -- the views' additions are the likes applied in it, and no count can wrap by what may still be added
+  -- no count can wrap by what may still be added
   pub tallied : Tallied z.limits state views
   -- all that the views did at pages has one order
   pub steps : List PageStep

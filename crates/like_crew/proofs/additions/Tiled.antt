@@ -11,12 +11,14 @@ use Rattle.like_requests.specs.declared.request.Request.{Request}
 use Rattle.like_requests.specs.declared.setup.Setup.{Setup}
 use Rattle.like_core.specs.declared.opening.Opening.{Opening}
 use Rattle.like_core.specs.declared.view.Addition.{Addition}
-use Rattle.like_core.specs.declared.view.PageRead.{PageRead}
-use Rattle.like_core.specs.views.Reads.{HaveBetween, StandBetween, StandsBetween}
-use Rattle.like_core.specs.views.Places.{ArePlaced, AreTiles, Counting, HavePlaced, covers}
-use Rattle.like_core.specs.views.PostOrder.{HavePlaces, posts_before, posts_passing}
+use Rattle.like_core.specs.views.Reads.{HaveBetween}
+use Rattle.like_core.specs.views.Places.{ArePlaced, AreTiles, Counting, covers}
+use Rattle.like_core.specs.views.PostOrder.{HavePlaces, posts_passing}
+use Rattle.like_core.specs.views.Posts.{posts_before}
 use Rattle.like_core.specs.Post.{PostView}
-use Rattle.like_core.specs.PageSteps.{additions_among, reads_among}
+use Rattle.like_core.specs.PageSteps.{additions_among, earliest_first, likes_of, stretch_of, stretches_of}
+use Rattle.like_core.proofs.Steps.{all_split}
+use Rattle.std.proofs.lemmas.List.Elements.{All-map}
 use Rattle.like_board.specs.declared.worker_seat.WorkerSeat.{WorkerSeat}
 use Rattle.like_board.specs.Closed.{count_with}
 use Rattle.like_board.specs.Seats.{coord_view, seat_meaning}
@@ -24,7 +26,7 @@ use Rattle.like_promises.specs.declared.log.Added.{Added}
 use Rattle.like_promises.specs.declared.log.Ran.{Ran}
 use Rattle.like_promises.specs.declared.log.WorkerLog.{WorkerLog}
 use Rattle.like_promises.specs.places.Adds.{AddsItsLikes, addition_of}
-use Rattle.like_roles.specs.worker.Shown.{adds_before_looks}
+use Rattle.like_promises.specs.places.Calls.{calls_of}
 use Rattle.like_roles.specs.worker.Follows.{AreNoted}
 use Rattle.like_promises.specs.Likes.{Between, initial_count}
 use Rattle.like_promises.proofs.LikesBelow.{likes_below}
@@ -35,13 +37,12 @@ use Rattle.like_promises.specs.WorkloadOf.{workload_of}
 use Rattle.like_promises.specs.EndToEnd.{runs_of}
 use Rattle.like_crew.specs.Ended.{IsEnded, IsSeatOf}
 use Rattle.like_crew.specs.Server.{HasWorkedFor, IsLogOf, ServerView}
-use Rattle.like_promises.specs.places.Tiling.{all_noted, reads_of}
+use Rattle.like_promises.specs.places.Tiling.{all_noted}
 use Rattle.like_crew.proofs.additions.AddedPages.{adds-there, none-liked}
 use Rattle.like_crew.proofs.additions.AddedPhases.{of-likes-same, ran-within}
 use Rattle.like_crew.proofs.Makings.{all-back}
 use Rattle.like_crew.proofs.lists.Pairs.{pairs-sum}
 use Rattle.like_crew.proofs.lists.Sums.{sum-of-map}
-use Rattle.like_crew.proofs.additions.ReadsShown.{reads-are}
 use Rattle.like_crew.proofs.Whole.{HasCounted, HaveMasks, SawNoneLater, all-before, all-likes, at-post, hot_known, initial-at, known, left-at, logs-are, masks-known, posts, right-at-server, served, server-at, z}
 
 -- the additions that a log notes
@@ -65,24 +66,25 @@ pub record HasNoted (setup : Setup) (plans : List (List Request)) (site : Site) 
   pub worked : HasWorkedFor (known setup plans site e h) s
   pub additions : (additions_among s.worker.post.did) ≡ additions_noted log
   pub adds : AddsItsLikes (known setup plans site e h) log.ran.items log.adds.items
-  pub reads : map (λ r. r.after) (reads_among s.worker.post.did)
-      ≡ adds_before_looks (known setup plans site e h) log.adds.items log.ran.items
+  pub calls : calls_of (known setup plans site e h) log.adds.items log.ran.items ≡ stretches_of s.worker.post.did
 
--- additions that stand between what all seats have added stand so between the likes of the run lists
+-- steps that lie between what all seats have added lie so between the likes of the run lists
 stand-noted : (workload : Workload) (runs : List (List Ran)) (counts : List ℕ) (before : ℕ → ℕ → ℕ) (last : ℕ)
-    (adds : List Added)
+    (post : PostView)
     → ((page : ℕ) → get_or counts page 0 ≡ initial_count workload.pages page)
     → ((phase page : ℕ) → before phase page ≡ likes_below workload page runs phase)
-    → StandBetween counts before last (map addition_of adds)
-    → All (λ a. Between workload runs a.phase a.page a.old 0 a.n) adds
-stand-noted workload runs counts before last adds initial below stand k d within =
-    let a : Added = get_or adds k d in
-    let b = (all-back addition_of
-    (λ (x : Addition). (x.phase ≤ last) × StandsBetween counts before x) adds stand k d within).1 in
-    let first = initial a.page in
-    let earlier = below a.phase a.page in
-    let upto = below (a.phase + 1) a.page in
-    record { lower = omega (arith, b.least); upper = omega (arith, b.most) }
+    → HaveBetween counts before last post
+    → All (λ c. Between workload runs c.phase c.page c.old 0 c.likes) (stretches_of post.did)
+stand-noted workload runs counts before last post initial below stand =
+    All-map (λ (c : Addition). Between workload runs c.phase c.page c.old 0 c.likes) stretch_of
+    (earliest_first post.did)
+    (all_split (λ s. Between workload runs s.phase s.page s.found 0 (likes_of s.call)) post.did
+    (λ later s earlier is.
+    let b = (stand later s earlier is).1 in
+    let first = initial s.page in
+    let past = below s.phase s.page in
+    let upto = below (s.phase + 1) s.page in
+    record { lower = omega (arith, b.least); upper = omega (arith, b.most) }))
 
 module _ (setup : Setup) (plans : List (List Request)) (site : Site) (e : Ended) (h : IsEnded setup plans site e)
     (masks : HaveMasks setup plans site e h) (counted : HasCounted setup plans site e h)
@@ -102,8 +104,7 @@ module _ (setup : Setup) (plans : List (List Request)) (site : Site) (e : Ended)
         additions = noted.additions ∙ ap (map addition_of) (sym of_log.adds);
         adds = subst (λ (ran : List Ran). AddsItsLikes (known setup plans site e h) ran log.adds.items) (sym of_log.ran)
             (subst (AddsItsLikes (known setup plans site e h) s.worker.ran) (sym of_log.adds) noted.adds);
-        reads = noted.reads
-            ∙ (λ i. adds_before_looks (known setup plans site e h) (sym of_log.adds i) (sym of_log.ran i));
+        calls = (λ i. calls_of (known setup plans site e h) (of_log.adds i) (of_log.ran i)) ∙ noted.calls;
       }
 
   noted-at : (worker : ℕ) (log : WorkerLog) → slice_get e.logs.items worker ≡ Some log
@@ -204,47 +205,36 @@ module _ (setup : Setup) (plans : List (List Request)) (site : Site) (e : Ended)
   -- the calls of each worker are placed
   pub placed-are : HavePlaces (slice_index (coord_view e.coord).opening.counts) (posts setup plans site e h)
       → All (λ log. ArePlaced (initial_count setup.pages) (λ test. count_by test (all_noted e.logs.items))
-      (additions_noted log) (reads_of (served setup plans site e h) log)) e.logs.items
+      (calls_of (served setup plans site e h) log.adds.items log.ran.items)) e.logs.items
   placed-are places worker d within =
       let log : WorkerLog = get_or e.logs.items worker d in
       let n = noted-at worker log (slice_get-get_or e.logs.items worker d within) in
       let all : Counting = posts_passing (posts setup plans site e h) in
-      let post : ArePlaced (λ page. get_or (coord_view e.coord).opening.counts page 0) all
-      (additions_among n.0.worker.post.did) (reads_among n.0.worker.post.did) =
-      (at-post setup plans site e h (HavePlaced (λ page. get_or (coord_view e.coord).opening.counts page 0) all)
-      places.each worker n.0 n.1.0).0 in
-      let first : (λ page. get_or (coord_view e.coord).opening.counts page 0) ≡ initial_count setup.pages =
-      λ i page. first-same page i in
-      let passing : all ≡ (λ test. count_by test (all_noted e.logs.items)) =
-      λ i test. passing-same test i in
-      let reads : reads_of (known setup plans site e h) log ≡ (reads_among n.0.worker.post.did) =
-      reads-are (known setup plans site e h) log (additions_among n.0.worker.post.did) (reads_among n.0.worker.post.did)
-      (n.1.1.of_log.each (known setup plans site e h) n.1.1.worked).looks n.1.1.reads
-      in
-      subst (λ (c : Counting). ArePlaced (initial_count setup.pages) c (additions_noted log)
-      (reads_of (known setup plans site e h) log)) passing
-      (subst (λ (f : ℕ → ℕ). ArePlaced f all (additions_noted log)
-      (reads_of (known setup plans site e h) log)) first
-      (subst (λ (rs : List PageRead). ArePlaced (λ page. get_or (coord_view e.coord).opening.counts page 0)
-      all (additions_noted log) rs) (sym reads)
-      (subst (λ (made : List Addition). ArePlaced (λ page. get_or (coord_view e.coord).opening.counts page 0)
-      all made (reads_among n.0.worker.post.did)) n.1.1.additions post)))
+      let counts : ℕ → ℕ = λ page. get_or (coord_view e.coord).opening.counts page 0 in
+      let post : ArePlaced counts all (stretches_of n.0.worker.post.did) =
+      at-post setup plans site e h (λ p. ArePlaced counts all (stretches_of p.did)) places.each worker n.0 n.1.0 in
+      let first : counts ≡ initial_count setup.pages = λ i page. first-same page i in
+      let passing : all ≡ (λ test. count_by test (all_noted e.logs.items)) = λ i test. passing-same test i in
+      let calls : List Addition = calls_of (known setup plans site e h) log.adds.items log.ran.items in
+      subst (λ (c : Counting). ArePlaced (initial_count setup.pages) c calls) passing
+      (subst (λ (f : ℕ → ℕ). ArePlaced f all calls) first
+      (subst (ArePlaced counts all) (sym n.1.1.calls) post))
 
-  -- their stretches stand in the order of phases
+  -- and lie in the order of phases
   pub stand-are : All (HaveBetween (coord_view e.coord).opening.counts (posts_before (posts setup plans site e h))
       (coord_view e.coord).phase) (posts setup plans site e h)
       → All (λ log. All
-      (λ a. Between (served setup plans site e h) (runs_of e.logs.items) a.phase a.page a.old 0 a.n) log.adds.items)
-      e.logs.items
+      (λ c. Between (served setup plans site e h) (runs_of e.logs.items) c.phase c.page c.old 0 c.likes)
+      (calls_of (served setup plans site e h) log.adds.items log.ran.items)) e.logs.items
   stand-are stand worker d within =
       let log : WorkerLog = get_or e.logs.items worker d in
       let n = noted-at worker log (slice_get-get_or e.logs.items worker d within) in
       let counts : List ℕ = (coord_view e.coord).opening.counts in
       let last : ℕ = (coord_view e.coord).phase in
       let before : ℕ → ℕ → ℕ = posts_before (posts setup plans site e h) in
-      let P : List Addition → Type 0 = StandBetween counts before last in
-      let post : P (additions_among n.0.worker.post.did) =
-      (at-post setup plans site e h (HaveBetween counts before last) stand worker n.0 n.1.0).2 in
-      stand-noted (served setup plans site e h) (runs_of e.logs.items) counts
-      before last log.adds.items first-same (all-before setup plans site e h masks)
-      (subst P n.1.1.additions post)
+      let post : HaveBetween counts before last n.0.worker.post =
+      at-post setup plans site e h (HaveBetween counts before last) stand worker n.0 n.1.0 in
+      subst (All (λ (c : Addition). Between (served setup plans site e h) (runs_of e.logs.items) c.phase c.page c.old 0 c.likes))
+      (sym n.1.1.calls)
+      (stand-noted (served setup plans site e h) (runs_of e.logs.items) counts before last n.0.worker.post first-same
+      (all-before setup plans site e h masks) post)

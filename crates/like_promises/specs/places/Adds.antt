@@ -34,7 +34,3 @@ pub record AddsItsLikes (workload : Workload) (ran : List Ran) (adds : List Adde
       ≡ likes_within workload page (option_to_list (slice_get ran at)) phase
   pub split : (phase page : ℕ) → is_split_in workload phase page ≡ true
       → count_by (is_add_to phase page) adds ≡ (if likes_within workload page ran phase == 0 then 0 else 1)
-
--- how many additions came before the entry at a place
-abbrev pub adds_before : ℕ → List Added → ℕ
-adds_before at adds = count_by (λ a. nat_le a.at at) adds

@@ -13,7 +13,7 @@ use Rattle.like_promises.specs.Workload.{Workload, is_split_in}
 use Rattle.like_promises.specs.declared.log.Ran.{Ran}
 use Rattle.like_serial.specs.StepsTold.{StepTold, is_plain, look_or_like, plain_told, step_ran, step_told, steps_ran}
 use Rattle.like_roles.specs.worker.Serve.{counted, sliced, with_addition}
-use Rattle.like_roles.specs.worker.Shown.{look_ran}
+use Rattle.like_promises.specs.Looks.{look_ran}
 use Rattle.like_roles.specs.worker.WorkerView.{WorkerView, phase_at}
 
 module _ (workload : Workload) where

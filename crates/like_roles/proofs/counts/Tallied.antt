@@ -3,7 +3,7 @@ use Rattle.std.proofs.Common.{◌≡◌, ◌≢◌, ℕ, ◌+◌, ◌<◌, ◌�
 use Rattle.std.proofs.Math.Seq.{take-append_seam, take-length}
 use Rattle.std.proofs.lemmas.Bool.{and_parts, cases_eq, cases_lt, eq-eqb, ltb-true, ne_eqb}
 use Rattle.std.proofs.lemmas.List.{length-append, length-set, map-append, get_or-set_same, get_or-set_other, take-append-le}
-use Rattle.std.proofs.lemmas.List.Elements.{All-push, filter-append, filter_map-append}
+use Rattle.std.proofs.lemmas.List.Elements.{All-cons, filter-append, filter_map-append}
 use Rattle.std.proofs.lemmas.List.Sums.{sum_by-append}
 use Rattle.std.proofs.lemmas.Option.{slice_get_within}
 use Rattle.std.specs.List.{cons_option, filter, slice_get}
@@ -15,11 +15,10 @@ use Rattle.like_requests.specs.declared.request.PageRef.TheVariants as ref
 use Rattle.like_requests.specs.declared.request.Request.{Request}
 use Rattle.like_requests.specs.declared.verdict.Verdict.TheVariants as verdict
 use Rattle.like_core.specs.WorkerState.{phase_of}
-use Rattle.like_core.specs.declared.page_step.PageCall.TheVariants.{Read}
+use Rattle.like_core.specs.declared.page_step.PageCall.TheVariants.{Add, Read}
 use Rattle.like_core.specs.declared.page_step.PageStep.{PageStep}
-use Rattle.like_core.specs.declared.view.PageRead.{PageRead}
 use Rattle.like_core.specs.Additions.{addition, added_in, added_to}
-use Rattle.like_core.specs.PageSteps.{additions_among, earliest_first, page_step, reads_among}
+use Rattle.like_core.specs.PageSteps.{additions_among, earliest_first, likes_of, page_step}
 use Rattle.like_core.specs.Post.{additions_of, additions_in, pages_of, slices}
 use Rattle.like_core.proofs.core.Labels.{added_to-push, added_in-push}
 use Rattle.like_tables.specs.UserTable.{last_of}
@@ -30,10 +29,9 @@ use Rattle.like_promises.specs.declared.log.Ran.{Ran}
 use Rattle.like_promises.specs.declared.reply.Reply.{Reply}
 use Rattle.like_promises.specs.declared.reply.Reply.TheVariants as reply
 use Rattle.like_core.specs.PhaseMasks.{AreMasksOf}
-use Rattle.like_roles.specs.worker.Follows.{IsAsked, IsServed, IsSized, IsTallied}
-use Rattle.like_roles.specs.worker.Shown.{shown_by, ShownCount, shown_in, shown_to, look_ran}
+use Rattle.like_roles.specs.worker.Follows.{ArePlainReads, IsAsked, IsServed, IsSized, IsTallied}
 use Rattle.like_promises.specs.Likes.{last_in, like_ran, likes_among, likes_ran, likes_within}
-use Rattle.like_promises.specs.Looks.{page_looked_at}
+use Rattle.like_promises.specs.Looks.{look_ran, page_looked_at}
 use Rattle.like_promises.specs.Replies.{HasRightAnswers, IsReplyTo, IsRightAnswer}
 use Rattle.like_roles.specs.worker.Serve.{GivesReply, refuses, likes, looks, with_addition, counted, liked, shown, ran_now, verdict_at}
 use Rattle.like_promises.specs.Workload.{Workload, is_split_in, request_of, submitters}
@@ -43,7 +41,6 @@ use Rattle.like_promises.proofs.Lists.{last_in-push, slice_get-at_end, slice_get
 use Rattle.like_roles.proofs.Served.{counted_by}
 use Rattle.like_seat.proofs.MergedLikes.{cond_same}
 use Rattle.like_seat.specs.StationView.{IsSliceInSplit}
-use Rattle.like_roles.proofs.counts.Shown.{after-more, shown_by-more, shown_in-none, shown_in-push}
 use Rattle.like_roles.proofs.counts.Steps.{counted-steps, plain_told-push, steps_ran-none, steps_ran-push}
 use Rattle.like_serial.specs.StepsTold.{look_or_like, plain_told, step_ran, step_told, steps_ran}
 
@@ -235,23 +232,14 @@ counted-in v page old other phase in_slice =
     cond_both true c = refl
     cond_both false c = refl
 
--- it comes after all reads
-counted-after : (v : WorkerView) (page old : ℕ)
-    → All (λ r. r.after ≤ length (additions_among v.post.did)) (reads_among v.post.did)
-    → All (λ r. r.after ≤ length (additions_among (counted v page old).post.did)) (reads_among (counted v page old).post.did)
-counted-after v page old after =
-    counted_by (λ w. All (λ r. r.after ≤ length (additions_among w.post.did)) (reads_among w.post.did)) v page old after
-    (after-more (additions_among v.post.did) (addition (phase_at v) page old 1 ∷ []) (reads_among v.post.did) after)
-
--- and changes nothing that they show
-counted-shown : (v : WorkerView) (page old : ℕ)
-    → All (λ r. r.after ≤ length (additions_among v.post.did)) (reads_among v.post.did)
-    → map (shown_by (additions_among v.post.did)) (reads_among v.post.did)
-    ≡ map (shown_by (additions_among (counted v page old).post.did)) (reads_among (counted v page old).post.did)
-counted-shown v page old after =
-    counted_by (λ w. map (shown_by (additions_among v.post.did)) (reads_among v.post.did) ≡ map (shown_by (additions_among w.post.did)) (reads_among w.post.did)) v page
-    old refl
-    (sym (shown_by-more (additions_among v.post.did) (addition (phase_at v) page old 1 ∷ []) (reads_among v.post.did) after))
+-- and is an addition, if it is a step
+counted-reads : (workload : Workload) (v : WorkerView) (page old : ℕ)
+    → ArePlainReads workload v.post.did
+    → ArePlainReads workload (counted v page old).post.did
+counted-reads workload v page old reads =
+    counted_by (λ w. ArePlainReads workload w.post.did) v page old reads
+    (All-cons (λ s. likes_of s.call ≡ 0 → is_split_in workload s.phase s.page ≡ false)
+    (page_step v.post.worker (phase_at v) page old (Add 1)) v.post.did (λ none. absurd (cc none)) reads)
 
 -- a like that is counted changes no size, and whom the worker serves as little
 counted-sized : (v : WorkerView) (page old : ℕ) → IsSized v → IsSized (counted v page old)
@@ -325,11 +313,10 @@ unchanged : (workload : Workload) (v : WorkerView) (h : Held) (stashed : Bool) (
     → IsSized v
     → IsTallied workload v
     → like_ran workload (ran_now v h stashed answer) ≡ None → IsRightAnswer workload v.ran (ran_now v h stashed answer)
-    → shown_in workload (v.ran ++ ran_now v h stashed answer ∷ []) ≡ map (shown_by (additions_among v.post.did)) (reads_among did)
-    → All (λ r. r.after ≤ length (additions_among v.post.did)) (reads_among did)
     → plain_told workload (earliest_first did) ≡ steps_ran workload (v.ran ++ ran_now v h stashed answer ∷ [])
+    → ArePlainReads workload did
     → IsAfter workload v h stashed answer (with_did v did)
-unchanged workload v h stashed answer did same_adds served sized t none right shows later steps =
+unchanged workload v h stashed answer did same_adds served sized t none right steps reads =
     let e = ran_now v h stashed answer in
     let same : likes_ran workload (v.ran ++ e ∷ []) ≡ likes_ran workload v.ran =
     likes_ran-push workload v.ran e None none ∙ append-nil _ in (
@@ -350,9 +337,8 @@ unchanged workload v h stashed answer did same_adds served sized t none right sh
             ∙ ap (λ xs. added_to page xs + get_or v.slice page 0) (sym same_adds);
         by_phase = λ phase page. within-none workload v.ran e page phase none ∙ t.by_phase phase page
             ∙ ap (λ xs. added_in phase page xs + cond (phase_at v == phase) (get_or v.slice page 0) 0) (sym same_adds);
-        looks = shows ∙ ap (λ xs. map (shown_by xs) (reads_among did)) (sym same_adds);
-        after = subst (λ xs. All (λ (r : PageRead). r.after ≤ length xs) (reads_among did)) (sym same_adds) later;
         steps = steps;
+        reads = reads;
         replies = HasRightAnswers-push workload v.ran e t.replies right;
         last = λ user. t.last user ∙ ap (last_page user) (sym same);
       },
@@ -398,9 +384,8 @@ one_like workload v h stashed page old served sized t like no_look right in_page
             within-one workload v.ran e l other phase like
             ∙ ap (λ n. n + cond (phase_at v == phase) (cond (page == other) 1 0) 0) (t.by_phase phase other)
             ∙ sym (counted-in v page old other phase in_slice);
-        looks = shown_in-none workload v.ran e no_look ∙ (t.looks ∙ counted-shown v page old t.after);
-        after = counted-after v page old t.after;
         steps = counted-steps workload v e l old t.steps refl no_look like alike;
+        reads = counted-reads workload v page old t.reads;
         replies = HasRightAnswers-push workload v.ran e t.replies right;
         last = λ other. elim (cases_eq user other) [
           | inl same ↦
@@ -451,8 +436,7 @@ GivesReply-tallied workload v h stashed answer w served sized t asked kept alike
     subst (λ y. IsAfter workload v h stashed answer y) (sym e)
     (subst (λ y. IsAfter workload v h stashed y v) (sym a)
     (unchanged workload v h stashed (reply.Refused V) v.post.did refl served sized t none right
-    (shown_in-none workload v.ran x no_look ∙ t.looks) t.after
-    (t.steps ∙ sym (steps_ran-none workload v.ran x (λ m. look_or_like workload x (no_look m) (none m))))))
+    (t.steps ∙ sym (steps_ran-none workload v.ran x (λ m. look_or_like workload x (no_look m) (none m)))) t.reads))
 GivesReply-tallied workload v h stashed answer w served sized t asked kept alike plain (likes page a o p l e) =
     let r = h.ask.request in
     let V-is = sym (verdict_at-served workload v h.submitter r served) ∙ a in
@@ -482,29 +466,6 @@ GivesReply-tallied workload v h stashed answer w served sized t asked kept alike
     let now : ℕ = phase_at v in
     let looked : page_looked_at r.op r.page ≡ Some page = rw (o, p) refl in
     let unsliced = plain page a looked in
-    let as_many : likes_within workload page v.ran now ≡ additions_in v.post now page =
-    t.by_phase now page
-    ∙ (let none_kept = ap (λ (k : ℕ). cond (now == now) k 0) (clear v page kept unsliced) in
-    let zero_is = cond_same (now == now) 0 in omega arith)
-    in
-    let read : PageRead = record { phase = now; page = page; count = count; after = length (additions_among v.post.did) } in
-    let c : ShownCount =
-    record { phase = now; page = page; count = count; before = likes_within workload page v.ran now } in
-    let to_it : shown_to workload v.ran x ≡ Some c =
-    ap (option_map
-    (λ (q : ℕ). record { phase = now; page = q; count = count; before = likes_within workload q v.ran now })) look in
-    let by_it : c ≡ shown_by (additions_among v.post.did) read =
-    ap (λ (k : ℕ). record { phase = now; page = page; count = count; before = k })
-    (as_many ∙ sym (ap (added_in now page) (take-length (additions_among v.post.did))))
-    in
-    let shows : shown_in workload (v.ran ++ x ∷ []) ≡ map (shown_by (additions_among v.post.did)) (reads_among v.post.did ++ read ∷ []) =
-    shown_in-push workload v.ran x
-    ∙ (ap (λ o. shown_in workload v.ran ++ option_to_list o) to_it
-    ∙ (ap (λ l. l ++ c ∷ []) t.looks
-    ∙ (ap (λ d. map (shown_by (additions_among v.post.did)) (reads_among v.post.did) ++ d ∷ []) by_it
-    ∙ sym (map-append (shown_by (additions_among v.post.did)) (reads_among v.post.did) (read ∷ [])))))
-    in
-    let after = All-push (λ q. q.after ≤ length (additions_among v.post.did)) (reads_among v.post.did) read t.after (omega arith) in
     let step : PageStep = page_step v.post.worker now page count Read in
     let took : step_ran workload x ≡ Some (step_told step) =
     ap (λ o. look_or_like workload x o (like_ran workload x)) look in
@@ -515,5 +476,6 @@ GivesReply-tallied workload v h stashed answer w served sized t asked kept alike
     let P : Reply → Type 0 = λ y. IsAfter workload v h stashed y (shown v page count) in
     subst (λ y. IsAfter workload v h stashed answer y) (sym e)
     (subst P (sym s)
-    (unchanged workload v h stashed seen (step ∷ v.post.did) refl served sized t none right
-    shows after steps))
+    (unchanged workload v h stashed seen (step ∷ v.post.did) refl served sized t none right steps
+    (All-cons (λ q. likes_of q.call ≡ 0 → is_split_in workload q.phase q.page ≡ false) step v.post.did
+    (λ _. alike page ∙ unsliced) t.reads)))

@@ -9,19 +9,20 @@ use Rattle.std.specs.List.{filter_map, range_with_len, slice_get}
 use Rattle.std.specs.Option.{option_to_list}
 use Rattle.std.specs.Prelude.{option_and_then, option_map}
 use Rattle.like_core.specs.declared.view.Addition.{Addition}
-use Rattle.like_core.specs.declared.view.PageRead.{PageRead}
+use Rattle.like_core.specs.declared.page_step.PageStep.{PageStep}
+use Rattle.like_core.specs.PageSteps.{additions_among, stretches_of}
 use Rattle.like_core.proofs.Tiled.{counts_one}
 use Rattle.like_promises.specs.declared.log.Added.{Added}
 use Rattle.like_promises.specs.declared.log.Ran.{Ran}
-use Rattle.like_promises.specs.places.Adds.{IsOfLikes, addition_of, is_add_to, adds_before}
+use Rattle.like_promises.specs.places.Adds.{IsOfLikes, addition_of, is_add_to}
+use Rattle.like_promises.specs.places.Calls.{calls_of}
 use Rattle.like_roles.specs.worker.Follows.{adds_to, adds_at, likes_at, IsNoted}
-use Rattle.like_roles.specs.worker.Shown.{adds_before_look, adds_before_looks, look_ran}
 use Rattle.like_promises.specs.Likes.{likes_within}
 use Rattle.like_roles.specs.worker.Serve.{noted, noted_at}
 use Rattle.like_promises.specs.Workload.{Workload, is_split_in}
 use Rattle.like_roles.specs.worker.WorkerView.{WorkerView}
 use Rattle.like_promises.proofs.Lists.{pairs-append, slice_get-at_end, slice_get-before}
-use Rattle.like_roles.proofs.counts.Shown.{range-more, range-same}
+use Rattle.like_roles.proofs.notes.Calls.{calls-adds}
 
 module _ {A : Type 0} where
   -- elements of which tests say the same count the same
@@ -147,52 +148,6 @@ adds_at-all more n phase page at all = elim (cases_eq at n) [
     and_false true c is = is
     and_false false c is = refl
 
--- additions at a later place do not come before an entry
-before-more : (adds more : List Added) (n at : ℕ)
-    → at < n
-    → All (λ a. a.at ≡ n) more
-    → adds_before at (adds ++ more) ≡ adds_before at adds
-before-more adds more n at earlier all =
-    let both = sum_by-append (λ (a : Added). cond {A = ℕ} (nat_le a.at at) 1 0) adds more in
-    let none =
-    count-none (λ (a : Added). nat_le a.at at) more
-    (λ i d inside. let a : Added = get_or more i d in let here = all i d inside in lt-leb a.at at (omega arith))
-    in
-    omega arith
-
--- nor before any look of the run list, where they were made at its end
-pub looks-adds : (workload : Workload) (adds more : List Added) (ran : List Ran)
-    → All (λ a. a.at ≡ length ran) more
-    → adds_before_looks workload (adds ++ more) ran ≡ adds_before_looks workload adds ran
-looks-adds workload adds more ran all =
-    range-same (adds_before_look workload (adds ++ more) ran) (adds_before_look workload adds ran) 0 (length ran)
-    (λ i low high. ap (λ (n : ℕ). option_map (λ _. n) (option_and_then (look_ran workload) (slice_get ran i)))
-    (before-more adds more (length ran) i (omega arith) all))
-
--- one entry more
-pub looks-push : (workload : Workload) (adds : List Added) (ran : List Ran) (e : Ran)
-    → adds_before_looks workload adds (ran ++ e ∷ [])
-    ≡ adds_before_looks workload adds ran
-    ++ option_to_list (option_map (λ _. adds_before (length ran) adds) (look_ran workload e))
-looks-push workload adds ran e =
-    let all : List Ran = ran ++ e ∷ [] in
-    let long : length all ≡ length ran + 1 = length-append ran (e ∷ []) in
-    let before : (i : ℕ) → 0 ≤ i → i < 0 + length ran
-    → adds_before_look workload adds all i ≡ adds_before_look workload adds ran i =
-    λ i low high. ap (λ o. option_map (λ _. adds_before i adds) (option_and_then (look_ran workload) o))
-    (slice_get-before ran (e ∷ []) i (omega arith))
-    in
-    let last : adds_before_look workload adds all (0 + length ran)
-    ≡ option_map (λ _. adds_before (length ran) adds) (look_ran workload e) =
-    ap (λ (k : ℕ). adds_before_look workload adds all k) (zero-add (length ran)) ∙
-    ap (λ o. option_map (λ _. adds_before (length ran) adds) (option_and_then (look_ran workload) o))
-    (slice_get-at_end ran e)
-    in
-    ap (λ (n : ℕ). filter_map (adds_before_look workload adds all) (range_with_len 0 n)) long
-    ∙ (range-more (adds_before_look workload adds all) 0 (length ran)
-    ∙ (λ m. range-same (adds_before_look workload adds all) (adds_before_look workload adds ran) 0 (length ran) before m
-    ++ option_to_list (last m)))
-
 -- what is known of additions that are noted after these
 pub record AreMore (workload : Workload) (ran : List Ran) (adds more : List Added) (at : ℕ)
     (likes : ℕ → ℕ → ℕ) : Type 0 where
@@ -216,21 +171,20 @@ no-more workload ran adds at likes none once = record {
 }
 
 -- an entry runs, and these additions are noted before
-pub noted-push : (workload : Workload) (additions later_additions : List Addition) (reads later_reads : List PageRead)
+pub noted-push : (workload : Workload) (did later_did : List PageStep)
     (adds more all : List Added) (ran : List Ran) (e : Ran) (likes : ℕ → ℕ → ℕ)
-    → IsNoted workload additions reads adds ran
+    → IsNoted workload did adds ran
     → AddsLikes workload e likes
     → all ≡ adds ++ more
     → AreMore workload (ran ++ e ∷ []) adds more (length ran) likes
     → All (λ a. is_split_in workload a.phase a.page ≡ true → (likes a.phase a.page ≡ 0) × (a.phase < e.phase)) adds
-    → later_additions ≡ map addition_of all
-    → map (λ r. r.after) later_reads ≡ adds_before_looks workload all (ran ++ e ∷ [])
-    → IsNoted workload later_additions later_reads all (ran ++ e ∷ [])
-noted-push workload additions later_additions reads later_reads adds more all ran e likes old by all_is new kept are
-    looks =
+    → additions_among later_did ≡ map addition_of all
+    → calls_of workload all (ran ++ e ∷ []) ≡ stretches_of later_did
+    → IsNoted workload later_did all (ran ++ e ∷ [])
+noted-push workload did later_did adds more all ran e likes old by all_is new kept are calls =
     let now : List Ran = ran ++ e ∷ [] in
     let long = length-append ran (e ∷ []) in
-    let noted : IsNoted workload later_additions later_reads (adds ++ more) now =
+    let noted : IsNoted workload later_did (adds ++ more) now =
     record {
       additions_are = are ∙ ap (map addition_of) all_is;
       at = All-append (λ a. a.at ≤ length now) adds more
@@ -277,19 +231,20 @@ noted-push workload additions later_additions reads later_reads adds more all ra
           let both = sum_by-append (λ (a : Added). cond {A = ℕ} (is_add_to phase page a) 1 0) adds more in
           let few = new.split phase page is in
           omega arith;
-      looks = looks ∙ ap (λ (xs : List Added). adds_before_looks workload xs now) all_is;
+      calls = ap (λ (xs : List Added). calls_of workload xs now) (sym all_is) ∙ calls;
     }
     in
-    subst (λ (xs : List Added). IsNoted workload later_additions later_reads xs now) (sym all_is) noted
+    subst (λ (xs : List Added). IsNoted workload later_did xs now) (sym all_is) noted
 
 -- additions are noted while no entry runs
-pub noted-merged : (workload : Workload) (additions new_additions : List Addition) (reads : List PageRead)
+pub noted-merged : (workload : Workload) (did later_did : List PageStep)
     (adds more : List Added) (ran : List Ran)
-    → IsNoted workload additions reads adds ran
+    → IsNoted workload did adds ran
     → AreMore workload ran adds more (length ran) (λ _ _. 0)
-    → additions ++ new_additions ≡ map addition_of (adds ++ more)
-    → IsNoted workload (additions ++ new_additions) reads (adds ++ more) ran
-noted-merged workload additions new_additions reads adds more ran old new are = record {
+    → additions_among later_did ≡ map addition_of (adds ++ more)
+    → stretches_of later_did ≡ stretches_of did ++ map addition_of more
+    → IsNoted workload later_did (adds ++ more) ran
+noted-merged workload did later_did adds more ran old new are stretches = record {
   additions_are = are;
   at = All-append (λ a. a.at ≤ length ran) adds more old.at
       (λ i d inside. let here = new.at_end i d inside in omega arith);
@@ -308,7 +263,8 @@ noted-merged workload additions new_additions reads adds more ran old new are = 
       let both = sum_by-append (λ (a : Added). cond {A = ℕ} (is_add_to phase page a) 1 0) adds more in
       let few = new.split phase page is in
       omega arith;
-  looks = old.looks ∙ sym (looks-adds workload adds more ran new.at_end);
+  calls = calls-adds workload adds more ran new.at_end
+      ∙ (ap (λ xs. xs ++ map addition_of more) old.calls ∙ sym stretches);
 }
   where
     zero_same : (b : Bool) → cond {A = ℕ} b 0 0 ≡ 0

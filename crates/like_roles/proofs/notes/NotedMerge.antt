@@ -8,12 +8,13 @@ use Rattle.std.proofs.lemmas.Option.{slice_get_past}
 use Rattle.std.specs.List.{range_with_len}
 use Rattle.std.specs.Option.{option_to_list}
 use Rattle.like_core.specs.declared.view.Addition.{Addition}
-use Rattle.like_core.specs.declared.view.PageRead.{PageRead}
+use Rattle.like_core.specs.declared.page_step.PageStep.{PageStep}
 use Rattle.like_core.specs.declared.worker_state.WorkerState.TheVariants as state
 use Rattle.like_core.specs.Additions.{added_in}
 use Rattle.like_core.specs.Post.{additions_in, pages_of, slices}
 use Rattle.like_core.proofs.core.Labels.{one_before-next}
-use Rattle.like_core.specs.PageSteps.{additions_among, reads_among}
+use Rattle.like_core.specs.PageSteps.{additions_among, step_adding, stretches_of, then_steps}
+use Rattle.like_core.proofs.Steps.{then-additions, then-stretches}
 use Rattle.like_promises.specs.declared.log.Added.{Added}
 use Rattle.like_promises.specs.declared.log.Ran.{Ran}
 use Rattle.like_promises.specs.places.Adds.{IsOfLikes, addition_of, is_add_to}
@@ -143,6 +144,12 @@ merges-each v adds merges =
     (let likes = merges.likes_are i d inside in
     (merges.phase_is i d inside, likes, λ none. liked i d inside (sym likes ∙ none)))
 
+-- of some likes
+pub merges-some : (v : WorkerView) (adds : List Addition)
+    → Merges (phase_at v) v.slice (pages_of v.post) adds
+    → All (λ a. a.likes ≢ 0) adds
+merges-some v adds merges i d inside = (merges-each v adds merges i d inside).2
+
 -- and to a page that is split in its phase
 pub merges-split : (workload : Workload) (v : WorkerView) (adds : List Addition)
     → Merges (phase_at v) v.slice (pages_of v.post) adds
@@ -161,12 +168,12 @@ pub merge-noted : (workload : Workload) (v : WorkerView) (adds : List Addition)
     → Merges (phase_at v) v.slice (pages_of v.post) adds
     → IsTallied workload v
     → v.notes ≡ true
-    → IsNoted workload (additions_among v.post.did) (reads_among v.post.did) v.adds v.ran
+    → IsNoted workload v.post.did v.adds v.ran
     → IsUnmerged workload v.adds (state.Runs (phase_at v))
     → All (λ e. e.phase ≤ phase_at v) v.ran
     → IsSliceInSplit v.post v.slice
     → ((page : ℕ) → is_split_in workload (phase_at v) page ≡ slices v.post page)
-    → IsNoted workload (additions_among v.post.did ++ adds) (reads_among v.post.did) (v.adds ++ noted v adds) v.ran
+    → IsNoted workload (then_steps v.post.did (map (step_adding v.post.worker) adds)) (v.adds ++ noted v adds) v.ran
     × IsUnmerged workload (v.adds ++ noted v adds) (state.Answered (phase_at v))
 merge-noted workload v adds merges t notes was un within kept alike =
     let k = phase_at v in
@@ -249,11 +256,15 @@ merge-noted workload v adds merges t notes was un within kept alike =
       ];
     }
     in
-    subst (λ (xs : List Added). IsNoted workload (additions_among v.post.did ++ adds) (reads_among v.post.did) (v.adds ++ xs) v.ran
+    let did : List PageStep = then_steps v.post.did (map (step_adding v.post.worker) adds) in
+    subst (λ (xs : List Added). IsNoted workload did (v.adds ++ xs) v.ran
     × IsUnmerged workload (v.adds ++ xs) (state.Answered (phase_at v))) (sym (noted-each v adds notes)) (
-      noted-merged workload (additions_among v.post.did) adds (reads_among v.post.did) v.adds more v.ran was new
-          ((λ m. was.additions_are m ++ sym (noted-are (length v.ran) adds) m)
-          ∙ sym (map-append addition_of v.adds more)),
+      noted-merged workload v.post.did did v.adds more v.ran was new
+          (then-additions v.post.worker v.post.did adds
+          ∙ (λ m. was.additions_are m ++ sym (noted-are (length v.ran) adds) m)
+          ∙ sym (map-append addition_of v.adds more))
+          (then-stretches v.post.worker v.post.did adds
+          ∙ ap (λ xs. stretches_of v.post.did ++ xs) (sym (noted-are (length v.ran) adds))),
       All-append (λ a. a.phase ≤ k) v.adds more un.0
           (All-map note (λ a. a.phase ≤ k) adds (λ i d inside. let q = (each i d inside).0 in omega arith)),
     )
@@ -267,7 +278,7 @@ merge-noted workload v adds merges t notes was un within kept alike =
     at_most_one false = omega arith
 
 -- at the start nothing is noted
-pub noted-nothing : (workload : Workload) → IsNoted workload [] [] [] []
+pub noted-nothing : (workload : Workload) → IsNoted workload [] [] []
 noted-nothing workload = record {
   additions_are = refl;
   at = λ i d inside. absurd (omega arith);
@@ -276,17 +287,16 @@ noted-nothing workload = record {
   plain = λ phase page at
       is. sym (ap (λ o. likes_within workload page (option_to_list o) phase) (slice_get_past [] at (omega arith)));
   split = λ phase page is. omega arith;
-  looks = refl;
+  calls = refl;
 }
 
 -- where all likes were added, there is one addition to a page that is split in the phase, if it has any
-pub one-of_likes : (workload : Workload) (additions : List Addition) (reads : List PageRead) (adds : List Added)
-    (ran : List Ran) (phase page : ℕ)
-    → IsNoted workload additions reads adds ran
+pub one-of_likes : (workload : Workload) (did : List PageStep) (adds : List Added) (ran : List Ran) (phase page : ℕ)
+    → IsNoted workload did adds ran
     → is_split_in workload phase page ≡ true
-    → likes_within workload page ran phase ≡ added_in phase page additions
+    → likes_within workload page ran phase ≡ added_in phase page (additions_among did)
     → adds_to phase page adds ≡ cond (likes_within workload page ran phase == 0) 0 1
-one-of_likes workload additions reads adds ran phase page noted is sums =
+one-of_likes workload did adds ran phase page noted is sums =
     let likes : ℕ = likes_within workload page ran phase in
     elim (cases_eq likes 0) [
       | inl none ↦

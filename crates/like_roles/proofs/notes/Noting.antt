@@ -8,25 +8,29 @@ use Rattle.std.specs.Option.{option_to_list}
 use Rattle.std.specs.Prelude.{option_map}
 use Rattle.like_core.specs.declared.sight.Sight.{Sight}
 use Rattle.like_core.specs.declared.view.Addition.{Addition}
-use Rattle.like_core.specs.declared.view.PageRead.{PageRead}
+use Rattle.like_core.specs.declared.page_step.PageCall.TheVariants.{Add, Read}
+use Rattle.like_core.specs.declared.page_step.PageStep.{PageStep}
 use Rattle.like_core.specs.declared.worker_state.WorkerState.{WorkerState}
 use Rattle.like_core.specs.declared.worker_state.WorkerState.TheVariants as state
 use Rattle.like_core.specs.WorkerState.{RunsSome, phase_of, seen}
 use Rattle.like_core.specs.Post.{slices}
-use Rattle.like_core.specs.PageSteps.{additions_among, reads_among}
+use Rattle.like_core.specs.PageSteps.{additions_among, page_step, stretch_of, stretches_of}
+use Rattle.like_core.proofs.Steps.{stretches-push}
 use Rattle.like_tables.specs.declared.held.Held.{Held}
 use Rattle.like_promises.specs.Accepted.{AcceptedRequest}
 use Rattle.like_promises.specs.declared.log.Added.{Added}
 use Rattle.like_promises.specs.declared.log.Ran.{Ran}
 use Rattle.like_promises.specs.declared.reply.Reply.{Reply}
-use Rattle.like_promises.specs.places.Adds.{IsOfLikes, addition_of, is_add_to, adds_before}
+use Rattle.like_promises.specs.places.Adds.{IsOfLikes, addition_of, is_add_to}
+use Rattle.like_promises.specs.places.Calls.{calls_of, stretch_seen}
 use Rattle.like_roles.specs.worker.Follows.{adds_to, IsAsked, IsNoted, IsServed, IsUnmerged}
-use Rattle.like_roles.specs.worker.Shown.{adds_before_looks, look_ran}
+use Rattle.like_promises.specs.Looks.{count_in, look_ran}
 use Rattle.like_promises.specs.Likes.{like_ran, likes_within}
 use Rattle.like_roles.specs.worker.Serve.{GivesReply, refuses, likes, looks, sliced, with_addition, counted, noted_at, ran_now}
 use Rattle.like_promises.specs.Workload.{Workload, is_split_in, submitters}
 use Rattle.like_roles.specs.worker.WorkerView.{WorkerView, phase_at}
-use Rattle.like_roles.proofs.notes.Noted.{AddsLikes, apart, count-all, count-none, looks-adds, looks-push, no-more, none-passes, noted-each, noted-push}
+use Rattle.like_roles.proofs.notes.Noted.{AddsLikes, apart, count-none, no-more, none-passes, noted-each, noted-push}
+use Rattle.like_roles.proofs.notes.Calls.{calls-adds, calls-entry}
 use Rattle.like_roles.proofs.counts.Tallied.{accepted-false, accepted-true, like_ran-is, look_ran-is, verdict_at-served, within-none, within-one}
 
 -- numbers are tested alike from both sides
@@ -55,7 +59,7 @@ adds-none workload e none xs phase page = within-none workload xs e page phase n
 -- what stands of the additions, where an entry is noted
 abbrev IsNotedNow : Workload → ℕ → WorkerView → List Ran → Type 0
 IsNotedNow workload phase w ran =
-    IsNoted workload (additions_among w.post.did) (reads_among w.post.did) w.adds ran × IsUnmerged workload w.adds (state.Runs phase)
+    IsNoted workload w.post.did w.adds ran × IsUnmerged workload w.adds (state.Runs phase)
 
 -- additions to pages that are split in their phase are of earlier phases than the one that runs
 earlier : (workload : Workload) (adds : List Added) (k : ℕ)
@@ -75,35 +79,39 @@ earlier workload adds k un i d inside is =
           absurd (cc both)
     ]
 
--- an entry that is no accepted like
-no_like : (workload : Workload) (v : WorkerView) (e : Ran) (reads : List PageRead)
-    → IsNoted workload (additions_among v.post.did) (reads_among v.post.did) v.adds v.ran
+-- an entry that is no accepted like, where its post has done this, and added nothing
+no_like : (workload : Workload) (v : WorkerView) (e : Ran) (did : List PageStep)
+    → IsNoted workload v.post.did v.adds v.ran
     → All (λ a. is_split_in workload a.phase a.page ≡ true → a.phase < e.phase) v.adds
     → like_ran workload e ≡ None
-    → map (λ r. r.after) reads ≡ adds_before_looks workload v.adds (v.ran ++ e ∷ [])
-    → IsNoted workload (additions_among v.post.did) reads v.adds (v.ran ++ e ∷ [])
-no_like workload v e reads old before none shows =
-    noted-push workload (additions_among v.post.did) (additions_among v.post.did) (reads_among v.post.did) reads v.adds [] v.adds v.ran e (λ _ _. 0) old
+    → additions_among did ≡ additions_among v.post.did
+    → stretches_of v.post.did ++ option_to_list (stretch_seen workload e) ≡ stretches_of did
+    → IsNoted workload did v.adds (v.ran ++ e ∷ [])
+no_like workload v e did old before none same stretches =
+    noted-push workload v.post.did did v.adds [] v.adds v.ran e (λ _ _. 0) old
     (adds-none workload e none) (sym (append-nil v.adds))
     (no-more workload (v.ran ++ e ∷ []) v.adds (length v.ran) (λ _ _. 0) (λ _ _ _. refl) old.split)
     (λ i d inside is. (refl, before i d inside is))
-    old.additions_are
-    shows
+    (same ∙ old.additions_are)
+    (calls-entry workload v.adds v.ran e old.at
+    ∙ (ap (λ xs. xs ++ option_to_list (stretch_seen workload e)) old.calls ∙ stretches))
 
--- one that ran no look has none before it
-no_look : (workload : Workload) (adds : List Added) (ran : List Ran) (e : Ran)
+-- one that ran no look has none among the calls
+no_stretch : (workload : Workload) (e : Ran) (did : List Addition)
     → look_ran workload e ≡ None
-    → adds_before_looks workload adds (ran ++ e ∷ []) ≡ adds_before_looks workload adds ran
-no_look workload adds ran e none =
-    looks-push workload adds ran e
-    ∙ (ap (λ o. adds_before_looks workload adds ran
-    ++ option_to_list (option_map (λ _. adds_before (length ran) adds) o)) none
-    ∙ append-nil (adds_before_looks workload adds ran))
+    → did ++ option_to_list (stretch_seen workload e) ≡ did
+no_stretch workload e did none =
+    ap (λ o. did ++ option_to_list (option_map (λ page. record {
+      phase = e.phase;
+      page = page;
+      old = count_in e.reply;
+      likes = 0;
+    }) o)) none ∙ append-nil did
 
 -- an accepted like
 one_like : (workload : Workload) (v : WorkerView) (e : Ran) (page old user : ℕ)
     → v.notes ≡ true
-    → IsNoted workload (additions_among v.post.did) (reads_among v.post.did) v.adds v.ran
+    → IsNoted workload v.post.did v.adds v.ran
     → IsUnmerged workload v.adds (state.Runs (phase_at v))
     → e.phase ≡ phase_at v
     → like_ran workload e ≡ Some (record { user = user; page = page })
@@ -135,10 +143,10 @@ one_like workload v e page old user notes was un now like no_look_ran alike = by
         ap (λ (b : Bool). cond {A = ℕ} b 1 0) (apart workload k page phase q s t is other differ)
 
     in_slice : is_split_in workload k page ≡ true
-        → IsNoted workload (additions_among v.post.did) (reads_among v.post.did) v.adds (v.ran ++ e ∷ [])
+        → IsNoted workload v.post.did v.adds (v.ran ++ e ∷ [])
         × IsUnmerged workload v.adds (state.Runs k)
     in_slice is = (
-      noted-push workload (additions_among v.post.did) (additions_among v.post.did) (reads_among v.post.did) (reads_among v.post.did) v.adds [] v.adds v.ran e one was by
+      noted-push workload v.post.did v.post.did v.adds [] v.adds v.ran e one was by
           (sym (append-nil v.adds))
           (no-more workload (v.ran ++ e ∷ []) v.adds (length v.ran) one
           (λ phase q other. none_else phase q true false is other (λ m. cc m)) was.split)
@@ -149,12 +157,16 @@ one_like workload v e page old user notes was un now like no_look_ran alike = by
             before i d inside split,
           ))
           was.additions_are
-          (was.looks ∙ sym (no_look workload v.adds v.ran e no_look_ran)),
+          (calls-entry workload v.adds v.ran e was.at
+          ∙ (no_stretch workload e (calls_of workload v.adds v.ran) no_look_ran ∙ was.calls)),
       un,
     )
 
     new : Addition
     new = record { phase = k; page = page; old = old; likes = 1 }
+
+    step : PageStep
+    step = page_step v.post.worker k page old (Add 1)
 
     on_board : is_split_in workload k page ≡ false → P (with_addition v page old 1)
     on_board is =
@@ -164,8 +176,7 @@ one_like workload v e page old user notes was un now like no_look_ran alike = by
         λ phase q. (sum_by-cons (λ (b : Added). cond {A = ℕ} (is_add_to phase q b) 1 0) a [] ∙ omega arith) in
         subst (λ (xs : List Added). P (record (with_addition v page old 1) { adds = v.adds ++ xs }))
         (sym (noted-each v (new ∷ []) notes)) (
-          noted-push workload (additions_among v.post.did) (additions_among v.post.did ++ new ∷ []) (reads_among v.post.did) (reads_among v.post.did) v.adds
-              (a ∷ []) all v.ran e one was by refl
+          noted-push workload v.post.did (step ∷ v.post.did) v.adds (a ∷ []) all v.ran e one was by refl
               (record {
                 at_end = one_of (λ b. b.at ≡ length v.ran) a refl;
                 each = one_of (IsOfLikes workload (v.ran ++ e ∷ [])) a
@@ -186,8 +197,11 @@ one_like workload v e page old user notes was un now like no_look_ran alike = by
               (none_else b.phase b.page false true is other (λ m. cc m), before i d inside other))
               (ap (λ (xs : List Addition). xs ++ new ∷ []) was.additions_are
               ∙ sym (map-append addition_of v.adds (a ∷ [])))
-              (was.looks ∙ sym (no_look workload all v.ran e no_look_ran
-              ∙ looks-adds workload v.adds (a ∷ []) v.ran (one_of (λ b. b.at ≡ length v.ran) a refl))),
+              (calls-entry workload all v.ran e
+              (All-push (λ b. b.at ≤ length v.ran) v.adds a was.at (omega arith))
+              ∙ no_stretch workload e (calls_of workload all v.ran) no_look_ran
+              ∙ calls-adds workload v.adds (a ∷ []) v.ran (one_of (λ b. b.at ≡ length v.ran) a refl)
+              ∙ ap (λ xs. xs ++ new ∷ []) was.calls ∙ sym (stretches-push step v.post.did)),
           (
             All-push (λ b. b.phase ≤ k) v.adds a un.0 (omega arith),
             λ q other.
@@ -214,7 +228,7 @@ pub GivesReply-noted : (workload : Workload) (v : WorkerView) (h : Held) (stashe
     (w : WorkerView)
     → IsServed workload v
     → v.notes ≡ true
-    → IsNoted workload (additions_among v.post.did) (reads_among v.post.did) v.adds v.ran
+    → IsNoted workload v.post.did v.adds v.ran
     → IsUnmerged workload v.adds (state.Runs (phase_at v))
     → IsAsked workload h
     → ((page : ℕ) → is_split_in workload (phase_at v) page ≡ slices v.post page)
@@ -228,8 +242,8 @@ GivesReply-noted workload v h stashed answer w served notes was un asked alike (
     let none : like_ran workload x ≡ None = like_ran-is workload x r asked.asked ∙ rw no refl in
     let no_look_ran : look_ran workload x ≡ None = look_ran-is workload x r asked.asked ∙ rw no refl in
     subst (λ u. IsNotedNow workload (phase_at v) u (v.ran ++ x ∷ [])) (sym e) (
-      no_like workload v x (reads_among v.post.did) was (earlier workload v.adds (phase_at v) un) none
-          (was.looks ∙ sym (no_look workload v.adds v.ran x no_look_ran)),
+      no_like workload v x v.post.did was (earlier workload v.adds (phase_at v) un) none refl
+          (no_stretch workload x (stretches_of v.post.did) no_look_ran),
       un,
     )
 GivesReply-noted workload v h stashed answer w served notes was un asked alike (likes page a o p l e) =
@@ -249,24 +263,13 @@ GivesReply-noted workload v h stashed answer w served notes was un asked alike (
     let x = ran_now v h stashed answer in
     let none : like_ran workload x ≡ None = like_ran-is workload x r asked.asked ∙ rw (yes, o) refl in
     let look : look_ran workload x ≡ Some page = look_ran-is workload x r asked.asked ∙ rw (yes, o, p) refl in
-    let read : PageRead = record { phase = phase_at v; page = page; count = count; after = length (additions_among v.post.did) } in
-    let all_before : adds_before (length v.ran) v.adds ≡ length v.adds =
-    count-all (λ (b : Added). nat_le b.at (length v.ran)) v.adds
-    (λ i d inside. let b : Added = get_or v.adds i d in le-leb b.at (length v.ran) (was.at i d inside))
-    in
-    let as_many : length (additions_among v.post.did) ≡ adds_before (length v.ran) v.adds =
-    ap (λ (xs : List Addition). length xs) was.additions_are ∙ (length-map v.adds addition_of ∙ sym all_before)
-    in
-    let shows : map (λ (q : PageRead). q.after) (reads_among v.post.did ++ read ∷ [])
-    ≡ adds_before_looks workload v.adds (v.ran ++ x ∷ []) =
-    map-append (λ (q : PageRead). q.after) (reads_among v.post.did) (read ∷ [])
-    ∙ ((λ m. was.looks m ++ as_many m ∷ [])
-    ∙ sym (looks-push workload v.adds v.ran x
-    ∙ ap (λ o. adds_before_looks workload v.adds v.ran
-    ++ option_to_list (option_map (λ _. adds_before (length v.ran) v.adds) o)) look))
-    in
+    let read : PageStep = page_step v.post.worker (phase_at v) page count Read in
+    let took : stretch_seen workload x ≡ Some (stretch_of read) =
+    ap (option_map (λ (q : ℕ). record { phase = phase_at v; page = q; old = count_in x.reply; likes = 0 })) look
+    ∙ ap (λ (n : ℕ). Some (record { phase = phase_at v; page = page; old = n; likes = 0 })) (ap count_in s) in
     subst (λ u. IsNotedNow workload (phase_at v) u (v.ran ++ x ∷ [])) (sym e) (
-      no_like workload v x (reads_among v.post.did ++ read ∷ []) was (earlier workload v.adds (phase_at v) un) none shows,
+      no_like workload v x (read ∷ v.post.did) was (earlier workload v.adds (phase_at v) un) none refl
+          (ap (λ o. stretches_of v.post.did ++ option_to_list o) took ∙ sym (stretches-push read v.post.did)),
       un,
     )
 

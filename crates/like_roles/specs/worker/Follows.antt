@@ -6,8 +6,7 @@ use Rattle.like_requests.specs.Pages.{marks_of}
 use Rattle.like_requests.specs.declared.setup.Setup.{Setup}
 use Rattle.like_requests.specs.declared.request.Taken.{Taken}
 use Rattle.like_requests.specs.declared.request.Taken.TheVariants as taken
-use Rattle.like_core.specs.declared.view.Addition.{Addition}
-use Rattle.like_core.specs.declared.view.PageRead.{PageRead}
+use Rattle.like_core.specs.declared.page_step.PageStep.{PageStep}
 use Rattle.like_core.specs.declared.worker_state.WorkerState.{WorkerState}
 use Rattle.like_core.specs.declared.worker_state.WorkerState.TheVariants.{Runs, Answered, Gone}
 use Rattle.like_core.specs.OpeningLimits.{run_limits}
@@ -15,7 +14,7 @@ use Rattle.like_core.specs.Phase.{IsJoined}
 use Rattle.like_core.specs.PhaseMasks.{AreMasksOf}
 use Rattle.like_core.specs.WorkerState.{IsRunning, RunsJoined}
 use Rattle.like_core.specs.Post.{additions_of, additions_in, pages_of}
-use Rattle.like_core.specs.PageSteps.{additions_among, earliest_first, reads_among}
+use Rattle.like_core.specs.PageSteps.{additions_among, earliest_first, likes_of, stretches_of}
 use Rattle.like_tables.specs.UserTable.{last_of}
 use Rattle.like_tables.specs.declared.held.Held.{Held}
 use Rattle.like_promises.specs.declared.log.Added.{Added}
@@ -23,7 +22,7 @@ use Rattle.like_promises.specs.declared.log.Ran.{Ran}
 use Rattle.like_promises.specs.declared.log.Took.{Took}
 use Rattle.like_promises.specs.places.Adds.{IsOfLikes, AddsItsLikes, addition_of, is_add_to}
 use Rattle.like_promises.specs.Likes.{last_like, likes_among, likes_within}
-use Rattle.like_roles.specs.worker.Shown.{adds_before_looks, shown_by, shown_in}
+use Rattle.like_promises.specs.places.Calls.{calls_of}
 use Rattle.like_promises.specs.Order.{Entry, entry_of, is_due, order}
 use Rattle.like_promises.specs.Replies.{HasRightAnswers}
 use Rattle.like_promises.specs.Workload.{Workload, is_split_in, request_at, submitters}
@@ -46,18 +45,21 @@ pub record IsSized (v : WorkerView) : Type 0 where
   pub slice : length v.slice ≡ pages_of v.post
   pub users : length v.last.last ≡ v.last.share.users
 
--- what a worker ran is what its post did: its accepted likes are its additions and its slice, by page and by phase; its
--- accepted looks are its reads, in order; the post's plain steps are those of its run list, in order; each reply is
--- right, its count aside; its table has each user's last like
+-- each step that adds nothing is at a page that is not split in its phase
+abbrev pub ArePlainReads : Workload → List PageStep → Type 0
+ArePlainReads workload did = All (λ s. likes_of s.call ≡ 0 → is_split_in workload s.phase s.page ≡ false) did
+
+-- what a worker ran is what its post did: its accepted likes are its additions and its slice, by page and by phase; the
+-- post's plain steps are those of its run list, in order, and each step that adds nothing is plain; each reply is right,
+-- its count aside; its table has each user's last like
 pub record IsTallied (workload : Workload) (v : WorkerView) : Type 0 where
   pub likes : (page : ℕ)
       → likes_among workload page v.ran ≡ additions_of v.post page + slice_index v.slice page
   pub by_phase : (phase page : ℕ) → likes_within workload page v.ran phase
       ≡ additions_in v.post phase page
       + (if phase_at v == phase then slice_index v.slice page else 0)
-  pub looks : shown_in workload v.ran ≡ map (shown_by (additions_among v.post.did)) (reads_among v.post.did)
-  pub after : All (λ r. r.after ≤ length (additions_among v.post.did)) (reads_among v.post.did)
   pub steps : plain_told workload (earliest_first v.post.did) ≡ steps_ran workload v.ran
+  pub reads : ArePlainReads workload v.post.did
   pub replies : HasRightAnswers workload v.ran
   pub last : (user : ℕ) → last_of v.last user ≡ last_like workload user v.ran
 
@@ -75,11 +77,10 @@ likes_at workload phase page at ran =
     likes_within workload page (option_to_list (slice_get ran at)) phase
 
 -- the additions of a worker are noted: they are its post's, in order; each is of accepted likes of its run list, to a
--- page that is not split in a phase there is one at each like, and to a page that is at most one; and before each look
--- there were as many as its post had made before the read
-pub record IsNoted (workload : Workload) (additions : List Addition) (reads : List PageRead)
-    (adds : List Added) (ran : List Ran) : Type 0 where
-  pub additions_are : additions ≡ map addition_of adds
+-- page that is not split in a phase there is one at each like, and to a page that is at most one; and with the looks they
+-- are the calls that its post made, in order
+pub record IsNoted (workload : Workload) (did : List PageStep) (adds : List Added) (ran : List Ran) : Type 0 where
+  pub additions_are : additions_among did ≡ map addition_of adds
   pub at : All (λ a. a.at ≤ length ran) adds
   pub rising : AllPairs (λ a b. a.at ≤ b.at) adds
   pub each : All (IsOfLikes workload ran) adds
@@ -87,7 +88,7 @@ pub record IsNoted (workload : Workload) (additions : List Addition) (reads : Li
       → adds_at phase page at adds ≡ likes_at workload phase page at ran
   pub split : (phase page : ℕ) → is_split_in workload phase page ≡ true
       → adds_to phase page adds ≤ 1
-  pub looks : map (λ r. r.after) reads ≡ adds_before_looks workload adds ran
+  pub calls : calls_of workload adds ran ≡ stretches_of did
 
 -- no addition was made in a later phase than the present one; and while a split phase runs, none was made in it to a
 -- page that is split in it
@@ -138,7 +139,7 @@ pub record Follows (workload : Workload) (v : WorkerView) : Type 0 where
   pub served : IsServed workload v
   pub sized : IsSized v
   pub tallied : IsTallied workload v
-  pub noted : v.notes ≡ true → IsNoted workload (additions_among v.post.did) (reads_among v.post.did) v.adds v.ran
+  pub noted : v.notes ≡ true → IsNoted workload v.post.did v.adds v.ran
   pub unmerged : v.notes ≡ true → IsUnmerged workload v.adds v.post.state
   pub in_order : IsInOrder workload v
   pub fits : FitsStash workload v.taken
@@ -162,26 +163,25 @@ pub record IsWorkloadOf (s : Setup) (sizes : List ℕ) (workload : Workload) : T
   pub stash_is : workload.stash ≡ s.stash
   pub sizes_are : map length workload.plans ≡ sizes
 
--- the additions of a worker that is gone are noted: they are its post's, in order; each is of its likes; and as many came
--- before each look as its post had made before the read
+-- the additions of a worker that is gone are noted: they are its post's, in order; each is of its likes; and with the
+-- looks they are the calls that its post made, in order
 pub record AreNoted (workload : Workload) (v : WorkerView) : Type 0 where
   pub additions : (additions_among v.post.did) ≡ map addition_of v.adds
   pub adds : AddsItsLikes workload v.ran v.adds
-  pub reads : map (λ r. r.after) (reads_among v.post.did) ≡ adds_before_looks workload v.adds v.ran
+  pub calls : calls_of workload v.adds v.ran ≡ stretches_of v.post.did
 
 -- what a worker that is gone has done: it ran what it took in run order, and in no phase more out of its stash than
--- fits there; its post's additions are the accepted likes that it ran, in each phase, and its post's reads the accepted
--- looks; the post's plain steps are those of its run list, in order; its additions are noted, if it notes them; each
--- reply is right, its count aside; its table has each user's last like; and it took the end mark of each of its
--- submitters
+-- fits there; its post's additions are the accepted likes that it ran, in each phase; the post's plain steps are those of
+-- its run list, in order, and each step that adds nothing is plain; its additions are noted, if it notes them; each reply
+-- is right, its count aside; its table has each user's last like; and it took the end mark of each of its submitters
 pub record IsDone (workload : Workload) (v : WorkerView) : Type 0 where
   pub in_order : map entry_of v.ran ≡ order workload v.taken
   pub fits : FitsStash workload v.taken
   pub likes : (page : ℕ) → likes_among workload page v.ran ≡ additions_of v.post page
   pub by_phase : (phase page : ℕ)
       → likes_within workload page v.ran phase ≡ additions_in v.post phase page
-  pub looks : shown_in workload v.ran ≡ map (shown_by (additions_among v.post.did)) (reads_among v.post.did)
   pub steps : plain_told workload (earliest_first v.post.did) ≡ steps_ran workload v.ran
+  pub reads : ArePlainReads workload v.post.did
   pub noted : v.notes ≡ true → AreNoted workload v
   pub replies : HasRightAnswers workload v.ran
   pub last : (user : ℕ) → last_of v.last user ≡ last_like workload user v.ran

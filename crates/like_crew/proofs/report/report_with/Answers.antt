@@ -155,14 +155,12 @@ returns-clause-places c notes =
     let pages : length c.final_counts-counts.result.items ≡ length setup.pages =
     told.len ∙ ap (λ (z : Opening). length z.counts) h.opening ∙ length-map setup.pages (λ (p : Page). p.count) in
     let P : ℕ → List WorkerLog → Type 0 = λ pages logs. ArePlaces pages logs (lists_in c.in_ok-places.places.items) in
-    let placed = placed-are setup plans c.args.site e h closed.masks closed.counted notes closed.places in
     record {
       likes = of-likes setup plans c.args.site e h closed.masks closed.counted notes closed.phases;
       tiles = tiles-are setup plans c.args.site e h closed.masks closed.counted notes
           c.requires.within.there c.final_counts-counts.result.items pages
           (λ page there. told.totals page (omega (arith, there, pages))) closed.places;
-      ends = λ worker d within. (placed worker d within).ends;
-      order = λ worker d within. (placed worker d within).order;
+      placed = placed-are setup plans c.args.site e h closed.masks closed.counted notes closed.places;
       in_time = stand-are setup plans c.args.site e h closed.masks closed.counted notes closed.between;
       rows = subst (λ (n : ℕ). P n e.logs.items) c.len-2.ensures.len
           (subst (P c.len-2.result) c.deref-2.ensures.value (c.in_ok-places.ensures.noted notes));

@@ -3,7 +3,6 @@ use Rattle.like_tables.specs.UserTable.{UserTable}
 use Rattle.like_promises.specs.declared.log.Ran.{Ran}
 use Rattle.like_promises.specs.declared.log.Took.{Took}
 use Rattle.like_promises.specs.Likes.{likes_among, likes_within}
-use Rattle.like_roles.specs.worker.Shown.{shown_in}
 use Rattle.like_serial.specs.StepsTold.{steps_ran}
 use Rattle.like_crew.specs.Server.{NoneAbove, IsLogOf, ServerView}
 use Rattle.like_crew.proofs.servers.Finishing.{log-is}
@@ -35,8 +34,8 @@ returns-clause-log g c =
             by_phase = λ phase page.
                 ap (λ (ran : List Ran). likes_within workload page ran phase) c.finish.ensures.ran
                 ∙ done.by_phase phase page;
-            looks = ap (shown_in workload) c.finish.ensures.ran ∙ done.looks;
             steps = done.steps ∙ ap (steps_ran workload) (sym c.finish.ensures.ran);
+            reads = done.reads;
             noted = done.noted;
           };
     })
