@@ -9,9 +9,7 @@ use Rattle.like_core.specs.Additions.{addition, added_to}
 use Rattle.like_core.specs.Post.{has_glanced, has_read, pages_of}
 use Rattle.like_core.specs.WorkerState.{phase_of}
 use Rattle.like_core.specs.PageSteps.{additions_among}
-use Rattle.like_requests.specs.declared.request.PageRef.TheVariants.{Known, Unknown}
 use Rattle.like_requests.specs.declared.verdict.Verdict.TheVariants.{Accepted, UnknownUser, OtherHome, UnknownPage}
-use Rattle.like_requests.specs.Verdict.{is_known}
 use Rattle.like_seat.specs.StationView.{StationView, phase_at, tally_of}
 use Rattle.like_seat.specs.Steps.{CountsLike, holding}
 use Rattle.like_tables.specs.UserTable.{with_last}
@@ -38,12 +36,7 @@ last_test true true true e = refl
 
 -- the page of a request that is accepted is there
 pub page_there : (s : StationView Asked) (user page : ℕ) → verdict_at s user page ≡ Accepted → page < pages_of s.post
-page_there s user page is =
-    ltb-true page (pages_of s.post) (by_test (nat_lt page (pages_of s.post)) (last_test _ _ _ is))
-  where
-    by_test : (b : Bool) → is_known (cond b (Known page) Unknown) ≡ true → b ≡ true
-    by_test true e = refl
-    by_test false e = cc
+page_there s user page is = ltb-true page (pages_of s.post) (last_test _ _ _ is)
 
 -- one more in a slice, at a page
 pub slice-more : (xs : List ℕ) (page other : ℕ)

@@ -1,19 +1,20 @@
 -- What is known of a request that is accepted.
-use Rattle.std.proofs.Common.{◌≡◌, ◌+◌, ◌%◌, ◌<◌, ◌≤◌, ◌^◌, ℕ, List, drop, length, Option, Some, None, true, nat_lt, ap, sym, subst, ◌∙◌, arith, length-drop}
+use Rattle.std.proofs.Common.{◌≡◌, ◌+◌, ◌%◌, ◌<◌, ◌≤◌, ◌^◌, ◌==◌, ℕ, Bool, cond, not, List, drop, length, Option, Some, None, true, false, nat_lt, refl, ap, sym, subst, ◌∙◌, arith, length-drop}
 use Rattle.std.proofs.Math.Nat.{mod-mod}
-use Rattle.std.proofs.lemmas.Bool.{and_from, and_parts, eq-eqb, eqb-true}
+use Rattle.std.proofs.lemmas.Bool.{and_from, eq-eqb, eqb-true}
 use Rattle.std.proofs.lemmas.List.{length_push}
 use Rattle.std.proofs.lemmas.List.Elements.{All-drop, All-push}
 use Rattle.like_core.specs.OpeningLimits.{service_limits}
 use Rattle.like_core.specs.Phase.{IsJoined}
-use Rattle.like_core.specs.Post.{has_glanced, has_read}
+use Rattle.like_core.specs.Post.{has_glanced, has_read, pages_of}
 use Rattle.like_core.specs.declared.page_step.PageStep.{PageStep}
 use Rattle.like_seat.specs.declared.seen.Seen.{Seen}
 use Rattle.like_core.specs.WorkerState.{RunsSplit, phase_of}
 use Rattle.like_core.specs.declared.worker_state.WorkerState.{WorkerState}
 use Rattle.like_core.specs.declared.worker_state.WorkerState.TheVariants as state
-use Rattle.like_requests.specs.Verdict.{is_accepted}
-use Rattle.like_requests.specs.declared.request.Request.{Request}
+use Rattle.like_requests.specs.Verdict.{home, page_verdict, user_verdict}
+use Rattle.like_requests.specs.declared.verdict.Verdict.{Verdict}
+use Rattle.like_requests.specs.declared.verdict.Verdict.TheVariants.{Accepted, OtherHome, UnknownUser}
 use Rattle.like_seat.specs.StationView.{IsStation, StationView, phase_at, likes_of}
 use Rattle.like_tables.specs.Home.{Home}
 use Rattle.like_tables.specs.Share.{Share, owns}
@@ -24,23 +25,35 @@ use Rattle.like_tables.specs.declared.placed.Placed.{Placed}
 use Rattle.like_tables.specs.Waiting.{Waiting}
 use Rattle.like_live.specs.declared.asked.Asked.{Asked}
 use Rattle.like_live.specs.declared.asked.Found.{Found}
-use Rattle.like_live.specs.Calls.{IsAccepted, PutsBy}
+use Rattle.like_live.specs.Calls.{IsAccepted, PutsBy, verdict_at}
 use Rattle.like_live.specs.Kept.{AreLiveSeatParts}
 use Rattle.like_live.specs.LiveView.{IsOwn, LiveView, RanNext, live_of}
 use Rattle.like_live.specs.LookRoom.{RoomView}
 
--- the user of a request that is accepted is the seat's
-pub owned_since : (s : Share) (r : Request)
+-- the two tests of a user, passed before the rest is accepted
+served : (a b : Bool) (rest : Verdict)
+    → cond (not a) UnknownUser (cond (not b) OtherHome rest) ≡ Accepted
+    → (a ≡ true) × (b ≡ true)
+served true true rest e = (refl, refl)
+served true false rest e = cc e
+served false b rest e = cc e
+
+-- the user of a request that is accepted exists, and the seat is the user's home
+pub is_served : (s : StationView Asked) (user page : ℕ) → verdict_at s user page ≡ Accepted
+    → (nat_lt user s.last.share.users ≡ true) × ((home s.last.share.submitters user == s.last.share.worker) ≡ true)
+is_served s user page is = served _ _ (page_verdict (nat_lt page (pages_of s.post))) is
+
+-- a user who is accepted is the seat's
+pub owned_since : (s : Share) (user : ℕ) (rest : Verdict)
     → s.submitters ≡ s.workers
-    → is_accepted s.users s.submitters s.worker r ≡ true
-    → owns s r.user ≡ true
-owned_since s r home is =
-    let parts = and_parts _ _ is in
-    let user = and_parts (nat_lt r.user s.users) _ parts.0 in
-    let at : r.user % s.submitters ≡ s.worker = eqb-true _ _ user.1 in
-    let mine : r.user % s.submitters % s.workers ≡ s.worker =
-    ap (λ n. r.user % s.submitters % n) (sym home) ∙ mod-mod r.user s.submitters ∙ at in
-    and_from _ _ user.0 (eq-eqb _ _ mine)
+    → user_verdict s.users s.submitters s.worker user rest ≡ Accepted
+    → owns s user ≡ true
+owned_since s user rest alike is =
+    let tests = served (nat_lt user s.users) (home s.submitters user == s.worker) rest is in
+    let at : user % s.submitters ≡ s.worker = eqb-true _ _ tests.1 in
+    let mine : user % s.submitters % s.workers ≡ s.worker =
+    ap (λ n. user % s.submitters % n) (sym alike) ∙ mod-mod user s.submitters ∙ at in
+    and_from _ _ tests.0 (eq-eqb _ _ mine)
 
 -- a seat that has not counted all its likes may count one more
 pub not-full : (s : StationView Asked)

@@ -11,7 +11,7 @@ use Rattle.like_core.specs.Phase.{IsSplit, is_hot_by, is_marked}
 use Rattle.like_core.specs.PhaseMasks.{HasMask, mask_of}
 use Rattle.like_core.specs.Post.{PostView, pages_of, slices}
 use Rattle.like_core.specs.WorkerState.{IsRunning, RunsJoined, RunsSplit, phase_of}
-use Rattle.like_requests.specs.declared.verdict.Verdict.TheVariants.{Accepted, UnknownUser, OtherHome, UnknownPage}
+use Rattle.like_requests.specs.declared.verdict.Verdict.TheVariants.{Accepted}
 use Rattle.like_requests.specs.Verdict.{home}
 use Rattle.like_seat.specs.StationView.{HasPhaseMask, IsSliceInSplit}
 use Rattle.like_seat.specs.Steps.{masks_entered}
@@ -27,6 +27,7 @@ use Rattle.like_live.specs.Calls.{verdict_at}
 use Rattle.like_live.specs.Deeds.{Deed, deeds_of}
 use Rattle.like_live.specs.History.{HasDone, IsUnused, Told}
 use Rattle.like_live.proofs.Stepping.{FollowsSteps, Step, acknowledges, adds_like, by_calls, done_by, finds, glances, holds, looks, next, reads, reports, retires, returns, slices_like, takes}
+use Rattle.like_live.proofs.Requests.{is_served}
 use Rattle.like_live.proofs.Telling.{user_there}
 
 -- the user is one of the seat's
@@ -49,17 +50,10 @@ pub record Stands (first v : LiveView) : Type 0 where
   pub own : AllByRecursion (λ a. IsHis v a.user) (waiting v)
 
 -- an accepted request is of one of the seat's users
-home_test : (a b k : Bool)
-    → cond (not a) UnknownUser (cond (not b) OtherHome (cond (not k) UnknownPage Accepted)) ≡ Accepted
-    → b ≡ true
-home_test false b k e = cc
-home_test true false k e = cc
-home_test true true k e = refl
-
 pub is_his : (v : LiveView) (user page : ℕ) → verdict_at v.station user page ≡ Accepted → IsHis v user
 is_his v user page is = (
   user_there v.station user page is,
-  eqb-true (home v.station.last.share.submitters user) v.station.last.share.worker (home_test _ _ _ is),
+  eqb-true (home v.station.last.share.submitters user) v.station.last.share.worker (is_served v.station user page is).1,
 )
 
 -- who runs a joined phase runs no split one

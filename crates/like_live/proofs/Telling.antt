@@ -7,8 +7,7 @@ use Rattle.like_core.specs.declared.sight.Sight.{Sight}
 use Rattle.like_core.specs.declared.worker_state.WorkerState.{WorkerState}
 use Rattle.like_core.specs.declared.worker_state.WorkerState.TheVariants as state
 use Rattle.like_core.specs.WorkerState.{IsSightOf, RunsSplit, seen}
-use Rattle.like_requests.specs.declared.verdict.Verdict.TheVariants.{Accepted, UnknownUser}
-use Rattle.like_requests.specs.declared.verdict.Verdict.{Verdict}
+use Rattle.like_requests.specs.declared.verdict.Verdict.TheVariants.{Accepted}
 use Rattle.like_seat.specs.StationView.{StationView}
 use Rattle.like_seat.specs.Steps.{CountsLike}
 use Rattle.like_tables.specs.UserTable.{UserTable, last_of, with_last}
@@ -21,6 +20,7 @@ use Rattle.like_live.specs.Moves.{FindsAll, Moves, MovesBy, Works, looked}
 use Rattle.like_live.specs.Calls as calls
 use Rattle.like_live.specs.Calls.{ComeBackCase, RetireCase, RetireWorks, verdict_at}
 use Rattle.like_live.specs.History.{Told, ask_of, ask_taken, ask_told, ask_waiting, asks_left, like_told, page_liked}
+use Rattle.like_live.proofs.Requests.{is_served}
 use Rattle.like_live.proofs.Moving.{IsSized, Leaves, Leaves-come_back, Leaves-moves, Leaves-retires}
 
 -- a seat with a number for each page and an entry for each user, at which nothing waits once it is gone
@@ -236,12 +236,8 @@ IsQuiet-come_back v after answer whole (calls.between gone a is) = subst (IsQuie
 IsQuiet-come_back v after answer whole (calls.there here m) = IsQuiet-moves v after answer whole m
 
 -- the user of a request that is accepted has an entry
-first_test : (a : Bool) (rest : Verdict) → cond (not a) UnknownUser rest ≡ Accepted → a ≡ true
-first_test false rest e = cc
-first_test true rest e = refl
-
 pub user_there : (s : StationView Asked) (user page : ℕ) → verdict_at s user page ≡ Accepted → user < s.last.share.users
-user_there s user page is = ltb-true user s.last.share.users (first_test _ _ is)
+user_there s user page is = ltb-true user s.last.share.users (is_served s user page is).0
 
 -- a like is the user's last
 pub last-more : (t : UserTable) (user page other : ℕ)

@@ -1,21 +1,16 @@
 -- What a live seat tells of its users' last likes.
 use Rattle.std.specs.Prelude.{◌≡◌, ◌≢◌, ℕ, ◌+◌, ◌*◌, ◌<◌, true, List, length, slice_index, MatchResult, Option, Result}
-use Rattle.like_requests.specs.declared.request.Op.TheVariants.{Look}
-use Rattle.like_requests.specs.declared.request.PageRef.TheVariants.{Known}
 use Rattle.like_requests.specs.declared.verdict.Verdict.{Verdict}
 use Rattle.like_requests.specs.declared.verdict.Verdict.TheVariants.{Accepted}
-use Rattle.like_requests.specs.Verdict.{verdict_of}
 use Rattle.like_tables.specs.LastLike.{page_or_none}
 use Rattle.like_tables.specs.Share.{owns}
 use Rattle.like_tables.specs.UserTable.{last_of}
+use Rattle.like_live.specs.Calls.{user_verdict_at}
 use Rattle.like_live.specs.LiveView.{LiveView}
 
--- the verdict on a user at this seat: that the user is accepted, or the first of these that fails: the user exists, the
--- user is this seat's
+-- the verdict on a user at this seat
 abbrev pub verdict_on : LiveView → ℕ → Verdict
-verdict_on v user =
-    verdict_of v.station.last.share.users v.station.last.share.submitters v.station.last.share.worker
-    (record { op = Look; user = user; page = Known 0 })
+verdict_on v user = user_verdict_at v.station user Accepted
 
 -- a user's last like is told: its page, if there is one; or why the user is refused
 abbrev pub TellsLast : LiveView → ℕ → Result (Option ℕ) Verdict → Type 0

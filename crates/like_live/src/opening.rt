@@ -1,10 +1,9 @@
 ghost use Rattle.std.specs.Prelude.{◌≡◌, ◌%◌, ◌<◌, ◌≤◌, ◌↔◌, IsTrue, MatchResult};
-ghost use Rattle.like_requests.specs.Setup.{IsHotLimit};
 ghost use Rattle.like_tables.specs.Factors.{IsFirstApart};
 ghost use Rattle.like_live.specs.Opening.{AreLasts, AreMarks, AreWithinLimits, Asking, IsFirstWrong, IsWithinLimits, asking};
 
 use crate::open_error::OpenError;
-use like_requests::{MAX_COUNT, MAX_HOT, MAX_STASH};
+use like_requests::{MAX_COUNT, MAX_STASH, is_hot_limit};
 use like_tables::{NO_PAGE, factor_for};
 
 /// The most pages of a service.
@@ -120,16 +119,6 @@ impl Opening {
             Some(factor) => factor,
             None => unreachable!(),
         }
-    }
-}
-
-// Whether this is a lawful limit for hot pages.
-fn is_hot_limit(hot: Option<u32>) -> bool
-    ensures { IsTrue result ↔ IsHotLimit hot }
-{
-    match hot {
-        Some(least) => 1 <= least && least <= MAX_HOT,
-        None => true,
     }
 }
 

@@ -21,6 +21,6 @@ pub use script::{Turned, check_script};
 pub use script_file::{MAX_ENTRIES, MAX_INDEX, ScriptFault, read_script};
 pub use setup::{
     MAX_HOT, MAX_REQUESTS, MAX_STASH, MAX_SUBMITTERS, MAX_TURNS, MAX_USERS, MAX_WORKERS,
-    SettingsFault, Setup, check_setup,
+    SettingsFault, Setup, check_setup, is_hot_limit,
 };
 pub use verdict::{Verdict, judge, judge_user};

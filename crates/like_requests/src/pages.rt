@@ -15,6 +15,8 @@ pub const MAX_NAME: usize = 64;
 pub const MAX_COUNT: u64 = 1_000_000_000_000_000_000;
 
 /// The pages of a run in the order of the pages file, numbered from 0: 1 to 1,024 of them, with distinct names.
+///
+/// They are `Entries` that were read to the end: there is at least one, and none can be added.
 #[derive(Drop)]
 pub struct Pages {
     entries: Entries,

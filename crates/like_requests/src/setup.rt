@@ -115,8 +115,8 @@ fn broken_number(setup: &Setup, submitters: usize) -> Option<SettingsFault>
     None
 }
 
-// Whether this is a lawful limit for hot pages.
-fn is_hot_limit(hot: Option<u32>) -> bool
+/// Whether this is a lawful limit for hot pages: none, or 1 to 1,000,000.
+pub fn is_hot_limit(hot: Option<u32>) -> bool
     ensures { IsTrue result ↔ IsHotLimit hot }
 {
     match hot {

@@ -10,9 +10,9 @@ use crate::row::Row;
 use like_core::{Glances, SlotPost};
 
 impl<P: SlotPost + Glances> LiveSeat<P> {
-    /// Makes the calls of rows one by one, up to the first that is told `Between` or `NoRoom`, or to the end of the
-    /// shorter list, and writes their answers. Says how many were done. The one that stopped it was not: call it again.
-    /// Later answers are left as they were.
+    /// Makes the calls of rows one by one, and writes their answers: up to the first that is told `Between` or `NoRoom`,
+    /// or to the end of the shorter list. Says how many were done. The one that stopped it was not, and its answer says
+    /// why: call it again. Later answers are left as they were.
     #[inline(never)]
     pub fn run<R: Row>(&mut self, rows: &[R], answers: &mut [R::Told]) -> usize
         ensures case { RunCase R.asks R.tells self.old rows.now answers.new result self.new }

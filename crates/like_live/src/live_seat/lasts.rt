@@ -3,7 +3,7 @@ ghost use Rattle.like_live.specs.Lasts.{AreLastsAt, TellsLast, users_of};
 
 use crate::live_seat::LiveSeat;
 use like_core::Post;
-use like_requests::{Op, PageRef, Request, Verdict};
+use like_requests::Verdict;
 
 impl<P: Post> LiveSeat<P> {
     /// The page of a user's last like, if there is one. A user who is unknown, or another seat's, is refused. It makes
@@ -12,12 +12,7 @@ impl<P: Post> LiveSeat<P> {
         ensures { TellsLast self.now user result }
     {
         let users = self.station.users();
-        let request = Request {
-            op: Op::Look,
-            user,
-            page: PageRef::Known(0),
-        };
-        match users.judge(users.worker(), &request) {
+        match users.judge_user(users.worker(), user) {
             Verdict::Accepted => Ok(users.last(user)),
             verdict => Err(verdict),
         }

@@ -12,7 +12,7 @@ use crate::look_room::LookRoom;
 use crate::signals::{MAX_LIKES, Signals};
 use like_choice::Kind;
 use like_core::{Glances, Post};
-use like_requests::{Op, PageRef, Request, Verdict};
+use like_requests::Verdict;
 use like_seat::ServiceStation;
 use like_tables::Placed;
 
@@ -102,12 +102,7 @@ impl<P: Post> LiveSeat<P> {
         ensures { result ≡ verdict_at self.now.station user page }
     {
         let users = self.station.users();
-        let request = Request {
-            op: Op::Look,
-            user,
-            page: PageRef::Known(page),
-        };
-        match users.judge(users.worker(), &request) {
+        match users.judge_user(users.worker(), user) {
             Verdict::Accepted if page >= self.pages => Verdict::UnknownPage,
             verdict => verdict,
         }
