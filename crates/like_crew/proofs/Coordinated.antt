@@ -11,8 +11,7 @@ use Rattle.like_roles.proofs.choice.Choosing.{release-opening}
 use Rattle.like_roles.specs.coordinator.CoordTurns as turns
 use Rattle.like_roles.specs.coordinator.CoordTurns.{Acts, CoordTurns, CoordinatorView, surveyed}
 use Rattle.like_crew.specs.Server.{ServerGoesOn, ServerView}
-use Rattle.like_crew.specs.declared.crew.Crew.{Crew}
-use Rattle.like_crew.specs.Crew.{GoesOn, HasInbox, CoordinatorGoesOn}
+use Rattle.like_crew.specs.Crew.{CoordinatorGoesOn, CrewView, GoesOn, HasInbox}
 use Rattle.like_crew.proofs.servers.Later.{all-further-both, all-same}
 use Rattle.like_crew.proofs.lists.Pairs.{pairs-length}
 
@@ -91,13 +90,13 @@ coordinator-further u v w a b =
     }
 
 -- the crew
-pub crew-same : {I : Type 0} (c : Crew I) → GoesOn c c
-crew-same c = record { coordinator = coordinator-same c.coordinator; servers = all-same c.servers.items }
+pub crew-same : (c : CrewView) → GoesOn c c
+crew-same c = record { coordinator = coordinator-same c.coordinator; servers = all-same c.servers }
 
-pub crew-further : {I : Type 0} (b c d : Crew I) → GoesOn b c → GoesOn c d → GoesOn b d
+pub crew-further : (b c d : CrewView) → GoesOn b c → GoesOn c d → GoesOn b d
 crew-further b c d e f = record {
   coordinator = coordinator-further b.coordinator c.coordinator d.coordinator e.coordinator f.coordinator;
-  servers = all-further-both b.servers.items c.servers.items d.servers.items e.servers f.servers;
+  servers = all-further-both b.servers c.servers d.servers e.servers f.servers;
 }
 
 -- what stands at a place stood there before

@@ -9,10 +9,9 @@ use Rattle.like_board.specs.Seats.{board_id, board_numbers}
 use Rattle.like_tables.specs.Share.{Share, place_of}
 use Rattle.like_promises.specs.Workload.{Workload, submitters}
 use Rattle.like_crew.specs.declared.ended.Ended.{Ended}
-use Rattle.like_crew.specs.declared.crew.Crew.{Crew}
 use Rattle.like_crew.specs.declared.site.Site.{Site}
 use Rattle.like_promises.specs.WorkloadOf.{workload_of}
-use Rattle.like_crew.specs.Crew.{GoesOn, HasInbox, IsCrew}
+use Rattle.like_crew.specs.Crew.{CrewView, GoesOn, HasInbox, IsCrew}
 use Rattle.like_crew.specs.Ended.{HasEnded, IsEnded}
 use Rattle.like_requests.specs.declared.request.Request.{Request}
 use Rattle.like_requests.specs.declared.setup.Setup.{Setup}
@@ -49,6 +48,16 @@ as-many workload workers board notes servers are =
     sym (pairs-length (IsServer workload workers board notes) (range_with_len 0 workers) servers are)
     ∙ length-range_with_len 0 workers
 
+-- the server of a worker
+pub server-at : (workload : Workload) (workers : ℕ) (board : List ℕ) (notes : Bool) (servers : List ServerView)
+    (worker : ℕ) (s : ServerView)
+    → slice_get servers worker ≡ Some s
+    → AreServers workload workers board notes servers
+    → IsServer workload workers board notes worker s
+server-at workload workers board notes servers worker s at are =
+    subst (λ n. IsServer workload workers board notes n s) (zero-add worker)
+    (pairs-at (IsServer workload workers board notes) 0 workers servers worker s are at)
+
 -- each submitter of the run has an inbox
 pub has-inbox : (workload : Workload) (workers : ℕ) (board : List ℕ) (notes : Bool) (servers : List ServerView)
     (submitter : ℕ)
@@ -62,8 +71,7 @@ has-inbox workload workers board notes servers submitter are some there =
       λ s at.
           let worker : ℕ = submitter % length servers in
           let is : IsServer workload workers board notes worker s =
-          subst (λ n. IsServer workload workers board notes n s) (zero-add worker)
-          (pairs-at (IsServer workload workers board notes) 0 workers servers worker s are at) in
+          server-at workload workers board notes servers worker s at are in
           let share : Share = s.worker.last.share in
           let by : share.workers ≡ length servers = ap (λ (x : Share). x.workers) is.share ∙ sized in
           let mine : share.worker ≡ worker = ap (λ (x : Share). x.worker) is.share in
@@ -86,34 +94,34 @@ has-inbox workload workers board notes servers submitter are some there =
           ap (λ x. w + x * (n / x)) same ∙ (let d : b * (n / b) + n % b ≡ n = div-add-mod n b in omega (arith, d, mine))
 
 -- a crew of this run that went on until its run had ended leaves an ended run
-pub has-ended : {I : Type 0} (setup : Setup) (plans : List (List Request)) (site : Site) (c : Crew I) (e : Ended)
+pub has-ended : (setup : Setup) (plans : List (List Request)) (site : Site) (c : CrewView) (e : Ended)
     → IsCrew setup plans site c
     → HasEnded c e
     → IsEnded setup plans site e
 has-ended setup plans site c e is h = record {
   servers = h.left.servers;
   are_servers = servers-later (workload_of setup plans) setup.workers
-      (board_numbers (board_id site.board)) site.notes c.servers.items h.left.servers is.servers h.left.later;
+      (board_numbers (board_id site.board)) site.notes c.servers h.left.servers is.crew.servers h.left.later;
   gone = h.left.gone;
   logs = h.left.logs_are;
   seats = h.left.seats_are;
   coord = h.coordinator_is.coord ∙ h.later.board ∙ is.board;
-  opening = ap (λ (v : CoordSeatView). v.opening) h.coordinator_is.view ∙ h.later.opening ∙ is.opening;
+  opening = ap (λ (v : CoordSeatView). v.opening) h.coordinator_is.view ∙ h.later.opening ∙ is.crew.opening;
   phases = h.coordinator_is.phases ∙ h.coordinator_is.ended.phase ∙ ap (λ (v : CoordSeatView). v.phase) (sym h.coordinator_is.view);
   joined = subst (λ n. n % 2 ≡ 0) (sym h.coordinator_is.phases) h.coordinator_is.ended.joined;
   choice = h.coordinator.choice;
-  hot = h.later.hot ∙ is.hot;
+  hot = h.later.hot ∙ is.crew.hot;
   chosen = h.coordinator_is.chosen;
   chose = subst (λ (v : CoordSeatView). (total : ℕ → ℕ → ℕ) → AreTotals total v.counted
       → HasChosen v h.coordinator.choice total) (sym h.coordinator_is.view) h.coordinator_is.chose;
 }
 
 -- what is left of a crew later is left of the crew
-pub ended-later : {I : Type 0} (c d : Crew I) (e : Ended) → GoesOn c d → HasEnded d e → HasEnded c e
+pub ended-later : (c d : CrewView) (e : Ended) → GoesOn c d → HasEnded d e → HasEnded c e
 ended-later c d e on h = record {
   left = record {
     servers = h.left.servers;
-    later = all-further-both c.servers.items d.servers.items h.left.servers on.servers h.left.later;
+    later = all-further-both c.servers d.servers h.left.servers on.servers h.left.later;
     gone = h.left.gone;
     logs_are = h.left.logs_are;
     seats_are = h.left.seats_are;

@@ -2,6 +2,7 @@ pub mod servers
 pub mod Ordered
 pub mod Counted
 pub mod lists
+pub mod Closing
 pub mod Coordinated
 pub mod Makings
 pub mod Hot

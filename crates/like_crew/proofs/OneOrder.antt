@@ -32,9 +32,8 @@ use Rattle.like_serial.proofs.Follows.{serial_is_between}
 use Rattle.like_serial.proofs.Logs.{logs_are_run_lists}
 use Rattle.like_serial.proofs.Serial.{no_run, runs_are_serial}
 use Rattle.like_serial.proofs.Weigh.{only, sum-weigh, weigh, weigh-append, weigh-filter}
-use Rattle.like_crew.specs.declared.ended.Ended.{Ended}
-use Rattle.like_crew.specs.declared.site.Site.{Site}
-use Rattle.like_crew.specs.Ended.{IsEnded}
+use Rattle.like_crew.specs.declared.outcome.Outcome.{Outcome}
+use Rattle.like_crew.specs.Outcome.{IsOutcome}
 use Rattle.like_crew.specs.Server.{IsLogOf}
 use Rattle.like_crew.proofs.lists.Sums.{sum-of-map}
 use Rattle.like_crew.proofs.Whole.{HasCounted, HaveMasks, SawNoneLater, at-post, hot_known, initial-at, known, left-at, log-there, logs-are, logs-size, posts, right-at-server, run-at, seat-worker, seats-size, served, server-at}
@@ -89,67 +88,67 @@ fits-run workload did ran plain by_phase = record {
 fits-none : (workload : Workload) → FitsRunList workload [] []
 fits-none workload = record { plain = refl; by_phase = λ phase page. refl }
 
-module _ (setup : Setup) (plans : List (List Request)) (site : Site) (e : Ended) (h : IsEnded setup plans site e)
-    (masks : HaveMasks setup plans site e h) (steps : List PageStep)
-    (order : IsOrderOf (slice_index (coord_view e.coord).opening.counts) (coord_view e.coord).phase
-    (posts setup plans site e h) steps) where
+module _ (setup : Setup) (plans : List (List Request)) (notes : Bool) (e : Outcome) (h : IsOutcome setup plans notes e)
+    (masks : HaveMasks setup plans notes e h) (steps : List PageStep)
+    (order : IsOrderOf (slice_index h.coord.opening.counts) h.coord.phase
+    (posts setup plans notes e h) steps) where
   -- what the worker of a log did
   fits-log : (worker : ℕ) (log : WorkerLog) → slice_get e.logs.items worker ≡ Some log
-      → FitsRunList (known setup plans site e h) (earliest_first (steps_by worker steps)) log.ran.items
+      → FitsRunList (known setup plans notes e h) (earliest_first (steps_by worker steps)) log.ran.items
   fits-log worker log at =
       let s = left-at IsLogOf h.servers e.logs.items worker log h.logs at in
-      let is = server-at setup plans site e h worker s.0 s.1.0 in
-      let post : HasDone steps s.0.worker.post = at-post setup plans site e h (HasDone steps) order.each worker s.0 s.1.0 in
-      let right = s.1.1.each (known setup plans site e h)
-      (is.works (hot_known setup plans site e h), right-at-server setup plans site e h masks worker s.0 s.1.0) in
-      subst (λ did. FitsRunList (known setup plans site e h) (earliest_first did) log.ran.items)
+      let is = server-at setup plans notes e h worker s.0 s.1.0 in
+      let post : HasDone steps s.0.worker.post = at-post setup plans notes e h (HasDone steps) order.each worker s.0 s.1.0 in
+      let right = s.1.1.each (known setup plans notes e h)
+      (is.works (hot_known setup plans notes e h), right-at-server setup plans notes e h masks worker s.0 s.1.0) in
+      subst (λ did. FitsRunList (known setup plans notes e h) (earliest_first did) log.ran.items)
       (sym post ∙ ap (λ i. steps_by i steps) is.whose)
-      (fits-run (known setup plans site e h) s.0.worker.post.did log.ran.items right.steps right.by_phase)
+      (fits-run (known setup plans notes e h) s.0.worker.post.did log.ran.items right.steps right.by_phase)
 
   -- no seat is of a worker that is not there
   none-seated : (worker : ℕ) → length e.logs.items ≤ worker
-      → count_by (λ seat. (seat_meaning seat).worker == worker) e.seats.items ≡ 0
+      → count_by (λ seat. (seat_meaning seat).worker == worker) h.seats ≡ 0
   none-seated worker past =
-      count-none (λ (seat : WorkerSeat). (seat_meaning seat).worker == worker) e.seats.items
+      count-none (λ (seat : WorkerSeat). (seat_meaning seat).worker == worker) h.seats
       (λ k d within.
-      let own = seat-worker setup plans site e h k (get_or e.seats.items k d)
-      (slice_get-get_or e.seats.items k d within) in
-      ne_eqb (seat_meaning (get_or e.seats.items k d)).worker worker
+      let own = seat-worker setup plans notes e h k (get_or h.seats k d)
+      (slice_get-get_or h.seats k d within) in
+      ne_eqb (seat_meaning (get_or h.seats k d)).worker worker
       (λ same. absurd
-      (omega (arith, own, same, within, past, seats-size setup plans site e h, logs-size setup plans site e h))))
+      (omega (arith, own, same, within, past, seats-size setup plans notes e h, logs-size setup plans notes e h))))
 
   fits-worker : (worker : ℕ)
-      → FitsRunList (known setup plans site e h) (earliest_first (steps_by worker steps)) (run_of (runs_of e.logs.items) worker)
+      → FitsRunList (known setup plans notes e h) (earliest_first (steps_by worker steps)) (run_of (runs_of e.logs.items) worker)
   fits-worker worker = elim (cases_lt worker (length e.logs.items)) [
     | inl within ↦
         let found = log-there e.logs.items worker within in
-        subst (FitsRunList (known setup plans site e h) (earliest_first (steps_by worker steps)))
+        subst (FitsRunList (known setup plans notes e h) (earliest_first (steps_by worker steps)))
         (sym (run-at e.logs.items worker found.0 found.1))
         (fits-log worker found.0 found.1)
     | inr past ↦
-        subst (λ did. FitsRunList (known setup plans site e h) (earliest_first did) (run_of (runs_of e.logs.items) worker))
+        subst (λ did. FitsRunList (known setup plans notes e h) (earliest_first did) (run_of (runs_of e.logs.items) worker))
         (sym (order.others worker
-        (sum-of-map (λ (p : PostView). cond {A = ℕ} (p.worker == worker) 1 0) seat_meaning e.seats.items
+        (sum-of-map (λ (p : PostView). cond {A = ℕ} (p.worker == worker) 1 0) seat_meaning h.seats
         ∙ none-seated worker past)))
-        (subst (FitsRunList (known setup plans site e h) [])
+        (subst (FitsRunList (known setup plans notes e h) [])
         (sym (no_run (runs_of e.logs.items) worker
         (omega (arith, past, length-map e.logs.items (λ (log : WorkerLog). log.ran.items)))))
-        (fits-none (known setup plans site e h)))
+        (fits-none (known setup plans notes e h)))
   ]
 
   -- each page's count at the start
-  first-same : (λ page. get_or (coord_view e.coord).opening.counts page 0) ≡ initial_count setup.pages
+  first-same : (λ page. get_or h.coord.opening.counts page 0) ≡ initial_count setup.pages
   first-same =
       λ i page. (ap (λ (x : Opening). get_or x.counts page 0) h.opening
-      ∙ initial-at (known setup plans site e h) page) i
+      ∙ initial-at (known setup plans notes e h) page) i
 
-  pub one-order : HasCounted setup plans site e h → SawNoneLater setup plans site e h
-      → HasOneOrder (served setup plans site e h) setup.workers (runs_of e.logs.items)
+  pub one-order : HasCounted setup plans notes e h → SawNoneLater setup plans notes e h
+      → HasOneOrder (served setup plans notes e h) setup.workers (runs_of e.logs.items)
   one-order counted phases =
-      let lists = logs_are_run_lists (served setup plans site e h) setup.workers e.phases e.logs.items
-      (logs-are setup plans site e h masks counted phases) in
-      let last : ℕ = (coord_view e.coord).phase in
-      let found = runs_are_serial (known setup plans site e h) setup.workers last (runs_of e.logs.items) steps
+      let lists = logs_are_run_lists (served setup plans notes e h) setup.workers e.phases e.logs.items
+      (logs-are setup plans notes e h masks counted phases) in
+      let last : ℕ = h.coord.phase in
+      let found = runs_are_serial (known setup plans notes e h) setup.workers last (runs_of e.logs.items) steps
       (record { own = lists.own; rising = lists.rising; answers = lists.answers })
       (record {
         in_turn = subst (λ (first : ℕ → ℕ). AreInTurn first last steps) first-same order.in_turn;

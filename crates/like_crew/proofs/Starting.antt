@@ -10,7 +10,7 @@ use Rattle.like_queue.specs.Inbox.{InboxView, item_count}
 use Rattle.like_tables.specs.declared.held.Held.{Held}
 use Rattle.like_tables.specs.Share.{dealt}
 use Rattle.like_ending.specs.Progress.{WorkerProgress}
-use Rattle.like_crew.specs.declared.crew.Crew.{Crew}
+use Rattle.like_crew.specs.Crew.{CrewView}
 use Rattle.like_crew.specs.Progress.{IsNewCrew, items_left, progress_of}
 use Rattle.like_crew.specs.Server.{AreUntouched, ServerView, plans_of}
 use Rattle.like_crew.specs.Servers.{AreNewServers, IsNewServer}
@@ -53,28 +53,28 @@ items-dealt workers inboxes servers some are =
     (λ k s is. ap (sum_by items_left) (sym is.own)) are)
     ∙ deal-sum items_left workers inboxes some
 
-pub is-new : {I : Type 0} (setup : Setup) (inboxes : List InboxView) (c : Crew I)
+pub is-new : (setup : Setup) (inboxes : List InboxView) (c : CrewView)
     → 0 < setup.workers
     → AreUntouched inboxes
     → c.coordinator.seat.phase ≡ 0
     → c.coordinator.seat.ending ≡ false
     → c.coordinator.turns ≡ setup.turns
     → c.coordinator.left ≡ setup.turns
-    → AreNewServers setup.workers inboxes c.servers.items → IsNewCrew setup (plans_of inboxes) c
+    → AreNewServers setup.workers inboxes c.servers → IsNewCrew setup (plans_of inboxes) c
 is-new setup inboxes c some untouched phase running turns left are = record {
   start = record {
     phase = phase;
     ending = running;
     left = left ∙ sym turns;
-    runs = all-map progress_of (λ (w : WorkerProgress). w.state ≡ Runs 0) c.servers.items
+    runs = all-map progress_of (λ (w : WorkerProgress). w.state ≡ Runs 0) c.servers
         (seconds (IsNewServer setup.workers inboxes) (λ (s : ServerView). s.worker.post.state ≡ Runs 0)
-        (range_with_len 0 setup.workers) c.servers.items (λ k s is. is.runs) are);
-    none = all-map progress_of (λ (w : WorkerProgress). w.looks ≡ 0) c.servers.items
+        (range_with_len 0 setup.workers) c.servers (λ k s is. is.runs) are);
+    none = all-map progress_of (λ (w : WorkerProgress). w.looks ≡ 0) c.servers
         (seconds (IsNewServer setup.workers inboxes) (λ (s : ServerView). length s.worker.held.held ≡ 0)
-        (range_with_len 0 setup.workers) c.servers.items (λ k s is. ap (λ (xs : List Held). length xs) is.none) are);
+        (range_with_len 0 setup.workers) c.servers (λ k s is. ap (λ (xs : List Held). length xs) is.none) are);
   };
   turns = turns;
-  workers = sym (pairs-length (IsNewServer setup.workers inboxes) (range_with_len 0 setup.workers) c.servers.items are)
+  workers = sym (pairs-length (IsNewServer setup.workers inboxes) (range_with_len 0 setup.workers) c.servers are)
       ∙ length-range_with_len 0 setup.workers;
-  items = items-dealt setup.workers inboxes c.servers.items some are ∙ left-untouched inboxes untouched;
+  items = items-dealt setup.workers inboxes c.servers some are ∙ left-untouched inboxes untouched;
 }

@@ -1,5 +1,5 @@
 -- What a run that has ended reports, end to end.
-use Rattle.std.proofs.Common.{◌≡◌, ℕ, false, zero, suc, ◌+◌, ◌<◌, ◌≤◌, ◌&&◌, nat_lt, cond, eqb, ltb, List, [], ◌∷◌, ◌++◌, append-nil, length, map, get_or, slice_get, Option, Some, None, option_map, IfSome, refl, sym, ap, ◌∙◌, subst, arith, inl, inr, zero-add}
+use Rattle.std.proofs.Common.{◌≡◌, ℕ, Bool, false, zero, suc, ◌+◌, ◌<◌, ◌≤◌, ◌&&◌, nat_lt, cond, eqb, ltb, List, [], ◌∷◌, ◌++◌, append-nil, length, map, get_or, slice_get, Option, Some, None, option_map, IfSome, refl, sym, ap, ◌∙◌, subst, arith, inl, inr, zero-add}
 use Rattle.std.specs.List.{All, AllZip, filter, range_with_len}
 use Rattle.std.specs.Option.{option_map_or, unwrap_or}
 use Rattle.std.proofs.Math.Nat.{mod-lt}
@@ -24,10 +24,7 @@ use Rattle.like_core.specs.views.Posts.{posts_added, posts_before}
 use Rattle.like_core.specs.views.Reads.{IsCounted}
 use Rattle.like_board.specs.declared.worker_seat.WorkerSeat.{WorkerSeat}
 use Rattle.like_board.specs.Closed.{count_with}
-use Rattle.like_board.specs.Seats.{AreAll, BoardId, board_id, board_numbers, coord_view, seat_board, seat_meaning}
-use Rattle.like_board.proofs.InOrder.{all_in_order}
-use Rattle.like_board.proofs.Meanings.{same_board}
-use Rattle.like_core.specs.declared.worker_state.WorkerState.TheVariants.{Gone}
+use Rattle.like_board.specs.Seats.{seat_meaning}
 use Rattle.like_core.specs.PageSteps.{additions_among}
 use Rattle.like_tables.specs.Share.{Share, share_of, worker_of}
 use Rattle.like_tables.specs.UserTable.{last_of}
@@ -45,20 +42,20 @@ use Rattle.like_promises.specs.HotPages.{chosen_below, hot_by, likes_lately}
 use Rattle.like_promises.specs.Workload.{Workload, submitters}
 use Rattle.like_collection.specs.Entries.{IsRequest}
 use Rattle.like_promises.specs.Collected.{entries_in, entries_of}
-use Rattle.like_crew.specs.declared.ended.Ended.{Ended}
-use Rattle.like_crew.specs.declared.site.Site.{Site}
+use Rattle.like_crew.specs.declared.outcome.Outcome.{Outcome}
 use Rattle.like_promises.specs.EndToEnd.{AreCounts, AreLastLikes, AreLogs, runs_of}
 use Rattle.like_crew.specs.Gathered.{AreTables}
 use Rattle.like_crew.proofs.Once.{RunsOnce}
 use Rattle.like_promises.specs.Log.{IsLog}
 use Rattle.like_crew.specs.Server.{NoneAbove, HasWorkedFor, IsLogOf, ReadMasksOf, ServerView}
 use Rattle.like_promises.specs.WorkloadOf.{workload_of_run, workload_of}
-use Rattle.like_crew.specs.Ended.{IsEnded, IsSeatOf}
+use Rattle.like_crew.specs.Outcome.{IsOutcome, IsSeatLike}
 use Rattle.like_crew.specs.Site.{opening_of}
 use Rattle.like_crew.specs.Servers.{IsServer}
 use Rattle.like_crew.proofs.Hot.{hot-same, order-same, stashed-same, total}
 use Rattle.like_crew.proofs.Counted.{count-in-all, in_range, plan_of}
-use Rattle.like_crew.proofs.lists.Pairs.{pairs-at, pairs-length, pairs-sum}
+use Rattle.like_crew.proofs.Ending.{as-many, server-at as server-of}
+use Rattle.like_crew.proofs.lists.Pairs.{pairs-length, pairs-sum}
 use Rattle.like_crew.proofs.lists.Sums.{sum-of-map}
 use Rattle.like_crew.proofs.Makings.{all-back}
 
@@ -107,14 +104,10 @@ initial-at workload page =
     by_page None = refl
     by_page (Some p) = refl
 
-module _ (setup : Setup) (plans : List (List Request)) (site : Site) (e : Ended) (h : IsEnded setup plans site e) where
-  -- the board
-  abbrev board : BoardId
-  board = board_id site.board
-
+module _ (setup : Setup) (plans : List (List Request)) (notes : Bool) (e : Outcome) (h : IsOutcome setup plans notes e) where
   -- the masks of the phases that were released
   abbrev pub hot_known : ℕ → ℕ
-  hot_known = mask_of (coord_view e.coord).masks
+  hot_known = mask_of h.coord.masks
 
   -- the run with these masks
   abbrev pub known : Workload
@@ -129,36 +122,32 @@ module _ (setup : Setup) (plans : List (List Request)) (site : Site) (e : Ended)
 
   -- the server of a worker
   pub server-at : (worker : ℕ) (s : ServerView) → slice_get h.servers worker ≡ Some s
-      → IsServer (workload_of setup plans) setup.workers (board_numbers board) site.notes worker s
+      → IsServer (workload_of setup plans) setup.workers h.board notes worker s
   server-at worker s at =
-      subst (λ n. IsServer (workload_of setup plans) setup.workers (board_numbers board) site.notes n s)
-      (zero-add worker)
-      (pairs-at (IsServer (workload_of setup plans) setup.workers (board_numbers board) site.notes) 0 setup.workers
-      h.servers worker s h.are_servers at)
+      server-of (workload_of setup plans) setup.workers h.board notes h.servers worker s at h.are_servers
 
   servers-size : length h.servers ≡ setup.workers
-  servers-size = sym (pairs-length (IsServer (workload_of setup plans) setup.workers (board_numbers board) site.notes)
-      (range_with_len 0 setup.workers) h.servers h.are_servers) ∙ length-range_with_len 0 setup.workers
+  servers-size = as-many (workload_of setup plans) setup.workers h.board notes h.servers h.are_servers
 
   pub logs-size : length e.logs.items ≡ setup.workers
   logs-size = sym (pairs-length IsLogOf h.servers e.logs.items h.logs) ∙ servers-size
 
-  pub seats-size : length e.seats.items ≡ setup.workers
-  seats-size = sym (pairs-length IsSeatOf h.servers e.seats.items h.seats) ∙ servers-size
+  pub seats-size : length h.seats ≡ setup.workers
+  seats-size = sym (pairs-length IsSeatLike h.servers h.seats h.seats_are) ∙ servers-size
 
   -- what the seats that were left mean as posts
   abbrev pub posts : List PostView
-  posts = map seat_meaning e.seats.items
+  posts = map seat_meaning h.seats
 
   -- what is true of all of them is true of a server's
-  pub at-post : (P : PostView → Type 0) → All P posts → (worker : ℕ) (s : ServerView)
-      → slice_get h.servers worker ≡ Some s → P s.worker.post
+  pub at-post : (P : PostView → Type 0) → All (λ p. P (record p { board = [] })) posts → (worker : ℕ) (s : ServerView)
+      → slice_get h.servers worker ≡ Some s → P (record s.worker.post { board = [] })
   at-post P all worker s at =
-      let seat = right-at IsSeatOf h.servers e.seats.items worker s h.seats at in
+      let seat = right-at IsSeatLike h.servers h.seats worker s h.seats_are at in
       subst P seat.1.1
-      (subst (λ (x : WorkerSeat). P (seat_meaning x))
-      (get_or_from_slice_get e.seats.items worker seat.0 seat.0 seat.1.0)
-      (all-back seat_meaning P e.seats.items all worker seat.0 (slice_get_within e.seats.items worker seat.0 seat.1.0)))
+      (subst (λ (x : WorkerSeat). P (record (seat_meaning x) { board = [] }))
+      (get_or_from_slice_get h.seats worker seat.0 seat.0 seat.1.0)
+      (all-back seat_meaning (λ p. P (record p { board = [] })) h.seats all worker seat.0 (slice_get_within h.seats worker seat.0 seat.1.0)))
 
   -- the masks that the workers read are those
   abbrev pub HaveMasks : Type 0
@@ -166,11 +155,11 @@ module _ (setup : Setup) (plans : List (List Request)) (site : Site) (e : Ended)
 
   -- the counts that the coordinator read have all that was added by then
   abbrev pub HasCounted : Type 0
-  HasCounted = All (IsCounted (coord_view e.coord).opening.counts (posts_before posts)) (coord_view e.coord).counted
+  HasCounted = All (IsCounted h.coord.opening.counts (posts_before posts)) h.coord.counted
 
   -- no worker saw a later phase than the coordinator's
   abbrev pub SawNoneLater : Type 0
-  SawNoneLater = All (λ (p : PostView). SawNoLater (coord_view e.coord).phase p.last) posts
+  SawNoneLater = All (λ (p : PostView). SawNoLater h.coord.phase p.last) posts
 
   pub right-at-server : HaveMasks → (worker : ℕ) (s : ServerView) → slice_get h.servers worker ≡ Some s
       → ReadMasksOf known s
@@ -185,7 +174,7 @@ module _ (setup : Setup) (plans : List (List Request)) (site : Site) (e : Ended)
       (s.1.1.each known (is.works hot_known, right-at-server masks worker s.0 s.1.0)).is_log
 
   -- where no additions are noted, no log has any
-  pub none-noted : site.notes ≡ false → All (λ log. log.adds.items ≡ []) e.logs.items
+  pub none-noted : notes ≡ false → All (λ log. log.adds.items ≡ []) e.logs.items
   none-noted unasked = λ worker d within.
       let at = slice_get-get_or e.logs.items worker d within in
       let s = left-at IsLogOf h.servers e.logs.items worker (get_or e.logs.items worker d) h.logs at in
@@ -206,10 +195,10 @@ module _ (setup : Setup) (plans : List (List Request)) (site : Site) (e : Ended)
   -- the additions of all seats are the accepted likes of all logs
   pub all-likes : HaveMasks → (page : ℕ) → posts_added posts page ≡ likes known page (runs_of e.logs.items)
   all-likes masks page =
-      sum-of-map (λ (p : PostView). additions_of p page) seat_meaning e.seats.items
-      ∙ sym (pairs-sum IsSeatOf (λ (s : ServerView). additions_of s.worker.post page)
-      (λ (seat : WorkerSeat). additions_of (seat_meaning seat) page) h.servers e.seats.items
-      (λ s seat m. ap (λ (p : PostView). additions_of p page) (sym m)) h.seats)
+      sum-of-map (λ (p : PostView). additions_of p page) seat_meaning h.seats
+      ∙ sym (pairs-sum IsSeatLike (λ (s : ServerView). additions_of s.worker.post page)
+      (λ (seat : WorkerSeat). additions_of (seat_meaning seat) page) h.servers h.seats
+      (λ s seat m. ap (λ (p : PostView). additions_of p page) (sym m)) h.seats_are)
       ∙ pairs-sum (λ (s : ServerView)
       (log : WorkerLog). ((page : ℕ) → likes_among known page log.ran.items ≡ additions_of s.worker.post page))
       (λ (s : ServerView). additions_of s.worker.post page)
@@ -235,43 +224,20 @@ module _ (setup : Setup) (plans : List (List Request)) (site : Site) (e : Ended)
             (λ k s at. ((server-at k s at).works hot_known, right-at-server masks k s at)) h.logs
 
   -- the seats that were left
-  seat-at : (k : ℕ) (seat : WorkerSeat) → slice_get e.seats.items k ≡ Some seat
-      → (s : ServerView) × ((slice_get h.servers k ≡ Some s) × IsSeatOf s seat)
-  seat-at k seat at = left-at IsSeatOf h.servers e.seats.items k seat h.seats at
+  seat-at : (k : ℕ) (seat : WorkerSeat) → slice_get h.seats k ≡ Some seat
+      → (s : ServerView) × ((slice_get h.servers k ≡ Some s) × IsSeatLike s seat)
+  seat-at k seat at = left-at IsSeatLike h.servers h.seats k seat h.seats_are at
 
-  seat-here : (k : ℕ) (seat : WorkerSeat) → slice_get e.seats.items k ≡ Some seat → seat_board seat ≡ board
-  seat-here k seat at =
-      let s = seat-at k seat at in
-      same_board (seat_board seat) board (ap (λ (p : PostView). p.board) s.1.1 ∙ (server-at k s.0 s.1.0).board_is)
-
-  pub seat-worker : (k : ℕ) (seat : WorkerSeat) → slice_get e.seats.items k ≡ Some seat → (seat_meaning seat).worker ≡ k
+  pub seat-worker : (k : ℕ) (seat : WorkerSeat) → slice_get h.seats k ≡ Some seat → (seat_meaning seat).worker ≡ k
   seat-worker k seat at =
       let s = seat-at k seat at in
       ap (λ (p : PostView). p.worker) s.1.1 ∙ (server-at k s.0 s.1.0).whose
-
-  seat-gone : (k : ℕ) (seat : WorkerSeat) → slice_get e.seats.items k ≡ Some seat → (seat_meaning seat).state ≡ Gone
-  seat-gone k seat at =
-      let s = seat-at k seat at in
-      let gone : s.0.worker.post.state ≡ Gone =
-      subst (λ (x : ServerView). x.worker.post.state ≡ Gone) (get_or_from_slice_get h.servers k s.0 s.0 s.1.0)
-      (h.gone k s.0 (slice_get_within h.servers k s.0 s.1.0)) in
-      ap (λ (p : PostView). p.state) s.1.1 ∙ gone
-
-  pub all-here : All (λ seat. seat_board seat ≡ board) e.seats.items
-  all-here = λ k d within. seat-here k (get_or e.seats.items k d) (slice_get-get_or e.seats.items k d within)
-
-  pub all-gone : All (λ seat. (seat_meaning seat).state ≡ Gone) e.seats.items
-  all-gone = λ k d within. seat-gone k (get_or e.seats.items k d) (slice_get-get_or e.seats.items k d within)
-
-  pub are-all : z.workers ≡ setup.workers → AreAll (coord_view e.coord).opening.workers e.seats.items
-  are-all same = subst (λ n. AreAll n e.seats.items) (sym (ap (λ (x : Opening). x.workers) h.opening ∙ same))
-      (all_in_order e.seats.items setup.workers seats-size seat-worker)
 
   -- the final counts
   pub counts-are : HaveMasks → (counts : List ℕ)
       → z.counts ≡ map (λ p. p.count) known.pages → length counts ≡ length known.pages
       → ((page : ℕ) → page < length known.pages
-      → get_or counts page 0 ≡ count_with (coord_view e.coord) e.seats.items page)
+      → get_or counts page 0 ≡ count_with h.coord h.seats page)
       → AreCounts served (runs_of e.logs.items) counts
   counts-are masks counts initial sized told =
       fill_by_all (λ page. initial_count known.pages page + likes served page (runs_of e.logs.items)) counts
@@ -287,10 +253,10 @@ module _ (setup : Setup) (plans : List (List Request)) (site : Site) (e : Ended)
   pub all-before : HaveMasks → (phase page : ℕ)
       → posts_before posts phase page ≡ likes_below known page (runs_of e.logs.items) phase
   all-before masks phase page =
-      sum-of-map (λ (p : PostView). added_before phase page (additions_among p.did)) seat_meaning e.seats.items
-      ∙ sym (pairs-sum IsSeatOf (λ (s : ServerView). added_before phase page (additions_among s.worker.post.did))
-      (λ (seat : WorkerSeat). added_before phase page (additions_among (seat_meaning seat).did)) h.servers e.seats.items
-      (λ s seat m. ap (λ (p : PostView). added_before phase page (additions_among p.did)) (sym m)) h.seats)
+      sum-of-map (λ (p : PostView). added_before phase page (additions_among p.did)) seat_meaning h.seats
+      ∙ sym (pairs-sum IsSeatLike (λ (s : ServerView). added_before phase page (additions_among s.worker.post.did))
+      (λ (seat : WorkerSeat). added_before phase page (additions_among (seat_meaning seat).did)) h.servers h.seats
+      (λ s seat m. ap (λ (p : PostView). added_before phase page (additions_among p.did)) (sym m)) h.seats_are)
       ∙ pairs-sum (λ (s : ServerView) (log : WorkerLog). HasWorkedFor known s × IsLogOf s log)
       (λ (s : ServerView). added_before phase page (additions_among s.worker.post.did))
       (λ (log : WorkerLog). likes_among known page (filter (λ x. nat_lt x.phase phase) log.ran.items)) h.servers
@@ -303,17 +269,17 @@ module _ (setup : Setup) (plans : List (List Request)) (site : Site) (e : Ended)
 
   -- the counts that the coordinator read are the totals by the run lists
   are-totals : HaveMasks → HasCounted
-      → AreTotals (total (workload_of setup plans) (runs_of e.logs.items) z.counts) (coord_view e.coord).counted
+      → AreTotals (total (workload_of setup plans) (runs_of e.logs.items) z.counts) h.coord.counted
   are-totals masks counted = λ k d within.
-      let r : PageCount = get_or (coord_view e.coord).counted k d in
+      let r : PageCount = get_or h.coord.counted k d in
       counted k d within
       ∙ ap (λ (x : Opening). get_or x.counts r.page 0 + posts_before posts (r.phase + 1) r.page) h.opening
       ∙ ap (λ n. get_or z.counts r.page 0 + n) (all-before masks (r.phase + 1) r.page)
 
   -- the hot pages that were chosen by these totals are those that the run lists tell
   hot-is : (k : ℕ)
-      → hot_by h.choice.hot (length (coord_view e.coord).opening.counts)
-      (likes_counted (coord_view e.coord).opening.counts
+      → hot_by h.choice.hot (length h.coord.opening.counts)
+      (likes_counted h.coord.opening.counts
       (total (workload_of setup plans) (runs_of e.logs.items) z.counts)) k ≡ served.hot k
   hot-is k =
       ap (λ (x : Opening). hot_by h.choice.hot (length x.counts)
@@ -336,7 +302,7 @@ module _ (setup : Setup) (plans : List (List Request)) (site : Site) (e : Ended)
   chosen-are masks counted =
       h.chosen ∙ (h.chose (total (workload_of setup plans) (runs_of e.logs.items) z.counts)
       (are-totals masks counted)).chosen
-      ∙ ap (λ (f : ℕ → ℕ). chosen_below f ((coord_view e.coord).phase + 1)) (λ i k. hot-is k i)
+      ∙ ap (λ (f : ℕ → ℕ). chosen_below f (h.coord.phase + 1)) (λ i k. hot-is k i)
       ∙ ap (λ n. chosen_below served.hot (n + 1)) (sym h.phases)
       ∙ chosen-more served.hot e.phases
       ∙ ap (λ m. chosen_below served.hot e.phases ++ cond (ltb 0 m) (record { phase = e.phases; mask = m } ∷ []) [])
@@ -349,7 +315,7 @@ module _ (setup : Setup) (plans : List (List Request)) (site : Site) (e : Ended)
       let s = left-at IsLogOf h.servers e.logs.items worker log h.logs at in
       let saw : IfSome s.0.worker.post.last (λ sight. sight.number ≤ e.phases) =
       subst (λ n. IfSome s.0.worker.post.last (λ sight. sight.number ≤ n)) (sym h.phases)
-      (at-post (λ (p : PostView). SawNoLater (coord_view e.coord).phase p.last) phases worker s.0 s.1.0) in
+      (at-post (λ (p : PostView). SawNoLater h.coord.phase p.last) phases worker s.0 s.1.0) in
       let within = below s.0.worker.post.last log.taken.items e.phases s.1.1.above saw in
       let it = log-at masks worker log at in (
         record {

@@ -9,6 +9,11 @@ pub mod Later
 pub mod Opened
 pub mod Finishing
 pub mod Leaving
+pub mod Making
 pub mod Modelled
 pub mod Turning
 pub mod Owned
+pub mod Seated
+pub mod Exchanged
+pub mod OwnMaking
+pub mod OwnFinishing

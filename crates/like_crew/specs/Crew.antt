@@ -1,5 +1,5 @@
 -- The crew of a run: the coordinator at its board, and the servers of the workers.
-use Rattle.std.specs.Prelude.{◌≡◌, ◌<◌, ℕ, List, Some, length, slice_get, All}
+use Rattle.std.specs.Prelude.{◌≡◌, ◌<◌, ℕ, Bool, List, Some, length, slice_get, All}
 use Rattle.std.specs.List.{AllZip}
 use Rattle.like_requests.specs.declared.request.Request.{Request}
 use Rattle.like_requests.specs.declared.setup.Setup.{Setup}
@@ -22,19 +22,33 @@ pub record CoordinatorGoesOn (v w : CoordinatorView) : Type 0 where
   pub turns : w.turns ≡ v.turns
   pub hot : w.choice.hot ≡ v.choice.hot
 
--- the same crew, later
-pub record GoesOn {I : Type 0} (c d : Crew I) : Type 0 where
-  pub coordinator : CoordinatorGoesOn c.coordinator d.coordinator
-  pub servers : AllZip ServerGoesOn c.servers.items d.servers.items
+-- the crew as contracts see it: the coordinator, and the servers of the workers in order
+pub record CrewView : Type 0 where
+  pub coordinator : CoordinatorView
+  pub servers : List ServerView
 
--- the crew of a run of these plans, at the board of this site
-pub record IsCrew {I : Type 0} (setup : Setup) (plans : List (List Request)) (site : Site) (c : Crew I) : Type 0 where
-  pub board : c.coordinator.board ≡ board_id site.board
+-- the crew at a board that threads share
+abbrev pub crew_of : {I : Type 0} → Crew I → CrewView
+crew_of c = record { coordinator = c.coordinator; servers = c.servers.items }
+
+-- the same crew, later
+pub record GoesOn (c d : CrewView) : Type 0 where
+  pub coordinator : CoordinatorGoesOn c.coordinator d.coordinator
+  pub servers : AllZip ServerGoesOn c.servers d.servers
+
+-- the crew of a run of these plans, whose posts are at a board with these numbers; the workers note their additions or
+-- do not
+pub record IsCrewAt (setup : Setup) (plans : List (List Request)) (board : List ℕ) (notes : Bool) (c : CrewView)
+    : Type 0 where
   pub opening : c.coordinator.seat.opening ≡ opening_of setup
   pub turns : c.coordinator.turns ≡ setup.turns
   pub hot : c.coordinator.choice.hot ≡ setup.hot
-  pub servers : AreServers (workload_of setup plans) setup.workers (board_numbers (board_id site.board)) site.notes
-      c.servers.items
+  pub servers : AreServers (workload_of setup plans) setup.workers board notes c.servers
+
+-- the crew of a run of these plans, at the board of this site
+pub record IsCrew (setup : Setup) (plans : List (List Request)) (site : Site) (c : CrewView) : Type 0 where
+  pub board : c.coordinator.board ≡ board_id site.board
+  pub crew : IsCrewAt setup plans (board_numbers (board_id site.board)) site.notes c
 
 -- among these servers a submitter has an inbox: its worker's server has it
 abbrev pub HasInbox : List ServerView → ℕ → Type 0

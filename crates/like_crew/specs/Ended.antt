@@ -11,12 +11,11 @@ use Rattle.like_promises.specs.declared.log.WorkerLog.{WorkerLog}
 use Rattle.like_requests.specs.declared.request.Request.{Request}
 use Rattle.like_requests.specs.declared.setup.Setup.{Setup}
 use Rattle.like_roles.specs.coordinator.Choice.{AreTotals, ChoiceView, HasChosen}
-use Rattle.like_crew.specs.declared.crew.Crew.{Crew}
 use Rattle.like_crew.specs.declared.ended.Ended.{Ended}
 use Rattle.like_crew.specs.declared.site.Site.{Site}
 use Rattle.like_promises.specs.WorkloadOf.{workload_of}
 use Rattle.like_crew.specs.Site.{opening_of}
-use Rattle.like_crew.specs.Crew.{AreGone, CoordinatorGoesOn}
+use Rattle.like_crew.specs.Crew.{AreGone, CoordinatorGoesOn, CrewView}
 use Rattle.like_crew.specs.Server.{IsLogOf, ServerGoesOn, ServerView}
 use Rattle.like_crew.specs.Servers.{AreServers}
 
@@ -58,8 +57,8 @@ pub record IsCoordinatorOf (v : CoordinatorView) (e : Ended) : Type 0 where
   pub chose : ChoseByCounts v
 
 -- a crew went on from this one until its run had ended, and left this
-pub record HasEnded {I : Type 0} (c : Crew I) (e : Ended) : Type 0 where
-  pub left : HaveLeft c.servers.items e.logs.items e.seats.items
+pub record HasEnded (c : CrewView) (e : Ended) : Type 0 where
+  pub left : HaveLeft c.servers e.logs.items e.seats.items
   pub coordinator : CoordinatorView
   pub later : CoordinatorGoesOn c.coordinator coordinator
   pub coordinator_is : IsCoordinatorOf coordinator e

@@ -2,6 +2,8 @@ pub mod Crew
 pub mod Ended
 pub mod Fresh
 pub mod Gathered
+pub mod Outcome
+pub mod OwnCrew
 pub mod OwnServer
 pub mod Progress
 pub mod Server

@@ -6,7 +6,7 @@ use Rattle.like_requests.specs.declared.setup.Setup.{Setup}
 use Rattle.like_queue.specs.Inbox.{InboxView, item_count}
 use Rattle.like_ending.specs.Progress.{CrewProgress, IsStart, WorkerProgress, items_in}
 use Rattle.like_roles.specs.coordinator.CoordTurns.{CoordinatorView}
-use Rattle.like_crew.specs.declared.crew.Crew.{Crew}
+use Rattle.like_crew.specs.Crew.{CrewView}
 use Rattle.like_crew.specs.Server.{ServerView}
 
 -- how many items of an inbox are left: the requests that were not taken, and the end mark until it was
@@ -32,16 +32,16 @@ progress_with v servers = record {
 }
 
 -- how far a crew is
-abbrev pub progress_in : {I : Type 0} → Crew I → CrewProgress
-progress_in c = progress_with c.coordinator c.servers.items
+abbrev pub progress_in : CrewView → CrewProgress
+progress_in c = progress_with c.coordinator c.servers
 
 -- how many items plans have: the requests, and an end mark each
 abbrev pub items_of : List (List Request) → ℕ
 items_of plans = sum_by item_count plans
 
 -- a new crew is at the start, with the turns and the workers of the settings and all items of the plans
-pub record IsNewCrew {I : Type 0} (setup : Setup) (plans : List (List Request)) (c : Crew I) : Type 0 where
+pub record IsNewCrew (setup : Setup) (plans : List (List Request)) (c : CrewView) : Type 0 where
   pub start : IsStart (progress_in c)
   pub turns : c.coordinator.turns ≡ setup.turns
-  pub workers : length c.servers.items ≡ setup.workers
+  pub workers : length c.servers ≡ setup.workers
   pub items : items_in (progress_in c) ≡ items_of plans

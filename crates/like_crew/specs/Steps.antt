@@ -1,16 +1,17 @@
 -- What the steps of a crew do.
 use Rattle.std.specs.Prelude.{◌≡◌, ◌↔◌, ℕ, Bool, true, List, length, slice_get, slice_set, Some}
 use Rattle.std.specs.List.{AllZip}
+use Rattle.like_core.specs.declared.view.CoordSeatView.{CoordSeatView}
 use Rattle.like_tables.specs.Share.{worker_of}
 use Rattle.like_board.specs.Led.{BoardView, ShowsTold}
 use Rattle.like_roles.specs.coordinator.CoordTurns.{CoordTurns, CoordinatorView}
 use Rattle.like_roles.specs.declared.coord_turn.CoordTurn.{CoordTurn}
 use Rattle.like_roles.specs.declared.coord_turn.CoordTurn.TheVariants.{Ended}
-use Rattle.like_crew.specs.declared.crew.Crew.{Crew}
-use Rattle.like_crew.specs.Crew.{AreGone}
+use Rattle.like_roles.specs.declared.turn.Turn.{Turn}
+use Rattle.like_crew.specs.Crew.{AreGone, CrewView}
 use Rattle.like_crew.specs.Fresh.{LooksFresh, ShowsWorkers}
 use Rattle.like_crew.specs.Server.{ServerView}
-use Rattle.like_crew.specs.ServerTurns.{MakesTurn, OpensOne}
+use Rattle.like_crew.specs.ServerTurns.{IsTurn, MakesTurn, OpensOne}
 
 -- a step of the server of one worker, and of no other
 pub record AtServer (worker : ℕ) (Step : ServerView → ServerView → Type 0) (ss ts : List ServerView)
@@ -20,6 +21,15 @@ pub record AtServer (worker : ℕ) (Step : ServerView → ServerView → Type 0)
   pub here : slice_get ss worker ≡ Some before
   pub step : Step before after
   pub rest : ts ≡ slice_set ss worker after
+
+-- a whole turn of a server with this answer, whose look shows what the coordinator's seat knows
+pub record IsFreshTurn (c : CoordSeatView) (answer : Turn) (s t : ServerView) : Type 0 where
+  pub turn : IsTurn answer s t
+  pub fresh : LooksFresh c.phase c.ending s t
+
+-- some such turn
+abbrev pub MakesFreshTurn : CoordSeatView → ServerView → ServerView → Type 0
+MakesFreshTurn c s t = (answer : Turn) × IsFreshTurn c answer s t
 
 -- one item more of a submitter's list is open, at the server of its worker
 abbrev pub OpensMore : ℕ → List ServerView → List ServerView → Type 0
@@ -40,16 +50,33 @@ pub record LeadsThere (b : BoardView) (ended : Bool) (v w : CoordinatorView) : T
   pub leads : Leads ended v w
   pub fresh : ShowsTold b v.seat.phase leads.turn.sight
 
+-- a turn of the coordinator with this answer, whose look shows what the workers know, and nothing else
+pub record LeadsFresh (answer : CoordTurn) (c d : CrewView) : Type 0 where
+  pub turn : CoordTurns c.coordinator answer d.coordinator
+  pub fresh : ShowsWorkers c.coordinator.seat.phase c.servers turn.sight
+  pub rest : d.servers ≡ c.servers
+
+-- some such turn, and whether it answered that the run has ended
+pub record LeadsToEnd (ended : Bool) (c d : CrewView) : Type 0 where
+  pub answer : CoordTurn
+  pub leads : LeadsFresh answer c d
+  pub tells : (ended ≡ true) ↔ (answer ≡ Ended)
+
 -- a round: a turn of the coordinator, and one of each worker. The run ended with it if the coordinator answered that it
 -- has, and all workers are gone
-pub record IsRound {I : Type 0} (ended : Bool) (c d : Crew I) : Type 0 where
+pub record IsRound (ended : Bool) (c d : CrewView) : Type 0 where
   pub answer : CoordTurn
   pub coordinator : CoordTurns c.coordinator answer d.coordinator
-  pub servers : AllZip MakesTurn c.servers.items d.servers.items
-  pub tells : (ended ≡ true) ↔ ((answer ≡ Ended) × AreGone d.servers.items)
+  pub servers : AllZip MakesTurn c.servers d.servers
+  pub tells : (ended ≡ true) ↔ ((answer ≡ Ended) × AreGone d.servers)
 
 -- the looks of a round are fresh: the coordinator looks first, and then the workers
-pub record LookFresh {I : Type 0} {ended : Bool} {c d : Crew I} (round : IsRound ended c d) : Type 0 where
-  pub coordinator : ShowsWorkers c.coordinator.seat.phase c.servers.items round.coordinator.sight
+pub record LookFresh {ended : Bool} {c d : CrewView} (round : IsRound ended c d) : Type 0 where
+  pub coordinator : ShowsWorkers c.coordinator.seat.phase c.servers round.coordinator.sight
   pub workers : let seat = d.coordinator.seat in
-      AllZip (LooksFresh seat.phase seat.ending) c.servers.items d.servers.items
+      AllZip (LooksFresh seat.phase seat.ending) c.servers d.servers
+
+-- a round whose looks are fresh
+pub record FreshRound (ended : Bool) (c d : CrewView) : Type 0 where
+  pub round : IsRound ended c d
+  pub looks : LookFresh round

@@ -5,7 +5,7 @@ ghost use Rattle.like_requests.specs.Setup.{FitsRun};
 ghost use Rattle.std.specs.List.{AllZip};
 ghost use Rattle.like_roles.specs.coordinator.CoordTurns.{CoordTurns, HasEndedJoined};
 ghost use Rattle.like_promises.specs.WorkloadOf.{lists_of};
-ghost use Rattle.like_crew.specs.Crew.{AreGone, GoesOn, HasInbox, IsCrew};
+ghost use Rattle.like_crew.specs.Crew.{AreGone, GoesOn, HasInbox, IsCrew, crew_of};
 ghost use Rattle.like_crew.specs.Ended.{HasEnded};
 ghost use Rattle.like_crew.specs.Progress.{IsNewCrew};
 ghost use Rattle.like_crew.specs.Server.{AreUntouched, plans_of, untouched};
@@ -26,11 +26,14 @@ use std::alloc::{AllocError, Global};
 mod coordinator_at;
 mod hands;
 mod new_servers;
+mod own_crew;
+mod own_servers;
 mod run_coordinator;
 mod server;
 mod servers;
 
 pub use coordinator_at::CoordinatorAt;
+pub use own_crew::OwnCrew;
 pub use server::{OwnServer, OwnTurn, Server};
 
 /// The crew of a run: the coordinator at its board, and for each worker, in order, its server, which takes from inboxes
@@ -55,8 +58,10 @@ impl<'a, I: Inbox> Crew<'a, I> {
         requires untouched { AreUntouched (map I.view inboxes.items) }
         requires site { IsSite setup.now (plans_of (map I.view inboxes.items)) site.now }
         requires seats { AreSeats setup.now site.now seats }
-        ensures crew { IfOk result (IsCrew setup.now (plans_of (map I.view inboxes.items)) site.now) }
-        ensures new { IfOk result (IsNewCrew setup.now (plans_of (map I.view inboxes.items))) }
+        ensures crew { IfOk result
+            (λ crew. IsCrew setup.now (plans_of (map I.view inboxes.items)) site.now (crew_of crew)) }
+        ensures new { IfOk result
+            (λ crew. IsNewCrew setup.now (plans_of (map I.view inboxes.items)) (crew_of crew)) }
     {
         let Seats { coord, workers } = seats;
         let servers = servers_of(
@@ -86,7 +91,7 @@ impl<'a, I: Inbox> Crew<'a, I> {
     pub fn finish(self, alloc: Global) -> Result<Ended, AllocError>
         requires ended { HasEndedJoined self.coordinator }
         requires gone { AreGone self.servers.items }
-        ensures ended { IfOk result (HasEnded self.entry) }
+        ensures ended { IfOk result (HasEnded (crew_of self.entry)) }
         ensures phases { IfOk result (λ ended. ended.phases ≡ self.entry.coordinator.phase) }
     {
         let Crew {
@@ -111,8 +116,10 @@ impl<'a> Crew<'a, ListInbox> {
         requires within { FitsRun setup.now (lists_of plans.items) }
         requires site { IsSite setup.now (lists_of plans.items) site.now }
         requires seats { AreSeats setup.now site.now seats }
-        ensures crew { IfOk result (IsCrew setup.now (lists_of plans.items) site.now) }
-        ensures new { IfOk result (IsNewCrew setup.now (lists_of plans.items)) }
+        ensures crew { IfOk result
+            (λ crew. IsCrew setup.now (lists_of plans.items) site.now (crew_of crew)) }
+        ensures new { IfOk result
+            (λ crew. IsNewCrew setup.now (lists_of plans.items) (crew_of crew)) }
     {
         let inboxes = list_inboxes(alloc, plans)?;
         Crew::of_inboxes(alloc, setup, site, seats, inboxes)
@@ -120,8 +127,8 @@ impl<'a> Crew<'a, ListInbox> {
 
     /// Makes one turn of the coordinator and one of each worker, in order, and says whether the run ended with it.
     pub fn round(&mut self) -> bool
-        ensures round { IsRound result self.old self.new }
-        ensures goes_on { GoesOn self.old self.new }
+        ensures round { IsRound result (crew_of self.old) (crew_of self.new) }
+        ensures goes_on { GoesOn (crew_of self.old) (crew_of self.new) }
         ensures ended { result ≡ true → HasEndedJoined self.new.coordinator }
         ensures gone { result ≡ true → AreGone self.new.servers.items }
     {
@@ -134,7 +141,7 @@ impl<'a> Crew<'a, ListInbox> {
     pub fn turn(&mut self) -> CoordTurn
         ensures case { CoordTurns self.old.coordinator result self.new.coordinator }
         ensures rest { self.new.servers ≡ self.old.servers }
-        ensures goes_on { GoesOn self.old self.new }
+        ensures goes_on { GoesOn (crew_of self.old) (crew_of self.new) }
     {
         self.coordinator.turn()
     }
@@ -145,7 +152,7 @@ impl<'a> Crew<'a, ListInbox> {
         ensures case { AtServer worker
             (IsTurn result) self.old.servers.items self.new.servers.items }
         ensures rest { self.new.coordinator ≡ self.old.coordinator }
-        ensures goes_on { GoesOn self.old self.new }
+        ensures goes_on { GoesOn (crew_of self.old) (crew_of self.new) }
     {
         turn_of(&mut self.servers, worker)
     }
@@ -155,7 +162,7 @@ impl<'a> Crew<'a, ListInbox> {
         requires { HasInbox self.old.servers.items submitter }
         ensures opens { OpensMore submitter self.old.servers.items self.new.servers.items }
         ensures rest { self.new.coordinator ≡ self.old.coordinator }
-        ensures goes_on { GoesOn self.old self.new }
+        ensures goes_on { GoesOn (crew_of self.old) (crew_of self.new) }
     {
         open_one(&mut self.servers, submitter);
     }
@@ -164,7 +171,7 @@ impl<'a> Crew<'a, ListInbox> {
     pub fn open_all(&mut self)
         ensures opens { AllZip OpensAll self.old.servers.items self.new.servers.items }
         ensures rest { self.new.coordinator ≡ self.old.coordinator }
-        ensures goes_on { GoesOn self.old self.new }
+        ensures goes_on { GoesOn (crew_of self.old) (crew_of self.new) }
     {
         open_all(&mut self.servers);
     }

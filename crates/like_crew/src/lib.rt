@@ -4,10 +4,12 @@
 
 mod crew;
 mod ended;
+mod outcome;
 mod report;
 mod site;
 
-pub use crew::{CoordinatorAt, Crew, OwnServer, OwnTurn, Server};
+pub use crew::{CoordinatorAt, Crew, OwnCrew, OwnServer, OwnTurn, Server};
 pub use ended::Ended;
-pub use report::{report_in_parallel, report_of};
-pub use site::{Seats, Site};
+pub use outcome::Outcome;
+pub use report::{report_from, report_in_parallel, report_of};
+pub use site::{Seats, Site, sizes_of};

@@ -1,4 +1,4 @@
-ghost use Rattle.std.specs.Prelude.{◌≡◌, false, true, IfOk, MatchResult, length};
+ghost use Rattle.std.specs.Prelude.{◌≡◌, false, true, IfOk, MatchResult, length, map};
 ghost use Rattle.like_requests.specs.Setup.{FitsRun};
 ghost use Rattle.like_board.specs.Closed.{IsClosedBoard};
 ghost use Rattle.like_board.specs.Seats.{board_id, coord_view};
@@ -7,13 +7,15 @@ ghost use Rattle.like_collection.specs.CollectFaults.{IsCollectFault};
 ghost use Rattle.like_promises.specs.Collected.{IsCollected, entries_in, rows_of};
 ghost use Rattle.like_promises.specs.EndToEnd.{IsRightReport};
 ghost use Rattle.like_crew.specs.Ended.{AreLeft, IsEnded};
+ghost use Rattle.like_crew.specs.Outcome.{IsOutcome};
 ghost use Rattle.like_crew.specs.Site.{IsSite};
 ghost use Rattle.like_promises.specs.places.Tiling.{HasNoPlaces, HasRightPlaces};
 
 use crate::ended::Ended;
+use crate::outcome::Outcome;
 use crate::report::gathered::{last_likes, places_of, replies_of};
 use crate::site::Site;
-use like_board::{Board, CoordSeat, WorkerSeat};
+use like_board::Board;
 use like_collection::{CollectFault, collect, collect_in_parallel};
 use like_promises::{Replies, Report};
 use like_requests::{Request, Setup};
@@ -40,8 +42,37 @@ pub fn report_of(
     ensures none { site.notes ≡ false → IfOk result HasNoPlaces }
     ensures phases { IfOk result (λ report. report.phases ≡ ended.phases) }
 {
-    let collected = collect(alloc, &site.sizes, &ended.logs);
-    report_with(alloc, setup, plans, site, ended, collected)
+    let Site {
+        sizes,
+        counts,
+        board,
+        notes,
+    } = site;
+    let outcome = close(board, counts, ended);
+    report_from(alloc, setup, plans, &sizes, notes, outcome)
+}
+
+/// The report of a run of these plans, of so many requests each, that has left this.
+pub fn report_from(
+    alloc: Global,
+    setup: &Setup,
+    plans: &Snapshot<Vec<Vec<Request>>>,
+    sizes: &[u32],
+    notes: bool,
+    outcome: Outcome,
+) -> Result<Report, AllocError>
+    requires within { FitsRun setup.now (lists_of plans.now.value.items) }
+    requires sizes { sizes.now ≡ map length (lists_of plans.now.value.items) }
+    requires outcome { IsOutcome setup.now (lists_of plans.now.value.items) notes outcome }
+    ensures report { IfOk result (IsRightReport setup.now (lists_of plans.now.value.items)) }
+    ensures places { notes ≡ true
+        → IfOk result (HasRightPlaces setup.now (lists_of plans.now.value.items)) }
+    ensures none { notes ≡ false → IfOk result HasNoPlaces }
+    ensures phases { IfOk result (λ report. report.phases ≡ outcome.phases) }
+    ensures logs { IfOk result (λ report. report.logs ≡ outcome.logs) }
+{
+    let collected = collect(alloc, sizes, &outcome.logs);
+    report_with(alloc, setup, plans, sizes, notes, outcome, collected)
 }
 
 /// The same, with the replies collected in parallel by at most `starts` further threads.
@@ -63,8 +94,15 @@ pub fn report_in_parallel<T: Threads + Sync>(
     ensures none { site.notes ≡ false → IfOk result HasNoPlaces }
     ensures phases { IfOk result (λ report. report.phases ≡ ended.phases) }
 {
-    let collected = collect_in_parallel(rt, alloc, &site.sizes, &ended.logs, starts);
-    report_with(alloc, setup, plans, site, ended, collected)
+    let Site {
+        sizes,
+        counts,
+        board,
+        notes,
+    } = site;
+    let outcome = close(board, counts, ended);
+    let collected = collect_in_parallel(rt, alloc, &sizes, &outcome.logs, starts);
+    report_with(alloc, setup, plans, &sizes, notes, outcome, collected)
 }
 
 // The report, with what was collected from the logs.
@@ -72,36 +110,30 @@ fn report_with(
     alloc: Global,
     setup: &Setup,
     plans: &Snapshot<Vec<Vec<Request>>>,
-    site: Site,
-    ended: Ended,
+    sizes: &[u32],
+    notes: bool,
+    outcome: Outcome,
     collected: Result<Replies, CollectFault>,
 ) -> Result<Report, AllocError>
     requires within { FitsRun setup.now (lists_of plans.now.value.items) }
-    requires site { IsSite setup.now (lists_of plans.now.value.items) site }
-    requires ended { IsEnded setup.now (lists_of plans.now.value.items) site ended }
+    requires sizes { sizes.now ≡ map length (lists_of plans.now.value.items) }
+    requires outcome { IsOutcome setup.now (lists_of plans.now.value.items) notes outcome }
     requires collected { MatchResult collected
-        (λ replies. IsCollected site.sizes.items (entries_in ended.logs.items) (rows_of replies))
-        (IsCollectFault site.sizes.items (entries_in ended.logs.items)) }
+        (λ replies. IsCollected sizes.now (entries_in outcome.logs.items) (rows_of replies))
+        (IsCollectFault sizes.now (entries_in outcome.logs.items)) }
     ensures report { IfOk result (IsRightReport setup.now (lists_of plans.now.value.items)) }
-    ensures places { site.notes ≡ true
+    ensures places { notes ≡ true
         → IfOk result (HasRightPlaces setup.now (lists_of plans.now.value.items)) }
-    ensures none { site.notes ≡ false → IfOk result HasNoPlaces }
-    ensures phases { IfOk result (λ report. report.phases ≡ ended.phases) }
+    ensures none { notes ≡ false → IfOk result HasNoPlaces }
+    ensures phases { IfOk result (λ report. report.phases ≡ outcome.phases) }
+    ensures logs { IfOk result (λ report. report.logs ≡ outcome.logs) }
 {
-    let Site {
-        sizes,
-        counts,
-        board,
-        notes,
-    } = site;
-    let Ended {
+    let Outcome {
         logs,
-        seats,
+        counts,
         phases,
-        coord,
         chosen,
-    } = ended;
-    let counts = final_counts(board, coord, seats, counts);
+    } = outcome;
     let replies = replies_of(collected)?;
     let last = last_likes(alloc, setup.users, sizes.len() as u32, &logs)?;
     let places = places_of(alloc, notes, setup.pages.len(), &logs)?;
@@ -117,17 +149,27 @@ fn report_with(
 }
 
 // Ends the board, and gives the final counts in place of the initial ones.
-fn final_counts(
-    board: Board,
-    coord: CoordSeat,
-    seats: Vec<WorkerSeat>,
-    initial: Vec<u64>,
-) -> Vec<u64>
-    requires left { AreLeft (board_id board) coord seats.items }
-    requires places { length initial.items ≡ length (coord_view coord).opening.counts }
-    ensures { IsClosedBoard (coord_view coord) seats.items result.items }
+fn close(board: Board, initial: Vec<u64>, ended: Ended) -> Outcome
+    requires left { AreLeft (board_id board) ended.coord ended.seats.items }
+    requires places { length initial.items ≡ length (coord_view ended.coord).opening.counts }
+    ensures logs { result.logs ≡ ended.logs }
+    ensures counts { IsClosedBoard (coord_view ended.coord) ended.seats.items result.counts.items }
+    ensures phases { result.phases ≡ ended.phases }
+    ensures chosen { result.chosen ≡ ended.chosen }
 {
+    let Ended {
+        logs,
+        seats,
+        phases,
+        coord,
+        chosen,
+    } = ended;
     let mut counts = initial;
     board.close(coord, seats, &mut counts);
-    counts
+    Outcome {
+        logs,
+        counts,
+        phases,
+        chosen,
+    }
 }

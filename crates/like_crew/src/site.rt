@@ -56,8 +56,8 @@ impl Site {
     }
 }
 
-// How many requests each submitter has.
-fn sizes_of(alloc: Global, plans: &[Vec<Request>]) -> Result<Vec<u32>, AllocError>
+/// How many requests each submitter has.
+pub fn sizes_of(alloc: Global, plans: &[Vec<Request>]) -> Result<Vec<u32>, AllocError>
     requires { All (λ plan. length plan.items ≤ max_requests) plans.now }
     ensures { IfOk result (λ sizes. sizes.items ≡ map (λ plan. length plan.items) plans.now) }
 {

@@ -1,4 +1,4 @@
--- A replay that is unfinished is long, if its looks were fresh.
+-- A replay that is unfinished is long.
 use Rattle.std.proofs.Common.{◌≡◌, ℕ, zero, suc, false, true≢false, List, [], ◌∷◌, length, map, option_map, sym, ap, ◌∙◌, subst}
 use Rattle.std.specs.List.{All}
 use Rattle.std.proofs.lemmas.List.{length-map, map-set}
@@ -13,17 +13,15 @@ use Rattle.like_ending.specs.Progress.{WorkerProgress, items_in}
 use Rattle.like_ending.specs.Schedules.{IsFreshRound, Participant, TakeTurns, Unended, coordinator, worker}
 use Rattle.like_ending.proofs.Ends.{rounds_end}
 use Rattle.like_ending.proofs.Sums.{set_same}
-use Rattle.like_crew.specs.declared.crew.Crew.{Crew}
+use Rattle.like_crew.specs.Crew.{CrewView}
 use Rattle.like_crew.specs.Fresh.{AllOpen}
 use Rattle.like_crew.specs.Progress.{IsNewCrew, items_of, progress_in, progress_of, progress_with}
 use Rattle.like_crew.proofs.Leading.{coordinator-modelled}
 use Rattle.like_crew.proofs.Rounds.{round-goes-on, round-modelled}
 use Rattle.like_crew.proofs.servers.Turning.{all-opened, all-stay-open, opened-one}
-use Rattle.like_queue.specs.declared.list_inbox.ListInbox.{ListInbox}
 use Rattle.like_run.specs.declared.rounds.fault.ReplayFault.{ReplayFault}
 use Rattle.like_run.specs.declared.rounds.fault.ReplayFault.TheVariants.{Settings, Memory, Unfinished}
 use Rattle.like_run.specs.Rounds.{IsPlayFault, IsReplayFaultUnderWay}
-use Rattle.like_run.specs.Fresh.{AllFresh, EntriesFresh, RoundsFresh}
 use Rattle.like_run.specs.Script.{Makes, MakesAll, MakesRounds, Plays}
 
 -- who has a turn by a script: opening a list is nobody's
@@ -34,100 +32,99 @@ participants (Worker w ∷ script) = worker w ∷ participants script
 participants (Coordinator ∷ script) = coordinator ∷ participants script
 
 -- opening a list changes nothing that counts
-open-same : {I : Type 0} (submitter : ℕ) (c d : Crew I)
+open-same : (submitter : ℕ) (c d : CrewView)
     → Makes (OpenOne submitter) c d
     → progress_in d ≡ progress_in c
 open-same submitter c d made =
     let at = made.0 in
-    let same : map progress_of d.servers.items ≡ map progress_of c.servers.items =
+    let same : map progress_of d.servers ≡ map progress_of c.servers =
     ap (map progress_of) at.rest
-    ∙ map-set progress_of c.servers.items _ at.after
-    ∙ set_same (map progress_of c.servers.items) _ (progress_of at.before) (progress_of at.after)
-    (slice_get-map progress_of c.servers.items _ ∙ ap (option_map progress_of) at.here)
+    ∙ map-set progress_of c.servers _ at.after
+    ∙ set_same (map progress_of c.servers) _ (progress_of at.before) (progress_of at.after)
+    (slice_get-map progress_of c.servers _ ∙ ap (option_map progress_of) at.here)
     (opened-one submitter at.before at.after at.step) in
-    λ m. record (progress_with (made.1 m) c.servers.items) { workers = same m }
+    λ m. record (progress_with (made.1 m) c.servers) { workers = same m }
 
--- entries whose looks are fresh are turns of the model
-entries-modelled : {I : Type 0} (script : List Turned) (c d : Crew I) (made : MakesAll script c d)
-    → EntriesFresh script c d made
+-- entries are turns of the model
+entries-modelled : (script : List Turned) (c d : CrewView)
+    → MakesAll script c d
     → TakeTurns false (participants script) (progress_in c) (progress_in d)
-entries-modelled [] c d made looks = ap progress_in made
-entries-modelled (OpenOne submitter ∷ script) c d made looks =
+entries-modelled [] c d made = ap progress_in made
+entries-modelled (OpenOne submitter ∷ script) c d made =
     subst (λ p. TakeTurns false (participants script) p (progress_in d)) (open-same submitter c made.0 made.1.0)
-    (entries-modelled script made.0 d made.1.1 looks.1)
-entries-modelled (Worker w ∷ script) c d made looks =
+    (entries-modelled script made.0 d made.1.1)
+entries-modelled (Worker w ∷ script) c d made =
     let at = made.1.0.0 in
+    let turn = at.step.1 in
     let seat = c.coordinator.seat in (
       progress_in made.0,
       (
         record {
           before = progress_of at.before;
           after = progress_of at.after;
-          here = slice_get-map progress_of c.servers.items w ∙ ap (option_map progress_of) at.here;
-          turn = at.step.1.modelled false seat.phase seat.ending (λ e. absurd (true≢false (sym e))) looks.0;
+          here = slice_get-map progress_of c.servers w ∙ ap (option_map progress_of) at.here;
+          turn = turn.turn.modelled false seat.phase seat.ending (λ e. absurd (true≢false (sym e))) turn.fresh;
           rest = (λ m. progress_with (made.1.0.1 m) (at.rest m))
               ∙ ap (λ (ws : List WorkerProgress). record (progress_in c) { workers = ws })
-              (map-set progress_of c.servers.items w at.after);
+              (map-set progress_of c.servers w at.after);
         },
-        entries-modelled script made.0 d made.1.1 looks.1,
+        entries-modelled script made.0 d made.1.1,
       ),
     )
-entries-modelled (Coordinator ∷ script) c d made looks =
-    let led = made.1.0.0 in (
+entries-modelled (Coordinator ∷ script) c d made =
+    let led = made.1.0.1 in (
       progress_in made.0,
       (
-        subst (λ servers. FreshCoordTurns (progress_in c) (progress_with made.0.coordinator servers))
-            (ap (λ s. s.items) (sym made.1.0.1))
-            (coordinator-modelled c.coordinator led.0 made.0.coordinator c.servers.items led.1 looks.0),
-        entries-modelled script made.0 d made.1.1 looks.1,
+        subst (λ servers. FreshCoordTurns (progress_in c) (progress_with made.0.coordinator servers)) (sym led.rest)
+            (coordinator-modelled c.coordinator made.1.0.0 made.0.coordinator c.servers led.turn led.fresh),
+        entries-modelled script made.0 d made.1.1,
       ),
     )
 
 -- and so are rounds, with all lists open
-rounds-modelled : {I : Type 0} (n : ℕ) (c d : Crew I) (made : MakesRounds n c d)
-    → RoundsFresh n c d made
-    → All AllOpen c.servers.items
+rounds-modelled : (n : ℕ) (c d : CrewView)
+    → MakesRounds n c d
+    → All AllOpen c.servers
     → Unended IsFreshRound n (progress_in c) (progress_in d)
-rounds-modelled zero c d made looks lists = ap progress_in made
-rounds-modelled (suc n) c d made looks lists = (
-  round-goes-on c made.0 made.1.0 looks.0,
-  (
-    progress_in made.0,
-    (
-      round-modelled false c made.0 made.1.0 looks.0 lists,
-      rounds-modelled n made.0 d made.1.1 looks.1
-          (all-stay-open c.servers.items made.0.servers.items lists made.1.0.servers),
-    ),
-  ),
-)
+rounds-modelled zero c d made lists = ap progress_in made
+rounds-modelled (suc n) c d made lists =
+    let r = made.1.0 in (
+      round-goes-on c made.0 r.round r.looks,
+      (
+        progress_in made.0,
+        (
+          round-modelled false c made.0 r.round r.looks lists,
+          rounds-modelled n made.0 d made.1.1 (all-stay-open c.servers made.0.servers lists r.round.servers),
+        ),
+      ),
+    )
 
 -- all lists are opened
-open-all : {I : Type 0} (script : List Turned) (n : ℕ) (c d : Crew I) (p : Plays script n c d)
-    → (progress_in p.opened ≡ progress_in p.made) × All AllOpen p.opened.servers.items
+open-all : (script : List Turned) (n : ℕ) (c d : CrewView) (p : Plays script n c d)
+    → (progress_in p.opened ≡ progress_in p.made) × All AllOpen p.opened.servers
 open-all script n c d p =
-    let opened = all-opened p.made.servers.items p.opened.servers.items p.opens in
-    (λ m. record (progress_with (p.waits m) p.made.servers.items) { workers = opened.0 m }, opened.1)
+    let opened = all-opened p.made.servers p.opened.servers p.opens in
+    (λ m. record (progress_with (p.waits m) p.made.servers) { workers = opened.0 m }, opened.1)
 
-pub is-long : {I : Type 0} (setup : Setup) (plans : List (List Request)) (script : List Turned) (n : ℕ) (c d : Crew I)
+pub is-long : (setup : Setup) (plans : List (List Request)) (script : List Turned) (n : ℕ) (c d : CrewView)
     (p : Plays script n c d)
     → IsNewCrew setup plans c
-    → AllFresh p
     → MayLast setup.turns (items_of plans) setup.workers n
-is-long setup plans script n c d p new looks =
+is-long setup plans script n c d p new =
     let opened = open-all script n c d p in
     let rounds : Unended IsFreshRound n (progress_in p.made) (progress_in d) =
     subst (λ b. Unended IsFreshRound n b (progress_in d)) opened.0
-    (rounds-modelled n p.opened d p.goes_round looks.rounds_are opened.1) in
-    let most : MayLast c.coordinator.turns (items_in (progress_in c)) (length (map progress_of c.servers.items)) n =
+    (rounds-modelled n p.opened d p.goes_round opened.1) in
+    let most : MayLast c.coordinator.turns (items_in (progress_in c)) (length (map progress_of c.servers)) n =
     rounds_end (participants script) n (progress_in c) (progress_in p.made) (progress_in d) new.start
-    (entries-modelled script c p.made p.entries looks.entries) rounds in
+    (entries-modelled script c p.made p.entries) rounds in
     subst (λ t. MayLast t (items_of plans) setup.workers n) new.turns
     (subst (λ i. MayLast c.coordinator.turns i setup.workers n) new.items
     (subst (λ w. MayLast c.coordinator.turns (items_in (progress_in c)) w n)
-    (length-map c.servers.items progress_of ∙ new.workers) most))
+    (length-map c.servers progress_of ∙ new.workers) most))
 
 -- why a new crew that plays a script leaves nothing is why its replay gives no report
-pub under-way : (setup : Setup) (plans : List (List Request)) (script : List Turned) (c : Crew ListInbox)
+pub under-way : (setup : Setup) (plans : List (List Request)) (script : List Turned) (c : CrewView)
     (fault : ReplayFault)
     → IsNewCrew setup plans c
     → IsPlayFault script c fault
@@ -138,6 +135,6 @@ under-way setup plans script c Unfinished new h = record {
   start = c;
   new = new;
   not_ended = h;
-  long = λ looks. subst (λ n. MayLast setup.turns (items_of plans) setup.workers n) h.all
-      (is-long setup plans script h.rounds c h.last h.plays new looks);
+  long = subst (λ n. MayLast setup.turns (items_of plans) setup.workers n) h.all
+      (is-long setup plans script h.rounds c h.last h.plays new);
 }

@@ -1,4 +1,3 @@
-pub mod Fresh
 pub mod Report
 pub mod Room
 pub mod Rounds

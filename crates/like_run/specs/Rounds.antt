@@ -8,13 +8,10 @@ use Rattle.like_run.specs.declared.rounds.fault.ReplayFault.TheVariants.{Setting
 use Rattle.like_requests.specs.declared.script.Turned.{Turned}
 use Rattle.like_requests.specs.declared.script.Turned.TheVariants.{OpenOne, Worker, Coordinator}
 use Rattle.like_ending.specs.Laws.{MayLast}
-use Rattle.like_queue.specs.declared.list_inbox.ListInbox.{ListInbox}
-use Rattle.like_crew.specs.declared.crew.Crew.{Crew}
-use Rattle.like_crew.specs.Crew.{HasInbox}
+use Rattle.like_crew.specs.Crew.{CrewView, HasInbox}
 use Rattle.like_crew.specs.Progress.{IsNewCrew, items_of}
 use Rattle.like_crew.specs.Server.{ServerView}
 use Rattle.like_requests.specs.Script.{IsFirstAway, IsInRun}
-use Rattle.like_run.specs.Fresh.{AllFresh}
 use Rattle.like_run.specs.Script.{Plays, PlaysToEnd, max_rounds}
 
 -- a crew with these servers can make an entry: its submitter has an inbox, or its worker exists
@@ -30,29 +27,29 @@ pub record CanReplayScript (setup : Setup) (plans : List (List Request)) (script
 
 -- a replay ended in this phase: a new crew played the script to its end, and there its coordinator saw this phase
 pub record HasEndedIn (setup : Setup) (plans : List (List Request)) (script : List Turned) (phase : ℕ) : Type 0 where
-  pub start : Crew ListInbox
+  pub start : CrewView
   pub new : IsNewCrew setup plans start
-  pub last : Crew ListInbox
+  pub last : CrewView
   pub plays : PlaysToEnd script start last
   pub phase_is : phase ≡ last.coordinator.phase
 
 -- a crew has played a script and the most rounds, and its run has not ended
-pub record HasNotEnded {I : Type 0} (script : List Turned) (c : Crew I) : Type 0 where
+pub record HasNotEnded (script : List Turned) (c : CrewView) : Type 0 where
   pub rounds : ℕ
   pub all : rounds ≡ max_rounds
-  pub last : Crew I
+  pub last : CrewView
   pub plays : Plays script rounds c last
 
--- a replay is unfinished: a new crew played the script and the most rounds, and its run has not ended; and if its looks
--- were fresh, the run is so long that it may last as many
+-- a replay is unfinished: a new crew played the script and the most rounds, and its run has not ended; and the run is so
+-- long that it may last as many
 pub record IsUnfinished (setup : Setup) (plans : List (List Request)) (script : List Turned) : Type 0 where
-  pub start : Crew ListInbox
+  pub start : CrewView
   pub new : IsNewCrew setup plans start
   pub not_ended : HasNotEnded script start
-  pub long : AllFresh not_ended.plays → MayLast setup.turns (items_of plans) setup.workers max_rounds
+  pub long : MayLast setup.turns (items_of plans) setup.workers max_rounds
 
 -- why a crew that plays a script leaves nothing: memory ran out, or its run has not ended
-abbrev pub IsPlayFault : {I : Type 0} → List Turned → Crew I → ReplayFault → Type 0
+abbrev pub IsPlayFault : List Turned → CrewView → ReplayFault → Type 0
 IsPlayFault script c (Settings why) = ⊥
 IsPlayFault script c Memory = ⊤
 IsPlayFault script c Unfinished = HasNotEnded script c

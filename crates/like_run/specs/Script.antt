@@ -3,70 +3,73 @@ use Rattle.std.specs.Prelude.{◌≡◌, ◌<◌, ℕ, zero, suc, false, true, L
 use Rattle.std.specs.List.{AllZip}
 use Rattle.like_requests.specs.declared.script.Turned.{Turned}
 use Rattle.like_requests.specs.declared.script.Turned.TheVariants.{OpenOne, Worker, Coordinator}
-use Rattle.like_crew.specs.declared.crew.Crew.{Crew}
-use Rattle.like_crew.specs.declared.ended.Ended.{Ended}
-use Rattle.like_crew.specs.Ended.{HasEnded}
-use Rattle.like_crew.specs.ServerTurns.{MakesTurn, OpensAll}
-use Rattle.like_crew.specs.Steps.{AtServer, IsRound, LeadsOn, OpensMore}
+use Rattle.like_crew.specs.Crew.{CrewView, GoesOn}
+use Rattle.like_roles.specs.coordinator.CoordTurns.{HasEndedJoined}
+use Rattle.like_roles.specs.declared.coord_turn.CoordTurn.{CoordTurn}
+use Rattle.like_crew.specs.declared.outcome.Outcome.{Outcome}
+use Rattle.like_crew.specs.OwnCrew.{HasOutcome}
+use Rattle.like_crew.specs.ServerTurns.{OpensAll}
+use Rattle.like_crew.specs.Steps.{AtServer, FreshRound, LeadsFresh, MakesFreshTurn, OpensMore}
 
 -- an entry of a script is made: one item more of a submitter's list is open to its worker, or a worker makes a whole turn,
--- or the coordinator makes one; and all else is the same
-abbrev pub Makes : {I : Type 0} → Turned → Crew I → Crew I → Type 0
+-- or the coordinator makes one; and all else is the same. Each look shows what all turns before have left
+abbrev pub Makes : Turned → CrewView → CrewView → Type 0
 Makes (OpenOne submitter) c d =
-    OpensMore submitter c.servers.items d.servers.items × (d.coordinator ≡ c.coordinator)
+    OpensMore submitter c.servers d.servers × (d.coordinator ≡ c.coordinator)
 Makes (Worker worker) c d =
-    AtServer worker MakesTurn c.servers.items d.servers.items × (d.coordinator ≡ c.coordinator)
-Makes Coordinator c d = LeadsOn c.coordinator d.coordinator × (d.servers ≡ c.servers)
+    AtServer worker (MakesFreshTurn c.coordinator.seat) c.servers d.servers × (d.coordinator ≡ c.coordinator)
+Makes Coordinator c d = (answer : CoordTurn) × LeadsFresh answer c d
 
 -- entries are made one after the other
-abbrev pub MakesAll : {I : Type 0} → List Turned → Crew I → Crew I → Type 0
+abbrev pub MakesAll : List Turned → CrewView → CrewView → Type 0
 MakesAll [] c d = d ≡ c
-MakesAll {I} (entry ∷ script) c d = (next : Crew I) × (Makes entry c next × MakesAll script next d)
+MakesAll (entry ∷ script) c d = (next : CrewView) × (Makes entry c next × MakesAll script next d)
 
--- this many rounds are made, with none of which the run ends
-abbrev pub MakesRounds : {I : Type 0} → ℕ → Crew I → Crew I → Type 0
+-- this many rounds are made, whose looks are fresh, and with none of which the run ends
+abbrev pub MakesRounds : ℕ → CrewView → CrewView → Type 0
 MakesRounds zero c d = d ≡ c
-MakesRounds {I} (suc n) c d = (next : Crew I) × (IsRound false c next × MakesRounds n next d)
+MakesRounds (suc n) c d = (next : CrewView) × (FreshRound false c next × MakesRounds n next d)
 
 -- the most rounds of a replay
 abbrev pub max_rounds : ℕ
 max_rounds = 1000000
 
 -- less than the most rounds are made, and the run ends with the one that follows
-pub record EndsInTime {I : Type 0} (c d : Crew I) : Type 0 where
+pub record EndsInTime (c d : CrewView) : Type 0 where
   pub rounds : ℕ
   pub few : rounds < max_rounds
-  pub before : Crew I
+  pub before : CrewView
   pub goes_round : MakesRounds rounds c before
-  pub ends : IsRound true before d
+  pub ends : FreshRound true before d
 
 -- the most rounds are made, with none of which the run ends
-pub record MakesMostRounds {I : Type 0} (c d : Crew I) : Type 0 where
+pub record MakesMostRounds (c d : CrewView) : Type 0 where
   pub rounds : ℕ
   pub all : rounds ≡ max_rounds
   pub goes_round : MakesRounds rounds c d
 
 -- a crew plays a script and so many rounds: it makes the entries in their order; then all lists are opened; and with none
 -- of the rounds that follow the run ends
-pub record Plays {I : Type 0} (script : List Turned) (rounds : ℕ) (c d : Crew I) : Type 0 where
-  pub made : Crew I
+pub record Plays (script : List Turned) (rounds : ℕ) (c d : CrewView) : Type 0 where
+  pub made : CrewView
   pub entries : MakesAll script c made
-  pub opened : Crew I
-  pub opens : AllZip OpensAll made.servers.items opened.servers.items
+  pub opened : CrewView
+  pub opens : AllZip OpensAll made.servers opened.servers
   pub waits : opened.coordinator ≡ made.coordinator
   pub goes_round : MakesRounds rounds opened d
 
 -- a crew plays a script and less than the most rounds, and ends with the round that follows
-pub record PlaysToEnd {I : Type 0} (script : List Turned) (c d : Crew I) : Type 0 where
+pub record PlaysToEnd (script : List Turned) (c d : CrewView) : Type 0 where
   pub rounds : ℕ
   pub few : rounds < max_rounds
-  pub before : Crew I
+  pub before : CrewView
   pub plays : Plays script rounds c before
-  pub ends : IsRound true before d
+  pub ends : FreshRound true before d
 
--- a crew follows a script: it plays it to its end, and leaves this
-pub record FollowsScript {I : Type 0} (script : List Turned) (c : Crew I) (e : Ended) : Type 0 where
-  pub last : Crew I
+-- a crew follows a script: it plays it to its end, where its coordinator finds the run ended, and leaves this
+pub record FollowsScript (script : List Turned) (c : CrewView) (o : Outcome) : Type 0 where
+  pub last : CrewView
   pub plays : PlaysToEnd script c last
-  pub ended : HasEnded last e
-  pub phases : e.phases ≡ last.coordinator.phase
+  pub later : GoesOn c last
+  pub ended : HasEndedJoined last.coordinator
+  pub outcome : HasOutcome last o

@@ -1,6 +1,6 @@
 -- A run on threads: what the threads of its workers end with.
 use Rattle.std.specs.Prelude.{◌≡◌, ◌+◌, ◌≤◌, ℕ, List, length, ⊤, false}
-use Rattle.like_crew.specs.declared.crew.Crew.{Crew}
+use Rattle.like_crew.specs.Crew.{CrewView}
 use Rattle.like_crew.specs.declared.ended.Ended.{Ended}
 use Rattle.like_crew.specs.Ended.{HasEnded, HasLeft, IsSeatOf}
 use Rattle.like_crew.specs.Server.{ServerView}
@@ -17,9 +17,9 @@ Keeps start first (Stopped token seat) = (token.of ≡ start) × (token.value �
 
 -- a crew went on until its run had ended, and left this; its servers and these submitters' ends were no more than the
 -- threads that could be started
-pub record HasEndedOn {I E : Type 0} (starts : ℕ) (c : Crew I) (ends : List E) (e : Ended) : Type 0 where
+pub record HasEndedOn {E : Type 0} (starts : ℕ) (c : CrewView) (ends : List E) (e : Ended) : Type 0 where
   pub ended : HasEnded c e
-  pub enough : length c.servers.items + length ends ≤ starts
+  pub enough : length c.servers + length ends ≤ starts
 
 -- no fault of the settings or the lists
 abbrev pub IsRunFaultUnderWay : RunFault → Type 0

@@ -5,14 +5,12 @@ ghost use Rattle.like_requests.specs.Script.{IsInRun};
 ghost use Rattle.like_limits.specs.Limits.{max_entries};
 ghost use Rattle.like_promises.specs.WorkloadOf.{lists_of};
 ghost use Rattle.like_crew.specs.Crew.{AreGone, GoesOn};
-ghost use Rattle.like_crew.specs.Ended.{HasEnded};
 ghost use Rattle.like_run.specs.Report.{IsReportOf};
 ghost use Rattle.like_run.specs.Rounds.{CanMake, CanReplayScript, HasEndedIn, IsPlayFault, IsReplayFaultUnderWay, IsReplayFault};
 ghost use Rattle.like_run.specs.Script.{EndsInTime, FollowsScript, Makes, MakesAll, MakesMostRounds};
 
-use like_crew::{Crew, Ended, Site, report_of};
+use like_crew::{Outcome, OwnCrew, report_from, sizes_of};
 use like_promises::Report;
-use like_queue::ListInbox;
 use like_requests::{Request, Setup, Turned, check_script, check_setup};
 use std::alloc::Global;
 use std::snapshot::Snapshot;
@@ -80,19 +78,19 @@ fn replay_within(
         (λ report. HasEndedIn setup.now (lists_of plans.items) script.now report.phases) }
     ensures fault { IfErr result (IsReplayFaultUnderWay setup.now (lists_of plans.items) script.now) }
 {
-    let (site, seats) = Site::new(alloc, setup, &plans, notes)?;
+    let sizes = sizes_of(alloc, &plans)?;
     let lists = Snapshot::of(&plans);
-    let crew = Crew::new(alloc, setup, &site, seats, plans)?;
-    let ended = play(alloc, crew, script)?;
-    Ok(report_of(alloc, setup, &lists, site, ended)?)
+    let crew = OwnCrew::new(alloc, setup, &sizes, plans, notes)?;
+    let outcome = play(alloc, crew, script)?;
+    Ok(report_from(alloc, setup, &lists, &sizes, notes, outcome)?)
 }
 
 // Makes a script's entries in their order, opens all lists, makes rounds until the run ended, and takes the crew apart.
-fn play(alloc: Global, crew: Crew<'_, ListInbox>, script: &[Turned]) -> Result<Ended, ReplayFault>
-    requires { All (CanMake crew.servers.items) script.now }
-    ensures script { IfOk result (FollowsScript script.now crew.entry) }
-    ensures ended { IfOk result (HasEnded crew.entry) }
-    ensures fault { IfErr result (IsPlayFault script.now crew.entry) }
+fn play(alloc: Global, crew: OwnCrew, script: &[Turned]) -> Result<Outcome, ReplayFault>
+    requires script { All (CanMake crew.servers) script.now }
+    requires all { length crew.servers ≡ crew.coordinator.seat.opening.workers }
+    ensures script { IfOk result (FollowsScript script.now crew) }
+    ensures fault { IfErr result (IsPlayFault script.now crew) }
 {
     let mut crew = crew;
     make_all(&mut crew, script);
@@ -107,8 +105,8 @@ fn play(alloc: Global, crew: Crew<'_, ListInbox>, script: &[Turned]) -> Result<E
 }
 
 // Makes a script's entries in their order.
-fn make_all(crew: &mut Crew<'_, ListInbox>, script: &[Turned])
-    requires { All (CanMake crew.old.servers.items) script.now }
+fn make_all(crew: &mut OwnCrew, script: &[Turned])
+    requires { All (CanMake crew.old.servers) script.now }
     ensures makes { MakesAll script.now crew.old crew.new }
     ensures goes_on { GoesOn crew.old crew.new }
 {
@@ -118,8 +116,8 @@ fn make_all(crew: &mut Crew<'_, ListInbox>, script: &[Turned])
 }
 
 // Makes one entry of a script.
-fn make(crew: &mut Crew<'_, ListInbox>, entry: &Turned)
-    requires { CanMake crew.old.servers.items entry.now }
+fn make(crew: &mut OwnCrew, entry: &Turned)
+    requires { CanMake crew.old.servers entry.now }
     ensures makes { Makes entry.now crew.old crew.new }
     ensures goes_on { GoesOn crew.old crew.new }
 {
@@ -135,11 +133,11 @@ fn make(crew: &mut Crew<'_, ListInbox>, entry: &Turned)
 }
 
 // Makes rounds until the run ended.
-fn make_rounds(crew: &mut Crew<'_, ListInbox>) -> Result<(), ReplayFault>
+fn make_rounds(crew: &mut OwnCrew) -> Result<(), ReplayFault>
     ensures rounds { OnOk result (EndsInTime crew.old crew.new) }
     ensures goes_on { GoesOn crew.old crew.new }
     ensures ended { OnOk result (HasEndedJoined crew.new.coordinator) }
-    ensures gone { OnOk result (AreGone crew.new.servers.items) }
+    ensures gone { OnOk result (AreGone crew.new.servers) }
     ensures fault { IfErr result (λ fault. fault ≡ ReplayFault.Unfinished) }
     ensures all { OnErr result (MakesMostRounds crew.old crew.new) }
 {

@@ -1,6 +1,7 @@
 ghost use Rattle.std.specs.Prelude.{◌≡◌, ◌+◌, ◌-◌, ◌≤◌, ◌^◌, min, false, true, [], All, IfErr, IfOk, OnOk, length, map, vec_capacity};
 ghost use Rattle.like_requests.specs.Setup.{FitsRun, IsWithinLimits};
 ghost use Rattle.like_promises.specs.WorkloadOf.{lists_of};
+ghost use Rattle.like_crew.specs.Crew.{crew_of};
 ghost use Rattle.like_crew.specs.Ended.{IsEnded};
 ghost use Rattle.like_crew.specs.Site.{AreSeats, IsSite};
 ghost use Rattle.like_run.specs.Report.{IsReportOf};
@@ -155,7 +156,7 @@ fn on_threads<R: Threads + Wait + Sync, G: Gate>(
     starts: usize,
 ) -> Result<Ended, RunFault>
     requires { AreNewEnds ends.items }
-    ensures ended { IfOk result (HasEndedOn starts crew.entry ends.entry.items) }
+    ensures ended { IfOk result (HasEndedOn starts (crew_of crew.entry) ends.entry.items) }
     ensures fault { IfErr result IsRunFaultUnderWay }
 {
     let Ok(parkers) = Parkers::new(alloc, crew.servers.len()) else {
@@ -175,7 +176,7 @@ fn on_threads<R: Threads + Wait + Sync, G: Gate>(
         rt,
         move |scope| -> Result<Ended, RunFault>
             requires { AreNewEnds ends.items }
-            ensures ended { IfOk result (HasEndedOn starts crew.entry ends.entry.items) }
+            ensures ended { IfOk result (HasEndedOn starts (crew_of crew.entry) ends.entry.items) }
             ensures fault { IfErr result IsRunFaultUnderWay }
         { in_scope(scope, alloc, shared, crew, ends, starts) },
     )
@@ -191,7 +192,7 @@ fn in_scope<'s, E, R: Threads + Wait + Sync, G: Gate>(
     starts: usize,
 ) -> Result<Ended, RunFault>
     requires { AreNewEnds ends.items }
-    ensures ended { IfOk result (HasEndedOn starts crew.entry ends.entry.items) }
+    ensures ended { IfOk result (HasEndedOn starts (crew_of crew.entry) ends.entry.items) }
     ensures fault { IfErr result IsRunFaultUnderWay }
 {
     let Crew {

@@ -1,19 +1,18 @@
 //! The answers of each turn of a script.
-ghost use Rattle.std.specs.Prelude.{All, length};
+ghost use Rattle.std.specs.Prelude.{◌≡◌, All, length};
 ghost use Rattle.like_requests.specs.Setup.{FitsRun};
 ghost use Rattle.like_requests.specs.Script.{IsInRun};
 ghost use Rattle.like_roles.specs.coordinator.CoordTurns.{HasEndedJoined};
 ghost use Rattle.like_promises.specs.WorkloadOf.{lists_of};
-ghost use Rattle.like_crew.specs.Crew.{AreGone, GoesOn};
-ghost use Rattle.like_crew.specs.Ended.{HasEnded};
+ghost use Rattle.like_crew.specs.Crew.{AreGone, CrewView, GoesOn};
+ghost use Rattle.like_crew.specs.OwnCrew.{HasOutcome};
 ghost use Rattle.like_run.specs.Rounds.{CanMake};
 
 use super::cases::{
     Case, FULL_STASH, IDLE_WORKERS, LATE_WORKER, PLAIN_LIKES, SPLIT_AND_STASH, STASH_THEN_LIKE,
     TWO_SLICES, UNSPLIT, assert_counts, assert_text, turns,
 };
-use like_crew::{Crew, Ended, Site, report_of};
-use like_queue::ListInbox;
+use like_crew::{Outcome, OwnCrew, report_from, sizes_of};
 use like_replies::Report;
 use like_requests::{Request, Setup, check_script, check_setup};
 use like_roles::{CoordTurn, Turn};
@@ -31,8 +30,8 @@ enum Answer {
 }
 
 // Makes one entry of a script, and gives what it answers where it is a turn.
-fn answer_of(crew: &mut Crew<'_, ListInbox>, entry: &Turned) -> Option<Answer>
-    requires { CanMake crew.old.servers.items entry.now }
+fn answer_of(crew: &mut OwnCrew, entry: &Turned) -> Option<Answer>
+    requires { CanMake crew.old.servers entry.now }
     ensures { GoesOn crew.old crew.new }
 {
     match *entry {
@@ -62,10 +61,10 @@ fn write_answer(rt: &impl Abort, words: &mut String, answer: &Answer) {
 fn answers_of(
     rt: &impl Abort,
     alloc: Global,
-    crew: &mut Crew<'_, ListInbox>,
+    crew: &mut OwnCrew,
     script: &[Turned],
 ) -> String
-    requires { All (CanMake crew.old.servers.items) script.now }
+    requires { All (CanMake crew.old.servers) script.now }
     ensures { GoesOn crew.old crew.new }
 {
     let mut words = String::new(alloc);
@@ -78,10 +77,10 @@ fn answers_of(
 }
 
 // Opens all lists, and makes rounds until the run ended.
-fn end_run(rt: &impl Abort, crew: &mut Crew<'_, ListInbox>)
+fn end_run(rt: &impl Abort, crew: &mut OwnCrew)
     ensures goes_on { GoesOn crew.old crew.new }
     ensures ended { HasEndedJoined crew.new.coordinator }
-    ensures gone { AreGone crew.new.servers.items }
+    ensures gone { AreGone crew.new.servers }
 {
     crew.open_all();
     for _ in 0..MAX_ROUNDS {
@@ -97,17 +96,19 @@ fn end_run(rt: &impl Abort, crew: &mut Crew<'_, ListInbox>)
 fn play(
     rt: &impl Abort,
     alloc: Global,
-    crew: Crew<'_, ListInbox>,
+    crew: OwnCrew,
     script: &[Turned],
-) -> (String, Ended)
-    requires { All (CanMake crew.servers.items) script.now }
-    ensures { HasEnded crew.entry result.1 }
+) -> (String, Outcome)
+    requires script { All (CanMake crew.servers) script.now }
+    requires all { length crew.servers ≡ crew.coordinator.seat.opening.workers }
+    ensures { (last : CrewView)
+        × (GoesOn crew last × HasEndedJoined last.coordinator × HasOutcome last result.1) }
 {
     let mut crew = crew;
     let words = answers_of(rt, alloc, &mut crew, script);
     end_run(rt, &mut crew);
-    let ended = crew.finish(alloc).expect(rt, "memory");
-    (words, ended)
+    let outcome = crew.finish(alloc).expect(rt, "memory");
+    (words, outcome)
 }
 
 // What the turns of a script answer in a run within the limits, and its report.
@@ -121,11 +122,11 @@ fn answers_within(
     requires within { FitsRun setup.now (lists_of plans.items) }
     requires script { All (IsInRun setup.now.workers (length plans.items)) script.now }
 {
-    let (site, seats) = Site::new(alloc, setup, &plans, true).expect(rt, "memory");
+    let sizes = sizes_of(alloc, &plans).expect(rt, "memory");
     let lists = Snapshot::of(&plans);
-    let crew = Crew::new(alloc, setup, &site, seats, plans).expect(rt, "memory");
-    let (words, ended) = play(rt, alloc, crew, script);
-    let report = report_of(alloc, setup, &lists, site, ended).expect(rt, "a report");
+    let crew = OwnCrew::new(alloc, setup, &sizes, plans, true).expect(rt, "memory");
+    let (words, outcome) = play(rt, alloc, crew, script);
+    let report = report_from(alloc, setup, &lists, &sizes, true, outcome).expect(rt, "a report");
     (words, report)
 }
 

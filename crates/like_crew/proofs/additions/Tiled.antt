@@ -21,7 +21,7 @@ use Rattle.like_core.proofs.Steps.{all_split}
 use Rattle.std.proofs.lemmas.List.Elements.{All-map}
 use Rattle.like_board.specs.declared.worker_seat.WorkerSeat.{WorkerSeat}
 use Rattle.like_board.specs.Closed.{count_with}
-use Rattle.like_board.specs.Seats.{coord_view, seat_meaning}
+use Rattle.like_board.specs.Seats.{seat_meaning}
 use Rattle.like_promises.specs.declared.log.Added.{Added}
 use Rattle.like_promises.specs.declared.log.Ran.{Ran}
 use Rattle.like_promises.specs.declared.log.WorkerLog.{WorkerLog}
@@ -31,11 +31,10 @@ use Rattle.like_roles.specs.worker.Follows.{AreNoted}
 use Rattle.like_promises.specs.Likes.{Between, initial_count}
 use Rattle.like_promises.proofs.LikesBelow.{likes_below}
 use Rattle.like_promises.specs.Workload.{Workload}
-use Rattle.like_crew.specs.declared.ended.Ended.{Ended}
-use Rattle.like_crew.specs.declared.site.Site.{Site}
+use Rattle.like_crew.specs.declared.outcome.Outcome.{Outcome}
 use Rattle.like_promises.specs.WorkloadOf.{workload_of}
 use Rattle.like_promises.specs.EndToEnd.{runs_of}
-use Rattle.like_crew.specs.Ended.{IsEnded, IsSeatOf}
+use Rattle.like_crew.specs.Outcome.{IsOutcome, IsSeatLike}
 use Rattle.like_crew.specs.Server.{HasWorkedFor, IsLogOf, ServerView}
 use Rattle.like_promises.specs.places.Tiling.{all_noted}
 use Rattle.like_crew.proofs.additions.AddedPages.{adds-there, none-liked}
@@ -60,13 +59,13 @@ count-all test (log ∷ logs) =
     ∙ sym (sum_by-append one (additions_noted log) (all_noted logs)))
 
 -- what a log has noted, where its worker notes its additions
-pub record HasNoted (setup : Setup) (plans : List (List Request)) (site : Site) (e : Ended)
-    (h : IsEnded setup plans site e) (s : ServerView) (log : WorkerLog) : Type 0 where
+pub record HasNoted (setup : Setup) (plans : List (List Request)) (notes : Bool) (e : Outcome)
+    (h : IsOutcome setup plans notes e) (s : ServerView) (log : WorkerLog) : Type 0 where
   pub of_log : IsLogOf s log
-  pub worked : HasWorkedFor (known setup plans site e h) s
+  pub worked : HasWorkedFor (known setup plans notes e h) s
   pub additions : (additions_among s.worker.post.did) ≡ additions_noted log
-  pub adds : AddsItsLikes (known setup plans site e h) log.ran.items log.adds.items
-  pub calls : calls_of (known setup plans site e h) log.adds.items log.ran.items ≡ stretches_of s.worker.post.did
+  pub adds : AddsItsLikes (known setup plans notes e h) log.ran.items log.adds.items
+  pub calls : calls_of (known setup plans notes e h) log.adds.items log.ran.items ≡ stretches_of s.worker.post.did
 
 -- steps that lie between what all seats have added lie so between the likes of the run lists
 stand-noted : (workload : Workload) (runs : List (List Ran)) (counts : List ℕ) (before : ℕ → ℕ → ℕ) (last : ℕ)
@@ -86,43 +85,43 @@ stand-noted workload runs counts before last post initial below stand =
     let upto = below (s.phase + 1) s.page in
     record { lower = omega (arith, b.least); upper = omega (arith, b.most) }))
 
-module _ (setup : Setup) (plans : List (List Request)) (site : Site) (e : Ended) (h : IsEnded setup plans site e)
-    (masks : HaveMasks setup plans site e h) (counted : HasCounted setup plans site e h)
-    (notes : site.notes ≡ true) where
+module _ (setup : Setup) (plans : List (List Request)) (notes : Bool) (e : Outcome) (h : IsOutcome setup plans notes e)
+    (masks : HaveMasks setup plans notes e h) (counted : HasCounted setup plans notes e h)
+    (asked : notes ≡ true) where
   -- the log of each worker has
   noted-by : (worker : ℕ) (s : ServerView) (log : WorkerLog) → slice_get h.servers worker ≡ Some s → IsLogOf s log
-      → HasNoted setup plans site e h s log
+      → HasNoted setup plans notes e h s log
   noted-by worker s log at of_log =
-      let is = server-at setup plans site e h worker s at in
-      let worked : HasWorkedFor (known setup plans site e h) s =
-      (is.works (hot_known setup plans site e h), right-at-server setup plans site e h masks worker s at) in
-      let noted : AreNoted (known setup plans site e h) s.worker =
-      (of_log.each (known setup plans site e h) worked).noted (is.notes_are ∙ notes) in
+      let is = server-at setup plans notes e h worker s at in
+      let worked : HasWorkedFor (known setup plans notes e h) s =
+      (is.works (hot_known setup plans notes e h), right-at-server setup plans notes e h masks worker s at) in
+      let noted : AreNoted (known setup plans notes e h) s.worker =
+      (of_log.each (known setup plans notes e h) worked).noted (is.notes_are ∙ asked) in
       record {
         of_log = of_log;
         worked = worked;
         additions = noted.additions ∙ ap (map addition_of) (sym of_log.adds);
-        adds = subst (λ (ran : List Ran). AddsItsLikes (known setup plans site e h) ran log.adds.items) (sym of_log.ran)
-            (subst (AddsItsLikes (known setup plans site e h) s.worker.ran) (sym of_log.adds) noted.adds);
-        calls = (λ i. calls_of (known setup plans site e h) (of_log.adds i) (of_log.ran i)) ∙ noted.calls;
+        adds = subst (λ (ran : List Ran). AddsItsLikes (known setup plans notes e h) ran log.adds.items) (sym of_log.ran)
+            (subst (AddsItsLikes (known setup plans notes e h) s.worker.ran) (sym of_log.adds) noted.adds);
+        calls = (λ i. calls_of (known setup plans notes e h) (of_log.adds i) (of_log.ran i)) ∙ noted.calls;
       }
 
   noted-at : (worker : ℕ) (log : WorkerLog) → slice_get e.logs.items worker ≡ Some log
-      → (s : ServerView) × ((slice_get h.servers worker ≡ Some s) × HasNoted setup plans site e h s log)
+      → (s : ServerView) × ((slice_get h.servers worker ≡ Some s) × HasNoted setup plans notes e h s log)
   noted-at worker log at =
       let s = left-at IsLogOf h.servers e.logs.items worker log h.logs at in
       (s.0, (s.1.0, noted-by worker s.0 log s.1.0 s.1.1))
 
   -- of its accepted likes
-  pub of-likes : SawNoneLater setup plans site e h
-      → All (λ log. AddsItsLikes (served setup plans site e h) log.ran.items log.adds.items) e.logs.items
+  pub of-likes : SawNoneLater setup plans notes e h
+      → All (λ log. AddsItsLikes (served setup plans notes e h) log.ran.items log.adds.items) e.logs.items
   of-likes phases worker d within =
       let log : WorkerLog = get_or e.logs.items worker d in
       let at : slice_get e.logs.items worker ≡ Some log = slice_get-get_or e.logs.items worker d within in
-      let is = logs-are setup plans site e h masks counted phases worker log at in
-      of-likes-same (workload_of setup plans) (hot_known setup plans site e h) (served setup plans site e h).hot e.phases
-      (masks-known setup plans site e h masks counted) log.ran.items log.adds.items
-      (ran-within (served setup plans site e h) log.taken.items e.phases h.joined is.1 log.ran.items is.0.ran)
+      let is = logs-are setup plans notes e h masks counted phases worker log at in
+      of-likes-same (workload_of setup plans) (hot_known setup plans notes e h) (served setup plans notes e h).hot e.phases
+      (masks-known setup plans notes e h masks counted) log.ran.items log.adds.items
+      (ran-within (served setup plans notes e h) log.taken.items e.phases h.joined is.1 log.ran.items is.0.ran)
       (noted-at worker log at).1.1.adds
 
   -- to pages that are there
@@ -131,18 +130,18 @@ module _ (setup : Setup) (plans : List (List Request)) (site : Site) (e : Ended)
   all-there there worker d within =
       let log : WorkerLog = get_or e.logs.items worker d in
       let n = noted-at worker log (slice_get-get_or e.logs.items worker d within) in
-      adds-there (known setup plans site e h) there (additions_among n.0.worker.post.did) log.adds.items log.ran.items
+      adds-there (known setup plans notes e h) there (additions_among n.0.worker.post.did) log.adds.items log.ran.items
       n.1.1.additions
-      (n.1.1.of_log.each (known setup plans site e h) n.1.1.worked).likes n.1.1.adds.each
+      (n.1.1.of_log.each (known setup plans notes e h) n.1.1.worked).likes n.1.1.adds.each
 
   -- as many of the logs' additions pass a test as of the seats'
   passing-same : (test : Addition → Bool)
-      → posts_passing (posts setup plans site e h) test ≡ count_by test (all_noted e.logs.items)
+      → posts_passing (posts setup plans notes e h) test ≡ count_by test (all_noted e.logs.items)
   passing-same test =
-      sum-of-map (λ (p : PostView). count_by test (additions_among p.did)) seat_meaning e.seats.items
-      ∙ sym (pairs-sum IsSeatOf (λ (s : ServerView). count_by test (additions_among s.worker.post.did))
-      (λ (seat : WorkerSeat). count_by test (additions_among (seat_meaning seat).did)) h.servers e.seats.items
-      (λ s seat m. ap (λ (p : PostView). count_by test (additions_among p.did)) (sym m)) h.seats)
+      sum-of-map (λ (p : PostView). count_by test (additions_among p.did)) seat_meaning h.seats
+      ∙ sym (pairs-sum IsSeatLike (λ (s : ServerView). count_by test (additions_among s.worker.post.did))
+      (λ (seat : WorkerSeat). count_by test (additions_among (seat_meaning seat).did)) h.servers h.seats
+      (λ s seat m. ap (λ (p : PostView). count_by test (additions_among p.did)) (sym m)) h.seats_are)
       ∙ pairs-sum (λ (s : ServerView) (log : WorkerLog). (additions_among s.worker.post.did) ≡ additions_noted log)
       (λ (s : ServerView). count_by test (additions_among s.worker.post.did))
       (λ (log : WorkerLog). count_by test (additions_noted log)) h.servers e.logs.items
@@ -165,76 +164,76 @@ module _ (setup : Setup) (plans : List (List Request)) (site : Site) (e : Ended)
       matched = matches h.servers e.logs.items (λ i s log at of_log. (noted-by i s log at of_log).additions) h.logs
 
   -- each page's count at the start
-  first-same : (page : ℕ) → get_or (coord_view e.coord).opening.counts page 0 ≡ initial_count setup.pages page
+  first-same : (page : ℕ) → get_or h.coord.opening.counts page 0 ≡ initial_count setup.pages page
   first-same page =
-      ap (λ (x : Opening). get_or x.counts page 0) h.opening ∙ initial-at (known setup plans site e h) page
+      ap (λ (x : Opening). get_or x.counts page 0) h.opening ∙ initial-at (known setup plans notes e h) page
 
   module _ (there : All (AreThere setup.pages) plans) (counts : List ℕ) (sized : length counts ≡ length setup.pages)
       (told : (page : ℕ) → page < length setup.pages
-      → get_or counts page 0 ≡ count_with (coord_view e.coord) e.seats.items page) where
+      → get_or counts page 0 ≡ count_with h.coord h.seats page) where
     -- and its last one
-    last-same : (page : ℕ) → count_with (coord_view e.coord) e.seats.items page ≡ get_or counts page 0
+    last-same : (page : ℕ) → count_with h.coord h.seats page ≡ get_or counts page 0
     last-same page = elim (cases_lt page (length setup.pages)) [
       | inl within ↦ sym (told page within)
       | inr past ↦
           let none = get_or_past counts page 0 (omega arith) in
           let start = ap (λ (x : Opening). get_or x.counts page 0) h.opening
-          ∙ get_or_past (z setup plans site e h).counts page 0
+          ∙ get_or_past (z setup plans notes e h).counts page 0
           (omega (arith, length-map setup.pages (λ (p : Page). p.count))) in
-          let added = all-likes setup plans site e h masks page
-          ∙ none-liked (known setup plans site e h) there (runs_of e.logs.items) page past in
+          let added = all-likes setup plans notes e h masks page
+          ∙ none-liked (known setup plans notes e h) there (runs_of e.logs.items) page past in
           omega (arith, none, start, added)
     ]
 
     -- each number of a page is in the stretch of one addition
-    pub tiles-are : HavePlaces (slice_index (coord_view e.coord).opening.counts) (posts setup plans site e h)
+    pub tiles-are : HavePlaces (slice_index h.coord.opening.counts) (posts setup plans notes e h)
         → (page n : ℕ)
         → count_by (covers page n) (all_noted e.logs.items)
         ≡ cond (nat_le (initial_count setup.pages page) n && nat_lt n (get_or counts page 0)) 1 0
     tiles-are places page n =
-        let first : (λ page. get_or (coord_view e.coord).opening.counts page 0) ≡ initial_count setup.pages =
+        let first : (λ page. get_or h.coord.opening.counts page 0) ≡ initial_count setup.pages =
         λ i page. first-same page i in
-        let last : count_with (coord_view e.coord) e.seats.items ≡ (λ page. get_or counts page 0) =
+        let last : count_with h.coord h.seats ≡ (λ page. get_or counts page 0) =
         λ i page. last-same page i in
         sym (passing-same (covers page n))
         ∙ (subst (λ (f : ℕ → ℕ). AreTiles (initial_count setup.pages) f
-        (posts_passing (posts setup plans site e h))) last
-        (subst (λ (f : ℕ → ℕ). AreTiles f (count_with (coord_view e.coord) e.seats.items)
-        (posts_passing (posts setup plans site e h))) first places.tiles)).tiled page n
+        (posts_passing (posts setup plans notes e h))) last
+        (subst (λ (f : ℕ → ℕ). AreTiles f (count_with h.coord h.seats)
+        (posts_passing (posts setup plans notes e h))) first places.tiles)).tiled page n
 
   -- the calls of each worker are placed
-  pub placed-are : HavePlaces (slice_index (coord_view e.coord).opening.counts) (posts setup plans site e h)
+  pub placed-are : HavePlaces (slice_index h.coord.opening.counts) (posts setup plans notes e h)
       → All (λ log. ArePlaced (initial_count setup.pages) (λ test. count_by test (all_noted e.logs.items))
-      (calls_of (served setup plans site e h) log.adds.items log.ran.items)) e.logs.items
+      (calls_of (served setup plans notes e h) log.adds.items log.ran.items)) e.logs.items
   placed-are places worker d within =
       let log : WorkerLog = get_or e.logs.items worker d in
       let n = noted-at worker log (slice_get-get_or e.logs.items worker d within) in
-      let all : Counting = posts_passing (posts setup plans site e h) in
-      let counts : ℕ → ℕ = λ page. get_or (coord_view e.coord).opening.counts page 0 in
+      let all : Counting = posts_passing (posts setup plans notes e h) in
+      let counts : ℕ → ℕ = λ page. get_or h.coord.opening.counts page 0 in
       let post : ArePlaced counts all (stretches_of n.0.worker.post.did) =
-      at-post setup plans site e h (λ p. ArePlaced counts all (stretches_of p.did)) places.each worker n.0 n.1.0 in
+      at-post setup plans notes e h (λ p. ArePlaced counts all (stretches_of p.did)) places.each worker n.0 n.1.0 in
       let first : counts ≡ initial_count setup.pages = λ i page. first-same page i in
       let passing : all ≡ (λ test. count_by test (all_noted e.logs.items)) = λ i test. passing-same test i in
-      let calls : List Addition = calls_of (known setup plans site e h) log.adds.items log.ran.items in
+      let calls : List Addition = calls_of (known setup plans notes e h) log.adds.items log.ran.items in
       subst (λ (c : Counting). ArePlaced (initial_count setup.pages) c calls) passing
       (subst (λ (f : ℕ → ℕ). ArePlaced f all calls) first
       (subst (ArePlaced counts all) (sym n.1.1.calls) post))
 
   -- and lie in the order of phases
-  pub stand-are : All (HaveBetween (coord_view e.coord).opening.counts (posts_before (posts setup plans site e h))
-      (coord_view e.coord).phase) (posts setup plans site e h)
+  pub stand-are : All (HaveBetween h.coord.opening.counts (posts_before (posts setup plans notes e h))
+      h.coord.phase) (posts setup plans notes e h)
       → All (λ log. All
-      (λ c. Between (served setup plans site e h) (runs_of e.logs.items) c.phase c.page c.old 0 c.likes)
-      (calls_of (served setup plans site e h) log.adds.items log.ran.items)) e.logs.items
+      (λ c. Between (served setup plans notes e h) (runs_of e.logs.items) c.phase c.page c.old 0 c.likes)
+      (calls_of (served setup plans notes e h) log.adds.items log.ran.items)) e.logs.items
   stand-are stand worker d within =
       let log : WorkerLog = get_or e.logs.items worker d in
       let n = noted-at worker log (slice_get-get_or e.logs.items worker d within) in
-      let counts : List ℕ = (coord_view e.coord).opening.counts in
-      let last : ℕ = (coord_view e.coord).phase in
-      let before : ℕ → ℕ → ℕ = posts_before (posts setup plans site e h) in
+      let counts : List ℕ = h.coord.opening.counts in
+      let last : ℕ = h.coord.phase in
+      let before : ℕ → ℕ → ℕ = posts_before (posts setup plans notes e h) in
       let post : HaveBetween counts before last n.0.worker.post =
-      at-post setup plans site e h (HaveBetween counts before last) stand worker n.0 n.1.0 in
-      subst (All (λ (c : Addition). Between (served setup plans site e h) (runs_of e.logs.items) c.phase c.page c.old 0 c.likes))
+      at-post setup plans notes e h (HaveBetween counts before last) stand worker n.0 n.1.0 in
+      subst (All (λ (c : Addition). Between (served setup plans notes e h) (runs_of e.logs.items) c.phase c.page c.old 0 c.likes))
       (sym n.1.1.calls)
-      (stand-noted (served setup plans site e h) (runs_of e.logs.items) counts before last n.0.worker.post first-same
-      (all-before setup plans site e h masks) post)
+      (stand-noted (served setup plans notes e h) (runs_of e.logs.items) counts before last n.0.worker.post first-same
+      (all-before setup plans notes e h masks) post)

@@ -1,6 +1,6 @@
 -- A server at a board that its thread owns: what it is and does doesn't depend on the numbers of its board, and its look
 -- is fresh.
-use Rattle.std.proofs.Common.{◌≡◌, ℕ, List, [], ◌∷◌, ◌++◌, length, drop, drop_at, refl, sym, ap, subst, ◌∙◌, arith}
+use Rattle.std.proofs.Common.{◌≡◌, ℕ, ◌+◌, List, [], ◌∷◌, ◌++◌, length, get_or, set, min, drop, drop_at, refl, sym, ap, subst, ◌∙◌, arith}
 use Rattle.std.specs.Option.{IsSomeAnd}
 use Rattle.std.specs.List.{All}
 use mathlib.Core.Option.{Option, some}
@@ -12,7 +12,8 @@ use Rattle.like_core.specs.declared.view.WorkerSeatView.{WorkerSeatView}
 use Rattle.like_core.specs.PageSteps.{look_after}
 use Rattle.like_board.specs.Lent.{HasLooked, ShowsBy}
 use Rattle.like_promises.specs.Workload.{Workload}
-use Rattle.like_queue.specs.Inbox.{InboxView}
+use Rattle.like_promises.specs.declared.log.WorkerLog.{WorkerLog}
+use Rattle.like_queue.specs.Inbox.{InboxView, item_count}
 use Rattle.like_roles.specs.declared.turn.Turn.{Turn}
 use Rattle.like_roles.specs.declared.turn.Turn.TheVariants.{Try}
 use Rattle.like_roles.specs.worker.Suspended.{moved}
@@ -20,8 +21,8 @@ use Rattle.like_roles.specs.worker.WorkerView.{WorkerView}
 use Rattle.like_roles.proofs.Moved.{Follows-moved, Gives-moved, Turns-moved}
 use Rattle.like_crew.specs.Fresh.{LooksFresh}
 use Rattle.like_crew.specs.OwnServer.{server_at}
-use Rattle.like_crew.specs.Server.{Agree, ServerGoesOn, ServerView, WorksFor}
-use Rattle.like_crew.specs.ServerTurns.{ServerTurns, tries, tries_none}
+use Rattle.like_crew.specs.Server.{Agree, IsLogOf, ServerGoesOn, ServerView, WorksFor}
+use Rattle.like_crew.specs.ServerTurns.{OpensAll, OpensOne, ServerTurns, place_at, tries, tries_none}
 use Rattle.like_crew.proofs.servers.Posts.{server-looks}
 
 pub Agree-moved : (v : WorkerView) (board : List ℕ) (inboxes : List InboxView) → Agree v inboxes
@@ -39,7 +40,7 @@ Agree-moved v board inboxes a = record {
 }
 
 -- it works for the same workloads
-works-at : (workload : Workload) (s : ServerView) (board : List ℕ) → WorksFor workload s
+pub works-at : (workload : Workload) (s : ServerView) (board : List ℕ) → WorksFor workload s
     → WorksFor workload (server_at s board)
 works-at workload s board works = record {
   plans = works.plans;
@@ -78,6 +79,50 @@ lent-goes_on s t board none on = record {
   board = sym none;
   inboxes = on.inboxes;
   works = λ workload works. works-at workload t [] (on.works workload (works-at workload s board works));
+}
+
+-- what it does to open its lists at a board that was lent to it is its own
+pub lent-opens-one : (submitter : ℕ) (s t : ServerView) (board : List ℕ) → s.worker.post.board ≡ []
+    → OpensOne submitter (server_at s board) t
+    → OpensOne submitter s (server_at t [])
+lent-opens-one submitter s t board none o = record {
+  inbox = o.inbox;
+  here = o.here;
+  more =
+      ap (λ x. server_at x []) o.more
+      ∙ ap (λ (x : ServerView). record x {
+        opened = set s.opened (place_at s submitter)
+            (min (get_or s.opened (place_at s submitter) 0 + 1) (item_count o.inbox.plan));
+      }) (at-none s board none);
+}
+
+pub lent-opens-all : (s t : ServerView) (board : List ℕ) → s.worker.post.board ≡ []
+    → OpensAll (server_at s board) t
+    → OpensAll s (server_at t [])
+lent-opens-all s t board none o = record {
+  all = o.all;
+  rest = ap (λ x. server_at x []) o.rest ∙ ap (λ (x : ServerView). record x { opened = t.opened }) (at-none s board none);
+}
+
+-- and so is its log
+pub lent-log : (s : ServerView) (board : List ℕ) (log : WorkerLog) → IsLogOf (server_at s board) log → IsLogOf s log
+lent-log s board log l = record {
+  share = l.share;
+  ran = l.ran;
+  adds = l.adds;
+  unnoted = l.unnoted;
+  above = l.above;
+  each = λ workload has.
+      let it = l.each workload (works-at workload s board has.0, has.1) in
+      record {
+        is_log = it.is_log;
+        likes = it.likes;
+        by_phase = it.by_phase;
+        looks = it.looks;
+        steps = it.steps;
+        noted = λ notes.
+            let n = it.noted notes in record { additions = n.additions; adds = n.adds; reads = n.reads };
+      };
 }
 
 -- of one element each fact of all holds

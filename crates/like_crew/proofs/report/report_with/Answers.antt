@@ -16,33 +16,19 @@ use Rattle.like_promises.specs.EndToEnd.{runs_of}
 use Rattle.like_crew.proofs.additions.Tiled.{all-there, of-likes, placed-are, stand-are, tiles-are}
 use Rattle.like_crew.proofs.Once.{collected-at, memory-alone}
 use Rattle.like_crew.proofs.OneOrder.{one-order, seen-counts}
-use Rattle.like_crew.proofs.Whole.{all-gone, none-noted, all-here, are-all, chosen-are, counts-are, known, last-likes-are, log-at, logs-are, logs-size, runs-once, tables}
+use Rattle.like_crew.proofs.Whole.{chosen-are, counts-are, known, last-likes-are, log-at, logs-are, logs-size, none-noted, runs-once, tables}
 use Rattle.like_crew.proofs.report.report_with.Goals as goal
-
-pub final_counts-counts-requires-clause-left : goal.final_counts-counts-requires-clause-left
-final_counts-counts-requires-clause-left c = record {
-  coord_here = c.requires.ended.coord;
-  seats_here = all-here c.args.setup.now
-      (lists_of c.args.plans.now.value.items) c.args.site c.args.ended c.requires.ended;
-  all = are-all c.args.setup.now (lists_of c.args.plans.now.value.items) c.args.site c.args.ended c.requires.ended refl;
-  gone = all-gone c.args.setup.now (lists_of c.args.plans.now.value.items) c.args.site c.args.ended c.requires.ended;
-}
-
-pub final_counts-counts-requires-clause-places : goal.final_counts-counts-requires-clause-places
-final_counts-counts-requires-clause-places c =
-    ap (λ (xs : List ℕ). length xs)
-    (c.requires.site.counts ∙ sym (ap (λ (z : Opening). z.counts) c.requires.ended.opening))
 
 pub replies_of-requires : goal.replies_of-requires
 replies_of-requires c =
     let plans : List (List Request) = lists_of c.args.plans.now.value.items in
-    let e = c.args.ended in
-    memory-alone c.args.site.sizes.items (entries_in e.logs.items) c.args.collected
-    (runs-once (known c.args.setup.now plans c.args.site e c.requires.ended) c.args.setup.now.workers e.logs.items
-    c.args.site.sizes.items c.requires.site.sizes
-    (logs-size c.args.setup.now plans c.args.site e c.requires.ended)
+    let e = c.args.outcome in
+    memory-alone c.args.sizes.now (entries_in e.logs.items) c.args.collected
+    (runs-once (known c.args.setup.now plans c.args.notes e c.requires.outcome) c.args.setup.now.workers e.logs.items
+    c.args.sizes.now c.requires.sizes
+    (logs-size c.args.setup.now plans c.args.notes e c.requires.outcome)
     c.requires.within.numbers.workers.0
-    (log-at c.args.setup.now plans c.args.site e c.requires.ended c.final_counts-counts.ensures.closed.masks))
+    (log-at c.args.setup.now plans c.args.notes e c.requires.outcome c.requires.outcome.counts.closed.masks))
     c.requires.collected
 
 -- the number of submitters
@@ -56,16 +42,14 @@ pub last_likes-requires-clause-submitters : goal.last_likes-requires-clause-subm
 last_likes-requires-clause-submitters c =
     omega (
       arith,
-      c.len.ensures,
-      c.args.site.sizes.ok.0,
-      ap (λ (xs : List ℕ). length xs) c.requires.site.sizes,
+      ap (λ (xs : List ℕ). length xs) c.requires.sizes,
       c.requires.within.numbers.submitters.0,
     )
 
 pub last_likes-requires-clause-logs : goal.last_likes-requires-clause-logs
 last_likes-requires-clause-logs c =
     let size = logs-size c.args.setup.now
-    (lists_of c.args.plans.now.value.items) c.args.site c.args.ended c.requires.ended in
+    (lists_of c.args.plans.now.value.items) c.args.notes c.args.outcome c.requires.outcome in
     let same : length c.deref.result.now ≡ c.args.setup.now.workers =
     ap (λ (xs : List WorkerLog). length xs) c.deref.ensures.value ∙ size in
     let some : 1 ≤ c.args.setup.now.workers = c.requires.within.numbers.workers.0 in
@@ -74,57 +58,57 @@ last_likes-requires-clause-logs c =
 pub last_likes-requires-clause-tables : goal.last_likes-requires-clause-tables
 last_likes-requires-clause-tables c =
     let plans : List (List Request) = lists_of c.args.plans.now.value.items in
-    let many = submitters-are c.len.result c.args.site.sizes.items (lists_of c.args.plans.now.value.items)
-    (c.len.ensures ∙ c.args.site.sizes.ok.0) c.requires.site.sizes in
-    subst (λ (logs : List WorkerLog). AreTables c.args.setup.now.users c.len.result logs) (sym c.deref.ensures.value)
-    (subst (λ n. AreTables c.args.setup.now.users n c.args.ended.logs.items) (sym many)
-    (tables c.args.setup.now plans c.args.site c.args.ended c.requires.ended))
+    let many = submitters-are (length c.args.sizes.now) c.args.sizes.now (lists_of c.args.plans.now.value.items)
+    refl c.requires.sizes in
+    subst (λ (logs : List WorkerLog). AreTables c.args.setup.now.users (length c.args.sizes.now) logs) (sym c.deref.ensures.value)
+    (subst (λ n. AreTables c.args.setup.now.users n c.args.outcome.logs.items) (sym many)
+    (tables c.args.setup.now plans c.args.notes c.args.outcome c.requires.outcome))
 
 pub returns-clause-report : goal.returns-clause-report
 returns-clause-report c =
     let plans : List (List Request) = lists_of c.args.plans.now.value.items in
     let workers : ℕ = c.args.setup.now.workers in
-    let e = c.args.ended in
-    let h = c.requires.ended in
-    let size : length e.logs.items ≡ workers = logs-size c.args.setup.now plans c.args.site e h in
-    let many = submitters-are c.len.result c.args.site.sizes.items (lists_of c.args.plans.now.value.items)
-    (c.len.ensures ∙ c.args.site.sizes.ok.0) c.requires.site.sizes in
-    let told = c.final_counts-counts.ensures in
-    let pages : length c.final_counts-counts.result.items ≡ length c.args.setup.now.pages =
+    let e = c.args.outcome in
+    let h = c.requires.outcome in
+    let size : length e.logs.items ≡ workers = logs-size c.args.setup.now plans c.args.notes e h in
+    let many = submitters-are (length c.args.sizes.now) c.args.sizes.now (lists_of c.args.plans.now.value.items)
+    refl c.requires.sizes in
+    let told = h.counts in
+    let pages : length e.counts.items ≡ length c.args.setup.now.pages =
     told.len ∙ ap (λ (z : Opening). length z.counts) h.opening
     ∙ length-map c.args.setup.now.pages (λ (p : Page). p.count) in
-    let logs = logs-are c.args.setup.now plans c.args.site e h told.closed.masks told.closed.counted
+    let logs = logs-are c.args.setup.now plans c.args.notes e h told.closed.masks told.closed.counted
     told.closed.phases in
-    let order = one-order c.args.setup.now plans c.args.site e h told.closed.masks told.closed.steps told.closed.order
+    let order = one-order c.args.setup.now plans c.args.notes e h told.closed.masks told.closed.steps told.closed.order
     told.closed.counted told.closed.phases in
     record {
       one_order = order;
       workers_all = size;
       logs = logs;
       replies = subst (λ sizes. IsCollected sizes (entries_in e.logs.items) (rows_of c.in_ok-replies.replies))
-          c.requires.site.sizes
-          (collected-at c.args.site.sizes.items (entries_in e.logs.items) c.args.collected c.in_ok-replies.replies
+          c.requires.sizes
+          (collected-at c.args.sizes.now (entries_in e.logs.items) c.args.collected c.in_ok-replies.replies
           c.in_ok-replies.ensures c.requires.collected);
-      counts = counts-are c.args.setup.now plans c.args.site e h told.closed.masks
-          c.final_counts-counts.result.items refl pages
+      counts = counts-are c.args.setup.now plans c.args.notes e h told.closed.masks
+          e.counts.items refl pages
           (λ page there. told.totals page (omega (arith, there, pages)));
       last = last-likes-are
           (workload_of_run c.args.setup.now plans (runs_of e.logs.items)) workers e.logs.items c.in_ok-last.last.items size
           c.requires.within.numbers.workers.0 (λ worker log at. (logs worker log at).0) c.in_ok-last.ensures.len
           (λ user log there at.
           c.in_ok-last.ensures.last user log there
-          (ap (λ (logs : List WorkerLog). slice_get logs (worker_of (length logs) (home c.len.result user)))
+          (ap (λ (logs : List WorkerLog). slice_get logs (worker_of (length logs) (home (length c.args.sizes.now) user)))
           c.deref.ensures.value
           ∙ ap (λ n. slice_get e.logs.items (worker_of (length e.logs.items) (home n user))) many ∙ at));
       joined = h.joined;
       seen = seen-counts (workload_of_run c.args.setup.now plans (runs_of e.logs.items)) workers e.logs.items order;
-      hot = chosen-are c.args.setup.now plans c.args.site e h told.closed.masks told.closed.counted;
+      hot = chosen-are c.args.setup.now plans c.args.notes e h told.closed.masks told.closed.counted;
     }
 
 pub places_of-requires-clause-few : goal.places_of-requires-clause-few
 places_of-requires-clause-few c =
     let plans : List (List Request) = lists_of c.args.plans.now.value.items in
-    let size = logs-size c.args.setup.now plans c.args.site c.args.ended c.requires.ended in
+    let size = logs-size c.args.setup.now plans c.args.notes c.args.outcome c.requires.outcome in
     omega (
       arith,
       ap (λ (xs : List WorkerLog). length xs) c.deref-2.ensures.value,
@@ -135,11 +119,11 @@ places_of-requires-clause-few c =
 pub places_of-requires-clause-there : goal.places_of-requires-clause-there
 places_of-requires-clause-there c notes =
     let plans : List (List Request) = lists_of c.args.plans.now.value.items in
-    let closed = c.final_counts-counts.ensures.closed in
-    let there = all-there c.args.setup.now plans c.args.site c.args.ended c.requires.ended closed.masks closed.counted
+    let closed = c.requires.outcome.counts.closed in
+    let there = all-there c.args.setup.now plans c.args.notes c.args.outcome c.requires.outcome closed.masks closed.counted
     notes c.requires.within.there in
     subst (λ (n : ℕ). All (λ (log : WorkerLog). All (λ (a : Added). a.page < n) log.adds.items) c.deref-2.result.now)
-    (sym c.len-2.ensures.len)
+    (sym c.len.ensures.len)
     (subst (λ (logs : List WorkerLog). All
     (λ (log : WorkerLog). All (λ (a : Added). a.page < length c.args.setup.now.pages) log.adds.items) logs)
     (sym c.deref-2.ensures.value) there)
@@ -148,27 +132,27 @@ pub returns-clause-places : goal.returns-clause-places
 returns-clause-places c notes =
     let plans : List (List Request) = lists_of c.args.plans.now.value.items in
     let setup : Setup = c.args.setup.now in
-    let e = c.args.ended in
-    let h = c.requires.ended in
-    let told = c.final_counts-counts.ensures in
+    let e = c.args.outcome in
+    let h = c.requires.outcome in
+    let told = h.counts in
     let closed = told.closed in
-    let pages : length c.final_counts-counts.result.items ≡ length setup.pages =
+    let pages : length e.counts.items ≡ length setup.pages =
     told.len ∙ ap (λ (z : Opening). length z.counts) h.opening ∙ length-map setup.pages (λ (p : Page). p.count) in
     let P : ℕ → List WorkerLog → Type 0 = λ pages logs. ArePlaces pages logs (lists_in c.in_ok-places.places.items) in
     record {
-      likes = of-likes setup plans c.args.site e h closed.masks closed.counted notes closed.phases;
-      tiles = tiles-are setup plans c.args.site e h closed.masks closed.counted notes
-          c.requires.within.there c.final_counts-counts.result.items pages
+      likes = of-likes setup plans c.args.notes e h closed.masks closed.counted notes closed.phases;
+      tiles = tiles-are setup plans c.args.notes e h closed.masks closed.counted notes
+          c.requires.within.there e.counts.items pages
           (λ page there. told.totals page (omega (arith, there, pages))) closed.places;
-      placed = placed-are setup plans c.args.site e h closed.masks closed.counted notes closed.places;
-      in_time = stand-are setup plans c.args.site e h closed.masks closed.counted notes closed.between;
-      rows = subst (λ (n : ℕ). P n e.logs.items) c.len-2.ensures.len
-          (subst (P c.len-2.result) c.deref-2.ensures.value (c.in_ok-places.ensures.noted notes));
+      placed = placed-are setup plans c.args.notes e h closed.masks closed.counted notes closed.places;
+      in_time = stand-are setup plans c.args.notes e h closed.masks closed.counted notes closed.between;
+      rows = subst (λ (n : ℕ). P n e.logs.items) c.len.ensures.len
+          (subst (P c.len.result) c.deref-2.ensures.value (c.in_ok-places.ensures.noted notes));
     }
 
 pub returns-clause-none : goal.returns-clause-none
 returns-clause-none c unasked =
-    let h = c.requires.ended in (
+    let h = c.requires.outcome in (
       c.in_ok-places.ensures.none unasked,
-      none-noted c.args.setup.now (lists_of c.args.plans.now.value.items) c.args.site c.args.ended h unasked,
+      none-noted c.args.setup.now (lists_of c.args.plans.now.value.items) c.args.notes c.args.outcome h unasked,
     )

@@ -1,4 +1,4 @@
-ghost use Rattle.std.specs.Prelude.{◌≡◌, ℕ, List, []};
+ghost use Rattle.std.specs.Prelude.{◌≡◌, ◌<◌, ℕ, List, [], length};
 ghost use mathlib.Core.Option.{some};
 ghost use lib.ListN.{get_elem?};
 ghost use Rattle.like_core.specs.declared.view.CoordSeatView.{CoordSeatView};
@@ -8,15 +8,17 @@ ghost use Rattle.like_core.specs.declared.view.WorkerSeatView.{WorkerSeatView};
 ghost use Rattle.like_core.specs.declared.worker_state.WorkerState.TheVariants.{Gone};
 ghost use Rattle.like_core.specs.views.Views.{post_of};
 ghost use Rattle.like_board.specs.Lent.{lent_board};
-ghost use Rattle.like_board.specs.Own.{own_views, Knows};
+ghost use Rattle.like_board.specs.Own.{own_meaning, own_views, Knows};
+ghost use Rattle.like_board.specs.OwnPosts.{CameBack};
 ghost use Rattle.like_crew.specs.Fresh.{IsModelled, LooksFresh};
 ghost use Rattle.like_crew.specs.OwnServer.{server_at, CameBackFrom};
-ghost use Rattle.like_crew.specs.Server.{ServerGoesOn};
-ghost use Rattle.like_crew.specs.ServerTurns.{ServerTurns};
+ghost use Rattle.like_crew.specs.Server.{IsLogOf, ServerGoesOn};
+ghost use Rattle.like_crew.specs.ServerTurns.{OpensAll, OpensOne, ServerTurns, place_at};
 
 use crate::crew::server::Server;
 use like_board::{OwnBoard, OwnPost, OwnWorkerSeat};
-use like_queue::{Inbox, TakeWith};
+use like_promises::WorkerLog;
+use like_queue::{Inbox, ListInbox, TakeWith};
 use like_roles::{Gate, SuspendedWorker, Turn};
 use std::marker::Model;
 
@@ -110,6 +112,51 @@ impl<I: Inbox> OwnServer<I> {
             server,
             board,
         }
+    }
+}
+
+impl<I: Inbox> OwnServer<I> {
+    /// Takes it apart when its worker is gone: what the worker has done, its seat and the board.
+    pub fn finish(self, board: OwnBoard) -> (WorkerLog, OwnWorkerSeat, OwnBoard)
+        requires here { Knows board self.place (Worker self.seat) }
+        requires gone { self.as_server.worker.post.state ≡ Gone }
+        ensures log { IsLogOf self.as_server result.0 }
+        ensures seat { own_meaning result.1 ≡ record self.as_server.worker.post { board = [] } }
+        ensures came { CameBack (own_views board) self.place self.seat result.2 result.1 }
+    {
+        let server = self.lend(board);
+        let (log, post) = server.finish();
+        let (board, seat) = post.back();
+        (log, seat, board)
+    }
+}
+
+impl OwnServer<ListInbox> {
+    /// Opens one item more of a submitter's list.
+    pub fn open_one(self, submitter: u32, board: OwnBoard) -> (OwnServer<ListInbox>, OwnBoard)
+        requires here { Knows board self.place (Worker self.seat) }
+        requires there { place_at self.as_server submitter < length self.as_server.inboxes }
+        ensures opens { OpensOne submitter self.as_server result.0.as_server }
+        ensures goes_on { ServerGoesOn self.as_server result.0.as_server }
+        ensures came { CameBackFrom (own_views board) self.place self.seat result.1 result.0 }
+        ensures seat { result.0.as_server.worker.post ≡ post_of result.0.seat }
+    {
+        let mut server = self.lend(board);
+        server.open_one(submitter);
+        server.back()
+    }
+
+    /// Opens all lists.
+    pub fn open_all(self, board: OwnBoard) -> (OwnServer<ListInbox>, OwnBoard)
+        requires { Knows board self.place (Worker self.seat) }
+        ensures opens { OpensAll self.as_server result.0.as_server }
+        ensures goes_on { ServerGoesOn self.as_server result.0.as_server }
+        ensures came { CameBackFrom (own_views board) self.place self.seat result.1 result.0 }
+        ensures seat { result.0.as_server.worker.post ≡ post_of result.0.seat }
+    {
+        let mut server = self.lend(board);
+        server.open_all();
+        server.back()
     }
 }
 

@@ -5,10 +5,10 @@ use Rattle.like_run.specs.Script.{Makes}
 use Rattle.like_run.proofs.rounds.make.Goals as goal
 
 pub open_one-requires : goal.open_one-requires
-open_one-requires c = subst (λ (entry : Turned). CanMake c.args.crew.now.servers.items entry) c.in-OpenOne.is c.requires
+open_one-requires c = subst (λ (entry : Turned). CanMake c.args.crew.now.servers entry) c.in-OpenOne.is c.requires
 
 pub turn_of-requires : goal.turn_of-requires
-turn_of-requires c = subst (λ (entry : Turned). CanMake c.args.crew.now.servers.items entry) c.in-Worker.is c.requires
+turn_of-requires c = subst (λ (entry : Turned). CanMake c.args.crew.now.servers entry) c.in-Worker.is c.requires
 
 pub returns-in-OpenOne : goal.returns-in-OpenOne
 returns-in-OpenOne c = record {
@@ -38,6 +38,6 @@ returns-in-Worker c =
 pub returns-in-Coordinator : goal.returns-in-Coordinator
 returns-in-Coordinator c = record {
   makes = subst (λ (entry : Turned). Makes entry c.args.crew.now c.turn.new.self) (sym c.in-Coordinator.is)
-      ((c.turn.result, c.turn.ensures.case), c.turn.ensures.rest);
+      (c.turn.result, c.turn.ensures.leads);
   goes_on = c.turn.ensures.goes_on;
 }

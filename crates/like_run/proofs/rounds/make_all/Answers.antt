@@ -26,7 +26,7 @@ loop-entry-preserved c =
 
 pub make-requires : goal.make-requires
 make-requires c =
-    can-make-later c.args.crew.now.servers.items c.loop-entry.crew.servers.items
+    can-make-later c.args.crew.now.servers c.loop-entry.crew.servers
     (get_or c.args.script.now c.loop-entry.entry-index (OpenOne 0)) c.loop-entry.invariant.goes_on.servers
     (c.requires c.loop-entry.entry-index (OpenOne 0) c.loop-entry-test.true)
 

@@ -1,12 +1,27 @@
-use Rattle.std.proofs.Common.{subst, sym}
-use Rattle.like_crew.proofs.Coordinated.{crew-further}
-use Rattle.like_crew.proofs.Ending.{ended-later}
+use Rattle.std.proofs.Common.{◌≡◌, ◌∙◌, length, subst, sym, ap}
+use Rattle.like_core.specs.declared.opening.Opening.{Opening}
+use Rattle.like_crew.specs.Crew.{GoesOn}
+use Rattle.like_crew.proofs.Coordinated.{crew-further, crew-same}
+use Rattle.like_crew.proofs.lists.Pairs.{pairs-length}
+use Rattle.like_crew.specs.Server.{ServerGoesOn}
 use Rattle.like_run.specs.Rounds.{IsPlayFault}
 use Rattle.like_run.proofs.rounds.play.Goals as goal
+
+pub finish-requires-clause-all : goal.finish-requires-clause-all
+finish-requires-clause-all c =
+    let first = c.args.crew in
+    let last = c.make_rounds.new.crew in
+    let on : GoesOn first last =
+    crew-further first c.open_all.new.self last
+    (crew-further first c.make_all.new.crew c.open_all.new.self c.make_all.ensures.goes_on c.open_all.ensures.goes_on)
+    c.make_rounds.ensures.goes_on in
+    sym (pairs-length ServerGoesOn first.servers last.servers on.servers) ∙ c.requires.all
+    ∙ sym (ap (λ (z : Opening). z.workers) on.coordinator.opening)
 
 pub returns-in_ok-finish-in-Ok-clause-script : goal.returns-in_ok-finish-in-Ok-clause-script
 returns-in_ok-finish-in-Ok-clause-script c =
     let soon = c.in-Ok.ensures.rounds in
+    let first = c.args.crew in
     record {
       last = c.make_rounds.new.crew;
       plays = record {
@@ -23,16 +38,12 @@ returns-in_ok-finish-in-Ok-clause-script c =
         };
         ends = soon.ends;
       };
-      ended = c.in_ok-finish-in-Ok.ensures.ended;
-      phases = c.in_ok-finish-in-Ok.ensures.phases;
+      later = crew-further first c.open_all.new.self c.make_rounds.new.crew
+          (crew-further first c.make_all.new.crew c.open_all.new.self c.make_all.ensures.goes_on
+          c.open_all.ensures.goes_on) c.make_rounds.ensures.goes_on;
+      ended = c.in-Ok.ensures.ended;
+      outcome = c.in_ok-finish-in-Ok.ensures;
     }
-
-pub returns-in_ok-finish-in-Ok-clause-ended : goal.returns-in_ok-finish-in-Ok-clause-ended
-returns-in_ok-finish-in-Ok-clause-ended c =
-    ended-later c.args.crew c.make_rounds.new.crew _
-    (crew-further c.args.crew c.open_all.new.self c.make_rounds.new.crew
-    (crew-further c.args.crew c.make_all.new.crew c.open_all.new.self c.make_all.ensures.goes_on
-    c.open_all.ensures.goes_on) c.make_rounds.ensures.goes_on) c.in_ok-finish-in-Ok.ensures.ended
 
 pub returns-in-Err-clause-fault : goal.returns-in-Err-clause-fault
 returns-in-Err-clause-fault c =

@@ -1,77 +1,89 @@
-use Rattle.std.proofs.Common.{◌∙◌, List, Vec, Global, get_or, sym, ap, subst}
+use Rattle.std.proofs.Common.{◌≡◌, ◌≤◌, ◌∙◌, All, List, [], Vec, Global, get_or, length, map, refl, sym, ap, subst}
 use Rattle.std.proofs.lemmas.List.{length-map}
 use Rattle.std.proofs.lemmas.Result.{err_from_is_err_and}
 use Rattle.like_requests.specs.Setup.{FitsRun}
 use Rattle.like_requests.specs.declared.request.Request.{Request}
 use Rattle.like_requests.specs.Script.{IsInRun}
-use Rattle.like_promises.specs.WorkloadOf.{lists_of}
-use Rattle.like_crew.specs.Ended.{IsEnded}
-use Rattle.like_crew.specs.Site.{IsSite}
-use Rattle.like_crew.proofs.Ending.{has-ended}
+use Rattle.like_core.specs.declared.opening.Opening.{Opening}
+use Rattle.like_limits.specs.Limits.{max_requests}
+use Rattle.like_promises.specs.WorkloadOf.{lists_of, workload_of}
+use Rattle.like_crew.specs.Outcome.{IsOutcome}
 use Rattle.like_crew.proofs.Asked.{requests_of}
+use Rattle.like_crew.proofs.Closing.{crew-outcome}
+use Rattle.like_crew.proofs.Ending.{as-many}
+use Rattle.like_crew.proofs.Makings.{all-small, map-twice}
 use Rattle.like_run.proofs.Entries.{can-make}
 use Rattle.like_run.proofs.Long.{under-way}
 use Rattle.like_run.proofs.Reported.{is-report}
 use Rattle.like_run.proofs.rounds.replay_within.Goals as goal
 
-pub new-requires : goal.new-requires
-new-requires c =
-    subst (λ (xs : List (Vec Request Global)). FitsRun c.args.setup.now (lists_of xs))
-    (sym c.deref.ensures.value) c.requires.within
+pub sizes_of-requires : goal.sizes_of-requires
+sizes_of-requires c =
+    subst (λ (xs : List (Vec Request Global)). All (λ (plan : Vec Request Global). length plan.items ≤ max_requests) xs)
+    (sym c.deref.ensures.value) (all-small c.args.setup.now c.args.plans.items c.requires.within)
 
-pub play-requires : goal.play-requires
-play-requires c = λ k d within.
-    can-make c.args.setup.now (lists_of c.args.plans.items) c.in_ok-site.site c.in_ok-crew.crew
+pub new-requires-clause-sizes : goal.new-requires-clause-sizes
+new-requires-clause-sizes c =
+    c.deref-2.ensures.value ∙ c.in_ok-sizes.ensures
+    ∙ ap (map (λ (plan : Vec Request Global). length plan.items)) c.deref.ensures.value
+    ∙ map-twice requests_of length c.args.plans.items
+
+pub play-requires-clause-script : goal.play-requires-clause-script
+play-requires-clause-script c = λ k d within.
+    can-make c.args.setup.now (lists_of c.args.plans.items) [] c.args.notes c.in_ok-crew.crew
     (get_or c.args.script.now k d) c.in_ok-crew.ensures.crew c.requires.within.numbers.workers.0
     (subst (λ n. IsInRun c.args.setup.now.workers n (get_or c.args.script.now k d))
     (sym (length-map c.args.plans.items requests_of)) (c.requires.script k d within))
 
-pub report_of-requires-clause-site : goal.report_of-requires-clause-site
-report_of-requires-clause-site c =
-    subst (λ (v : Vec (Vec Request Global) Global). IsSite c.args.setup.now (lists_of v.items) c.in_ok-site.site)
-    (sym c.of-lists.ensures)
-    (subst (λ (xs : List (Vec Request Global)). IsSite c.args.setup.now (lists_of xs) c.in_ok-site.site)
-    c.deref.ensures.value c.in_ok-site.ensures.site)
+pub play-requires-clause-all : goal.play-requires-clause-all
+play-requires-clause-all c =
+    let crew = c.in_ok-crew.ensures.crew in
+    as-many (workload_of c.args.setup.now (lists_of c.args.plans.items)) c.args.setup.now.workers [] c.args.notes
+    c.in_ok-crew.crew.servers crew.servers
+    ∙ sym (ap (λ (z : Opening). z.workers) crew.opening)
 
-pub report_of-requires-clause-ended : goal.report_of-requires-clause-ended
-report_of-requires-clause-ended c =
-    subst (λ (v : Vec (Vec Request Global) Global). IsEnded c.args.setup.now
-    (lists_of v.items) c.in_ok-site.site c.in_ok-ended.ended) (sym c.of-lists.ensures)
-    (has-ended c.args.setup.now
-    (lists_of c.args.plans.items) c.in_ok-site.site c.in_ok-crew.crew c.in_ok-ended.ended c.in_ok-crew.ensures.crew
-    c.in_ok-ended.ensures.ended)
-
-pub new-requires-2-clause-site : goal.new-requires-2-clause-site
-new-requires-2-clause-site c =
-    subst (λ (xs : List (Vec Request Global)). IsSite c.args.setup.now (lists_of xs) c.in_ok-site.site)
-    c.deref.ensures.value c.in_ok-site.ensures.site
-
-pub report_of-requires-clause-within : goal.report_of-requires-clause-within
-report_of-requires-clause-within c =
+pub report_from-requires-clause-within : goal.report_from-requires-clause-within
+report_from-requires-clause-within c =
     subst (λ (v : Vec (Vec Request Global) Global). FitsRun c.args.setup.now (lists_of v.items)) (sym c.of-lists.ensures)
     c.requires.within
+
+pub report_from-requires-clause-sizes : goal.report_from-requires-clause-sizes
+report_from-requires-clause-sizes c =
+    subst (λ (v : Vec (Vec Request Global) Global). c.deref-3.result.now ≡ map length (lists_of v.items))
+    (sym c.of-lists.ensures)
+    (c.deref-3.ensures.value ∙ c.in_ok-sizes.ensures
+    ∙ ap (map (λ (plan : Vec Request Global). length plan.items)) c.deref.ensures.value
+    ∙ map-twice requests_of length c.args.plans.items)
+
+pub report_from-requires-clause-outcome : goal.report_from-requires-clause-outcome
+report_from-requires-clause-outcome c =
+    let followed = c.in_ok-outcome.ensures.script in
+    subst (λ (v : Vec (Vec Request Global) Global). IsOutcome c.args.setup.now (lists_of v.items) c.args.notes
+    c.in_ok-outcome.outcome) (sym c.of-lists.ensures)
+    (crew-outcome c.args.setup.now (lists_of c.args.plans.items) c.args.notes c.in_ok-crew.crew followed.last
+    c.in_ok-outcome.outcome c.in_ok-crew.ensures.crew followed.later followed.ended followed.outcome)
 
 pub returns-clause-report : goal.returns-clause-report
 returns-clause-report c =
     is-report c.args.setup.now (lists_of c.of-lists.result.value.items) (lists_of c.args.plans.items)
-    c.in_ok-site.site.notes c.args.notes c.in_ok-report_of.field-0
-    (ap (λ (v : Vec (Vec Request Global) Global). lists_of v.items) c.of-lists.ensures) c.in_ok-site.ensures.notes
-    c.in_ok-report_of.ensures.report c.in_ok-report_of.ensures.places c.in_ok-report_of.ensures.none
+    c.args.notes c.args.notes c.in_ok-report_from.field-0
+    (ap (λ (v : Vec (Vec Request Global) Global). lists_of v.items) c.of-lists.ensures) refl
+    c.in_ok-report_from.ensures.report c.in_ok-report_from.ensures.places c.in_ok-report_from.ensures.none
 
 pub returns-clause-ended : goal.returns-clause-ended
 returns-clause-ended c =
-    let followed = c.in_ok-ended.ensures.script in
+    let followed = c.in_ok-outcome.ensures.script in
     record {
       start = c.in_ok-crew.crew;
       new = c.in_ok-crew.ensures.new;
       last = followed.last;
       plays = followed.plays;
-      phase_is = c.in_ok-report_of.ensures.phases ∙ followed.phases;
+      phase_is = c.in_ok-report_from.ensures.phases ∙ followed.outcome.phases;
     }
 
-pub returns-in_err-ended-clause-fault : goal.returns-in_err-ended-clause-fault
-returns-in_err-ended-clause-fault c =
-    let p = err_from_is_err_and c.from_residual-in_err-ended.result c.from_residual-in_err-ended.ensures.1 in
+pub returns-in_err-outcome-clause-fault : goal.returns-in_err-outcome-clause-fault
+returns-in_err-outcome-clause-fault c =
+    let p = err_from_is_err_and c.from_residual-in_err-outcome.result c.from_residual-in_err-outcome.ensures.1 in
     rw (p.1, p.2)
     (under-way c.args.setup.now (lists_of c.args.plans.items) c.args.script.now c.in_ok-crew.crew
-    c.in_err-ended.field-0.0 c.in_ok-crew.ensures.new c.in_err-ended.ensures.fault)
+    c.in_err-outcome.field-0.0 c.in_ok-crew.ensures.new c.in_err-outcome.ensures.fault)

@@ -7,11 +7,10 @@ use Rattle.like_requests.specs.declared.request.Request.{Request}
 use Rattle.like_requests.specs.declared.setup.Setup.{Setup}
 use Rattle.like_board.specs.Seats.{board_id, board_numbers}
 use Rattle.like_queue.specs.Line.{Sender, Taker, inbox_of}
-use Rattle.like_crew.specs.declared.crew.Crew.{Crew}
 use Rattle.like_crew.specs.declared.ended.Ended.{Ended}
 use Rattle.like_crew.specs.declared.site.Site.{Site}
 use Rattle.like_promises.specs.WorkloadOf.{lists_of, workload_of}
-use Rattle.like_crew.specs.Crew.{IsCrew}
+use Rattle.like_crew.specs.Crew.{CrewView, IsCrew, crew_of}
 use Rattle.like_crew.specs.Ended.{IsEnded}
 use Rattle.like_crew.specs.Server.{plans_of}
 use Rattle.like_crew.specs.Site.{IsSite}
@@ -33,7 +32,7 @@ plans-taken : (plans : List (List Request)) (l : Lines) (takes : List Taker)
 plans-taken plans l takes are is = plans-are (map inbox_of takes) plans (inboxes-of plans l takes are is)
 
 -- a crew of these plans that has ended on threads has ended at its site
-ended-at : {I : Type 0} (setup : Setup) (plans : List (List Request)) (site : Site) (starts : ℕ) (crew : Crew I)
+ended-at : (setup : Setup) (plans : List (List Request)) (site : Site) (starts : ℕ) (crew : CrewView)
     (ends : List Sender) (r : Result Ended RunFault)
     → IsCrew setup plans site crew
     → IfOk r (HasEndedOn starts crew ends)
@@ -43,7 +42,7 @@ ended-at setup plans site starts crew ends r is h =
     (λ e on. has-ended setup plans site crew e is on.ended) h
 
 -- and enough threads could be started
-enough-started : {I : Type 0} (setup : Setup) (plans : List (List Request)) (site : Site) (starts : ℕ) (crew : Crew I)
+enough-started : (setup : Setup) (plans : List (List Request)) (site : Site) (starts : ℕ) (crew : CrewView)
     (ends : List Sender) (r : Result Ended RunFault)
     → IsCrew setup plans site crew
     → length ends ≡ length plans
@@ -54,7 +53,7 @@ enough-started setup plans site starts crew ends (Ok e) is many on =
       on.enough,
       many,
       as-many (workload_of setup plans) setup.workers
-          (board_numbers (board_id site.board)) site.notes crew.servers.items is.servers,
+          (board_numbers (board_id site.board)) site.notes crew.servers is.crew.servers,
     )
 enough-started setup plans site starts crew ends (Err fault) is many h = tt
 
@@ -93,10 +92,10 @@ returns-clause-ended g c =
     let plans = plans-taken
     (lists_of c.args.plans.items) c.in_ok-lines.field-0 c.in_ok-sends.takes.items c.in_ok-lines.ensures
     (c.in_ok-sends.ensures.takes ∙ ap (map new_taker) c.deref.ensures.value) in
-    let crew = subst (λ asked. IsCrew c.args.setup.now asked c.args.site.now c.in_ok-crew.crew) plans
+    let crew = subst (λ asked. IsCrew c.args.setup.now asked c.args.site.now (crew_of c.in_ok-crew.crew)) plans
     c.in_ok-crew.ensures.crew in
     ended-at c.args.setup.now
-    (lists_of c.args.plans.items) c.args.site.now c.args.starts c.in_ok-crew.crew c.in_ok-sends.sends.items
+    (lists_of c.args.plans.items) c.args.site.now c.args.starts (crew_of c.in_ok-crew.crew) c.in_ok-sends.sends.items
     c.on_threads.result crew c.on_threads.ensures.ended
 
 pub returns-clause-enough : goal.returns-clause-enough
@@ -104,7 +103,7 @@ returns-clause-enough g c =
     let plans = plans-taken
     (lists_of c.args.plans.items) c.in_ok-lines.field-0 c.in_ok-sends.takes.items c.in_ok-lines.ensures
     (c.in_ok-sends.ensures.takes ∙ ap (map new_taker) c.deref.ensures.value) in
-    let crew = subst (λ asked. IsCrew c.args.setup.now asked c.args.site.now c.in_ok-crew.crew) plans
+    let crew = subst (λ asked. IsCrew c.args.setup.now asked c.args.site.now (crew_of c.in_ok-crew.crew)) plans
     c.in_ok-crew.ensures.crew in
     let many = many-ends
     (lists_of c.args.plans.items) c.in_ok-lines.field-0 c.in_ok-sends.sends.items c.in_ok-lines.ensures
@@ -112,5 +111,5 @@ returns-clause-enough g c =
     let same = length-map c.args.plans.items requests_of in
     subst (λ (n : ℕ). OnOk c.on_threads.result (c.args.setup.now.workers + n ≤ c.args.starts)) same
     (enough-started c.args.setup.now
-    (lists_of c.args.plans.items) c.args.site.now c.args.starts c.in_ok-crew.crew c.in_ok-sends.sends.items
+    (lists_of c.args.plans.items) c.args.site.now c.args.starts (crew_of c.in_ok-crew.crew) c.in_ok-sends.sends.items
     c.on_threads.result crew many c.on_threads.ensures.ended)

@@ -13,6 +13,6 @@ loop-entry-preserved g c =
 
 pub answer_of-requires : goal.answer_of-requires
 answer_of-requires g c =
-    can-make-later c.args.crew.now.servers.items c.loop-entry.crew.servers.items
+    can-make-later c.args.crew.now.servers c.loop-entry.crew.servers
     (get_or c.args.script.now c.loop-entry.entry-index (OpenOne 0)) c.loop-entry.invariant.servers
     (c.requires c.loop-entry.entry-index (OpenOne 0) c.loop-entry-test.true)

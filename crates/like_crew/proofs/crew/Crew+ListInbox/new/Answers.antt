@@ -2,7 +2,7 @@ use Rattle.std.proofs.Common.{IfOk, map, sym, subst}
 use Rattle.like_requests.specs.Setup.{FitsRun}
 use Rattle.like_queue.specs.Inbox.{view_of}
 use Rattle.like_promises.specs.WorkloadOf.{lists_of}
-use Rattle.like_crew.specs.Crew.{IsCrew}
+use Rattle.like_crew.specs.Crew.{IsCrew, crew_of}
 use Rattle.like_crew.specs.Progress.{IsNewCrew}
 use Rattle.like_crew.specs.Site.{IsSite}
 use Rattle.like_crew.proofs.Makings.{all-small, are-untouched, plans-are}
@@ -29,12 +29,13 @@ of_inboxes-requires-clause-site c =
 
 pub returns-clause-crew : goal.returns-clause-crew
 returns-clause-crew c =
-    subst (λ plans. IfOk c.of_inboxes.result (IsCrew c.args.setup.now plans c.args.site.now))
+    subst (λ plans. IfOk c.of_inboxes.result
+    (λ crew. IsCrew c.args.setup.now plans c.args.site.now (crew_of crew)))
     (plans-are (map view_of c.in_ok-inboxes.inboxes.items) (lists_of c.args.plans.items) c.in_ok-inboxes.ensures)
     c.of_inboxes.ensures.crew
 
 pub returns-clause-new : goal.returns-clause-new
 returns-clause-new c =
-    subst (λ plans. IfOk c.of_inboxes.result (IsNewCrew c.args.setup.now plans))
+    subst (λ plans. IfOk c.of_inboxes.result (λ crew. IsNewCrew c.args.setup.now plans (crew_of crew)))
     (plans-are (map view_of c.in_ok-inboxes.inboxes.items) (lists_of c.args.plans.items) c.in_ok-inboxes.ensures)
     c.of_inboxes.ensures.new

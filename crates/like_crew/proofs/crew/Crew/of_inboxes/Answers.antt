@@ -17,10 +17,12 @@ new-requires-clause-limits g c = ap (λ (o : Opening). o.limits) c.requires.seat
 pub returns-clause-crew : goal.returns-clause-crew
 returns-clause-crew g c = record {
   board = c.in_ok-coordinator.ensures.board;
-  opening = ap (λ (v : CoordSeatView). v.opening) c.in_ok-coordinator.ensures.seat ∙ c.requires.seats.opening;
-  turns = c.in_ok-coordinator.ensures.turns;
-  hot = c.in_ok-coordinator.ensures.hot;
-  servers = c.in_ok-servers.ensures.servers;
+  crew = record {
+    opening = ap (λ (v : CoordSeatView). v.opening) c.in_ok-coordinator.ensures.seat ∙ c.requires.seats.opening;
+    turns = c.in_ok-coordinator.ensures.turns;
+    hot = c.in_ok-coordinator.ensures.hot;
+    servers = c.in_ok-servers.ensures.servers;
+  };
 }
 
 pub returns-clause-new : goal.returns-clause-new

@@ -19,61 +19,9 @@ use Rattle.like_roles.specs.worker.New.{IsPostOf}
 use Rattle.like_crew.specs.Servers.{IsNewServer, IsServer}
 use Rattle.like_promises.specs.WorkloadOf.{workload_of}
 use Rattle.like_crew.specs.Server.{AreInboxesFor, AreOwnPlans, AreUntouched, ServerView, WorksFor, plans_of}
-use Rattle.like_crew.proofs.Makings.{hand-at, inboxes-for, is-server, one-pushed, remove-drop}
+use Rattle.like_crew.proofs.Makings.{one-pushed}
+use Rattle.like_crew.proofs.servers.Making.{fits-worker, hand-is, hand-left, inboxes-at, none-made, others, server-at}
 use Rattle.like_crew.proofs.crew.new_servers.servers_of.Goals as goal
-
--- what is in a hand
-abbrev held : {A : Type 0} → Vec A Global → List A
-held hand = hand.items
-
--- the next hand has what is dealt to its worker
-hand-is : {A : Type 0} (view : A → InboxView) (hands left : List (Vec A Global)) (k workers : ℕ) (hand : Vec A Global)
-    (items : List A)
-    → ((worker : ℕ) → worker < workers → get_or (map held hands) worker [] ≡ dealt workers worker items)
-    → length hands ≡ workers
-    → k < workers
-    → left ≡ drop k hands → hand ≡ get_or left 0 hand → map view (held hand) ≡ dealt workers k (map view items)
-hand-is view hands left k workers hand items own sized below rest first =
-    ap (map view) (hand-at held hands left k workers hand items own sized below rest first)
-    ∙ map-dealt view workers k items
-
--- and the others are left
-others : {A : Type 0} (hands left rest : List A) (k next : ℕ)
-    → left ≡ drop k hands
-    → rest ≡ remove left 0
-    → next ≡ k + 1
-    → rest ≡ drop next hands
-others hands left rest k next before taken more =
-    taken ∙ ap (λ xs. remove xs 0) before ∙ remove-drop k hands ∙ ap (λ n. drop n hands) (sym (add-one k) ∙ sym more)
-
--- untouched inboxes for a worker, where the number of its server is that of its seat
-inboxes-at : (setup : Setup) (sizes : List ℕ) (number k : ℕ) (inboxes own : List InboxView)
-    → number ≡ k
-    → FitsRun setup (plans_of inboxes)
-    → sizes ≡ map length (plans_of inboxes)
-    → AreUntouched inboxes → own ≡ dealt setup.workers k inboxes → AreInboxesFor setup sizes number own
-inboxes-at setup sizes number k inboxes own same within sized none is =
-    subst (λ n. AreInboxesFor setup sizes n own) (sym same)
-    (inboxes-for setup sizes k inboxes own within.numbers.workers.0 sized none
-    (plans-within setup (plans_of inboxes) within) is)
-
--- its server, at the post of a new seat
-server-at : (setup : Setup) (sizes : List ℕ) (number k : ℕ) (inboxes own : List InboxView) (post : PostView)
-    (board : List ℕ) (notes : Bool) (s : ServerView)
-    → number ≡ k
-    → sizes ≡ map length (plans_of inboxes)
-    → own ≡ dealt setup.workers k inboxes
-    → IsPostOf k setup.pages post
-    → post.board ≡ board
-    → s.worker.last.share ≡ share_of setup.users (length sizes) setup.workers number
-    → s.worker.post ≡ post → s.worker.notes ≡ notes
-    → ((workload : Workload) → IsWorkloadOf setup sizes workload → AreOwnPlans workload setup.workers number own
-    → WorksFor workload s)
-    → IsServer (workload_of setup (plans_of inboxes)) setup.workers board notes k s
-server-at setup sizes number k inboxes own post board notes s same sized is fresh here share at noting works =
-    is-server setup sizes k inboxes own post board notes s sized is fresh here
-    (share ∙ ap (λ n. share_of setup.users (length sizes) setup.workers n) same) at noting
-    (λ workload of mine. works workload of (subst (λ n. AreOwnPlans workload setup.workers n own) (sym same) mine))
 
 pub new-requires-clause-within : goal.new-requires-clause-within
 new-requires-clause-within g c = subst (IsWithin c.args.setup.now) (sym c.requires.sizes) c.requires.within.numbers
@@ -164,11 +112,6 @@ loop-seat-preserved g c =
 pub deal-requires : goal.deal-requires
 deal-requires g c = c.requires.within.numbers.workers.0
 
--- no server was made yet
-none-made : (R : ℕ → ServerView → Type 0) (servers : List ServerView) → servers ≡ [] → AllZip R [] servers
-none-made R [] is = tt
-none-made R (s ∷ more) is = absurd (cc is)
-
 pub loop-seat-init : goal.loop-seat-init
 loop-seat-init g c = record {
   hands = refl;
@@ -179,10 +122,6 @@ loop-seat-init g c = record {
   new = none-made (IsNewServer c.args.setup.now.workers (map g.I.Inbox.view c.args.inboxes.items))
       c.new-servers.result.items c.new-servers.ensures.items;
 }
-
--- the number of a worker is small
-fits-worker : (number k workers : ℕ) → number ≡ k → k < workers → workers ≤ max_workers → Fits w32 number
-fits-worker number k workers same below few = omega arith
 
 pub overflow_cast-number : goal.overflow_cast-number
 overflow_cast-number g c =
@@ -206,11 +145,6 @@ new-requires-clause-is_worker g c =
     c.next.ensures.steps in
     subst (λ n. n < c.args.setup.now.workers) (sym (c.len-number.ensures ∙ l.servers.ok.0 ∙ l.invariant.len))
     (subst (λ n. length l.yielded < n) c.requires.len turn.0)
-
--- a worker whose turn it is has a hand
-hand-left : {A : Type 0} (hands left : List A) (k workers : ℕ) → left ≡ drop k hands → length hands ≡ workers → k < workers
-    → 0 < length left
-hand-left hands left k workers rest sized below = omega (arith, ap length rest, length-drop k hands)
 
 pub remove-inboxes-requires : goal.remove-inboxes-requires
 remove-inboxes-requires g c =

@@ -1,0 +1,96 @@
+use Rattle.std.proofs.Common.{◌≡◌, ◌∙◌, ℕ, List, length, map, refl, sym, ap, subst}
+use Rattle.std.specs.Vec.{with_items}
+use Rattle.std.proofs.lemmas.List.{with_items_is}
+use Rattle.like_core.specs.declared.view.CoordSeatView.{CoordSeatView}
+use Rattle.like_board.specs.Closed.{IsClosedBoard}
+use Rattle.like_board.specs.OwnClosed.{all_views, as_shared}
+use Rattle.like_board.specs.Seats.{AreAll}
+use Rattle.like_crew.specs.Crew.{AreGone, CrewView}
+use Rattle.like_board.specs.declared.worker_seat.WorkerSeat.{WorkerSeat}
+use Rattle.like_crew.specs.declared.outcome.Outcome.{Outcome}
+use Rattle.like_crew.specs.OwnCrew.{HasOutcome, IsOwnSeatOf, servers_in}
+use Rattle.like_crew.proofs.lists.Pairs.{pairs-length}
+use Rattle.like_crew.proofs.servers.OwnFinishing.{own-all, own-gone, own-like}
+use Rattle.like_crew.proofs.servers.Seated.{board-taken, board-there}
+use Rattle.like_crew.proofs.crew.own_crew.OwnCrew.finish.Goals as goal
+
+pub unwrap-requires : goal.unwrap-requires
+unwrap-requires c =
+    board-there c.self.inside.board c.self.inside.coordinator.seat c.self.inside.servers.items c.self.invariant.0
+
+pub finish_own-requires-clause-seated : goal.finish_own-requires-clause-seated
+finish_own-requires-clause-seated c =
+    let seat = c.self.inside.coordinator.seat in (
+      seat,
+      board-taken c.self.inside.board c.self.inside.board c.unwrap.result seat c.self.inside.servers.items
+          c.self.invariant.0 refl c.unwrap.ensures,
+    )
+
+pub finish_own-requires-clause-gone : goal.finish_own-requires-clause-gone
+finish_own-requires-clause-gone c = subst (λ (v : CrewView). AreGone v.servers) (sym c.self.view_is) c.requires.gone
+
+pub close-requires-clause-known : goal.close-requires-clause-known
+close-requires-clause-known c =
+    let seat = c.self.inside.coordinator.seat in
+    let left = c.in_ok-logs.ensures.left seat
+    (board-taken c.self.inside.board c.self.inside.board c.unwrap.result seat c.self.inside.servers.items
+    c.self.invariant.0 refl c.unwrap.ensures) in
+    left.views ∙ ap (λ (v : CoordSeatView). all_views v c.in_ok-logs.seats.items) (sym c.finish-coord.ensures.view)
+
+pub close-requires-clause-all : goal.close-requires-clause-all
+close-requires-clause-all c =
+    let seat = c.self.inside.coordinator.seat in
+    let left = c.in_ok-logs.ensures.left seat
+    (board-taken c.self.inside.board c.self.inside.board c.unwrap.result seat c.self.inside.servers.items
+    c.self.invariant.0 refl c.unwrap.ensures) in
+    let many : length c.in_ok-logs.seats.items ≡ seat.opening.workers =
+    sym (pairs-length IsOwnSeatOf (servers_in c.self.inside.servers.items) c.in_ok-logs.seats.items
+    c.in_ok-logs.ensures.seats)
+    ∙ subst (λ (v : CrewView). length v.servers ≡ v.coordinator.seat.opening.workers) (sym c.self.view_is)
+    c.requires.all in
+    subst (λ (v : CoordSeatView). AreAll v.opening.workers (map as_shared c.in_ok-logs.seats.items))
+    (sym c.finish-coord.ensures.view) (own-all c.in_ok-logs.seats.items seat.opening.workers many left.places)
+
+pub close-requires-clause-gone : goal.close-requires-clause-gone
+close-requires-clause-gone c =
+    own-gone (servers_in c.self.inside.servers.items) c.in_ok-logs.seats.items c.in_ok-logs.ensures.seats
+    (subst (λ (v : CrewView). AreGone v.servers) (sym c.self.view_is) c.requires.gone)
+
+pub close-requires-clause-places : goal.close-requires-clause-places
+close-requires-clause-places c =
+    ap (λ (xs : List ℕ). length xs) c.deref_mut.ensures.value ∙ c.self.invariant.1
+    ∙ ap (λ (v : CoordSeatView). length v.opening.counts) (sym c.finish-coord.ensures.view)
+
+outcome-of-view : (u v : CrewView) (o : Outcome) → u ≡ v → HasOutcome u o → HasOutcome v o
+outcome-of-view u v o same h = subst (λ x. HasOutcome x o) same h
+
+closed-as : (v w : CoordSeatView) (seats : List WorkerSeat) (counts items : List ℕ)
+    → v ≡ w
+    → counts ≡ items
+    → IsClosedBoard v seats counts
+    → IsClosedBoard w seats items
+closed-as v w seats counts items same is h =
+    subst (λ x. IsClosedBoard x seats items) same (subst (IsClosedBoard v seats) is h)
+
+pub returns : goal.returns
+returns c =
+    let outcome : Outcome =
+    record {
+      logs = c.in_ok-logs.logs;
+      counts = with_items c.self.inside.counts c.close.new.counts;
+      phases = c.phase-phases.result;
+      chosen = c.finish-coord.result.1;
+    } in
+    let many : length c.close.new.counts ≡ c.self.inside.counts.len =
+    c.close.ensures.len ∙ ap (λ (v : CoordSeatView). length v.opening.counts) c.finish-coord.ensures.view
+    ∙ sym (c.self.inside.counts.ok.0 ∙ c.self.invariant.1) in
+    outcome-of-view _ _ outcome c.self.view_is (record {
+      logs = c.in_ok-logs.ensures.logs;
+      seats = map as_shared c.in_ok-logs.seats.items;
+      seats_are = own-like (servers_in c.self.inside.servers.items) c.in_ok-logs.seats.items c.in_ok-logs.ensures.seats;
+      counts = closed-as _ _ (map as_shared c.in_ok-logs.seats.items) _ _ c.finish-coord.ensures.view
+          (sym (with_items_is c.self.inside.counts c.close.new.counts many)) c.close.ensures;
+      phases = c.phase-phases.ensures;
+      chosen = c.finish-coord.ensures.chosen;
+      chose = c.finish-coord.ensures.chose;
+    })

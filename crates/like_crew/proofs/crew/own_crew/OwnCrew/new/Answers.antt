@@ -1,0 +1,175 @@
+use Rattle.std.proofs.Common.{◌≡◌, ◌≤◌, ◌∙◌, ℕ, Bool, List, [], length, map, sym, ap, subst}
+use Rattle.std.specs.List.{All}
+use Rattle.std.proofs.lemmas.List.{length-map}
+use Rattle.like_limits.specs.Limits.{max_count, max_pages}
+use Rattle.like_requests.specs.Pages.{Page}
+use Rattle.like_requests.specs.Setup.{FitsRun}
+use Rattle.like_core.specs.core.State.{opening}
+use Rattle.like_core.specs.declared.opening.Opening.{Opening}
+use Rattle.like_core.specs.declared.view.CoordSeatView.{CoordSeatView}
+use Rattle.like_board.specs.Own.{own_opening, own_views}
+use Rattle.like_board.specs.Rule.{opened_coord}
+use Rattle.like_queue.specs.Inbox.{view_of}
+use Rattle.like_promises.specs.WorkloadOf.{lists_of, workload_of}
+use Rattle.like_crew.specs.Crew.{CrewView}
+use Rattle.like_crew.specs.OwnCrew.{AreSeated, servers_in}
+use Rattle.like_crew.specs.Progress.{IsNewCrew}
+use Rattle.like_crew.specs.Servers.{AreServers}
+use Rattle.like_crew.specs.Site.{opening_of}
+use Rattle.like_crew.proofs.Makings.{all-map, all-small, are-untouched, plans-are}
+use Rattle.like_crew.proofs.Starting.{is-new}
+use Rattle.like_crew.proofs.crew.own_crew.OwnCrew.new.Goals as goal
+
+pub new-requires-clause-counts : goal.new-requires-clause-counts
+new-requires-clause-counts c =
+    subst (λ (xs : List ℕ). All (λ n. n ≤ max_count) xs) (sym (c.deref.ensures.value ∙ c.in_ok-counts.ensures.counts))
+    (all-map (λ (p : Page). p.count) (λ n. n ≤ max_count) c.args.setup.now.pages c.counts.ensures.pages.entries.counted)
+
+pub new-requires-clause-same_pages : goal.new-requires-clause-same_pages
+new-requires-clause-same_pages c =
+    let pages = c.args.setup.now.pages in
+    ap length (c.deref-2.ensures.value ∙ c.in_ok-marks.ensures.marks) ∙ length-map pages (λ (p : Page). p.split)
+    ∙ sym (ap length (c.deref.ensures.value ∙ c.in_ok-counts.ensures.counts) ∙ length-map pages (λ (p : Page). p.count))
+
+pub new-requires-clause-few_pages : goal.new-requires-clause-few_pages
+new-requires-clause-few_pages c =
+    subst (λ n. n ≤ max_pages)
+    (sym (ap length (c.deref.ensures.value ∙ c.in_ok-counts.ensures.counts)
+    ∙ length-map c.args.setup.now.pages (λ (p : Page). p.count))) c.counts.ensures.pages.entries.few
+
+pub new-requires-clause-some_worker : goal.new-requires-clause-some_worker
+new-requires-clause-some_worker c = c.requires.within.numbers.workers.0
+
+pub new-requires-clause-few_workers : goal.new-requires-clause-few_workers
+new-requires-clause-few_workers c = c.requires.within.numbers.workers.1
+
+pub list_inboxes-requires : goal.list_inboxes-requires
+list_inboxes-requires c = all-small c.args.setup.now c.args.plans.items c.requires.within
+
+pub own_servers-requires-clause-within : goal.own_servers-requires-clause-within
+own_servers-requires-clause-within c =
+    let plans = plans-are (map view_of c.in_ok-inboxes.inboxes.items) (lists_of c.args.plans.items)
+    c.in_ok-inboxes.ensures in
+    subst (FitsRun c.args.setup.now) (sym plans) c.requires.within
+
+pub own_servers-requires-clause-untouched : goal.own_servers-requires-clause-untouched
+own_servers-requires-clause-untouched c =
+    are-untouched (map view_of c.in_ok-inboxes.inboxes.items) (lists_of c.args.plans.items) c.in_ok-inboxes.ensures
+
+pub own_servers-requires-clause-sizes : goal.own_servers-requires-clause-sizes
+own_servers-requires-clause-sizes c =
+    let plans = plans-are (map view_of c.in_ok-inboxes.inboxes.items) (lists_of c.args.plans.items)
+    c.in_ok-inboxes.ensures in
+    c.requires.sizes ∙ ap (map length) (sym plans)
+
+pub own_servers-requires-clause-opening : goal.own_servers-requires-clause-opening
+own_servers-requires-clause-opening c =
+    let setup = c.args.setup.now in
+    let counts : c.deref.result.now ≡ map (λ (p : Page). p.count) setup.pages =
+    c.deref.ensures.value ∙ c.in_ok-counts.ensures.counts in
+    let marks : c.deref-2.result.now ≡ map (λ (p : Page). p.split) setup.pages =
+    c.deref-2.ensures.value ∙ c.in_ok-marks.ensures.marks in
+    let opened : own_opening c.in_ok-board.board ≡ opening_of setup =
+    c.in_ok-board.ensures.opening
+    ∙ ap (λ (xs : List ℕ). opening setup.workers xs c.deref-2.result.now) counts
+    ∙ ap (λ (xs : List Bool). opening setup.workers (map (λ (p : Page). p.count) setup.pages) xs) marks in
+    opened
+
+pub new-requires-2-clause-counts : goal.new-requires-2-clause-counts
+new-requires-2-clause-counts c =
+    let setup = c.args.setup.now in
+    let counts : c.deref.result.now ≡ map (λ (p : Page). p.count) setup.pages =
+    c.deref.ensures.value ∙ c.in_ok-counts.ensures.counts in
+    let marks : c.deref-2.result.now ≡ map (λ (p : Page). p.split) setup.pages =
+    c.deref-2.ensures.value ∙ c.in_ok-marks.ensures.marks in
+    let opened : own_opening c.in_ok-board.board ≡ opening_of setup =
+    c.in_ok-board.ensures.opening
+    ∙ ap (λ (xs : List ℕ). opening setup.workers xs c.deref-2.result.now) counts
+    ∙ ap (λ (xs : List Bool). opening setup.workers (map (λ (p : Page). p.count) setup.pages) xs) marks in
+    c.deref-3.ensures.value ∙ c.in_ok-counts.ensures.counts ∙ sym (ap (λ (o : Opening). o.counts) opened)
+    ∙ sym (ap (λ (v : CoordSeatView). v.opening.counts) c.in_ok-board.ensures.coord)
+
+pub new-requires-2-clause-limits : goal.new-requires-2-clause-limits
+new-requires-2-clause-limits c =
+    let setup = c.args.setup.now in
+    let counts : c.deref.result.now ≡ map (λ (p : Page). p.count) setup.pages =
+    c.deref.ensures.value ∙ c.in_ok-counts.ensures.counts in
+    let marks : c.deref-2.result.now ≡ map (λ (p : Page). p.split) setup.pages =
+    c.deref-2.ensures.value ∙ c.in_ok-marks.ensures.marks in
+    let opened : own_opening c.in_ok-board.board ≡ opening_of setup =
+    c.in_ok-board.ensures.opening
+    ∙ ap (λ (xs : List ℕ). opening setup.workers xs c.deref-2.result.now) counts
+    ∙ ap (λ (xs : List Bool). opening setup.workers (map (λ (p : Page). p.count) setup.pages) xs) marks in
+    ap (λ (v : CoordSeatView). v.opening.limits) c.in_ok-board.ensures.coord ∙ ap (λ (o : Opening). o.limits) opened
+
+pub new-requires-2-clause-new : goal.new-requires-2-clause-new
+new-requires-2-clause-new c = ap (λ (v : CoordSeatView). v.phase) c.in_ok-board.ensures.coord
+
+pub new-requires-2-clause-no_masks : goal.new-requires-2-clause-no_masks
+new-requires-2-clause-no_masks c = ap (λ (v : CoordSeatView). v.masks) c.in_ok-board.ensures.coord
+
+pub invariant_of-result : goal.invariant_of-result
+invariant_of-result c =
+    let setup = c.args.setup.now in
+    let counts : c.deref.result.now ≡ map (λ (p : Page). p.count) setup.pages =
+    c.deref.ensures.value ∙ c.in_ok-counts.ensures.counts in
+    let marks : c.deref-2.result.now ≡ map (λ (p : Page). p.split) setup.pages =
+    c.deref-2.ensures.value ∙ c.in_ok-marks.ensures.marks in
+    let opened : own_opening c.in_ok-board.board ≡ opening_of setup =
+    c.in_ok-board.ensures.opening
+    ∙ ap (λ (xs : List ℕ). opening setup.workers xs c.deref-2.result.now) counts
+    ∙ ap (λ (xs : List Bool). opening setup.workers (map (λ (p : Page). p.count) setup.pages) xs) marks in
+    let seat : c.in_ok-coordinator.coordinator.seat ≡ opened_coord (opening_of setup) =
+    c.in_ok-coordinator.ensures.seat ∙ c.in_ok-board.ensures.coord ∙ ap opened_coord opened in
+    (
+      subst (λ (v : CoordSeatView). AreSeated (own_views c.in_ok-servers.board) v c.in_ok-servers.servers.items)
+          (sym seat) c.in_ok-servers.ensures.seated,
+      ap (λ (xs : List ℕ). length xs) c.in_ok-counts.ensures.counts
+          ∙ sym (ap (λ (v : CoordSeatView). length v.opening.counts) seat),
+    )
+
+pub returns-clause-crew : goal.returns-clause-crew
+returns-clause-crew c =
+    let setup = c.args.setup.now in
+    let counts : c.deref.result.now ≡ map (λ (p : Page). p.count) setup.pages =
+    c.deref.ensures.value ∙ c.in_ok-counts.ensures.counts in
+    let marks : c.deref-2.result.now ≡ map (λ (p : Page). p.split) setup.pages =
+    c.deref-2.ensures.value ∙ c.in_ok-marks.ensures.marks in
+    let opened : own_opening c.in_ok-board.board ≡ opening_of setup =
+    c.in_ok-board.ensures.opening
+    ∙ ap (λ (xs : List ℕ). opening setup.workers xs c.deref-2.result.now) counts
+    ∙ ap (λ (xs : List Bool). opening setup.workers (map (λ (p : Page). p.count) setup.pages) xs) marks in
+    let seat : c.in_ok-coordinator.coordinator.seat ≡ opened_coord (opening_of setup) =
+    c.in_ok-coordinator.ensures.seat ∙ c.in_ok-board.ensures.coord ∙ ap opened_coord opened in
+    let plans = plans-are (map view_of c.in_ok-inboxes.inboxes.items) (lists_of c.args.plans.items)
+    c.in_ok-inboxes.ensures in
+    record {
+      opening = ap (λ (v : CoordSeatView). v.opening) seat;
+      turns = c.in_ok-coordinator.ensures.turns;
+      hot = c.in_ok-coordinator.ensures.hot;
+      servers = subst (λ ps. AreServers (workload_of setup ps) setup.workers [] c.args.notes
+          (servers_in c.in_ok-servers.servers.items)) plans c.in_ok-servers.ensures.servers;
+    }
+
+pub returns-clause-new : goal.returns-clause-new
+returns-clause-new c =
+    let setup = c.args.setup.now in
+    let counts : c.deref.result.now ≡ map (λ (p : Page). p.count) setup.pages =
+    c.deref.ensures.value ∙ c.in_ok-counts.ensures.counts in
+    let marks : c.deref-2.result.now ≡ map (λ (p : Page). p.split) setup.pages =
+    c.deref-2.ensures.value ∙ c.in_ok-marks.ensures.marks in
+    let opened : own_opening c.in_ok-board.board ≡ opening_of setup =
+    c.in_ok-board.ensures.opening
+    ∙ ap (λ (xs : List ℕ). opening setup.workers xs c.deref-2.result.now) counts
+    ∙ ap (λ (xs : List Bool). opening setup.workers (map (λ (p : Page). p.count) setup.pages) xs) marks in
+    let seat : c.in_ok-coordinator.coordinator.seat ≡ opened_coord (opening_of setup) =
+    c.in_ok-coordinator.ensures.seat ∙ c.in_ok-board.ensures.coord ∙ ap opened_coord opened in
+    let plans = plans-are (map view_of c.in_ok-inboxes.inboxes.items) (lists_of c.args.plans.items)
+    c.in_ok-inboxes.ensures in
+    let crew : CrewView =
+    record { coordinator = c.in_ok-coordinator.coordinator; servers = servers_in c.in_ok-servers.servers.items } in
+    subst (λ ps. IsNewCrew setup ps crew) plans
+    (is-new setup (map view_of c.in_ok-inboxes.inboxes.items) crew c.requires.within.numbers.workers.0
+    (are-untouched (map view_of c.in_ok-inboxes.inboxes.items) (lists_of c.args.plans.items) c.in_ok-inboxes.ensures)
+    (ap (λ (v : CoordSeatView). v.phase) seat) (ap (λ (v : CoordSeatView). v.ending) seat)
+    c.in_ok-coordinator.ensures.turns c.in_ok-coordinator.ensures.left c.in_ok-servers.ensures.new)

@@ -1,0 +1,20 @@
+use Rattle.std.proofs.Common.{◌∙◌, List, ℕ, ap, sym, length}
+use Rattle.like_core.specs.declared.opening.Opening.{Opening}
+use Rattle.like_promises.specs.WorkloadOf.{lists_of}
+use Rattle.like_crew.proofs.Closing.{left-of, outcome-of}
+use Rattle.like_crew.proofs.report.report_of.Goals as goal
+
+pub close-outcome-requires-clause-left : goal.close-outcome-requires-clause-left
+close-outcome-requires-clause-left c =
+    left-of c.args.setup.now (lists_of c.args.plans.now.value.items) c.args.site c.args.ended c.requires.ended
+
+pub close-outcome-requires-clause-places : goal.close-outcome-requires-clause-places
+close-outcome-requires-clause-places c =
+    ap (λ (xs : List ℕ). length xs)
+    (c.requires.site.counts ∙ sym (ap (λ (z : Opening). z.counts) c.requires.ended.opening))
+
+pub report_from-requires-clause-outcome : goal.report_from-requires-clause-outcome
+report_from-requires-clause-outcome c =
+    let told = c.close-outcome.ensures in
+    outcome-of c.args.setup.now (lists_of c.args.plans.now.value.items) c.args.site c.args.ended c.close-outcome.result
+    c.requires.ended told.logs told.counts told.phases told.chosen

@@ -1,0 +1,252 @@
+ghost use Rattle.std.specs.Prelude.{◌≡◌, ◌↔◌, ◌<◌, [], IfOk, Some, length, map, slice_get, true};
+ghost use Rattle.std.specs.List.{AllZip};
+ghost use Rattle.like_core.specs.declared.worker_state.WorkerState.TheVariants.{Gone};
+ghost use Rattle.like_requests.specs.Setup.{FitsRun};
+ghost use Rattle.like_promises.specs.WorkloadOf.{lists_of};
+ghost use Rattle.like_roles.specs.coordinator.CoordTurns.{HasEndedJoined};
+ghost use Rattle.like_crew.specs.Crew.{AreGone, GoesOn, HasInbox, IsCrewAt};
+ghost use Rattle.like_crew.specs.OwnCrew.{HasOutcome};
+ghost use Rattle.like_crew.specs.Progress.{IsNewCrew};
+ghost use Rattle.like_crew.specs.Server.{ServerView};
+ghost use Rattle.like_crew.specs.ServerTurns.{OpensAll, OpensOne, place_at};
+ghost use Rattle.like_crew.specs.Steps.{AtServer, FreshRound, IsFreshTurn, LeadsFresh, LeadsToEnd, MakesFreshTurn, OpensMore};
+
+use crate::crew::list_inboxes;
+use crate::crew::own_servers::{finish_own, own_servers};
+use crate::crew::run_coordinator::RunCoordinator;
+use crate::crew::server::{OwnServer, OwnTurn};
+use crate::outcome::Outcome;
+use like_board::{OwnBoard, OwnCoordSeat};
+use like_queue::ListInbox;
+use like_requests::{Request, Setup};
+use like_roles::{CoordTurn, NoGate, Turn};
+use std::alloc::{AllocError, Global};
+use std::marker::Model;
+
+/// The crew of a run on one thread that owns its board: the coordinator, and for each worker, in order, its server. The
+/// board, and with it a server, is taken out for a turn, and put back: between two calls each slot is full.
+#[derive(Drop)]
+pub struct OwnCrew {
+    board: Option<OwnBoard>,
+    coordinator: RunCoordinator<OwnCoordSeat>,
+    servers: Vec<Option<OwnServer<ListInbox>>>,
+    // The count of each page at the start.
+    counts: Vec<u64>,
+}
+
+impl Model for OwnCrew {
+    ghost use Rattle.std.specs.Prelude.{◌≡◌, length};
+    ghost use Rattle.like_crew.specs.Crew.{CrewView};
+    ghost use Rattle.like_crew.specs.OwnCrew.{servers_in, views_in, AreSeated};
+
+    ghost Value = { CrewView };
+
+    ghost view = { λ c. record { coordinator = c.coordinator; servers = servers_in c.servers.items } };
+
+    ghost invariant = { λ c. AreSeated (views_in c.board) c.coordinator.seat c.servers.items
+        × (length c.counts.items ≡ length c.coordinator.seat.opening.counts) };
+}
+
+impl OwnCrew {
+    /// The crew of a run within the limits, at a new board, with the lists of the submitters, of these sizes. None of
+    /// their requests is open.
+    pub fn new(
+        alloc: Global,
+        setup: &Setup,
+        sizes: &[u32],
+        plans: Vec<Vec<Request>>,
+        notes: bool,
+    ) -> Result<OwnCrew, AllocError>
+        requires within { FitsRun setup.now (lists_of plans.items) }
+        requires sizes { sizes.now ≡ map length (lists_of plans.items) }
+        ensures crew { IfOk result (IsCrewAt setup.now (lists_of plans.items) [] notes) }
+        ensures new { IfOk result (IsNewCrew setup.now (lists_of plans.items)) }
+    {
+        let counts = setup.pages.counts(alloc)?;
+        let marks = setup.pages.marks(alloc)?;
+        let (board, coord, seats) = OwnBoard::new(alloc, setup.workers, &counts, &marks)?;
+        let inboxes = list_inboxes(alloc, plans)?;
+        let (servers, board) = own_servers(alloc, setup, sizes, board, notes, seats, inboxes)?;
+        let coordinator = RunCoordinator::new(alloc, coord, setup.turns, setup.hot, &counts)?;
+        Ok(OwnCrew {
+            board: Some(board),
+            coordinator,
+            servers,
+            counts,
+        })
+    }
+
+    /// Makes one turn of the coordinator and one of each worker, in order, and says whether the run ended with it.
+    pub fn round(&mut self) -> bool
+        ensures round { FreshRound result self.old self.new }
+        ensures goes_on { GoesOn self.old self.new }
+        ensures ended { result ≡ true → HasEndedJoined self.new.coordinator }
+        ensures gone { result ≡ true → AreGone self.new.servers }
+    {
+        let ended = self.ends();
+        let gone = self.turns();
+        ended && gone
+    }
+
+    /// Makes one turn of the coordinator.
+    pub fn turn(&mut self) -> CoordTurn
+        ensures leads { LeadsFresh result self.old self.new }
+        ensures goes_on { GoesOn self.old self.new }
+        ensures ended { result ≡ CoordTurn.Ended → HasEndedJoined self.new.coordinator }
+    {
+        let mut board = self.board.take().unwrap();
+        let answer = self.coordinator.turn_at(&mut board);
+        self.board = Some(board);
+        answer
+    }
+
+    /// Makes one turn of a worker.
+    pub fn turn_of(&mut self, worker: u32) -> Turn
+        requires { worker < length self.old.servers }
+        ensures case { AtServer worker
+            (IsFreshTurn self.old.coordinator.seat result) self.old.servers self.new.servers }
+        ensures rest { self.new.coordinator ≡ self.old.coordinator }
+        ensures goes_on { GoesOn self.old self.new }
+    {
+        self.turn_at(worker as usize)
+    }
+
+    /// Opens one item more of a submitter's list.
+    pub fn open_one(&mut self, submitter: u32)
+        requires { HasInbox self.old.servers submitter }
+        ensures opens { OpensMore submitter self.old.servers self.new.servers }
+        ensures rest { self.new.coordinator ≡ self.old.coordinator }
+        ensures goes_on { GoesOn self.old self.new }
+    {
+        let worker = submitter as usize % self.servers.len();
+        self.open_list_of(worker, submitter);
+    }
+
+    /// Opens all lists.
+    pub fn open_all(&mut self)
+        ensures opens { AllZip OpensAll self.old.servers self.new.servers }
+        ensures rest { self.new.coordinator ≡ self.old.coordinator }
+        ensures goes_on { GoesOn self.old self.new }
+    {
+        let workers = self.servers.len();
+        for worker in 0..workers {
+            self.open_lists_of(worker);
+        }
+    }
+
+    /// Takes it apart when its run has ended: its board is closed.
+    pub fn finish(self, alloc: Global) -> Result<Outcome, AllocError>
+        requires gone { AreGone self.servers }
+        requires all { length self.servers ≡ self.coordinator.seat.opening.workers }
+        ensures { IfOk result (HasOutcome self) }
+    {
+        let OwnCrew {
+            board,
+            coordinator,
+            servers,
+            mut counts,
+        } = self;
+        let (logs, seats, board) = finish_own(alloc, servers, board.unwrap())?;
+        let phases = coordinator.phase();
+        let (coord, chosen) = coordinator.finish();
+        board.close(coord, seats, &mut counts);
+        Ok(Outcome {
+            logs,
+            counts,
+            phases,
+            chosen,
+        })
+    }
+
+    // Makes one turn of the coordinator, and says whether it found the run ended.
+    fn ends(&mut self) -> bool
+        ensures leads { LeadsToEnd result self.old self.new }
+        ensures goes_on { GoesOn self.old self.new }
+        ensures ended { result ≡ true → HasEndedJoined self.new.coordinator }
+    {
+        match self.turn() {
+            CoordTurn::Ended => true,
+            _ => false,
+        }
+    }
+
+    // Makes one turn of each worker, in order, and says whether all are gone.
+    fn turns(&mut self) -> bool
+        ensures turns { AllZip (MakesFreshTurn self.old.coordinator.seat) self.old.servers self.new.servers }
+        ensures rest { self.new.coordinator ≡ self.old.coordinator }
+        ensures goes_on { GoesOn self.old self.new }
+        ensures gone { (result ≡ true) ↔ AreGone self.new.servers }
+    {
+        let mut gone = true;
+        let workers = self.servers.len();
+        for worker in 0..workers {
+            let retired = self.retires(worker);
+            gone = gone && retired;
+        }
+        gone
+    }
+
+    // Makes one turn of a worker, and says whether it is gone.
+    fn retires(&mut self, worker: usize) -> bool
+        requires { worker < length self.old.servers }
+        ensures case { AtServer worker (λ s t. MakesFreshTurn self.old.coordinator.seat s t
+            × ((result ≡ true) ↔ (t.worker.post.state ≡ Gone))) self.old.servers self.new.servers }
+        ensures rest { self.new.coordinator ≡ self.old.coordinator }
+        ensures goes_on { GoesOn self.old self.new }
+    {
+        match self.turn_at(worker) {
+            Turn::Retired => true,
+            _ => false,
+        }
+    }
+
+    // Makes one turn of a worker.
+    fn turn_at(&mut self, worker: usize) -> Turn
+        requires { worker < length self.old.servers }
+        ensures case { AtServer worker (λ s t. IsFreshTurn self.old.coordinator.seat result s t
+            × (result ≡ Turn.Retired → t.worker.post.state ≡ Gone)) self.old.servers self.new.servers }
+        ensures rest { self.new.coordinator ≡ self.old.coordinator }
+        ensures goes_on { GoesOn self.old self.new }
+    {
+        let board = self.board.take().unwrap();
+        let server = self.servers[worker].take().unwrap();
+        let OwnTurn {
+            answer,
+            server,
+            board,
+        } = server.turn(&(), &NoGate, board);
+        self.servers[worker] = Some(server);
+        self.board = Some(board);
+        answer
+    }
+
+    // Opens one item more of the list of a submitter, which is a worker's.
+    fn open_list_of(&mut self, worker: usize, submitter: u32)
+        requires worker { worker < length self.old.servers }
+        requires there { (s : ServerView) → slice_get self.old.servers worker ≡ Some s
+            → place_at s submitter < length s.inboxes }
+        ensures opens { AtServer worker (OpensOne submitter) self.old.servers self.new.servers }
+        ensures rest { self.new.coordinator ≡ self.old.coordinator }
+        ensures goes_on { GoesOn self.old self.new }
+    {
+        let board = self.board.take().unwrap();
+        let server = self.servers[worker].take().unwrap();
+        let (server, board) = server.open_one(submitter, board);
+        self.servers[worker] = Some(server);
+        self.board = Some(board);
+    }
+
+    // Opens all lists of a worker's submitters.
+    fn open_lists_of(&mut self, worker: usize)
+        requires { worker < length self.old.servers }
+        ensures opens { AtServer worker OpensAll self.old.servers self.new.servers }
+        ensures rest { self.new.coordinator ≡ self.old.coordinator }
+        ensures goes_on { GoesOn self.old self.new }
+    {
+        let board = self.board.take().unwrap();
+        let server = self.servers[worker].take().unwrap();
+        let (server, board) = server.open_all(board);
+        self.servers[worker] = Some(server);
+        self.board = Some(board);
+    }
+}
