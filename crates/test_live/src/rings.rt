@@ -2,6 +2,7 @@
 use crate::asserts::assert_named;
 use crate::play::{is_answer_of, plays};
 use crate::scenes::{OnSeat, next_phase};
+use crate::services::open;
 use like_board::SharedPost;
 use like_choice::Guided;
 use like_live::{LikeAnswer, LiveSeat, Opening, Service};
@@ -20,14 +21,6 @@ fn opening(alloc: Global) -> Result<Opening, AllocError> {
         room: 2,
         hot: Some(1),
     })
-}
-
-fn opened(alloc: Global) -> Result<Service<Guided>, Fail> {
-    let opening = opening(alloc)?;
-    match Service::open(alloc, &opening) {
-        Ok(service) => Ok(service),
-        Err(_) => Err(Fail::new("no service")),
-    }
 }
 
 // 2,000 likes of a page by the user with a seat's number.
@@ -55,7 +48,8 @@ fn both_get_hot(rt: &impl Abort, service: &mut Service<Guided>) {
 
 #[test]
 fn pages_of_both_seats_get_hot(rt: HostRuntime) -> Result<(), Fail> {
-    let mut service = opened(rt.alloc())?;
+    let opening = opening(rt.alloc())?;
+    let mut service = open(rt.alloc(), &opening)?;
     both_get_hot(&rt, &mut service);
     drop(service);
     Ok(())

@@ -46,7 +46,8 @@ fn opening_of(alloc: Global, numbers: &Numbers) -> Result<Opening, AllocError> {
     })
 }
 
-fn open(alloc: Global, opening: &Opening) -> Result<Service<Guided>, Fail>
+/// A service with this opening.
+pub fn open(alloc: Global, opening: &Opening) -> Result<Service<Guided>, Fail>
     ensures { IfOk result (λ s. AreItsSeats s.driver s.seats.items) }
 {
     match Service::open(alloc, opening) {

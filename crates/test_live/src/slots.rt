@@ -3,9 +3,10 @@
 use crate::asserts::assert_named;
 use crate::play::{is_answer_of, plays};
 use crate::scenes::{
-    OnSeat, asks_when_due, changes, live_moves_calls, live_slots_calls, next_phase, runs,
+    Calls, OnSeat, asks_when_due, changes, live_moves_calls, live_slots_calls, next_phase, runs,
     splits_500, splits_999,
 };
+use crate::services::open;
 use like_board::SharedPost;
 use like_choice::{Choice, Guided, NoProposal, Proposal, Slots};
 use like_live::{Driver, LikeAnswer, LiveSeat, LookAnswer, Opening, Service};
@@ -143,9 +144,7 @@ fn proposes_beside_a_mark(rt: &impl Abort, service: &mut Service<Guided>) {
 #[test]
 fn marks_beside_proposals(rt: HostRuntime) -> Result<(), Fail> {
     let opening = opening_of(rt.alloc(), 10, &[5])?;
-    let Ok(mut service) = Service::open(rt.alloc(), &opening) else {
-        return Err(Fail::new("no service"));
-    };
+    let mut service = open(rt.alloc(), &opening)?;
     proposes_beside_a_mark(&rt, &mut service);
     drop(service);
     Ok(())
@@ -156,10 +155,21 @@ fn opened_hot(alloc: Global, hot: Option<u32>) -> Result<Service<Guided>, Fail> 
     let mut opening = opening_of(alloc, 1_000, &[])?;
     opening.room = 4_096;
     opening.hot = hot;
-    match Service::open(alloc, &opening) {
-        Ok(service) => Ok(service),
-        Err(_) => Err(Fail::new("no service")),
-    }
+    open(alloc, &opening)
+}
+
+// What is done with such a service.
+#[derive(Clone, Copy)]
+enum Part {
+    // So many likes of page 500 by user 0 of seat 0, or by user 1 of seat 1.
+    Likes(u32, u32),
+    // Two likes of each page by user 0 of seat 0.
+    LikesEach,
+    // 4,000 looks at page 500 by user 0 of seat 0, each with this answer.
+    Looks(LookAnswer),
+    // The host proposes page 999.
+    Proposes,
+    Plays(&'static Calls),
 }
 
 // The same call of a seat, this many times.
@@ -175,17 +185,6 @@ fn repeats(
     }
 }
 
-// Likes of page 500 by user 0 of seat 0, or by user 1 of seat 1.
-fn likes_500(rt: &impl Abort, seats: &mut [LiveSeat<SharedPost>], user: u32, times: u32) {
-    let call = OnSeat::Like(user, 500, LikeAnswer::Liked);
-    repeats(rt, seats, user as usize, call, times);
-}
-
-// 4,000 looks at page 500 by user 0 of seat 0, each with this answer.
-fn looks_at_500(rt: &impl Abort, seats: &mut [LiveSeat<SharedPost>], answer: LookAnswer) {
-    repeats(rt, seats, 0, OnSeat::Look(0, 500, 0, answer), 4_000);
-}
-
 // Two likes of each page by user 0 of seat 0.
 fn likes_each(rt: &impl Abort, seats: &mut [LiveSeat<SharedPost>]) {
     for like in 0..2_000u32 {
@@ -194,72 +193,82 @@ fn likes_each(rt: &impl Abort, seats: &mut [LiveSeat<SharedPost>]) {
     }
 }
 
-// Likes of each page by seat 0 make none hot. Those of page 500 by seat 1 do, though it has fewer samples by then.
-fn gets_hot(rt: &impl Abort, service: &mut Service<Guided>) {
-    likes_each(rt, &mut service.seats);
-    plays(rt, service, runs());
-    likes_500(rt, &mut service.seats, 1, 2_000);
-    plays(rt, service, splits_500());
+fn plays_part(rt: &impl Abort, service: &mut Service<Guided>, part: Part) {
+    match part {
+        Part::Likes(user, times) => {
+            let call = OnSeat::Like(user, 500, LikeAnswer::Liked);
+            repeats(rt, &mut service.seats, user as usize, call, times);
+        }
+        Part::LikesEach => likes_each(rt, &mut service.seats),
+        Part::Looks(answer) => {
+            let call = OnSeat::Look(0, 500, 0, answer);
+            repeats(rt, &mut service.seats, 0, call, 4_000);
+        }
+        Part::Proposes => service.driver.propose(&[999]),
+        Part::Plays(calls) => plays(rt, service, calls),
+    }
 }
 
-#[test]
-fn live_hot(rt: HostRuntime) -> Result<(), Fail> {
-    let mut service = opened_hot(rt.alloc(), Some(1))?;
-    gets_hot(&rt, &mut service);
+// Opens such a service, and does all this with it.
+fn plays_hot(rt: &impl Abort, alloc: Global, hot: Option<u32>, parts: &[Part]) -> Result<(), Fail> {
+    let mut service = opened_hot(alloc, hot)?;
+    for part in parts {
+        plays_part(rt, &mut service, *part);
+    }
     drop(service);
     Ok(())
+}
+
+// Likes of each page by seat 0 make none hot. Those of page 500 by seat 1 do, though it has fewer samples by then.
+#[test]
+fn live_hot(rt: HostRuntime) -> Result<(), Fail> {
+    let parts = [
+        Part::LikesEach,
+        Part::Plays(runs()),
+        Part::Likes(1, 2_000),
+        Part::Plays(splits_500()),
+    ];
+    plays_hot(&rt, rt.alloc(), Some(1), &parts)
 }
 
 // Likes make no page hot. A host can have pages split all the same.
-fn gets_none_hot(rt: &impl Abort, service: &mut Service<Guided>) {
-    likes_500(rt, &mut service.seats, 0, 2_000);
-    plays(rt, service, runs());
-    service.driver.propose(&[999]);
-    plays(rt, service, splits_999());
-}
-
 #[test]
 fn none_gets_hot(rt: HostRuntime) -> Result<(), Fail> {
-    let mut service = opened_hot(rt.alloc(), None)?;
-    gets_none_hot(&rt, &mut service);
-    drop(service);
-    Ok(())
+    let parts = [
+        Part::Likes(0, 2_000),
+        Part::Plays(runs()),
+        Part::Proposes,
+        Part::Plays(splits_999()),
+    ];
+    plays_hot(&rt, rt.alloc(), None, &parts)
 }
 
 // 380 likes are too few: 1 to 511 for `hot` act as 512. Of 1,000 likes and 4,000 looks, the looks are more.
-fn is_not_popular(rt: &impl Abort, service: &mut Service<Guided>) {
-    likes_500(rt, &mut service.seats, 0, 380);
-    plays(rt, service, runs());
-    likes_500(rt, &mut service.seats, 0, 620);
+#[test]
+fn few_likes_make_none_hot(rt: HostRuntime) -> Result<(), Fail> {
     let seen = Seen {
         last: Some(500),
         count: 1_000,
     };
-    looks_at_500(rt, &mut service.seats, LookAnswer::Seen(seen));
-    plays(rt, service, runs());
-}
-
-#[test]
-fn few_likes_make_none_hot(rt: HostRuntime) -> Result<(), Fail> {
-    let mut service = opened_hot(rt.alloc(), Some(1))?;
-    is_not_popular(&rt, &mut service);
-    drop(service);
-    Ok(())
+    let parts = [
+        Part::Likes(0, 380),
+        Part::Plays(runs()),
+        Part::Likes(0, 620),
+        Part::Looks(LookAnswer::Seen(seen)),
+        Part::Plays(runs()),
+    ];
+    plays_hot(&rt, rt.alloc(), Some(1), &parts)
 }
 
 // Page 500 gets hot by 1,000 likes, and then 4,000 looks at it wait.
-fn looks_wait(rt: &impl Abort, service: &mut Service<Guided>) {
-    likes_500(rt, &mut service.seats, 0, 1_000);
-    plays(rt, service, splits_500());
-    looks_at_500(rt, &mut service.seats, LookAnswer::Waits);
-    plays(rt, service, next_phase());
-    plays(rt, service, runs());
-}
-
 #[test]
 fn looks_that_wait_cost_a_slot(rt: HostRuntime) -> Result<(), Fail> {
-    let mut service = opened_hot(rt.alloc(), Some(1))?;
-    looks_wait(&rt, &mut service);
-    drop(service);
-    Ok(())
+    let parts = [
+        Part::Likes(0, 1_000),
+        Part::Plays(splits_500()),
+        Part::Looks(LookAnswer::Waits),
+        Part::Plays(next_phase()),
+        Part::Plays(runs()),
+    ];
+    plays_hot(&rt, rt.alloc(), Some(1), &parts)
 }
