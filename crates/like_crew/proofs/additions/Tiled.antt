@@ -22,7 +22,6 @@ use Rattle.std.proofs.lemmas.List.Elements.{All-map}
 use Rattle.like_board.specs.declared.worker_seat.WorkerSeat.{WorkerSeat}
 use Rattle.like_board.specs.Closed.{count_with}
 use Rattle.like_board.specs.Seats.{seat_meaning}
-use Rattle.like_promises.specs.declared.log.Added.{Added}
 use Rattle.like_promises.specs.declared.log.Ran.{Ran}
 use Rattle.like_promises.specs.declared.log.WorkerLog.{WorkerLog}
 use Rattle.like_promises.specs.places.Adds.{AddsItsLikes, addition_of}
@@ -39,7 +38,6 @@ use Rattle.like_crew.specs.Server.{HasWorkedFor, IsLogOf, ServerView}
 use Rattle.like_promises.specs.places.Tiling.{all_noted}
 use Rattle.like_crew.proofs.additions.AddedPages.{adds-there, none-liked}
 use Rattle.like_crew.proofs.additions.AddedPhases.{of-likes-same, ran-within}
-use Rattle.like_crew.proofs.Makings.{all-back}
 use Rattle.like_crew.proofs.lists.Pairs.{pairs-sum}
 use Rattle.like_crew.proofs.lists.Sums.{sum-of-map}
 use Rattle.like_crew.proofs.Whole.{HasCounted, HaveMasks, SawNoneLater, all-before, all-likes, at-post, hot_known, initial-at, known, left-at, logs-are, masks-known, posts, right-at-server, served, server-at, z}

@@ -1,6 +1,6 @@
 -- What running a request does to likes, replies and last likes.
 use Rattle.std.proofs.Common.{◌≡◌, ◌≢◌, ℕ, ◌+◌, ◌<◌, ◌≤◌, Bool, true, false, cond, not, eqb, ltb, ◌==◌, ◌&&◌, List, [], ◌∷◌, ◌++◌, length, count_by, get_or, set, map, take, Option, Some, None, refl, sym, ap, ◌∙◌, inl, inr, arith, append-nil, subst}
-use Rattle.std.proofs.Math.Seq.{take-append_seam, take-length}
+use Rattle.std.proofs.Math.Seq.{take-append_seam}
 use Rattle.std.proofs.lemmas.Bool.{and_parts, cases_eq, cases_lt, eq-eqb, ltb-true, ne_eqb}
 use Rattle.std.proofs.lemmas.List.{length-append, length-set, map-append, get_or-set_same, get_or-set_other, take-append-le}
 use Rattle.std.proofs.lemmas.List.Elements.{All-cons, filter-append, filter_map-append}
@@ -8,7 +8,7 @@ use Rattle.std.proofs.lemmas.List.Sums.{sum_by-append}
 use Rattle.std.proofs.lemmas.Option.{slice_get_within}
 use Rattle.std.specs.List.{cons_option, filter, slice_get}
 use Rattle.std.specs.Option.{option_to_list}
-use Rattle.std.specs.Prelude.{All, option_and_then, option_map, IsSomeAnd}
+use Rattle.std.specs.Prelude.{option_and_then, IsSomeAnd}
 use Rattle.like_requests.specs.Pages.{marks_of}
 use Rattle.like_requests.specs.Verdict.{home, is_accepted, is_known, verdict_of}
 use Rattle.like_requests.specs.declared.request.PageRef.TheVariants as ref
@@ -17,7 +17,7 @@ use Rattle.like_requests.specs.declared.verdict.Verdict.TheVariants as verdict
 use Rattle.like_core.specs.WorkerState.{phase_of}
 use Rattle.like_core.specs.declared.page_step.PageCall.TheVariants.{Add, Read}
 use Rattle.like_core.specs.declared.page_step.PageStep.{PageStep}
-use Rattle.like_core.specs.Additions.{addition, added_in, added_to}
+use Rattle.like_core.specs.Additions.{added_in, added_to}
 use Rattle.like_core.specs.PageSteps.{additions_among, earliest_first, likes_of, page_step}
 use Rattle.like_core.specs.Post.{additions_of, additions_in, pages_of, slices}
 use Rattle.like_core.proofs.core.Labels.{added_to-push, added_in-push}
@@ -39,7 +39,6 @@ use Rattle.like_requests.specs.Setup.{IsThere}
 use Rattle.like_roles.specs.worker.WorkerView.{WorkerView, phase_at}
 use Rattle.like_promises.proofs.Lists.{last_in-push, slice_get-at_end, slice_get-before}
 use Rattle.like_roles.proofs.Served.{counted_by}
-use Rattle.like_seat.proofs.MergedLikes.{cond_same}
 use Rattle.like_seat.specs.StationView.{IsSliceInSplit}
 use Rattle.like_roles.proofs.counts.Steps.{counted-steps, plain_told-push, steps_ran-none, steps_ran-push}
 use Rattle.like_serial.specs.StepsTold.{look_or_like, plain_told, step_ran, step_told, steps_ran}
