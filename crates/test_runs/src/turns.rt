@@ -58,12 +58,7 @@ fn write_answer(rt: &impl Abort, words: &mut String, answer: &Answer) {
 }
 
 // Makes a script's entries in their order, and gives a word for what each turn among them answers.
-fn answers_of(
-    rt: &impl Abort,
-    alloc: Global,
-    crew: &mut OwnCrew,
-    script: &[Turned],
-) -> String
+fn answers_of(rt: &impl Abort, alloc: Global, crew: &mut OwnCrew, script: &[Turned]) -> String
     requires { All (CanMake crew.old.servers) script.now }
     ensures { GoesOn crew.old crew.new }
 {
@@ -93,12 +88,7 @@ fn end_run(rt: &impl Abort, crew: &mut OwnCrew)
 
 // What the turns of a script answer, and what its crew leaves at the end of the run: a crew that is taken apart needs no
 // drop.
-fn play(
-    rt: &impl Abort,
-    alloc: Global,
-    crew: OwnCrew,
-    script: &[Turned],
-) -> (String, Outcome)
+fn play(rt: &impl Abort, alloc: Global, crew: OwnCrew, script: &[Turned]) -> (String, Outcome)
     requires script { All (CanMake crew.servers) script.now }
     requires all { length crew.servers ≡ crew.coordinator.seat.opening.workers }
     ensures { (last : CrewView)

@@ -120,8 +120,7 @@ invariant_of-result c =
     ∙ ap (λ (xs : List ℕ). opening setup.workers xs c.deref-2.result.now) counts
     ∙ ap (λ (xs : List Bool). opening setup.workers (map (λ (p : Page). p.count) setup.pages) xs) marks in
     let seat : c.in_ok-coordinator.coordinator.seat ≡ opened_coord (opening_of setup) =
-    c.in_ok-coordinator.ensures.seat ∙ c.in_ok-board.ensures.coord ∙ ap opened_coord opened in
-    (
+    c.in_ok-coordinator.ensures.seat ∙ c.in_ok-board.ensures.coord ∙ ap opened_coord opened in (
       subst (λ (v : CoordSeatView). AreSeated (own_views c.in_ok-servers.board) v c.in_ok-servers.servers.items)
           (sym seat) c.in_ok-servers.ensures.seated,
       ap (λ (xs : List ℕ). length xs) c.in_ok-counts.ensures.counts
