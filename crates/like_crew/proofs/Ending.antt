@@ -115,18 +115,3 @@ has-ended setup plans site c e is h = record {
   chose = subst (λ (v : CoordSeatView). (total : ℕ → ℕ → ℕ) → AreTotals total v.counted
       → HasChosen v h.coordinator.choice total) (sym h.coordinator_is.view) h.coordinator_is.chose;
 }
-
--- what is left of a crew later is left of the crew
-pub ended-later : (c d : CrewView) (e : Ended) → GoesOn c d → HasEnded d e → HasEnded c e
-ended-later c d e on h = record {
-  left = record {
-    servers = h.left.servers;
-    later = all-further-both c.servers d.servers h.left.servers on.servers h.left.later;
-    gone = h.left.gone;
-    logs_are = h.left.logs_are;
-    seats_are = h.left.seats_are;
-  };
-  coordinator = h.coordinator;
-  later = coordinator-further c.coordinator d.coordinator h.coordinator on.coordinator h.later;
-  coordinator_is = h.coordinator_is;
-}

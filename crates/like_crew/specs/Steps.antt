@@ -3,7 +3,6 @@ use Rattle.std.specs.Prelude.{◌≡◌, ◌↔◌, ℕ, Bool, true, List, lengt
 use Rattle.std.specs.List.{AllZip}
 use Rattle.like_core.specs.declared.view.CoordSeatView.{CoordSeatView}
 use Rattle.like_tables.specs.Share.{worker_of}
-use Rattle.like_board.specs.Led.{BoardView, ShowsTold}
 use Rattle.like_roles.specs.coordinator.CoordTurns.{CoordTurns, CoordinatorView}
 use Rattle.like_roles.specs.declared.coord_turn.CoordTurn.{CoordTurn}
 use Rattle.like_roles.specs.declared.coord_turn.CoordTurn.TheVariants.{Ended}
@@ -34,21 +33,6 @@ MakesFreshTurn c s t = (answer : Turn) × IsFreshTurn c answer s t
 -- one item more of a submitter's list is open, at the server of its worker
 abbrev pub OpensMore : ℕ → List ServerView → List ServerView → Type 0
 OpensMore submitter ss ts = AtServer (worker_of (length ss) submitter) (OpensOne submitter) ss ts
-
--- some turn of the coordinator
-abbrev pub LeadsOn : CoordinatorView → CoordinatorView → Type 0
-LeadsOn v w = (answer : CoordTurn) × CoordTurns v answer w
-
--- a turn of the coordinator, and whether it answered that the run has ended
-pub record Leads (ended : Bool) (v w : CoordinatorView) : Type 0 where
-  pub answer : CoordTurn
-  pub turn : CoordTurns v answer w
-  pub tells : (ended ≡ true) ↔ (answer ≡ Ended)
-
--- the same at a board: where that tells what all its seats know, the look shows it
-pub record LeadsThere (b : BoardView) (ended : Bool) (v w : CoordinatorView) : Type 0 where
-  pub leads : Leads ended v w
-  pub fresh : ShowsTold b v.seat.phase leads.turn.sight
 
 -- a turn of the coordinator with this answer, whose look shows what the workers know, and nothing else
 pub record LeadsFresh (answer : CoordTurn) (c d : CrewView) : Type 0 where

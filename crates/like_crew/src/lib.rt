@@ -11,5 +11,5 @@ mod site;
 pub use crew::{CoordinatorAt, Crew, OwnCrew, OwnServer, OwnTurn, Server};
 pub use ended::Ended;
 pub use outcome::Outcome;
-pub use report::{report_from, report_in_parallel, report_of};
+pub use report::{report_in_parallel, report_of};
 pub use site::{Seats, Site, sizes_of};

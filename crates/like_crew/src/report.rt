@@ -25,35 +25,9 @@ use std::thread::Threads;
 
 mod gathered;
 
-/// The report of a run of these plans that has ended; it has the places of additions where the workers noted them.
+/// The report of a run of these plans, of so many requests each, that has left this; it has the places of additions
+/// where the workers noted them.
 pub fn report_of(
-    alloc: Global,
-    setup: &Setup,
-    plans: &Snapshot<Vec<Vec<Request>>>,
-    site: Site,
-    ended: Ended,
-) -> Result<Report, AllocError>
-    requires within { FitsRun setup.now (lists_of plans.now.value.items) }
-    requires site { IsSite setup.now (lists_of plans.now.value.items) site }
-    requires ended { IsEnded setup.now (lists_of plans.now.value.items) site ended }
-    ensures report { IfOk result (IsRightReport setup.now (lists_of plans.now.value.items)) }
-    ensures places { site.notes ≡ true
-        → IfOk result (HasRightPlaces setup.now (lists_of plans.now.value.items)) }
-    ensures none { site.notes ≡ false → IfOk result HasNoPlaces }
-    ensures phases { IfOk result (λ report. report.phases ≡ ended.phases) }
-{
-    let Site {
-        sizes,
-        counts,
-        board,
-        notes,
-    } = site;
-    let outcome = close(board, counts, ended);
-    report_from(alloc, setup, plans, &sizes, notes, outcome)
-}
-
-/// The report of a run of these plans, of so many requests each, that has left this.
-pub fn report_from(
     alloc: Global,
     setup: &Setup,
     plans: &Snapshot<Vec<Vec<Request>>>,
@@ -75,7 +49,7 @@ pub fn report_from(
     report_with(alloc, setup, plans, sizes, notes, outcome, collected)
 }
 
-/// The same, with the replies collected in parallel by at most `starts` further threads.
+/// The report of a run at a site that has ended, with the replies collected in parallel by at most `starts` further threads.
 pub fn report_in_parallel<T: Threads + Sync>(
     rt: &T,
     alloc: Global,

@@ -9,7 +9,7 @@ ghost use Rattle.like_run.specs.Report.{IsReportOf};
 ghost use Rattle.like_run.specs.Rounds.{CanMake, CanReplayScript, HasEndedIn, IsPlayFault, IsReplayFaultUnderWay, IsReplayFault};
 ghost use Rattle.like_run.specs.Script.{EndsInTime, FollowsScript, Makes, MakesAll, MakesMostRounds};
 
-use like_crew::{Outcome, OwnCrew, report_from, sizes_of};
+use like_crew::{Outcome, OwnCrew, report_of, sizes_of};
 use like_promises::Report;
 use like_requests::{Request, Setup, Turned, check_script, check_setup};
 use std::alloc::Global;
@@ -82,7 +82,7 @@ fn replay_within(
     let lists = Snapshot::of(&plans);
     let crew = OwnCrew::new(alloc, setup, &sizes, plans, notes)?;
     let outcome = play(alloc, crew, script)?;
-    Ok(report_from(alloc, setup, &lists, &sizes, notes, outcome)?)
+    Ok(report_of(alloc, setup, &lists, &sizes, notes, outcome)?)
 }
 
 // Makes a script's entries in their order, opens all lists, makes rounds until the run ended, and takes the crew apart.

@@ -12,7 +12,7 @@ use super::cases::{
     Case, FULL_STASH, IDLE_WORKERS, LATE_WORKER, PLAIN_LIKES, SPLIT_AND_STASH, STASH_THEN_LIKE,
     TWO_SLICES, UNSPLIT, assert_counts, assert_text, turns,
 };
-use like_crew::{Outcome, OwnCrew, report_from, sizes_of};
+use like_crew::{Outcome, OwnCrew, report_of, sizes_of};
 use like_replies::Report;
 use like_requests::{Request, Setup, check_script, check_setup};
 use like_roles::{CoordTurn, Turn};
@@ -116,7 +116,7 @@ fn answers_within(
     let lists = Snapshot::of(&plans);
     let crew = OwnCrew::new(alloc, setup, &sizes, plans, true).expect(rt, "memory");
     let (words, outcome) = play(rt, alloc, crew, script);
-    let report = report_from(alloc, setup, &lists, &sizes, true, outcome).expect(rt, "a report");
+    let report = report_of(alloc, setup, &lists, &sizes, true, outcome).expect(rt, "a report");
     (words, report)
 }
 

@@ -1,9 +1,8 @@
-ghost use Rattle.std.specs.Prelude.{◌≡◌, [], IfOk, true};
+ghost use Rattle.std.specs.Prelude.{◌≡◌, [], IfOk};
 ghost use Rattle.like_core.specs.OpeningLimits.{run_limits};
 ghost use Rattle.like_board.specs.Seats.{board_id, coord_board, coord_view};
 ghost use Rattle.like_roles.specs.coordinator.CoordTurns.{CoordTurns, HasEndedJoined};
 ghost use Rattle.like_crew.specs.Crew.{CoordinatorGoesOn};
-ghost use Rattle.like_crew.specs.Steps.{Leads};
 
 use crate::crew::run_coordinator::RunCoordinator;
 use like_board::{Board, CoordSeat};
@@ -64,15 +63,5 @@ impl<'a> CoordinatorAt<'a> {
     {
         let mut at = self.board;
         self.coordinator.turn_at(&mut at)
-    }
-
-    /// Makes its next turn, and says whether it found the run ended.
-    pub fn ends(&mut self) -> bool
-        ensures leads { Leads result self.old self.new }
-        ensures goes_on { CoordinatorGoesOn self.old self.new }
-        ensures ended { result ≡ true → HasEndedJoined self.new }
-    {
-        let mut at = self.board;
-        self.coordinator.ends_at(&mut at)
     }
 }

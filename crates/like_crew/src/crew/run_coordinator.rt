@@ -1,9 +1,8 @@
-ghost use Rattle.std.specs.Prelude.{◌≡◌, [], IfOk, true};
+ghost use Rattle.std.specs.Prelude.{◌≡◌, [], IfOk};
 ghost use Rattle.like_core.specs.OpeningLimits.{run_limits};
 ghost use Rattle.like_board.specs.Led.{IsLedBy, led};
 ghost use Rattle.like_roles.specs.coordinator.CoordTurns.{ChoseByCounts, HasEndedJoined, TurnsAt};
 ghost use Rattle.like_crew.specs.Crew.{CoordinatorGoesOn};
-ghost use Rattle.like_crew.specs.Steps.{LeadsThere};
 
 use like_board::{LeadSeat, LeadsAt};
 use like_promises::Chosen;
@@ -65,22 +64,6 @@ impl<S: LeadSeat> RunCoordinator<S> {
         ensures ended { result ≡ CoordTurn.Ended → HasEndedJoined self.new }
     {
         self.coordinator.turn_at(board)
-    }
-
-    /// Makes its next turn, and says whether it found the run ended.
-    pub(crate) fn ends_at<B>(&mut self, board: &mut B) -> bool
-    where
-        S: LeadsAt<B>,
-        requires { IsLedBy (S.tells board.old) self.old.board self.old.seat }
-        ensures leads { LeadsThere (S.tells board.old) result self.old self.new }
-        ensures led { S.tells board.new ≡ led (S.tells board.old) self.new.seat }
-        ensures goes_on { CoordinatorGoesOn self.old self.new }
-        ensures ended { result ≡ true → HasEndedJoined self.new }
-    {
-        match self.turn_at(board) {
-            CoordTurn::Ended => true,
-            _ => false,
-        }
     }
 
     /// The phase of its last look, and 0 before.

@@ -42,21 +42,21 @@ play-requires-clause-all c =
     c.in_ok-crew.crew.servers crew.servers
     ∙ sym (ap (λ (z : Opening). z.workers) crew.opening)
 
-pub report_from-requires-clause-within : goal.report_from-requires-clause-within
-report_from-requires-clause-within c =
+pub report_of-requires-clause-within : goal.report_of-requires-clause-within
+report_of-requires-clause-within c =
     subst (λ (v : Vec (Vec Request Global) Global). FitsRun c.args.setup.now (lists_of v.items)) (sym c.of-lists.ensures)
     c.requires.within
 
-pub report_from-requires-clause-sizes : goal.report_from-requires-clause-sizes
-report_from-requires-clause-sizes c =
+pub report_of-requires-clause-sizes : goal.report_of-requires-clause-sizes
+report_of-requires-clause-sizes c =
     subst (λ (v : Vec (Vec Request Global) Global). c.deref-3.result.now ≡ map length (lists_of v.items))
     (sym c.of-lists.ensures)
     (c.deref-3.ensures.value ∙ c.in_ok-sizes.ensures
     ∙ ap (map (λ (plan : Vec Request Global). length plan.items)) c.deref.ensures.value
     ∙ map-twice requests_of length c.args.plans.items)
 
-pub report_from-requires-clause-outcome : goal.report_from-requires-clause-outcome
-report_from-requires-clause-outcome c =
+pub report_of-requires-clause-outcome : goal.report_of-requires-clause-outcome
+report_of-requires-clause-outcome c =
     let followed = c.in_ok-outcome.ensures.script in
     subst (λ (v : Vec (Vec Request Global) Global). IsOutcome c.args.setup.now (lists_of v.items) c.args.notes
     c.in_ok-outcome.outcome) (sym c.of-lists.ensures)
@@ -66,9 +66,9 @@ report_from-requires-clause-outcome c =
 pub returns-clause-report : goal.returns-clause-report
 returns-clause-report c =
     is-report c.args.setup.now (lists_of c.of-lists.result.value.items) (lists_of c.args.plans.items)
-    c.args.notes c.args.notes c.in_ok-report_from.field-0
+    c.args.notes c.args.notes c.in_ok-report_of.field-0
     (ap (λ (v : Vec (Vec Request Global) Global). lists_of v.items) c.of-lists.ensures) refl
-    c.in_ok-report_from.ensures.report c.in_ok-report_from.ensures.places c.in_ok-report_from.ensures.none
+    c.in_ok-report_of.ensures.report c.in_ok-report_of.ensures.places c.in_ok-report_of.ensures.none
 
 pub returns-clause-ended : goal.returns-clause-ended
 returns-clause-ended c =
@@ -78,7 +78,7 @@ returns-clause-ended c =
       new = c.in_ok-crew.ensures.new;
       last = followed.last;
       plays = followed.plays;
-      phase_is = c.in_ok-report_from.ensures.phases ∙ followed.outcome.phases;
+      phase_is = c.in_ok-report_of.ensures.phases ∙ followed.outcome.phases;
     }
 
 pub returns-in_err-outcome-clause-fault : goal.returns-in_err-outcome-clause-fault

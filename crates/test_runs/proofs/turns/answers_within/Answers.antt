@@ -45,13 +45,13 @@ play-words-requires-clause-all g c =
     c.expect-crew.result.servers crew.servers
     ∙ sym (ap (λ (z : Opening). z.workers) crew.opening)
 
-pub report_from-requires-clause-within : goal.report_from-requires-clause-within
-report_from-requires-clause-within g c =
+pub report_of-requires-clause-within : goal.report_of-requires-clause-within
+report_of-requires-clause-within g c =
     subst (λ (v : Vec (Vec Request Global) Global). FitsRun c.args.setup.now (lists_of v.items)) (sym c.of-lists.ensures)
     c.requires.within
 
-pub report_from-requires-clause-sizes : goal.report_from-requires-clause-sizes
-report_from-requires-clause-sizes g c =
+pub report_of-requires-clause-sizes : goal.report_of-requires-clause-sizes
+report_of-requires-clause-sizes g c =
     subst (λ (v : Vec (Vec Request Global) Global). c.deref-3.result.now ≡ map length (lists_of v.items))
     (sym c.of-lists.ensures)
     (c.deref-3.ensures.value
@@ -60,8 +60,8 @@ report_from-requires-clause-sizes g c =
     ∙ ap (map (λ (plan : Vec Request Global). length plan.items)) c.deref.ensures.value
     ∙ map-twice requests_of length c.args.plans.items)
 
-pub report_from-requires-clause-outcome : goal.report_from-requires-clause-outcome
-report_from-requires-clause-outcome g c =
+pub report_of-requires-clause-outcome : goal.report_of-requires-clause-outcome
+report_of-requires-clause-outcome g c =
     let told = c.play-words.ensures in
     let crew = subst (λ r. IfOk r (IsCrewAt c.args.setup.now (lists_of c.args.plans.items) [] true))
     c.expect-crew.ensures c.new.ensures.crew in
