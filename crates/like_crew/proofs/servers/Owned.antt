@@ -118,10 +118,10 @@ lent-log s board log l = record {
         is_log = it.is_log;
         likes = it.likes;
         by_phase = it.by_phase;
-        looks = it.looks;
         steps = it.steps;
+        reads = it.reads;
         noted = λ notes.
-            let n = it.noted notes in record { additions = n.additions; adds = n.adds; reads = n.reads };
+            let n = it.noted notes in record { additions = n.additions; adds = n.adds; calls = n.calls };
       };
 }
 
