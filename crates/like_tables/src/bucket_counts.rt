@@ -32,6 +32,8 @@ impl BucketCounts {
 }
 
 impl Counts for BucketCounts {
+    type Tags = [u32; BUCKETS];
+
     ghost view = { λ c. c };
 
     #[inline(always)]
@@ -51,7 +53,7 @@ impl Counts for BucketCounts {
     }
 
     // It goes over the split pages.
-    fn next_page(&self, splits: &SplitPages, from: u32) -> Option<u32> {
+    fn next_page(&self, splits: &SplitPages<[u32; BUCKETS]>, from: u32) -> Option<u32> {
         let mut place = from;
         while let Some(page) = splits.next(place) {
             let bucket = splits.bucket(page);

@@ -3,6 +3,7 @@
 #![tactic(auto)]
 
 mod bucket_counts;
+mod bucket_tags;
 mod buckets;
 mod counts;
 mod held;
@@ -18,6 +19,7 @@ mod stash;
 mod users;
 
 pub use bucket_counts::BucketCounts;
+pub use bucket_tags::BucketTags;
 pub use buckets::{BUCKETS, bucket, factor_for};
 pub use counts::Counts;
 pub use held::Held;

@@ -108,6 +108,8 @@ impl Slice {
 
 // In a run a page's bucket is its number.
 impl Counts for Slice {
+    type Tags = Vec<u32>;
+
     ghost view = { λ s. s };
 
     #[inline(always)]
@@ -125,7 +127,7 @@ impl Counts for Slice {
     }
 
     // It goes by the bits that tell which numbers are not 0.
-    fn next_page(&self, splits: &SplitPages, from: u32) -> Option<u32> {
+    fn next_page(&self, splits: &SplitPages<Vec<u32>>, from: u32) -> Option<u32> {
         if from as usize > self.counts.len() {
             return None;
         }

@@ -1,8 +1,9 @@
-ghost use Rattle.std.specs.Prelude.{◌≡◌, ◌^◌, ◌<◌, ◌≤◌, ℕ, IfNone, IfOk, IfSome, length, slice_index};
+ghost use Rattle.std.specs.Prelude.{◌≡◌, ◌^◌, ◌<◌, ◌≤◌, IfNone, IfOk, IfSome};
 ghost use Rattle.like_limits.specs.Buckets.{bucket, buckets};
 ghost use Rattle.like_tables.specs.SplitPages.{AreSplitPages, HoldNone, IsNextSplit, MayPut, is_split, none_split, page_in, with_page};
 ghost use Rattle.like_tables.specs.Tags.{empty_tag};
 
+use crate::bucket_tags::BucketTags;
 use crate::buckets::{BUCKETS, bucket};
 use crate::page_set::PageSet;
 use std::alloc::{AllocError, Global};
@@ -12,23 +13,23 @@ use std::marker::Model;
 ///
 /// A page is split if its bucket holds it. So one comparison tells that, and that the page exists.
 #[derive(Drop)]
-pub struct SplitPages {
+pub struct SplitPages<T: BucketTags> {
     factor: u32,
     // By bucket: the page that it holds. An empty one has a number that belongs in another.
-    tags: [u32; BUCKETS],
+    tags: T,
     // The buckets that hold a page.
     used: PageSet,
 }
 
-impl Model for SplitPages {
+impl<T: BucketTags> Model for SplitPages<T> {
     ghost use Rattle.like_tables.specs.SplitPages.{SplitPages};
     ghost use Rattle.like_tables.specs.Tags.{AreTags, table_by};
 
     ghost Value = { SplitPages };
 
-    ghost view = { λ s. table_by s.factor s.tags };
+    ghost view = { λ s. table_by s.factor (T.view s.tags) };
 
-    ghost invariant = { λ s. AreTags s.factor s.tags s.used };
+    ghost invariant = { λ s. AreTags s.factor (T.view s.tags) s.used };
 }
 
 // The number in a bucket that is empty: page 0 is in bucket 0, and page 1 is not.
@@ -38,19 +39,7 @@ fn empty_tag(bucket: u32) -> u32
     if bucket == 0 { 1 } else { 0 }
 }
 
-// The numbers of buckets that are all empty.
-fn empty_tags() -> [u32; BUCKETS]
-    ensures all { length result ≡ buckets }
-    ensures each { (b : ℕ) → b < buckets → slice_index result b ≡ empty_tag b }
-{
-    let mut tags = [0; BUCKETS];
-    for bucket in 0..BUCKETS {
-        tags[bucket] = empty_tag(bucket as u32);
-    }
-    tags
-}
-
-impl SplitPages {
+impl<T: BucketTags> SplitPages<T> {
     /// A table in which no page is split. With the factor page 1 is not in bucket 0.
     pub fn new(alloc: Global, factor: u32) -> Result<Self, AllocError>
         requires { 2 ^ 22 ≤ factor }
@@ -58,7 +47,7 @@ impl SplitPages {
     {
         Ok(SplitPages {
             factor,
-            tags: empty_tags(),
+            tags: T::empty(alloc)?,
             used: PageSet::new(alloc, BUCKETS as u32)?,
         })
     }
@@ -78,7 +67,7 @@ impl SplitPages {
         ensures { result ≡ is_split self.now page }
     {
         let bucket = self.bucket(page);
-        self.tags[bucket as usize] == page
+        self.tags.get(bucket) == page
     }
 
     /// The page that a bucket holds, if any.
@@ -86,7 +75,7 @@ impl SplitPages {
         requires { place < buckets }
         ensures { result ≡ page_in self.now place }
     {
-        let page = self.tags[place as usize];
+        let page = self.tags.get(place);
         if bucket(self.factor, page) == place {
             Some(page)
         } else {
@@ -100,7 +89,7 @@ impl SplitPages {
         ensures none { IfNone result (HoldNone self.now from buckets) }
     {
         let bucket = self.used.next(from)?;
-        Some(self.tags[bucket as usize])
+        Some(self.tags.get(bucket))
     }
 
     /// Splits the page. No other page may be in its bucket.
@@ -109,7 +98,7 @@ impl SplitPages {
         ensures { self.new ≡ with_page self.old page }
     {
         let bucket = bucket(self.factor, page);
-        self.tags[bucket as usize] = page;
+        self.tags.set(bucket, page);
         self.used.insert(bucket);
     }
 
@@ -120,7 +109,7 @@ impl SplitPages {
         let mut from = 0;
         while let Some(bucket) = self.used.next(from) {
             self.used.remove(bucket);
-            self.tags[bucket as usize] = empty_tag(bucket);
+            self.tags.set(bucket, empty_tag(bucket));
             from = bucket + 1;
         }
     }

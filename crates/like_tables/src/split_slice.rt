@@ -19,7 +19,7 @@ const RUN_FACTOR: u32 = 1 << 22;
 /// A run's keeps the likes in a `Slice`, a service's in `BucketCounts`.
 #[derive(Drop)]
 pub struct SplitSlice<C: Counts> {
-    splits: SplitPages,
+    splits: SplitPages<C::Tags>,
     counts: C,
 }
 

@@ -9,12 +9,15 @@ use calls::{
     OnSlice, OnSplits, OnStash, OnUsers, held_of, of_a_million, of_five, slices, splits, stashes,
 };
 use like_requests::{Op, PageRef, Request, Verdict};
-use like_tables::{Counts, Held, Slice, SplitPages, SplitSlice, Stash, Users, factor_for};
+use like_tables::{
+    BUCKETS, BucketTags, Counts, Held, Slice, SplitPages, SplitSlice, Stash, Users, factor_for,
+};
+use std::alloc::{AllocError, Global};
 use std::process::Abort;
 use std::test::Fail;
 
 // Makes a call of a table of split pages, and tells whether it may be made and is answered as it says.
-fn answers_splits(splits: &mut SplitPages, call: OnSplits) -> bool {
+fn answers_splits<T: BucketTags>(splits: &mut SplitPages<T>, call: OnSplits) -> bool {
     match call {
         OnSplits::Put(page) => {
             if splits.page_in(splits.bucket(page)).is_some() {
@@ -34,20 +37,33 @@ fn answers_splits(splits: &mut SplitPages, call: OnSplits) -> bool {
     }
 }
 
-// Makes the calls of a table of split pages, and asserts their answers.
-fn call_splits(rt: &impl Abort, splits: &mut SplitPages, factor: u32, calls: &[OnSplits]) {
+// Makes the calls of a new table of split pages, and asserts their answers.
+fn call_splits<T: BucketTags>(
+    rt: &impl Abort,
+    alloc: Global,
+    factor: u32,
+    calls: &[OnSplits],
+) -> Result<(), AllocError>
+    requires { 2 ^ 22 ≤ factor }
+{
+    let mut splits: SplitPages<T> = SplitPages::new(alloc, factor)?;
     for at in 0..calls.len() {
-        assert_call_at(rt, answers_splits(splits, calls[at]), factor as usize, at);
+        assert_call_at(
+            rt,
+            answers_splits(&mut splits, calls[at]),
+            factor as usize,
+            at,
+        );
     }
+    Ok(())
 }
 
 #[test]
 fn a_page_is_split_that_was_put(rt: HostRuntime) -> Result<(), Fail> {
     for (factor, calls) in splits() {
         assert_named(&rt, *factor >= 1 << 22, "a factor");
-        let mut splits = SplitPages::new(rt.alloc(), *factor)?;
-        call_splits(&rt, &mut splits, *factor, calls);
-        drop(splits);
+        call_splits::<[u32; BUCKETS]>(&rt, rt.alloc(), *factor, calls)?;
+        call_splits::<Vec<u32>>(&rt, rt.alloc(), *factor, calls)?;
     }
     Ok(())
 }
