@@ -1,9 +1,7 @@
 -- What a board tells after steps of its coordinator's seat.
-use Rattle.std.proofs.Common.{◌≡◌, List, [], ◌∷◌, refl, subst, ap, sym, ◌∙◌}
+use Rattle.std.proofs.Common.{◌≡◌, [], ◌∷◌, refl, subst, ap, sym, ◌∙◌}
 use mathlib.Core.Option.{some-injective, some-ne-none}
-use Rattle.like_core.specs.declared.opening.Opening.{Opening}
 use Rattle.like_core.specs.declared.view.CoordSeatView.{CoordSeatView}
-use Rattle.like_core.specs.declared.view.View.{View}
 use Rattle.like_core.specs.declared.view.View.TheVariants.{Coord}
 use Rattle.like_board.specs.Led.{BoardView, IsLedBy, led, owned, shared}
 use Rattle.like_board.specs.Seats.{BoardId}

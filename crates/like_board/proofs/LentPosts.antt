@@ -1,5 +1,5 @@
 -- A post after a step of its seat.
-use Rattle.std.proofs.Common.{◌≡◌, ℕ, ◌+◌, ◌≤◌, List, [], ◌∷◌, ◌++◌, subst, ap, ◌∙◌, arith}
+use Rattle.std.proofs.Common.{◌≡◌, ℕ, ◌≤◌, List, [], ◌∷◌, ◌++◌, subst, ap, ◌∙◌, arith}
 use mathlib.Core.Option.{Option}
 use lib.ListN.{get_elem?}
 use Rattle.like_core.specs.declared.view.Look.{Look}

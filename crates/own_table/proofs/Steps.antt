@@ -1,8 +1,7 @@
 -- What a step that may be made leads to.
 use Rattle.std.proofs.Common.{◌≡◌, ℕ, List, [], ◌∷◌, slice_index, slice_set, refl, sym, ◌∙◌, ap, subst}
 use Rattle.std.specs.Prelude.{⊤}
-use mathlib.Core.Option.{some, none}
-use Rattle.atomic_table.specs.Table.{Act, keeps, takes, gives, chain, Me, State, homes_after, put_back, carried_after}
+use Rattle.atomic_table.specs.Table.{Act, keeps, takes, gives, chain, Me, State, homes_after, carried_after}
 use Rattle.own_table.specs.Standing.{CanStep, state}
 
 -- where there are no slots, none is at home after an act

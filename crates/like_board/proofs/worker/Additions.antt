@@ -1,6 +1,5 @@
 -- An addition to a page's word is its events, and keeps what the board shows.
-use Rattle.std.proofs.Common.{◌≡◌, ◌≢◌, ℕ, ◌+◌, ◌*◌, ◌-◌, ◌%◌, ◌^◌, ◌<◌, ◌≤◌, ◌==◌, ◌&&◌, Bool, true, false, cond, inl, inr, List, ◌∷◌, ◌++◌, All, length, get_or, set, replicate, subst, ap, sym, ◌∙◌, refl, eq-eqb, arith, fold}
-use Rattle.std.specs.List.{sum_by}
+use Rattle.std.proofs.Common.{◌≡◌, ◌≢◌, ℕ, ◌+◌, ◌-◌, ◌%◌, ◌^◌, ◌<◌, ◌≤◌, ◌==◌, ◌&&◌, Bool, true, false, cond, inl, inr, List, ◌∷◌, ◌++◌, All, length, get_or, set, replicate, subst, ap, sym, ◌∙◌, refl, eq-eqb, arith, fold}
 use Rattle.std.proofs.lemmas.Bool.{cases_eq, cases_lt, ne_eqb}
 use Rattle.std.proofs.lemmas.List.{length-append, length-replicate}
 use Rattle.std.proofs.lemmas.List.Elements.{All-get_or}

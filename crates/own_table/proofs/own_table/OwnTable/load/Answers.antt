@@ -1,4 +1,3 @@
-use Rattle.std.proofs.Common.{◌+◌, ◌%◌, ◌^◌, bit_or, sym, ap, refl}
 use Rattle.own_table.proofs.Lists.{found_fits, found_is}
 use Rattle.own_table.proofs.own_table.OwnTable.load.Goals as goal
 

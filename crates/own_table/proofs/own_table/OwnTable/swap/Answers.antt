@@ -1,4 +1,4 @@
-use Rattle.std.proofs.Common.{◌+◌, ◌%◌, ◌^◌, bit_or, sym, ap, refl}
+use Rattle.std.proofs.Common.{refl}
 use Rattle.own_table.proofs.Lists.{found_fits, found_is}
 use Rattle.own_table.proofs.own_table.OwnTable.swap.Goals as goal
 

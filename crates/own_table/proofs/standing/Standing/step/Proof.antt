@@ -1,19 +1,16 @@
 -- Assumes `Logic`.
-use Rattle.atomic_table.proofs.Names.{◌≡◌, ℕ, List, [], ◌∷◌, refl, a_type, dcons, dnil, named, Val, vunit, vptr, inst_fn, SProp, emp, Fml, ftrue, fsep, flft, ‵, raw, ◌⊛◌, given, ◌$◌, ◌∵◌, !, qed, by, move, keep, drop, split, join, fsplit, fsplit3, fjoin, fjoin3, fpick, learn, use0, use1, feq_i, no_more, and_then, get, agg, unit_lit, of_opd, returns, enter, alloc_all, pass_all, free_all, look_at, sets, tables, yes, RattleType, owns, types_at, plain, nothing, param, bounded, alive, Stays, stay_dropped, walk_of, Goes-dropped, fact, fact_i, RefOf, u64, usize, mut_vals, mut_Tells, shr_vals, shr_Tells, uint_vals, uint_Tells, opens, closes, stay_ref, Goes-ref, w64}
+use Rattle.atomic_table.proofs.Names.{◌≡◌, ℕ, List, [], ◌∷◌, refl, a_type, dcons, dnil, named, Val, vptr, inst_fn, SProp, emp, Fml, ftrue, fsep, flft, ‵, raw, ◌⊛◌, given, ◌$◌, ◌∵◌, !, qed, by, move, keep, drop, split, join, fsplit, fsplit3, fjoin, fjoin3, fpick, learn, use0, feq_i, no_more, and_then, get, agg, returns, enter, alloc_all, pass_all, free_all, look_at, sets, tables, yes, RattleType, owns, types_at, plain, nothing, param, bounded, Stays, stay_dropped, walk_of, Goes-dropped, fact, fact_i, RefOf, u64, usize, mut_vals, mut_Tells, shr_vals, shr_Tells, uint_vals, uint_Tells, opens, closes, stay_ref, Goes-ref, w64}
 use Rattle.atomic_table.proofs.Walks.{proved, leaves}
-use denote.Slice.{slice_val, shr_slice_vals, shr_slice_Tells}
-use denote.Triple.Walked.{stay_none_slice, Goes-none_slice}
-use Rattle.std.proofs.Common.{◌++◌, length, slice_index, slice_set}
+use Rattle.std.proofs.Common.{◌++◌, slice_index, slice_set}
 use Rattle.std.specs.Prelude.{⊤}
-use mathlib.Core.Option.{none, some}
-use lib.ListN.{get_elem?}
+use mathlib.Core.Option.{none}
 use Rattle.atomic_table.specs.Table.{Me, step}
 use Rattle.own_table.specs.Standing.{CanStep, stands, state}
 use Rattle.own_table.specs.contracts.own_seat.OwnSeat as seat
 use Rattle.own_table.specs.contracts.standing.Standing as standing
 use Rattle.own_table.specs.contracts.standing.Standing.step.{ended, clauses}
 use Rattle.own_table.specs.contracts.standing.Standing.step.Key.{name as #self}
-use Rattle.own_table.proofs.Made.{made, SeatData, seat_made, StandingData, standing_made}
+use Rattle.own_table.proofs.Made.{made, SeatData, seat_made}
 use Rattle.own_table.proofs.Steps.{steps}
 use Rattle.own_table.proofs.standing.Standing.step.Statement.{statement}
 use Rattle.own_table.proofs.standing.Standing.step.Code as code
