@@ -12,9 +12,9 @@ use Rattle.like_tables.specs.UserTable.{with_last}
 use Rattle.like_tables.specs.declared.held.Held.{Held}
 use Rattle.like_promises.specs.declared.reply.Reply.{Reply}
 use Rattle.like_promises.specs.Workload.{Workload}
-use Rattle.like_seat.specs.Parts.{at_board, seat_at}
+use Rattle.like_seat.specs.Parts.{at_board}
 use Rattle.like_seat.specs.StationView.{StationView}
-use Rattle.like_seat.proofs.Parts.{IsStation-at}
+use Rattle.like_seat.proofs.Parts.{IsStation-at, seat_at}
 use Rattle.like_roles.specs.declared.turn.Turn.{Turn}
 use Rattle.like_roles.specs.declared.worker.desk.Desk.{Desk}
 use Rattle.like_roles.specs.worker.Desk.{IsSound}

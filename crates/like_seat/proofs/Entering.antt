@@ -53,7 +53,7 @@ pub ran-returned : (post looked : PostView) (phase : ℕ) → looked ≡ returne
 ran-returned post looked phase back = subst (λ (p : PostView). p ≡ ran post p phase) (sym back) refl
 
 -- who ran no split phase may enter the phase that it runs
-pub MayEnter-kept : {W C : Type 0} (post looked : PostView) (t : Tables W C) (phase : ℕ) → IsKept post t
+pub MayEnter-kept : {W C T : Type 0} (post looked : PostView) (t : Tables W C T) (phase : ℕ) → IsKept post t
     → (RunsSplit post.state → ⊥) → looked ≡ ran post looked phase → MayEnter looked t.slice phase
 MayEnter-kept post looked t phase kept idle look =
     let may : MayEnter (ran post looked phase) t.slice phase = record {
@@ -64,13 +64,13 @@ MayEnter-kept post looked t phase kept idle look =
       numbers = kept.numbers;
     } in subst (λ (p : PostView). MayEnter p t.slice phase) (sym look) may
 
-pub IsOfRun-ran : {W C : Type 0} (post looked : PostView) (t : Tables W C) (phase : ℕ) → IsKept post t
+pub IsOfRun-ran : {W C T : Type 0} (post looked : PostView) (t : Tables W C T) (phase : ℕ) → IsKept post t
     → looked ≡ ran post looked phase → has_slots post.limits ≡ false → IsOfRun looked t.marks.items
 IsOfRun-ran post looked t phase kept look plain =
     subst (λ (p : PostView). IsOfRun p t.marks.items) (sym look)
     (of-run post (ran post looked phase) t.marks.items t.marks.items refl refl refl refl kept.run plain)
 
-pub IsOfService-ran : {W C : Type 0} (post looked : PostView) (t : Tables W C) (phase : ℕ) → IsKept post t
+pub IsOfService-ran : {W C T : Type 0} (post looked : PostView) (t : Tables W C T) (phase : ℕ) → IsKept post t
     → looked ≡ ran post looked phase → has_slots post.limits ≡ true → IsOfService looked
 IsOfService-ran post looked t phase kept look slotted =
     subst (λ (p : PostView). IsOfService p) (sym look)
@@ -122,7 +122,7 @@ filled-service post slots word s after service limits few choice f = record {
 }
 
 -- a slice with these numbers, of which no page was split, has no like
-empty : {W C : Type 0} (post : PostView) (t : Tables W C) (s : SplitSlice) → IsKept post t → (RunsSplit post.state → ⊥)
+empty : {W C T : Type 0} (post : PostView) (t : Tables W C T) (s : SplitSlice) → IsKept post t → (RunsSplit post.state → ⊥)
     → s.counts ≡ t.slice.counts → by_page s (pages_of post) ≡ by_page t.slice (pages_of post)
 empty post t s kept idle same =
     let n : ℕ = pages_of post in
@@ -179,7 +179,7 @@ pub record IsEntered (post : PostView) (s s' : SplitSlice) : Type 0 where
   pub counts : s'.counts ≡ s.counts
   pub splits : SplitsPages post s'
 
-entered-slice : {W C : Type 0} (post looked now : PostView) (t after : Tables W C) (phase mask : ℕ)
+entered-slice : {W C T : Type 0} (post looked now : PostView) (t after : Tables W C T) (phase mask : ℕ)
     → IsKept post t → (RunsSplit post.state → ⊥) → looked ≡ ran post looked phase → EntersBy looked phase mask now t after
     → IsEntered (entered post looked phase mask) t.slice after.slice
 entered-slice {W} {C} post looked now t after phase mask kept idle look e = elim (parity phase) [
@@ -210,7 +210,7 @@ entered-slice {W} {C} post looked now t after phase mask kept idle look e = elim
       }
 ]
 
-module _ {W C : Type 0} (post looked now : PostView) (t after : Tables W C) (phase mask : ℕ)
+module _ {W C T : Type 0} (post looked now : PostView) (t after : Tables W C T) (phase mask : ℕ)
     (kept : IsKept post t) (idle : RunsSplit post.state → ⊥)
     (look : looked ≡ ran post looked phase) (e : EntersBy looked phase mask now t after) where
   -- its post now
@@ -230,7 +230,7 @@ module _ {W C : Type 0} (post looked now : PostView) (t after : Tables W C) (pha
       let n : ℕ = pages_of post in
       let same = empty post t after.slice kept idle s.counts in
       let at : PostView = entered post looked phase mask in
-      let tables : Tables W C = record t { state = Runs phase; slice = after.slice } in
+      let tables : Tables W C T = record t { state = Runs phase; slice = after.slice } in
       let likes : t.likes.likes ≡ all_added (additions_among post.did) + sum (by_page after.slice n) =
       kept.likes ∙ ap (λ (xs : List ℕ). all_added (additions_among post.did) + sum xs) (sym same) in
       let keeps : IsKept at tables = record {
@@ -257,7 +257,7 @@ module _ {W C : Type 0} (post looked now : PostView) (t after : Tables W C) (pha
           waiting = kept.seat.waiting;
         };
       } in
-      subst (λ (p : PostView). IsKept p after) (sym now-entered) (subst (λ (x : Tables W C). IsKept at x) (sym e.rest) keeps)
+      subst (λ (p : PostView). IsKept p after) (sym now-entered) (subst (λ (x : Tables W C T). IsKept at x) (sym e.rest) keeps)
 
 -- who has not answered stays in its phase
 pub stays : (s : WorkerState) (sight : Sight) → ((k : ℕ) → s ≡ Answered k → ⊥) → seen s sight ≡ s
@@ -266,7 +266,7 @@ stays (state.Answered k) sight runs = absurd (runs k refl)
 stays state.Gone sight runs = refl
 
 -- a look that leaves the phase
-pub IsKept-looked : {W C : Type 0} (post now : PostView) (t : Tables W C) (sight : Sight) → IsKept post t
+pub IsKept-looked : {W C T : Type 0} (post now : PostView) (t : Tables W C T) (sight : Sight) → IsKept post t
     → now ≡ looked_at post sight → seen post.state sight ≡ post.state → IsKept now t
 IsKept-looked {W} {C} post now t sight k look same =
     let at : PostView = record post { last = Some sight; looks = (looked_at post sight).looks } in

@@ -48,7 +48,7 @@ runs-after (state.Answered k) sight sees goes =
 runs-after state.Gone sight sees goes = absurd sees
 
 -- a seat looks, and stays in its phase
-pub looks-stayed : {W C : Type 0} (post now : PostView) (t : Tables W C) (sight : Sight)
+pub looks-stayed : {W C T : Type 0} (post now : PostView) (t : Tables W C T) (sight : Sight)
     → IsSightOf post.state sight
     → SeesEndingStill post.state post.last sight
     → now ≡ looked_at post sight

@@ -3,9 +3,13 @@ use Rattle.std.proofs.Common.{ℕ, List, refl}
 use Rattle.like_core.specs.Post.{PostView}
 use Rattle.like_seat.specs.declared.tables.Tables.{Tables}
 use Rattle.like_seat.specs.Kept.{IsKept}
-use Rattle.like_seat.specs.Parts.{at_board, seat_at}
+use Rattle.like_seat.specs.Parts.{at_board}
 use Rattle.like_seat.specs.StationView.{IsStation, StationView}
 use Rattle.like_seat.proofs.Keeping.{of-run, of-service}
+
+-- the same seat at a board with these numbers
+abbrev pub seat_at : {W : Type 0} → StationView W → List ℕ → StationView W
+seat_at s board = record s { post = at_board s.post board }
 
 pub IsStation-at : {W : Type 0} (s : StationView W) (board : List ℕ) → IsStation s → IsStation (seat_at s board)
 IsStation-at {W} s board is = record {
@@ -20,7 +24,7 @@ IsStation-at {W} s board is = record {
   waiting = is.waiting;
 }
 
-pub IsKept-at : {W C : Type 0} (post : PostView) (board : List ℕ) (t : Tables W C) → IsKept post t
+pub IsKept-at : {W C T : Type 0} (post : PostView) (board : List ℕ) (t : Tables W C T) → IsKept post t
     → IsKept (at_board post board) t
 IsKept-at {W} {C} post board t k = record {
   run = of-run post (at_board post board) t.marks.items t.marks.items refl refl refl refl k.run;

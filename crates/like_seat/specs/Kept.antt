@@ -1,4 +1,4 @@
--- How a seat is kept.
+-- How a seat is kept: `W` is what waits, and `C` and `T` keep the likes of its slice and the numbers of their buckets.
 use Rattle.std.specs.Prelude.{◌≡◌, ◌↔◌, ℕ, ◌<◌, ◌≤◌, nat_lt, Bool, true, false, ◌&&◌, ◌||◌, List, [], length, sum}
 use Rattle.like_core.specs.Functions.{has_bit}
 use Rattle.like_core.specs.OpeningLimits.{AreLimits, has_slots}
@@ -16,7 +16,7 @@ use Rattle.like_seat.specs.Steps.{masks_entered}
 use Rattle.like_seat.specs.declared.tables.Tables.{Tables}
 
 -- the seat of a post and what is kept beside it
-abbrev pub view_of : {W C : Type 0} → PostView → Tables W C → StationView W
+abbrev pub view_of : {W C T : Type 0} → PostView → Tables W C T → StationView W
 view_of post t = record {
   post = post;
   held = t.held;
@@ -45,7 +45,7 @@ pub record IsOfService (post : PostView) : Type 0 where
   pub unmarked : (page : ℕ) → is_marked post.marks page ≡ false
 
 -- the tables are those of this post
-pub record IsKept {W C : Type 0} (post : PostView) (t : Tables W C) : Type 0 where
+pub record IsKept {W C T : Type 0} (post : PostView) (t : Tables W C T) : Type 0 where
   pub run : has_slots post.limits ≡ false → IsOfRun post t.marks.items
   pub service : has_slots post.limits ≡ true → IsOfService post
   pub state : post.state ≡ t.state
@@ -58,7 +58,7 @@ pub record IsKept {W C : Type 0} (post : PostView) (t : Tables W C) : Type 0 whe
   pub seat : IsStation (view_of post t)
 
 -- the tables of a seat that has done nothing yet, with this slice, which is empty
-pub record AreNew {W C : Type 0} (empty : SplitSlice) (room : ℕ) (users : UserTable) (t : Tables W C) : Type 0 where
+pub record AreNew {W C T : Type 0} (empty : SplitSlice) (room : ℕ) (users : UserTable) (t : Tables W C T) : Type 0 where
   pub state : t.state ≡ Runs 0
   pub held : t.held ≡ record { held = []; capacity = room }
   pub slice : t.slice ≡ empty
@@ -114,11 +114,11 @@ pub record MayEnter (post : PostView) (s : SplitSlice) (phase : ℕ) : Type 0 wh
   pub numbers : HasNumbers s (pages_of post)
 
 -- it runs the phase that its post runs. Of a split one the mask was read, which is this, and its slice is filled
-pub record EntersBy {W C : Type 0} (post : PostView) (phase mask : ℕ) (now : PostView) (t after : Tables W C) : Type 0 where
+pub record EntersBy {W C T : Type 0} (post : PostView) (phase mask : ℕ) (now : PostView) (t after : Tables W C T) : Type 0 where
   pub at_post : now ≡ record post { masks = masks_entered post.masks phase mask }
   pub rest : after ≡ record t { state = Runs phase; slice = after.slice }
   pub split : IsSplit phase → IsFilled t.slice (pages_of post) (is_split_by post mask) after.slice
   pub joined : IsJoined phase → after.slice ≡ t.slice
 
-abbrev pub Enters : {W C : Type 0} → PostView → ℕ → PostView → Tables W C → Tables W C → Type 0
+abbrev pub Enters : {W C T : Type 0} → PostView → ℕ → PostView → Tables W C T → Tables W C T → Type 0
 Enters post phase now t after = (mask : ℕ) × EntersBy post phase mask now t after

@@ -1,5 +1,5 @@
 -- What leads the phases of a board, and what each of its steps does to it.
-use Rattle.std.specs.Prelude.{◌≡◌, ℕ, ◌+◌, ◌-◌, ◌<◌, ◌≤◌, nat_le, Bool, true, List, [], ◌∷◌, length, min, take, slice_index, slice_set, Option, Some, None}
+use Rattle.std.specs.Prelude.{◌≡◌, ℕ, ◌+◌, ◌-◌, ◌<◌, nat_le, Bool, true, List, [], ◌∷◌, length, min, take, slice_index, slice_set, Option, Some, None}
 use Rattle.like_board.specs.Led.{IsSightOf}
 use Rattle.like_board.specs.Seats.{BoardId}
 use Rattle.like_core.specs.declared.sight.CoordSight.{CoordSight}

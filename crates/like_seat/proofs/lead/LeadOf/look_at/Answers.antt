@@ -1,7 +1,7 @@
 use Rattle.std.proofs.Common.{length, min, ap, sym, subst, ◌∙◌}
 use Rattle.like_core.specs.declared.view.CoordSeatView.{CoordSeatView}
 use Rattle.like_limits.specs.Limits.{hot_pages}
-use Rattle.like_board.specs.Led.{IsLedBy, ShowsTold, led}
+use Rattle.like_board.specs.Led.{IsLedBy, ShowsTold}
 use Rattle.like_seat.specs.Lead.{LeadView, Sees}
 use Rattle.like_seat.proofs.lead.LeadOf.look_at.Goals as goal
 

@@ -4,7 +4,6 @@ use Rattle.std.proofs.lemmas.List.{get_or-set_other, length-set, length-take-le,
 use Rattle.like_core.specs.declared.view.CoordSeatView.{CoordSeatView}
 use Rattle.like_core.specs.Functions.{weight}
 use Rattle.like_core.specs.views.Views.{counted_coord, MayCount}
-use Rattle.like_board.specs.Led.{IsLedBy}
 use Rattle.like_board.proofs.Led.{led-none, led-on, leads-on}
 use Rattle.like_seat.specs.Lead.{counted_from, has_risen}
 use Rattle.like_seat.proofs.Leading.{bit-fits, bit-is, counted-more, mask-more, may-count}

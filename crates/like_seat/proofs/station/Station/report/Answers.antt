@@ -12,7 +12,7 @@ use Rattle.like_seat.proofs.Merging.{IsKept-reported}
 use Rattle.like_seat.proofs.station.Station.report.Goals as goal
 
 -- its slice has no like
-unliked : {W C : Type 0} (p : PostView) (t : Tables W C) (s : StationView W)
+unliked : {W C T : Type 0} (p : PostView) (t : Tables W C T) (s : StationView W)
     → IsKept p t
     → view_of p t ≡ s
     → AreUnliked s.slice 0 (length s.slice)
