@@ -1,5 +1,5 @@
 -- The ends of a worker's life: it starts as the plans say, and ends so.
-use Rattle.std.proofs.Common.{false, ◌≡◌, ℕ, ◌≤◌, ◌==◌, cond, Bool, true, List, [], ◌++◌, length, map, get_or, Some, None, refl, ap, sym, ◌∙◌, inl, inr, arith, subst, append-nil}
+use Rattle.std.proofs.Common.{false, ◌≡◌, ℕ, ◌==◌, cond, Bool, true, List, [], ◌++◌, length, map, get_or, Some, None, refl, ap, sym, ◌∙◌, inl, inr, arith, subst, append-nil}
 use Rattle.std.proofs.lemmas.Bool.{cases_eq}
 use Rattle.std.proofs.lemmas.List.{length-map, length-replicate}
 use Rattle.std.proofs.lemmas.List.Elements.{All-nil}

@@ -2,9 +2,7 @@ use Rattle.std.proofs.Common.{sym, subst}
 use Rattle.like_tables.specs.declared.held.Held.{Held}
 use Rattle.like_seat.specs.Kept as kept
 use Rattle.like_seat.specs.StationView.{StationView}
-use Rattle.like_seat.proofs.Parts.{seat_at}
-use Rattle.like_roles.specs.worker.Desk.{IsSound, view_of}
-use Rattle.like_roles.specs.worker.WorkerView.{WorkerView}
+use Rattle.like_roles.specs.worker.Desk.{IsSound}
 use Rattle.like_roles.proofs.Moved.{IsSound-at}
 use Rattle.like_roles.proofs.worker.Worker.suspend.Goals as goal
 
