@@ -1,5 +1,5 @@
 -- A seat's deeds are its steps at pages that are not split then.
-use Rattle.std.proofs.Common.{◌≡◌, ℕ, ◌+◌, Bool, true, false, not, cond, List, [], ◌∷◌, ◌++◌, map, get_or, Option, Some, None, refl, ap, ap₂, sym, ◌∙◌, subst, arith, append-nil}
+use Rattle.std.proofs.Common.{◌≡◌, ℕ, Bool, true, false, not, cond, List, [], ◌∷◌, ◌++◌, map, get_or, Option, Some, None, refl, ap, ap₂, sym, ◌∙◌, subst, arith, append-nil}
 use Rattle.std.specs.List.{All, AllByRecursion, cons_option, filter, filter_map}
 use Rattle.std.proofs.lemmas.List.Elements.{All-head, All-tail, filter-append, filter_map-append}
 use Rattle.std.proofs.lemmas.List.{map-append}
