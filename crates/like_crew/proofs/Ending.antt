@@ -11,7 +11,7 @@ use Rattle.like_promises.specs.Workload.{Workload, submitters}
 use Rattle.like_crew.specs.declared.ended.Ended.{Ended}
 use Rattle.like_crew.specs.declared.site.Site.{Site}
 use Rattle.like_promises.specs.WorkloadOf.{workload_of}
-use Rattle.like_crew.specs.Crew.{CrewView, GoesOn, HasInbox, IsCrew}
+use Rattle.like_crew.specs.Crew.{CrewView, HasInbox, IsCrew}
 use Rattle.like_crew.specs.Ended.{HasEnded, IsEnded}
 use Rattle.like_requests.specs.declared.request.Request.{Request}
 use Rattle.like_requests.specs.declared.setup.Setup.{Setup}
@@ -19,8 +19,6 @@ use Rattle.like_core.specs.declared.view.CoordSeatView.{CoordSeatView}
 use Rattle.like_roles.specs.coordinator.Choice.{AreTotals, HasChosen}
 use Rattle.like_crew.specs.Servers.{AreServers, IsServer}
 use Rattle.like_crew.specs.Server.{ServerGoesOn, ServerView, plans_of}
-use Rattle.like_crew.proofs.Coordinated.{coordinator-further}
-use Rattle.like_crew.proofs.servers.Later.{all-further-both}
 use Rattle.like_crew.proofs.servers.Shares.{plan-at}
 use Rattle.like_crew.proofs.lists.Pairs.{pairs-at, pairs-both, pairs-length}
 

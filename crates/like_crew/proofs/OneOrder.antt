@@ -17,7 +17,7 @@ use Rattle.like_core.specs.views.Order.{HasDone}
 use Rattle.like_core.specs.views.PostOrder.{IsOrderOf}
 use Rattle.like_core.proofs.core.Labels.{added_in-push}
 use Rattle.like_board.specs.declared.worker_seat.WorkerSeat.{WorkerSeat}
-use Rattle.like_board.specs.Seats.{coord_view, seat_meaning}
+use Rattle.like_board.specs.Seats.{seat_meaning}
 use Rattle.like_promises.specs.declared.log.Ran.{Ran}
 use Rattle.like_promises.specs.declared.log.WorkerLog.{WorkerLog}
 use Rattle.like_promises.specs.EndToEnd.{runs_of}

@@ -3,7 +3,7 @@ use Rattle.std.specs.Prelude.{◌≡◌, ◌↔◌, ℕ, Bool, true, List, lengt
 use Rattle.std.specs.List.{AllZip}
 use Rattle.like_core.specs.declared.view.CoordSeatView.{CoordSeatView}
 use Rattle.like_tables.specs.Share.{worker_of}
-use Rattle.like_roles.specs.coordinator.CoordTurns.{CoordTurns, CoordinatorView}
+use Rattle.like_roles.specs.coordinator.CoordTurns.{CoordTurns}
 use Rattle.like_roles.specs.declared.coord_turn.CoordTurn.{CoordTurn}
 use Rattle.like_roles.specs.declared.coord_turn.CoordTurn.TheVariants.{Ended}
 use Rattle.like_roles.specs.declared.turn.Turn.{Turn}

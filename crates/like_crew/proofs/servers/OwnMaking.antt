@@ -1,5 +1,5 @@
 -- How the servers of a crew whose thread owns its board are made: the board is lent to each for a moment.
-use Rattle.std.proofs.Common.{◌≡◌, ◌<◌, ◌+◌, ℕ, suc, Bool, List, [], ◌∷◌, ◌++◌, length, map, set, slice_get, Option, Some, refl, sym, ap, subst, ◌∙◌, add-one, arith}
+use Rattle.std.proofs.Common.{◌≡◌, ◌<◌, ◌+◌, ℕ, Bool, List, [], ◌∷◌, ◌++◌, length, map, set, slice_get, Option, Some, refl, sym, ap, subst, ◌∙◌, add-one, arith}
 use Rattle.std.proofs.lemmas.List.{length-map, map_push}
 use mathlib.Core.Option.{some}
 use lib.ListN.{get_elem?}
@@ -8,7 +8,7 @@ use Rattle.like_core.specs.declared.opening.Opening.{Opening}
 use Rattle.like_core.specs.declared.view.View.{View}
 use Rattle.like_core.specs.declared.view.View.TheVariants.{Coord, Worker}
 use Rattle.like_core.specs.declared.view.WorkerSeatView.{WorkerSeatView}
-use Rattle.like_core.specs.Post.{IsFresh, PostView}
+use Rattle.like_core.specs.Post.{IsFresh}
 use Rattle.like_core.specs.views.Views.{fresh, post_of}
 use Rattle.like_board.specs.NewViews.{new_workers}
 use Rattle.like_board.specs.Rule.{opened_coord}

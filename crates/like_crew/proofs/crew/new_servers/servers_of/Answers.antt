@@ -1,24 +1,18 @@
-use Rattle.std.proofs.Common.{◌≡◌, ◌<◌, ◌≤◌, ◌+◌, ◌++◌, ◌∷◌, [], ℕ, Bool, Fits, w32, List, Vec, Global, length, map, drop, get_or, remove, refl, sym, ap, ◌∙◌, subst, add-one, arith}
+use Rattle.std.proofs.Common.{◌≡◌, ◌<◌, ◌+◌, ◌++◌, ◌∷◌, [], ℕ, List, length, map, refl, sym, ap, ◌∙◌, subst}
 use Rattle.std.proofs.lemmas.Iterator.Adapters.{YieldsList-from_vec}
 use Rattle.std.proofs.lemmas.Iterator.Consumers.{YieldsList-end, YieldsList-turn}
 use Rattle.std.specs.List.{AllZip, range_with_len}
-use Rattle.std.proofs.lemmas.List.{length-drop, length_push}
+use Rattle.std.proofs.lemmas.List.{length_push}
 use Rattle.std.proofs.lemmas.Option.{slice_get_read}
-use Rattle.like_limits.specs.Limits.{max_workers}
-use Rattle.like_requests.proofs.Planned.{plans-within}
-use Rattle.like_requests.specs.Setup.{FitsRun, IsWithin}
-use Rattle.like_requests.specs.declared.setup.Setup.{Setup}
+use Rattle.like_requests.specs.Setup.{IsWithin}
 use Rattle.like_board.specs.Seats.{board_id, board_numbers, seat_meaning}
 use Rattle.like_core.specs.Post.{PostView}
 use Rattle.like_queue.specs.Inbox.{InboxView}
-use Rattle.like_tables.specs.Share.{dealt, share_of}
-use Rattle.like_tables.proofs.Dealt.{map-dealt}
-use Rattle.like_promises.specs.Workload.{Workload}
-use Rattle.like_roles.specs.worker.Follows.{IsWorkloadOf}
+use Rattle.like_tables.specs.Share.{dealt}
 use Rattle.like_roles.specs.worker.New.{IsPostOf}
 use Rattle.like_crew.specs.Servers.{IsNewServer, IsServer}
 use Rattle.like_promises.specs.WorkloadOf.{workload_of}
-use Rattle.like_crew.specs.Server.{AreInboxesFor, AreOwnPlans, AreUntouched, ServerView, WorksFor, plans_of}
+use Rattle.like_crew.specs.Server.{ServerView, plans_of}
 use Rattle.like_crew.proofs.Makings.{one-pushed}
 use Rattle.like_crew.proofs.servers.Making.{fits-worker, hand-is, hand-left, inboxes-at, none-made, others, server-at}
 use Rattle.like_crew.proofs.crew.new_servers.servers_of.Goals as goal

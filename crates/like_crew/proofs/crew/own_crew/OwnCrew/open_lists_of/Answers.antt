@@ -1,11 +1,11 @@
-use Rattle.std.proofs.Common.{◌≡◌, ◌<◌, length, set, slice_get, Some, refl, sym, subst}
+use Rattle.std.proofs.Common.{◌<◌, length, set, Some, sym, subst}
 use Rattle.std.specs.Option.{IsSome}
 use Rattle.like_board.specs.Own.{own_views}
 use Rattle.like_crew.specs.Crew.{CrewView, GoesOn}
 use Rattle.like_crew.specs.OwnCrew.{servers_in}
 use Rattle.like_crew.specs.ServerTurns.{OpensAll}
 use Rattle.like_crew.specs.Steps.{AtServer}
-use Rattle.like_crew.proofs.servers.Seated.{are-back, are-taken, at-slot, board-taken, board-there, goes-on-after, lead-known, seat-known, server-there}
+use Rattle.like_crew.proofs.servers.Seated.{are-back, are-taken, at-slot, board-taken, board-there, goes-on-after, seat-known, server-there}
 use Rattle.like_crew.proofs.crew.own_crew.OwnCrew.open_lists_of.Goals as goal
 
 pub unwrap-board-requires : goal.unwrap-board-requires

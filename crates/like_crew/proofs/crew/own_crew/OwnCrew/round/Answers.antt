@@ -1,5 +1,4 @@
 use Rattle.std.proofs.Common.{true≢false, sym, ◌∙◌}
-use Rattle.like_crew.proofs.Coordinated.{crew-further}
 use Rattle.like_crew.proofs.Rounds.{round-of}
 use Rattle.like_crew.proofs.crew.own_crew.OwnCrew.round.Goals as goal
 

@@ -1,9 +1,8 @@
-use Rattle.std.proofs.Common.{◌≡◌, ◌<◌, length, set, slice_get, Some, refl, sym, subst}
+use Rattle.std.proofs.Common.{◌≡◌, ◌<◌, length, set, Some, sym, subst}
 use Rattle.std.specs.Option.{IsSome}
 use Rattle.like_board.specs.Own.{own_views}
 use Rattle.like_crew.specs.Crew.{CrewView, GoesOn}
 use Rattle.like_crew.specs.OwnCrew.{servers_in}
-use Rattle.like_core.specs.declared.view.CoordSeatView.{CoordSeatView}
 use Rattle.like_core.specs.declared.worker_state.WorkerState.TheVariants.{Gone}
 use Rattle.like_crew.specs.Server.{ServerView}
 use Rattle.like_roles.specs.declared.turn.Turn.TheVariants.{Retired}

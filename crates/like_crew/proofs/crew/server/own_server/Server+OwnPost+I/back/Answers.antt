@@ -1,7 +1,6 @@
 use Rattle.std.proofs.Common.{◌≡◌, ◌∙◌, List, [], map, None, sym, ap, subst}
 use Rattle.like_core.specs.Post.{PostView}
 use Rattle.like_board.specs.Own.{own_meaning}
-use Rattle.like_board.specs.OwnPosts.{lent_meaning}
 use Rattle.like_queue.specs.Inbox.{InboxView}
 use Rattle.like_roles.specs.worker.Suspended.{IsSuspendedAt, moved, worker_at}
 use Rattle.like_roles.specs.worker.WorkerView.{WorkerView}
