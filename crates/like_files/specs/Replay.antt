@@ -29,14 +29,14 @@ pub record HasReplayed (options : Options) (inputs : Inputs) (old new : Option (
   pub given : GivesAll inputs pages plans script
   pub fits : replay.CanReplayScript (setup_of options pages) plans script
   pub reported : WritesReport options (setup_of options pages) plans old new notice
-  pub ended : replay.HasEndedIn (setup_of options pages) plans script reported.report.phases
+  pub follows : replay.ReportFollows (setup_of options pages) plans script reported.report
 
 -- these values were replayed to the end, and the report was written, with this notice
 pub record HasReplayedLists (options : Options) (setup : Setup) (plans : List (List Request)) (script : List Turned)
     (old new : Option (List ℕ)) (notice : Option Notice) : Type 0 where
   pub fits : replay.CanReplayScript setup plans script
   pub reported : WritesReport options setup plans old new notice
-  pub ended : replay.HasEndedIn setup plans script reported.report.phases
+  pub follows : replay.ReportFollows setup plans script reported.report
 
 -- some files were replayed, as many request files as the options name, and with a script just where they name one
 pub record HasReplayedSome (options : Options) (old new : Option (List ℕ)) (notice : Option Notice) : Type 0 where

@@ -1,5 +1,6 @@
 -- A replay: which entries a crew can make, how it ends, and why there is no report.
 use Rattle.std.specs.Prelude.{◌≡◌, ◌⊎◌, ◌<◌, ℕ, List, length, All, ⊤}
+use Rattle.std.specs.List.{AllZip}
 use Rattle.like_requests.specs.Setup.{IsFirstBroken, IsWithinLimits}
 use Rattle.like_requests.specs.declared.request.Request.{Request}
 use Rattle.like_requests.specs.declared.setup.Setup.{Setup}
@@ -10,7 +11,8 @@ use Rattle.like_requests.specs.declared.script.Turned.TheVariants.{OpenOne, Work
 use Rattle.like_ending.specs.Laws.{MayLast}
 use Rattle.like_crew.specs.Crew.{CrewView, HasInbox}
 use Rattle.like_crew.specs.Progress.{IsNewCrew, items_of}
-use Rattle.like_crew.specs.Server.{ServerView}
+use Rattle.like_crew.specs.Server.{IsLogOf, ServerView}
+use Rattle.like_promises.specs.declared.report.Report.{Report}
 use Rattle.like_requests.specs.Script.{IsFirstAway, IsInRun}
 use Rattle.like_run.specs.Script.{Plays, PlaysToEnd, max_rounds}
 
@@ -25,13 +27,16 @@ pub record CanReplayScript (setup : Setup) (plans : List (List Request)) (script
   pub within : IsWithinLimits setup plans
   pub there : All (IsInRun setup.workers (length plans)) script
 
--- a replay ended in this phase: a new crew played the script to its end, and there its coordinator saw this phase
-pub record HasEndedIn (setup : Setup) (plans : List (List Request)) (script : List Turned) (phase : ℕ) : Type 0 where
-  pub start : CrewView
-  pub new : IsNewCrew setup plans start
-  pub last : CrewView
-  pub plays : PlaysToEnd script start last
-  pub phase_is : phase ≡ last.coordinator.phase
+-- a report follows a script: a new crew played the script to its end, and there its servers left the logs of the report,
+-- in the phase that the report tells
+pub record ReportFollows (setup : Setup) (plans : List (List Request)) (script : List Turned) (report : Report) : Type 0
+  where
+    pub start : CrewView
+    pub new : IsNewCrew setup plans start
+    pub last : CrewView
+    pub plays : PlaysToEnd script start last
+    pub logs : AllZip IsLogOf last.servers report.logs.items
+    pub phase_is : report.phases ≡ last.coordinator.phase
 
 -- a crew has played a script and the most rounds, and its run has not ended
 pub record HasNotEnded (script : List Turned) (c : CrewView) : Type 0 where

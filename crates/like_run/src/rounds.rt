@@ -6,7 +6,7 @@ ghost use Rattle.like_limits.specs.Limits.{max_entries};
 ghost use Rattle.like_promises.specs.WorkloadOf.{lists_of};
 ghost use Rattle.like_crew.specs.Crew.{AreGone, GoesOn};
 ghost use Rattle.like_run.specs.Report.{IsReportOf};
-ghost use Rattle.like_run.specs.Rounds.{CanMake, CanReplayScript, HasEndedIn, IsPlayFault, IsReplayFaultUnderWay, IsReplayFault};
+ghost use Rattle.like_run.specs.Rounds.{CanMake, CanReplayScript, IsPlayFault, IsReplayFaultUnderWay, IsReplayFault, ReportFollows};
 ghost use Rattle.like_run.specs.Script.{EndsInTime, FollowsScript, Makes, MakesAll, MakesMostRounds};
 
 use like_crew::{Outcome, OwnCrew, report_of, sizes_of};
@@ -34,8 +34,7 @@ pub fn replay(
 ) -> Result<Report, ReplayFault>
     requires { length script.now ≤ max_entries }
     ensures report { IfOk result (IsReportOf setup.now (lists_of plans.items) true) }
-    ensures ended { IfOk result
-        (λ report. HasEndedIn setup.now (lists_of plans.items) script.now report.phases) }
+    ensures follows { IfOk result (ReportFollows setup.now (lists_of plans.items) script.now) }
     ensures fits { OnOk result (CanReplayScript setup.now (lists_of plans.items) script.now) }
     ensures fault { IfErr result (IsReplayFault setup.now (lists_of plans.items) script.now) }
 {
@@ -53,8 +52,7 @@ pub fn replay_noting(
 ) -> Result<Report, ReplayFault>
     requires { length script.now ≤ max_entries }
     ensures report { IfOk result (IsReportOf setup.now (lists_of plans.items) notes) }
-    ensures ended { IfOk result
-        (λ report. HasEndedIn setup.now (lists_of plans.items) script.now report.phases) }
+    ensures follows { IfOk result (ReportFollows setup.now (lists_of plans.items) script.now) }
     ensures fits { OnOk result (CanReplayScript setup.now (lists_of plans.items) script.now) }
     ensures fault { IfErr result (IsReplayFault setup.now (lists_of plans.items) script.now) }
 {
@@ -74,8 +72,7 @@ fn replay_within(
     requires within { FitsRun setup.now (lists_of plans.items) }
     requires script { All (IsInRun setup.now.workers (length plans.items)) script.now }
     ensures report { IfOk result (IsReportOf setup.now (lists_of plans.items) notes) }
-    ensures ended { IfOk result
-        (λ report. HasEndedIn setup.now (lists_of plans.items) script.now report.phases) }
+    ensures follows { IfOk result (ReportFollows setup.now (lists_of plans.items) script.now) }
     ensures fault { IfErr result (IsReplayFaultUnderWay setup.now (lists_of plans.items) script.now) }
 {
     let sizes = sizes_of(alloc, &plans)?;

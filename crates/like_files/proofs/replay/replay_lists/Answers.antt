@@ -62,7 +62,7 @@ returns-clause-replayed g c = record {
       written = rw (c.in_ok-text.ensures.text, c.extent_of.ensures) at c.in_ok-write.ensures.written;
       noticed = c.of.ensures;
     };
-    ended = c.in_ok-report.ensures.ended;
+    follows = c.in_ok-report.ensures.follows;
   };
   fault = tt;
   untouched = tt;

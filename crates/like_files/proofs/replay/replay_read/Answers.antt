@@ -27,7 +27,7 @@ replayed options inputs pages plans script old new (Ok notice) given done =
       given = given;
       fits = done.fits;
       reported = done.reported;
-      ended = done.ended;
+      follows = done.follows;
     }
 replayed options inputs pages plans script old new (Err fault) given done = tt
 

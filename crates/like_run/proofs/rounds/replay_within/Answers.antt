@@ -1,4 +1,5 @@
 use Rattle.std.proofs.Common.{◌≡◌, ◌≤◌, ◌∙◌, All, List, [], Vec, Global, get_or, length, map, refl, sym, ap, subst}
+use Rattle.std.specs.List.{AllZip}
 use Rattle.std.proofs.lemmas.List.{length-map}
 use Rattle.std.proofs.lemmas.Result.{err_from_is_err_and}
 use Rattle.like_requests.specs.Setup.{FitsRun}
@@ -7,7 +8,9 @@ use Rattle.like_requests.specs.Script.{IsInRun}
 use Rattle.like_core.specs.declared.opening.Opening.{Opening}
 use Rattle.like_limits.specs.Limits.{max_requests}
 use Rattle.like_promises.specs.WorkloadOf.{lists_of, workload_of}
+use Rattle.like_promises.specs.declared.log.WorkerLog.{WorkerLog}
 use Rattle.like_crew.specs.Outcome.{IsOutcome}
+use Rattle.like_crew.specs.Server.{IsLogOf}
 use Rattle.like_crew.proofs.Asked.{requests_of}
 use Rattle.like_crew.proofs.Closing.{crew-outcome}
 use Rattle.like_crew.proofs.Ending.{as-many}
@@ -70,14 +73,16 @@ returns-clause-report c =
     (ap (λ (v : Vec (Vec Request Global) Global). lists_of v.items) c.of-lists.ensures) refl
     c.in_ok-report_of.ensures.report c.in_ok-report_of.ensures.places c.in_ok-report_of.ensures.none
 
-pub returns-clause-ended : goal.returns-clause-ended
-returns-clause-ended c =
+pub returns-clause-follows : goal.returns-clause-follows
+returns-clause-follows c =
     let followed = c.in_ok-outcome.ensures.script in
     record {
       start = c.in_ok-crew.crew;
       new = c.in_ok-crew.ensures.new;
       last = followed.last;
       plays = followed.plays;
+      logs = subst (λ (logs : Vec WorkerLog Global). AllZip IsLogOf followed.last.servers logs.items)
+          (sym c.in_ok-report_of.ensures.logs) followed.outcome.logs;
       phase_is = c.in_ok-report_of.ensures.phases ∙ followed.outcome.phases;
     }
 
