@@ -1,7 +1,7 @@
-use Rattle.std.proofs.Common.{◌≡◌, ◌∙◌, length, subst, sym, ap}
+use Rattle.std.proofs.Common.{◌∙◌, subst, sym, ap}
 use Rattle.like_core.specs.declared.opening.Opening.{Opening}
 use Rattle.like_crew.specs.Crew.{GoesOn}
-use Rattle.like_crew.proofs.Coordinated.{crew-further, crew-same}
+use Rattle.like_crew.proofs.Coordinated.{crew-further}
 use Rattle.like_crew.proofs.lists.Pairs.{pairs-length}
 use Rattle.like_crew.specs.Server.{ServerGoesOn}
 use Rattle.like_run.specs.Rounds.{IsPlayFault}
