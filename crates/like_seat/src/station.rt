@@ -17,26 +17,26 @@ mod waits;
 pub use self::service::come_back;
 use crate::tables::Tables;
 use like_core::{Post, WorkerState};
-use like_tables::{BucketCounts, Counts, Slice, Users};
+use like_tables::{BucketCounts, BucketTags, Counts, RunTags, ServiceTags, Slice, Users};
 use std::alloc::Global;
 use std::marker::Model;
 
 /// A worker's station: its post at a board, and what it keeps beside it.
 ///
-/// `W` is what waits for the next joined phase, and `C` has the likes of its slice.
+/// `W` is what waits for the next joined phase. `C` has the likes of its slice, and `T` the numbers of their buckets.
 #[derive(Drop)]
-pub struct Station<P: Post, W: Copy, C: Counts> {
+pub struct Station<P: Post, W: Copy, C: Counts, T: BucketTags> {
     post: P,
-    tables: Tables<W, C>,
+    tables: Tables<W, C, T>,
 }
 
 /// A station of a run.
-pub type RunStation<P, W> = Station<P, W, Slice>;
+pub type RunStation<P, W> = Station<P, W, Slice, RunTags>;
 
 /// A station of a service.
-pub type ServiceStation<P, W> = Station<P, W, BucketCounts>;
+pub type ServiceStation<P, W> = Station<P, W, BucketCounts, ServiceTags>;
 
-impl<P: Post, W: Copy, C: Counts> Model for Station<P, W, C> {
+impl<P: Post, W: Copy, C: Counts, T: BucketTags> Model for Station<P, W, C, T> {
     ghost use Rattle.like_seat.specs.StationView.{StationView};
 
     ghost Value = { StationView W };
@@ -54,7 +54,7 @@ pub struct NoStation<P: Post> {
     pub post: P,
 }
 
-impl<P: Post, W: Copy> Station<P, W, Slice> {
+impl<P: Post, W: Copy> Station<P, W, Slice, RunTags> {
     /// A new seat of a run, with these marks of split pages, room for `room` that wait, and these last likes. All
     /// memory is taken here, and none by its steps.
     pub fn new(
@@ -80,7 +80,7 @@ impl<P: Post, W: Copy> Station<P, W, Slice> {
     }
 }
 
-impl<P: Post, W: Copy, C: Counts> Station<P, W, C> {
+impl<P: Post, W: Copy, C: Counts, T: BucketTags> Station<P, W, C, T> {
     /// The phase that it runs or has answered, and 0 once it is gone.
     #[inline(always)]
     pub fn phase(&self) -> u64

@@ -10,14 +10,16 @@ ghost use Rattle.like_tables.specs.SplitSlice.{HasNumbers, no_slice};
 use crate::like_count::LikeCount;
 use crate::slice_log::SliceLog;
 use like_core::{Post, SlotPost, WorkerState, is_hot};
-use like_tables::{BucketCounts, Counts, Slice, SplitSlice, Stash, Users};
+use like_tables::{
+    BucketCounts, BucketTags, Counts, RunTags, ServiceTags, Slice, SplitSlice, Stash, Users,
+};
 use std::alloc::{AllocError, Global};
 
 /// What a seat keeps beside its post.
 ///
-/// `W` is what waits for the next joined phase, and `C` has the likes of its slice.
+/// `W` is what waits for the next joined phase. `C` has the likes of its slice, and `T` the numbers of their buckets.
 #[derive(Drop)]
-pub struct Tables<W: Copy, C: Counts> {
+pub struct Tables<W: Copy, C: Counts, T: BucketTags> {
     /// Of a run: whether each page is marked as split.
     pub(crate) marks: Vec<bool>,
     /// The state of its post.
@@ -25,7 +27,7 @@ pub struct Tables<W: Copy, C: Counts> {
     /// What waits for the next joined phase, and in that phase what is left of it.
     pub(crate) held: Stash<W>,
     /// Which pages are split in the phase that it runs, and the likes that it has counted of them.
-    pub(crate) slice: SplitSlice<C>,
+    pub(crate) slice: SplitSlice<C, T>,
     /// The likes that went into the slice.
     pub(crate) sliced: SliceLog,
     /// How many likes it has counted: what was added on the board, and the slice.
@@ -34,12 +36,12 @@ pub struct Tables<W: Copy, C: Counts> {
     pub(crate) last: Users,
 }
 
-impl<W: Copy, C: Counts> Tables<W, C> {
+impl<W: Copy, C: Counts, T: BucketTags> Tables<W, C, T> {
     // The tables of a seat that has done nothing yet, with this slice.
     fn new(
         alloc: Global,
         marks: Vec<bool>,
-        slice: SplitSlice<C>,
+        slice: SplitSlice<C, T>,
         room: u32,
         last: Users,
     ) -> Result<Self, AllocError>
@@ -60,7 +62,7 @@ impl<W: Copy, C: Counts> Tables<W, C> {
     }
 }
 
-impl<W: Copy> Tables<W, Slice> {
+impl<W: Copy> Tables<W, Slice, RunTags> {
     // The tables of a seat of a run that has done nothing yet. All memory is taken here.
     pub(crate) fn of_run(
         alloc: Global,
@@ -79,7 +81,7 @@ impl<W: Copy> Tables<W, Slice> {
     }
 }
 
-impl<W: Copy> Tables<W, BucketCounts> {
+impl<W: Copy> Tables<W, BucketCounts, ServiceTags> {
     // The same of a service.
     pub(crate) fn of_service(
         alloc: Global,
@@ -98,7 +100,7 @@ impl<W: Copy> Tables<W, BucketCounts> {
 }
 
 // Splits each page that is marked, or hot by this mask, in a run.
-fn split_pages<C: Counts>(slice: &mut SplitSlice<C>, marks: &[bool], mask: u64)
+fn split_pages<C: Counts, T: BucketTags>(slice: &mut SplitSlice<C, T>, marks: &[bool], mask: u64)
     requires few { length marks.now ≤ buckets }
     requires unsplit { IsUnsplit slice.old run_factor }
     requires numbers { HasNumbers slice.old (length marks.now) }
@@ -120,7 +122,7 @@ fn has_bit(word: u64, bit: usize) -> bool
 }
 
 // Splits the pages in the slots in use, in a service.
-fn split_slots<C: Counts>(slice: &mut SplitSlice<C>, pages: &[u32; 64], used: u64)
+fn split_slots<C: Counts, T: BucketTags>(slice: &mut SplitSlice<C, T>, pages: &[u32; 64], used: u64)
     requires unsplit { IsUnsplit slice.old slice.old.splits.factor }
     requires apart { AreSlotsApart slice.old.splits.factor (slice_index pages.now) used }
     requires numbers { HaveSlotsNumbers slice.old (slice_index pages.now) used }
@@ -133,7 +135,7 @@ fn split_slots<C: Counts>(slice: &mut SplitSlice<C>, pages: &[u32; 64], used: u6
     }
 }
 
-impl<W: Copy, C: Counts> Tables<W, C> {
+impl<W: Copy, C: Counts, T: BucketTags> Tables<W, C, T> {
     // Runs the phase that was released, in a run. In a split one the post reads the mask, and the pages that are marked
     // or hot are split.
     #[cold]

@@ -1,6 +1,7 @@
 ghost use Rattle.std.specs.Prelude.{◌≡◌, ◌+◌, ◌^◌, ◌<◌, ◌≤◌, List, ℕ, IfNone, IfSome, length, replicate, slice_index, slice_set, sum};
 ghost use Rattle.like_limits.specs.Buckets.{buckets};
 
+use crate::bucket_tags::BucketTags;
 use crate::buckets::BUCKETS;
 use crate::counts::Counts;
 use crate::split_pages::SplitPages;
@@ -32,8 +33,6 @@ impl BucketCounts {
 }
 
 impl Counts for BucketCounts {
-    type Tags = [u32; BUCKETS];
-
     ghost view = { λ c. c };
 
     #[inline(always)]
@@ -53,7 +52,7 @@ impl Counts for BucketCounts {
     }
 
     // It goes over the split pages.
-    fn next_page(&self, splits: &SplitPages<[u32; BUCKETS]>, from: u32) -> Option<u32> {
+    fn next_page<T: BucketTags>(&self, splits: &SplitPages<T>, from: u32) -> Option<u32> {
         let mut place = from;
         while let Some(page) = splits.next(place) {
             let bucket = splits.bucket(page);

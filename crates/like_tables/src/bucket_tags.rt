@@ -5,9 +5,6 @@ use crate::buckets::BUCKETS;
 use std::alloc::{AllocError, Global};
 
 /// The numbers of the buckets of a table of split pages.
-///
-/// A service keeps them within the table, where a like finds them by no pointer. A run keeps them apart, since a replay
-/// moves its workers.
 pub trait BucketTags: Drop {
     ghost view: { Self → List ℕ };
 
@@ -26,44 +23,56 @@ pub trait BucketTags: Drop {
         ensures { view self.new ≡ slice_set (view self.old) bucket tag };
 }
 
-impl BucketTags for [u32; BUCKETS] {
-    ghost view = { λ tags. tags };
+/// The numbers of a service, which are within the table: so a like finds them by no pointer.
+#[derive(Drop)]
+pub struct ServiceTags {
+    tags: [u32; BUCKETS],
+}
+
+/// The numbers of a run, which are apart from the table, since a replay moves its workers.
+#[derive(Drop)]
+pub struct RunTags {
+    tags: Vec<u32>,
+}
+
+impl BucketTags for ServiceTags {
+    ghost view = { λ t. t.tags };
 
     fn empty(_: Global) -> Result<Self, AllocError> {
         let mut tags = [0; BUCKETS];
         tags[0] = 1;
-        Ok(tags)
+        Ok(ServiceTags { tags })
     }
 
     #[inline(always)]
     fn get(&self, bucket: u32) -> u32 {
-        self[bucket as usize]
+        self.tags[bucket as usize]
     }
 
     #[inline(always)]
     fn set(&mut self, bucket: u32, tag: u32) {
-        self[bucket as usize] = tag;
+        self.tags[bucket as usize] = tag;
     }
 }
 
-impl BucketTags for Vec<u32> {
-    ghost view = { λ tags. tags.items };
+impl BucketTags for RunTags {
+    ghost view = { λ t. t.tags.items };
 
     fn empty(alloc: Global) -> Result<Self, AllocError> {
         let mut tags = vec![in alloc; 0; BUCKETS]?;
         tags[0] = 1;
-        Ok(tags)
+        Ok(RunTags { tags })
     }
 
     #[inline(always)]
     fn get(&self, bucket: u32) -> u32 {
         let place = bucket as usize;
-        self[place]
+        self.tags[place]
     }
 
     #[inline(always)]
     fn set(&mut self, bucket: u32, tag: u32) {
         let place = bucket as usize;
-        self[place] = tag;
+        self.tags[place] = tag;
     }
 }

@@ -7,9 +7,6 @@ use crate::split_pages::SplitPages;
 
 /// The likes of a slice, as numbers: how many it has of the page in each bucket.
 pub trait Counts: Drop {
-    /// How the numbers of buckets beside it are kept.
-    type Tags: BucketTags;
-
     ghost view: { Self → List ℕ };
 
     /// Counts a like of the page in this bucket.
@@ -33,7 +30,7 @@ pub trait Counts: Drop {
         ensures total { sum (view self.new) + result ≡ sum (view self.old) };
 
     /// The page in the first bucket from `from` on whose page has a like, of these split pages.
-    fn next_page(&self, splits: &SplitPages<Self::Tags>, from: u32) -> Option<u32>
+    fn next_page<T: BucketTags>(&self, splits: &SplitPages<T>, from: u32) -> Option<u32>
         requires slice { IsSplitSlice (slice_by splits.now (view self.now)) }
         requires within { from ≤ buckets }
         ensures next { IfSome result (IsNextSliced (slice_by splits.now (view self.now)) from) }

@@ -19,7 +19,7 @@ mod stash;
 mod users;
 
 pub use bucket_counts::BucketCounts;
-pub use bucket_tags::BucketTags;
+pub use bucket_tags::{BucketTags, RunTags, ServiceTags};
 pub use buckets::{BUCKETS, bucket, factor_for};
 pub use counts::Counts;
 pub use held::Held;

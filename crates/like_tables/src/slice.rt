@@ -1,6 +1,7 @@
 ghost use Rattle.std.specs.Prelude.{◌≡◌, ◌+◌, ◌^◌, ◌<◌, ◌≤◌, ◌↔◌, ℕ, List, All, IfNone, IfOk, IfSome, IsTrue, length, replicate, slice_index, slice_set, sum};
 ghost use Rattle.like_tables.specs.Liked.{AreUnliked, IsNextLiked};
 
+use crate::bucket_tags::BucketTags;
 use crate::counts::Counts;
 use crate::page_set::PageSet;
 use crate::split_pages::SplitPages;
@@ -108,8 +109,6 @@ impl Slice {
 
 // In a run a page's bucket is its number.
 impl Counts for Slice {
-    type Tags = Vec<u32>;
-
     ghost view = { λ s. s };
 
     #[inline(always)]
@@ -127,7 +126,7 @@ impl Counts for Slice {
     }
 
     // It goes by the bits that tell which numbers are not 0.
-    fn next_page(&self, splits: &SplitPages<Vec<u32>>, from: u32) -> Option<u32> {
+    fn next_page<T: BucketTags>(&self, splits: &SplitPages<T>, from: u32) -> Option<u32> {
         if from as usize > self.counts.len() {
             return None;
         }

@@ -4,6 +4,7 @@ ghost use Rattle.like_tables.specs.SplitPages.{MayPut};
 ghost use Rattle.like_tables.specs.SplitSlice.{AreUnsliced, IsNextSliced, IsSplitSlice, bucket_in, has_split, likes_in, no_slice, with_likes, with_split};
 
 use crate::bucket_counts::BucketCounts;
+use crate::bucket_tags::{BucketTags, RunTags, ServiceTags};
 use crate::counts::Counts;
 use crate::slice::Slice;
 use crate::split_pages::SplitPages;
@@ -16,14 +17,14 @@ const RUN_FACTOR: u32 = 1 << 22;
 /// A worker's slice of its split pages: which pages are split in its phase, and how many likes of each it has counted
 /// and not merged yet.
 ///
-/// A run's keeps the likes in a `Slice`, a service's in `BucketCounts`.
+/// A run's keeps the likes in a `Slice`, a service's in `BucketCounts`. `T` keeps the numbers of the buckets.
 #[derive(Drop)]
-pub struct SplitSlice<C: Counts> {
-    splits: SplitPages<C::Tags>,
+pub struct SplitSlice<C: Counts, T: BucketTags> {
+    splits: SplitPages<T>,
     counts: C,
 }
 
-impl<C: Counts> Model for SplitSlice<C> {
+impl<C: Counts, T: BucketTags> Model for SplitSlice<C, T> {
     ghost use Rattle.like_tables.specs.SplitSlice.{IsSplitSlice, SplitSlice};
 
     ghost Value = { SplitSlice };
@@ -33,7 +34,7 @@ impl<C: Counts> Model for SplitSlice<C> {
     ghost invariant = { λ s. IsSplitSlice (record { splits = s.splits; counts = C.view s.counts }) };
 }
 
-impl SplitSlice<Slice> {
+impl SplitSlice<Slice, RunTags> {
     /// A slice of a run, which has a number for each of so many pages. No page is split.
     pub fn of_run(alloc: Global, pages: u32) -> Result<Self, AllocError>
         ensures slice { IfOk result (λ slice. slice ≡ no_slice run_factor pages) }
@@ -46,7 +47,7 @@ impl SplitSlice<Slice> {
     }
 }
 
-impl SplitSlice<BucketCounts> {
+impl SplitSlice<BucketCounts, ServiceTags> {
     /// A slice of a service, which has a number for each bucket. No page is split. With the factor page 1 is not in
     /// bucket 0.
     pub fn of_service(alloc: Global, factor: u32) -> Result<Self, AllocError>
@@ -61,7 +62,7 @@ impl SplitSlice<BucketCounts> {
     }
 }
 
-impl<C: Counts> SplitSlice<C> {
+impl<C: Counts, T: BucketTags> SplitSlice<C, T> {
     /// The bucket of a page.
     #[inline(always)]
     pub fn bucket(&self, page: u32) -> u32

@@ -10,7 +10,8 @@ use calls::{
 };
 use like_requests::{Op, PageRef, Request, Verdict};
 use like_tables::{
-    BUCKETS, BucketTags, Counts, Held, Slice, SplitPages, SplitSlice, Stash, Users, factor_for,
+    BucketTags, Counts, Held, RunTags, ServiceTags, Slice, SplitPages, SplitSlice, Stash, Users,
+    factor_for,
 };
 use std::alloc::{AllocError, Global};
 use std::process::Abort;
@@ -62,8 +63,8 @@ fn call_splits<T: BucketTags>(
 fn a_page_is_split_that_was_put(rt: HostRuntime) -> Result<(), Fail> {
     for (factor, calls) in splits() {
         assert_named(&rt, *factor >= 1 << 22, "a factor");
-        call_splits::<[u32; BUCKETS]>(&rt, rt.alloc(), *factor, calls)?;
-        call_splits::<Vec<u32>>(&rt, rt.alloc(), *factor, calls)?;
+        call_splits::<ServiceTags>(&rt, rt.alloc(), *factor, calls)?;
+        call_splits::<RunTags>(&rt, rt.alloc(), *factor, calls)?;
     }
     Ok(())
 }
@@ -126,7 +127,7 @@ fn a_slice_gives_what_was_added(rt: HostRuntime) -> Result<(), Fail> {
 }
 
 // Whether two likes of page 64 come out of a slice in which no page is split.
-fn gives_two_likes<C: Counts>(slice: &mut SplitSlice<C>) -> bool
+fn gives_two_likes<C: Counts, T: BucketTags>(slice: &mut SplitSlice<C, T>) -> bool
     requires { slice.old ≡ no_slice (2 ^ 22) 1_024 }
 {
     slice.put(64);

@@ -5,12 +5,12 @@ use crate::worker::Worker;
 use crate::worker::desk::Desk;
 use like_core::Post;
 use like_seat::{RunStation, Tables};
-use like_tables::{Held, Slice};
+use like_tables::{Held, RunTags, Slice};
 
 /// A worker without its post, as it is between two turns of a worker whose board is lent to it for each.
 #[derive(Drop)]
 pub struct SuspendedWorker {
-    tables: Tables<Held, Slice>,
+    tables: Tables<Held, Slice, RunTags>,
     desk: Desk,
 }
 

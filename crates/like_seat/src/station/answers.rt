@@ -9,9 +9,9 @@ ghost use Rattle.like_seat.specs.Steps.{CountsLike, CountsOnBoard, Glances, Read
 use crate::seen::Seen;
 use crate::station::Station;
 use like_core::{Glances, Post};
-use like_tables::{Counts, Placed};
+use like_tables::{BucketTags, Counts, Placed};
 
-impl<P: Post, W: Copy, C: Counts> Station<P, W, C> {
+impl<P: Post, W: Copy, C: Counts, T: BucketTags> Station<P, W, C, T> {
     /// Whether a page is split in the phase that it runs. A page that the board doesn't have is not.
     #[inline(always)]
     pub fn is_sliced(&self, page: u32) -> bool
@@ -133,7 +133,7 @@ impl<P: Post, W: Copy, C: Counts> Station<P, W, C> {
     }
 }
 
-impl<P: Glances, W: Copy, C: Counts> Station<P, W, C> {
+impl<P: Glances, W: Copy, C: Counts, T: BucketTags> Station<P, W, C, T> {
     /// Shows a user at once what the seat knows of a sliced page: the page's count with the seat's own slice of it. It
     /// lacks what the slices of others have.
     #[inline(always)]

@@ -8,9 +8,9 @@ ghost use Rattle.like_seat.specs.Steps.{LooksAndEnters};
 
 use crate::station::Station;
 use like_core::{Post, Sight, WorkerState};
-use like_tables::Counts;
+use like_tables::{BucketTags, Counts};
 
-impl<P: Post, W: Copy, C: Counts> Station<P, W, C> {
+impl<P: Post, W: Copy, C: Counts, T: BucketTags> Station<P, W, C, T> {
     /// Looks at the phase word, in a run. If the next phase was released, it enters that, and reads the mask of a split
     /// one.
     #[inline(always)]

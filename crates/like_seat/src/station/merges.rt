@@ -10,9 +10,9 @@ ghost use Rattle.like_seat.specs.Steps.{MergesNext};
 use crate::merged::Merged;
 use crate::station::Station;
 use like_core::{Post, WorkerState};
-use like_tables::Counts;
+use like_tables::{BucketTags, Counts};
 
-impl<P: Post, W: Copy, C: Counts> Station<P, W, C> {
+impl<P: Post, W: Copy, C: Counts, T: BucketTags> Station<P, W, C, T> {
     /// Adds the slice of the next page that has a like to the page's count, and empties it. The pages go by their buckets,
     /// from `from` on.
     pub fn merge_next(&mut self, from: u32) -> Option<Merged>

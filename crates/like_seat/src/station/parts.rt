@@ -5,12 +5,12 @@ ghost use Rattle.like_seat.specs.Parts.{AreTablesOf};
 use crate::station::Station;
 use crate::tables::Tables;
 use like_core::Post;
-use like_tables::Counts;
+use like_tables::{BucketTags, Counts};
 
-impl<P: Post, W: Copy, C: Counts> Station<P, W, C> {
+impl<P: Post, W: Copy, C: Counts, T: BucketTags> Station<P, W, C, T> {
     /// Its post, and what it keeps beside it.
     #[inline(always)]
-    pub fn into_parts(self) -> (P, Tables<W, C>)
+    pub fn into_parts(self) -> (P, Tables<W, C, T>)
         ensures kept { AreTablesOf (P.view result.0) result.1 }
         ensures seat { view_of (P.view result.0) result.1 ≡ self }
     {
@@ -20,7 +20,7 @@ impl<P: Post, W: Copy, C: Counts> Station<P, W, C> {
 
     /// A seat of these parts. The post means what that of the tables meant, but it may be at another board.
     #[inline(always)]
-    pub fn from_parts(post: P, tables: Tables<W, C>) -> Self
+    pub fn from_parts(post: P, tables: Tables<W, C, T>) -> Self
         requires { AreTablesOf (P.view post) tables }
         ensures { result ≡ view_of (P.view post) tables }
     {

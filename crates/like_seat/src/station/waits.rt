@@ -4,9 +4,9 @@ ghost use Rattle.like_seat.specs.Steps.{holding, without_first};
 
 use crate::station::Station;
 use like_core::Post;
-use like_tables::Counts;
+use like_tables::{BucketTags, Counts};
 
-impl<P: Post, W: Copy, C: Counts> Station<P, W, C> {
+impl<P: Post, W: Copy, C: Counts, T: BucketTags> Station<P, W, C, T> {
     /// Puts one by until the next joined phase, behind all others that wait.
     pub fn put_by(&mut self, waiting: W)
         requires { length self.old.held.held < self.old.held.capacity }

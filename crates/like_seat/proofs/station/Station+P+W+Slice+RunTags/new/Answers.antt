@@ -10,7 +10,7 @@ use Rattle.like_seat.specs.Kept.{IsOfRun}
 use Rattle.std.proofs.lemmas.List.{length-replicate}
 use Rattle.like_seat.proofs.Filling.{bucket-run}
 use Rattle.like_seat.proofs.Keeping.{Kept-unsplit, by_page-no_slice, sum-zeros}
-use Rattle.like_seat.proofs.station.Station+P+W+Slice.new.Goals as goal
+use Rattle.like_seat.proofs.station.Station+P+W+Slice+RunTags.new.Goals as goal
 
 pub invariant_of-result : goal.invariant_of-result
 invariant_of-result g c =

@@ -1,5 +1,5 @@
 use Rattle.std.proofs.Common.{List, ℕ, ap, rules, set}
-use Rattle.like_tables.proofs.bucket_tags.VecU32BucketTags.empty.Goals as goal
+use Rattle.like_tables.proofs.bucket_tags.RunTagsBucketTags.empty.Goals as goal
 
 pub returns : goal.returns
 returns c =

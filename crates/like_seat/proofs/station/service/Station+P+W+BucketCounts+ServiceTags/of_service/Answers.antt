@@ -9,7 +9,7 @@ use Rattle.std.proofs.lemmas.List.{length-replicate}
 use Rattle.like_limits.specs.Buckets.{buckets}
 use Rattle.like_tables.proofs.Tagged.{bucket-lt}
 use Rattle.like_seat.proofs.Keeping.{Kept-unsplit, by_page-no_slice, sum-zeros}
-use Rattle.like_seat.proofs.station.service.Station+P+W+BucketCounts.of_service.Goals as goal
+use Rattle.like_seat.proofs.station.service.Station+P+W+BucketCounts+ServiceTags.of_service.Goals as goal
 
 pub invariant_of-result : goal.invariant_of-result
 invariant_of-result g c =

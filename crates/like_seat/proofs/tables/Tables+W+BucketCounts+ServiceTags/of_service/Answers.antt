@@ -1,7 +1,7 @@
 use Rattle.std.proofs.Common.{IfOk, subst}
 use Rattle.like_tables.specs.SplitSlice.{SplitSlice}
 use Rattle.like_seat.specs.Kept.{AreNew}
-use Rattle.like_seat.proofs.tables.Tables+W+BucketCounts.of_service.Goals as goal
+use Rattle.like_seat.proofs.tables.Tables+W+BucketCounts+ServiceTags.of_service.Goals as goal
 
 pub returns : goal.returns
 returns g c =
