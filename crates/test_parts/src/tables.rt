@@ -1,4 +1,4 @@
-ghost use Rattle.std.specs.Prelude.{◌≡◌, ◌^◌, length};
+ghost use Rattle.std.specs.Prelude.{◌≡◌, ◌^◌, ◌≤◌, length};
 ghost use Rattle.like_tables.specs.Share.{share_of};
 ghost use Rattle.like_tables.specs.SplitSlice.{no_slice};
 
