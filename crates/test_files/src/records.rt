@@ -163,7 +163,11 @@ fn a_failed_read_stays_failed(rt: HostRuntime) {
 // Reads this many records.
 fn skip<R: Read>(rt: &impl Abort, records: &mut Records<R>, number: u32) {
     for _ in 0..number {
-        assert_that(rt, records.read_next() == Ok(true), "no record");
+        assert_that(
+            rt,
+            records.read_next() == Ok(true),
+            "out of memory, or no record",
+        );
     }
 }
 
