@@ -127,10 +127,11 @@ pub record IsLogFor (workload : Workload) (s : ServerView) (log : WorkerLog) : T
   pub reads : ArePlainReads workload s.worker.post.did
   pub noted : s.worker.notes ≡ true → AreNoted workload s.worker
 
--- a server leaves this log: it is what its worker ran and noted, has nothing taken above the phase that it saw last,
--- and is right for each workload that the server worked for
+-- a server leaves this log: it is what its worker took, ran and noted, has nothing taken above the phase that it saw
+-- last, and is right for each workload that the server worked for
 pub record IsLogOf (s : ServerView) (log : WorkerLog) : Type 0 where
   pub share : log.last.share ≡ s.worker.last.share
+  pub taken : log.taken.items ≡ s.worker.taken
   pub ran : log.ran.items ≡ s.worker.ran
   pub adds : log.adds.items ≡ s.worker.adds
   pub unnoted : s.worker.notes ≡ false → log.adds.items ≡ []

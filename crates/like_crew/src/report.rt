@@ -44,6 +44,7 @@ pub fn report_of(
     ensures none { notes ≡ false → IfOk result HasNoPlaces }
     ensures phases { IfOk result (λ report. report.phases ≡ outcome.phases) }
     ensures logs { IfOk result (λ report. report.logs ≡ outcome.logs) }
+    ensures hot { IfOk result (λ report. report.hot ≡ outcome.chosen) }
 {
     let collected = collect(alloc, sizes, &outcome.logs);
     report_with(alloc, setup, plans, sizes, notes, outcome, collected)
@@ -101,6 +102,7 @@ fn report_with(
     ensures none { notes ≡ false → IfOk result HasNoPlaces }
     ensures phases { IfOk result (λ report. report.phases ≡ outcome.phases) }
     ensures logs { IfOk result (λ report. report.logs ≡ outcome.logs) }
+    ensures hot { IfOk result (λ report. report.hot ≡ outcome.chosen) }
 {
     let Outcome {
         logs,

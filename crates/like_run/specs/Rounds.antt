@@ -28,7 +28,7 @@ pub record CanReplayScript (setup : Setup) (plans : List (List Request)) (script
   pub there : All (IsInRun setup.workers (length plans)) script
 
 -- a report follows a script: a new crew played the script to its end, and there its servers left the logs of the report,
--- in the phase that the report tells
+-- in the phase and after the choices of hot pages that the report tells
 pub record ReportFollows (setup : Setup) (plans : List (List Request)) (script : List Turned) (report : Report) : Type 0
   where
     pub start : CrewView
@@ -37,6 +37,7 @@ pub record ReportFollows (setup : Setup) (plans : List (List Request)) (script :
     pub plays : PlaysToEnd script start last
     pub logs : AllZip IsLogOf last.servers report.logs.items
     pub phase_is : report.phases ≡ last.coordinator.phase
+    pub hot : report.hot.items ≡ last.coordinator.choice.chosen
 
 -- a crew has played a script and the most rounds, and its run has not ended
 pub record HasNotEnded (script : List Turned) (c : CrewView) : Type 0 where

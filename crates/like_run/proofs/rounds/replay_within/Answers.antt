@@ -8,6 +8,7 @@ use Rattle.like_requests.specs.Script.{IsInRun}
 use Rattle.like_core.specs.declared.opening.Opening.{Opening}
 use Rattle.like_limits.specs.Limits.{max_requests}
 use Rattle.like_promises.specs.WorkloadOf.{lists_of, workload_of}
+use Rattle.like_promises.specs.declared.chosen.Chosen.{Chosen}
 use Rattle.like_promises.specs.declared.log.WorkerLog.{WorkerLog}
 use Rattle.like_crew.specs.Outcome.{IsOutcome}
 use Rattle.like_crew.specs.Server.{IsLogOf}
@@ -84,6 +85,7 @@ returns-clause-follows c =
       logs = subst (λ (logs : Vec WorkerLog Global). AllZip IsLogOf followed.last.servers logs.items)
           (sym c.in_ok-report_of.ensures.logs) followed.outcome.logs;
       phase_is = c.in_ok-report_of.ensures.phases ∙ followed.outcome.phases;
+      hot = ap (λ (chosen : Vec Chosen Global). chosen.items) c.in_ok-report_of.ensures.hot ∙ followed.outcome.chosen;
     }
 
 pub returns-in_err-outcome-clause-fault : goal.returns-in_err-outcome-clause-fault

@@ -20,6 +20,7 @@ returns-clause-log g c =
     } in
     subst (λ (x : ServerView). IsLogOf x c.finish.result.0) c.self.view_is (record {
       share = ap (λ (t : UserTable). t.share) c.finish.ensures.last;
+      taken = c.finish.ensures.taken;
       ran = c.finish.ensures.ran;
       adds = c.finish.ensures.adds;
       unnoted = λ notes. c.finish.ensures.adds ∙ c.self.invariant.2.unnoted notes;
