@@ -108,6 +108,7 @@ lent-opens-all s t board none o = record {
 pub lent-log : (s : ServerView) (board : List ℕ) (log : WorkerLog) → IsLogOf (server_at s board) log → IsLogOf s log
 lent-log s board log l = record {
   share = l.share;
+  taken = l.taken;
   ran = l.ran;
   adds = l.adds;
   unnoted = l.unnoted;
