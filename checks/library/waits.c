@@ -6,6 +6,8 @@
  *   early  how long a look takes with which the waiting ones at its seat fill half of the room: an eighth of a phase in
  *          the median of 100, and a quarter in the 99th
  *   rows   the same for looks in a row, until they are found
+ *   seats  the same for looks through a seat that its thread holds, which makes turns of the seat and no call of the
+ *          service: 2 ms in the median of 100, and 4 ms in the 99th. On one processor it is only printed
  *   ticks  the same as `early`, while another thread runs rows and ticks. On one processor it is only printed
  *   counts the longest of 1,000 looks in three seconds, while three threads ask for counts as fast as they can: 20 ms.
  *          On one processor a thread waits for the turns of all others: there it is 100 looks, and 100 ms
@@ -132,6 +134,28 @@ static void early(const char *what, uint64_t (*measured)(void), uint32_t microse
             times[n] = measured();
         } while (times[n] == 0);
     tell(what, times, TIMES, is_judged ? microseconds / 8.0 : 0, is_judged ? microseconds / 4.0 : 0);
+}
+
+/* No call of the service is made: the driver's thread finds that the looks take half of the seat's room. */
+static void seats(uint32_t microseconds, bool is_judged) {
+    uint64_t times[TIMES];
+    likes_answer answer = {.status = LIKES_SEEN};
+    likes_found found;
+    likes_seat *seat = likes_service_lock(service, 0);
+    for (uint32_t n = 0; n < TIMES; n++) {
+        uint64_t until = clock_now() + UINT64_C(1000) * (microseconds + n * 37 % microseconds);
+        while (clock_now() < until)
+            likes_seat_turn(seat);
+        do
+            likes_seat_look(seat, 0, 0, n, &answer);
+        while (answer.status != LIKES_WAITS);
+        uint64_t began = clock_now();
+        while (!likes_seat_take_found(seat, &found))
+            likes_seat_turn(seat);
+        times[n] = clock_now() - began;
+    }
+    likes_service_unlock(service, 0);
+    tell("looks through a held seat", times, TIMES, is_judged ? 2000 : 0, is_judged ? 4000 : 0);
 }
 
 /* Runs rows of likes at a seat, and ticks once in 256 requests. */
@@ -321,6 +345,8 @@ static void measure(const char *what, int processors, uint32_t microseconds) {
         early("looks", time_wait, microseconds, true);
     else if (strcmp(what, "rows") == 0)
         early("looks of rows", time_row, microseconds, true);
+    else if (strcmp(what, "seats") == 0)
+        seats(microseconds, processors > 1);
     else if (strcmp(what, "ticks") == 0)
         ticks(microseconds, processors > 1);
     else if (strcmp(what, "counts") == 0)
@@ -347,8 +373,9 @@ int main(int count, char **words) {
         return 0;
     }
     uint64_t began = clock_now(), others = all_worked(), own = clock_of(CLOCK_PROCESS_CPUTIME_ID);
-    bool is_early = strcmp(words[1], "early") == 0 || strcmp(words[1], "ticks") == 0;
-    start(is_early ? 2 : strcmp(words[1], "rows") == 0 ? 8 : 64, microseconds);
+    /* One look takes half of the room, or four of a row do. */
+    bool is_one = strcmp(words[1], "early") == 0 || strcmp(words[1], "ticks") == 0 || strcmp(words[1], "seats") == 0;
+    start(is_one ? 2 : strcmp(words[1], "rows") == 0 ? 8 : 64, microseconds);
     measure(words[1], processors, microseconds);
     stop();
     uint64_t took = clock_now() - began;

@@ -18,7 +18,10 @@ likes_seat *likes_service_lock(likes_service *service, uint32_t number) {
     likes_place_take(place, UINT64_MAX);
     place->next_held = likes_held;
     likes_held = place;
-    if (__atomic_load_n(&service->is_resting, __ATOMIC_SEQ_CST))
+    bool is_first = !__atomic_load_n(&service->has_holders, __ATOMIC_SEQ_CST);
+    if (is_first)
+        __atomic_store_n(&service->has_holders, true, __ATOMIC_SEQ_CST);
+    if (is_first || __atomic_load_n(&service->is_resting, __ATOMIC_SEQ_CST))
         likes_service_call(service);
     return &place->seat;
 }

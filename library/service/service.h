@@ -23,7 +23,7 @@
 #define LIKES_SPIN_TIME UINT64_C(50000)
 
 /* How long a thread sleeps at most if nobody wakes it, in nanoseconds: one that waits for a phase; the driver's thread
- * while threads hold their seats; and else while a phase goes on. */
+ * in a split phase where threads hold their seats; and else while a phase goes on. */
 #define LIKES_PHASE_NAP UINT64_C(10000000)
 #define LIKES_DRIVER_NAP UINT64_C(1000000)
 #define LIKES_LONG_NAP UINT64_C(1000000000)
@@ -57,7 +57,8 @@ struct likes_service {
     char apart_too[LIKES_LINES];
     uint32_t writers;  /* how many are open; atomic */
     uint32_t starving; /* how many threads have missed phases, and wait for the next one to make a call; atomic */
-    uint32_t was_held; /* LIKES_HELD_NAP, LIKES_HELD_ROUND: a seat's lock was taken when somebody tried it; atomic */
+    bool was_held;     /* a seat's lock was taken when somebody tried it, in this round; atomic */
+    bool has_holders;  /* a thread has held a seat; atomic */
     likes_lock driving;
     likes_driver driver;      /* used under `driving` */
     uint64_t pulses, pulsed;  /* under `driving`: how many pulses there were, and when the last one */
@@ -73,10 +74,6 @@ struct likes_service {
     pthread_t thread;
     bool has_thread, is_stopping;
 };
-
-/* Of `was_held`: for the driver's thread, and for the rounds. */
-#define LIKES_HELD_NAP 1u
-#define LIKES_HELD_ROUND 2u
 
 /* The remainder of a division by a divisor whose inverse is UINT64_MAX / divisor + 1, without the division
  * (D. Lemire, O. Kaser, N. Kurz, "Faster Remainder by Direct Computation", 2019). */
@@ -118,11 +115,6 @@ void *likes_service_thread(void *service);
 
 /* Wakes the driver's thread. */
 void likes_service_call(likes_service *service);
-
-/* Whether a seat was held since the last time that this was asked, for the nap or for the round. */
-static inline bool likes_service_was_held(likes_service *service, uint32_t why) {
-    return (__atomic_fetch_and(&service->was_held, ~why, __ATOMIC_SEQ_CST) & why) != 0;
-}
 
 /* waits.c: calls that wait for a phase. */
 

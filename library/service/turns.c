@@ -6,7 +6,7 @@ void likes_service_seat_turns(likes_service *service) {
         return;
     for (uint32_t i = 0; i < service->seats; i++)
         if (!likes_place_turn(&service->places[i]))
-            __atomic_store_n(&service->was_held, LIKES_HELD_NAP | LIKES_HELD_ROUND, __ATOMIC_SEQ_CST);
+            __atomic_store_n(&service->was_held, true, __ATOMIC_SEQ_CST);
 }
 
 /* How many calls were made at all seats. */
@@ -20,7 +20,7 @@ static uint64_t calls_of(const likes_service *service) {
 /* Ends a round, with `driving` held. */
 static void end_round(likes_service *service) {
     uint64_t calls = calls_of(service);
-    bool was_held = likes_service_was_held(service, LIKES_HELD_ROUND);
+    bool was_held = __atomic_exchange_n(&service->was_held, false, __ATOMIC_SEQ_CST);
     service->quiet = calls != service->calls || was_held ? 0 : service->quiet + 1;
     service->calls = calls;
 }
