@@ -7,7 +7,8 @@ use std::alloc::AllocError;
 
 /// Proposes the pages that get slots in the next split phase.
 ///
-/// The driver calls it before it ends a split phase, and in a joined one as long as nothing would be split in the next.
+/// The driver calls it before it ends a split phase, and before it may end a joined one if nothing would be split in the
+/// next.
 /// Any proposal is lawful: `Slots::choose` takes of it what it can.
 pub trait Choice {
     /// The pages that it is told to propose; none if it finds them itself.

@@ -118,11 +118,11 @@ impl<C: Choice + Drop> Driver<C> {
 
 impl<C: Choice> Driver<C> {
     /// Makes one look at the phase word, and does at most one thing. A phase that is ending is released once every seat
-    /// has answered it or is gone. A phase that runs is ended as `end` says, and a split phase also if the looks
-    /// that wait at a seat take half of its room. A joined phase that all seats have left goes on, and so does a
-    /// service's last phase. Once last counts were written it does nothing.
-    /// Before it ends a split phase it asks its choice for pages, and in a joined one as long as nothing would be split
-    /// in the next. Before it releases a split phase it gives slots to these pages.
+    /// has answered it or is gone. A phase that runs is ended as `end` says, and a split phase also if the driver hears
+    /// that a seat asks for it. A joined phase that all seats have left goes on, and so does a service's last phase.
+    /// Once last counts were written it does nothing.
+    /// Before it ends a split phase it asks its choice for pages. So it does in a joined one that may end, unless `end`
+    /// is `No`, if nothing would be split in the next. Before it releases a split phase it gives slots to these pages.
     pub fn turn(&mut self, end: End) -> DriverAnswer
         ensures case { DriverTurns self.old end result self.new }
         ensures keeps { IsService self.new }
@@ -146,8 +146,8 @@ impl<C: Choice> Driver<C> {
 
     /// Writes the counts of the pages from `from` on, if a joined phase is ending and every seat has answered it or is
     /// gone. They are the counts of one moment, the boundary of that phase and the split one that comes next, and the
-    /// answer is the phase that ends there. Otherwise it writes nothing, and answers `None`. Until the driver releases
-    /// the next phase, further ranges are of the same moment.
+    /// answer is the phase that ends there. Otherwise, and once last counts were written, it writes nothing and answers
+    /// `None`. Until the driver releases the next phase, further ranges are of the same moment.
     pub fn snapshot(&mut self, from: u32, counts: &mut [u64]) -> Option<u64>
         requires places { from + length counts.old ≤ length self.old.lead.seat.opening.counts }
         ensures case { TakesSnapshot self.old from counts.old result self.new counts.new }
@@ -160,9 +160,10 @@ impl<C: Choice> Driver<C> {
         read_boundary(&mut self.lead, &self.board, from, counts)
     }
 
-    /// Writes the last counts of the pages from `from` on, once all seats have left a joined phase, and says whether it
-    /// did. It announces the end of that phase if nobody has. Once it wrote counts the service is over: no phase is
-    /// released. Later calls write the same counts. It takes no seats, since C can't show whose they are.
+    /// Writes the last counts of the pages from `from` on, if a look shows that all seats have left a joined phase that
+    /// is ending, and says whether it did. If nobody ended that phase, it does, unless it is a service's last, and looks
+    /// again. Once it wrote counts the service is over: no phase is released. Later calls write the same counts. It
+    /// takes no seats, since C can't show whose they are.
     pub fn last_counts(&mut self, from: u32, counts: &mut [u64]) -> bool
         requires places { from + length counts.old ≤ length self.old.lead.seat.opening.counts }
         ensures case { TakesLast self.old from counts.old result self.new counts.new }

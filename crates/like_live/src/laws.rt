@@ -84,7 +84,8 @@ pub fn services_are_serial()
     ensures { ServicesAreSerial }
 {}
 
-/// A seat's phases never fall, also where it came back: no deed of a seat is of an earlier phase than one before it.
+/// In a closed service a seat's phases never fall, also where it came back: no deed of a seat is of an earlier phase
+/// than one before it.
 pub fn seats_rise()
     ensures { SeatsRise }
 {}

@@ -230,9 +230,9 @@ impl<P: SlotPost> LiveSeat<P> {
 }
 
 impl<P: SlotPost + Returns> LiveSeat<P> {
-    /// Brings a seat that is gone back into the present phase, which it then runs, a split one with its slots read. If
-    /// the phase is ending, or if others changed the phase word at each of 64 tries, nothing is done and the answer is
-    /// `Between`. Of any other seat this is a turn.
+    /// Brings a seat that is gone back into the present phase, which it then runs, a split one with its slots read.
+    /// Otherwise nothing is done, and the answer is `Between`: if the phase is ending, or if others changed the phase
+    /// word at each of 64 tries, as no clause says. Of any other seat this is a turn.
     pub fn come_back(&mut self) -> TurnAnswer
         ensures case { ComeBackCase self.old result self.new }
         ensures keeps { IsLive self.new }

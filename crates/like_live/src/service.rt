@@ -35,7 +35,7 @@ pub fn calls_keep_seats()
 
 impl Service<Guided> {
     /// A service in phase 0, a joined one. It finds the pages that get slots by sampling, or its host proposes them.
-    /// Each number of the opening is tested, and nothing takes memory after this.
+    /// Each number of the opening is tested. After this nothing takes memory, as no clause can say.
     pub fn open(alloc: Global, opening: &Opening) -> Result<Service<Guided>, OpenError>
         ensures opened { IfOk result (λ s. AreOpened opening.now s.driver s.seats.items) }
         ensures told { IfOk result (λ s. s.driver.splits.told ≡ []) }
@@ -53,7 +53,7 @@ impl Service<Guided> {
 
 impl<C: Choice + Drop> Service<C> {
     /// A service in phase 0, a joined one. Its driver asks this choice which pages get slots. Each number of the
-    /// opening is tested, and after this only the choice may take memory.
+    /// opening is tested. After this only the choice may take memory, as no clause can say.
     pub fn open_with(alloc: Global, opening: &Opening, choice: C) -> Result<Service<C>, OpenError>
         ensures opened { IfOk result (λ s. AreOpened opening.now s.driver s.seats.items) }
         ensures told { IfOk result (λ s. s.driver.splits.told ≡ C.told choice) }

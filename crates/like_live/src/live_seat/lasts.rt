@@ -26,7 +26,7 @@ impl<P: Post> LiveSeat<P> {
     }
 
     /// Writes the last likes of the seat's users from place `from` on: each one's page, or `NO_PAGE`. It works in every
-    /// state. While a joined phase is ending and all seats are in, all last likes are of one moment.
+    /// state. While a joined phase is ending and all seats are in, all last likes are of one moment, as no clause says.
     pub fn lasts(&self, from: u32, row: &mut [u32])
         requires { from + length row.old ≤ users_of self.now }
         ensures len { length row.new ≡ length row.old }
