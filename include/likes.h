@@ -19,8 +19,10 @@
  *     nothing else to do. A seat that isn't called holds up all others.
  *
  * What the library does
- *   - It tests every number. A wrong one is an error of its own, and what was asked for isn't done. A call of a seat
- *     does the phase work first: a seat that is between two phases answers LIKES_BETWEEN to a wrong user too.
+ *   - It tests every number, but for the seats of likes_seat_of, and period_us, which is a service's. A wrong one is an
+ *     error of its own, and what was asked for isn't done. Proposed numbers that are no pages do nothing. A like, a
+ *     look, a glance or a turn of a seat does the phase work first: a seat that is between two phases answers
+ *     LIKES_BETWEEN to a wrong user too.
  *   - No call waits, sleeps or takes a lock, beside what malloc and free do. Only likes_open takes memory, and beside
  *     it only the calls that free give some back.
  */

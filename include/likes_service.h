@@ -9,7 +9,8 @@
  * likes_service_take_found, likes_service_unlock. While a seat is unlocked, others do its phase work. While it is
  * locked, the thread that holds it calls it at least once each phase, and waits for nothing else.
  *
- * A call that has to wait for a phase sleeps after 50 microseconds.
+ * A call whose seat is between two phases tries again for 50 microseconds, and then sleeps. A look that waits to be
+ * found sleeps at once.
  */
 #ifndef LIKES_SERVICE_H
 #define LIKES_SERVICE_H
@@ -23,10 +24,10 @@ extern "C" {
 /* What these calls answer, beside the statuses of likes.h. They are errors, and likes_status_text has their texts. But
  * for LIKES_LATE, nothing was done.
  *
- * A call of a service or a writer that is NULL, or of a service that was stopped, answers LIKES_NOT_STARTED. Calls that
- * take locks answer LIKES_HOLDS_SEAT to a thread that holds a seat of the service: they could wait for the thread
- * itself. These are all but likes_service_unlock, run, take_found, drive, tick, seat_turns, phase, seats, statistics
- * and fault. */
+ * A call of a service or a writer that is NULL, or of a service that was stopped, answers LIKES_NOT_STARTED, but for
+ * those that close. Calls that take locks answer LIKES_HOLDS_SEAT to a thread that holds a seat of the service: they
+ * could wait for the thread itself. These are all but likes_service_unlock, run, take_found, drive, tick, seat_turns,
+ * phase, seats, statistics and fault, and likes_writer_open and likes_writer_drop. */
 enum likes_service_status {
     LIKES_NO_THREAD = 1000,    /* the driver's thread can't be started */
     LIKES_WRONG_PERIOD = 1001, /* period_us is over LIKES_MAX_PERIOD_US */
@@ -98,9 +99,9 @@ uint32_t likes_service_glance(likes_service *service, uint32_t user, uint32_t pa
  *
  * A writer is one thread's, for likes at full speed: it keeps them in rows, one for each seat, and hands a row over as
  * a whole. Till then others miss its likes. A row is handed over when it has 64 likes, at the latest by the writer's
- * first call after a period has passed since it was begun, and by likes_writer_flush, look and close. Without calls
- * there is no bound in time, so a thread flushes before it rests. The likes of a user by one writer are counted in
- * their order. */
+ * first call after a period has passed since it was begun, by likes_writer_flush and close, and by likes_writer_look of
+ * a user of the same seat. Without calls there is no bound in time, so a thread flushes before it rests. The likes of a
+ * user by one writer are counted in their order. */
 
 /* Opens a writer: LIKES_OK, and then `writer`, which pointed to NULL, points to it. Else that stays as it is:
  * LIKES_NOT_STARTED, IN_USE or NO_MEMORY. A writer takes 4 KB, and 0.5 KB for each seat. */
