@@ -15,8 +15,8 @@ type Held struct {
 }
 
 // WithSeat holds a seat while work runs, for rows of requests. Nobody else does the seat's phase work meanwhile, so work
-// makes calls of the seat and waits for nothing. Its other calls of the service are ErrHoldsSeat. WithSeat gives the
-// error of work, or ErrUnknownSeat.
+// makes calls of the seat and waits for nothing. Its other calls of the service are ErrHoldsSeat, if they could wait for
+// a seat. WithSeat gives the error of work, or ErrUnknownSeat.
 func (s *Service) WithSeat(number uint32, work func(*Held) error) error {
 	return s.call(number, func() error {
 		// In C, it is a thread that holds a seat.

@@ -96,7 +96,8 @@ func (p *Pool) Flush() error {
 	return p.each((*Writer).Flush)
 }
 
-// Drop forgets the likes that are kept, and gives their number. They are not counted.
+// Drop forgets the likes that are kept, and gives their number. They are not counted. Within WithSeat, those of a writer
+// that another goroutine is using stay kept.
 func (p *Pool) Drop() (dropped int) {
 	p.each(func(w *Writer) error {
 		dropped += w.Drop()

@@ -37,6 +37,7 @@ type Service struct {
 	period       time.Duration
 	gate         gate
 	looks        chan struct{}
+	late         atomic.Uint64 // looks that were late before they reached C, which doesn't count them
 	writers      atomic.Int64
 	ending       sync.Mutex
 }
@@ -168,6 +169,7 @@ func (s *Service) lateOrHeld() error {
 	if s.holdsSeat() {
 		return ErrHoldsSeat
 	}
+	s.late.Add(1)
 	return ErrLate
 }
 
@@ -221,11 +223,14 @@ func (s *Service) ReadSnapshot(m *Moment) error {
 func (s *Service) Statistics() (Statistics, error) {
 	var told C.likes_statistics
 	err := s.call(0, func() error { return wanted(C.likes_service_statistics(s.c, &told), OK) })
+	if err != nil {
+		return Statistics{}, err
+	}
 	return Statistics{
 		Phases: uint64(told.phases), Likes: uint64(told.likes), Looks: uint64(told.looks),
-		Waits: uint64(told.waits), Late: uint64(told.late),
+		Waits: uint64(told.waits), Late: uint64(told.late) + s.late.Load(),
 		WaitTime: time.Duration(told.wait_time), LongestWait: time.Duration(told.longest_wait),
-	}, err
+	}, nil
 }
 
 // Propose proposes pages to be split, as Driver.Propose does.
@@ -239,6 +244,10 @@ func (s *Service) Propose(pages ...uint32) error {
 func (s *Service) SplitPages() ([]uint32, error) {
 	pages := make([]uint32, MaxSplit)
 	err := s.call(0, func() error {
+		// C has no status here: to a thread that holds a seat it gives no pages.
+		if s.holdsSeat() {
+			return ErrHoldsSeat
+		}
 		pages = pages[:C.likes_service_split_pages(s.c, pagesAt(pages), C.size_t(len(pages)))]
 		return nil
 	})

@@ -209,6 +209,17 @@ func TestDeadline(t *testing.T) {
 	if _, err := service.LookWithin(2, 0, time.Second); !errors.Is(err, ErrUnknownUser) {
 		t.Error(err)
 	}
+	// Others take all places in C, so this look is late before it gets there.
+	for i := 0; i < looksInC; i++ {
+		service.beginLook(nil)
+		defer service.endLook()
+	}
+	if _, err := service.LookWithin(0, 0, time.Millisecond); !errors.Is(err, ErrLate) {
+		t.Error(err)
+	}
+	if told, err := service.Statistics(); err != nil || told.Late != 3 {
+		t.Error(told, err)
+	}
 }
 
 func TestWriters(t *testing.T) {
@@ -384,6 +395,16 @@ func TestHeld(t *testing.T) {
 			}
 			if _, err := pool.Look(user, 0); !errors.Is(err, ErrHoldsSeat) {
 				t.Error(err)
+			}
+		}
+		drop := func(_ any, err error) error { return err }
+		for i, err := range []error{
+			drop(service.LookWithin(0, 0, time.Second)), drop(service.Glance(0, 0)), drop(service.Last(0)),
+			drop(service.Lasts()), drop(service.Counts()), drop(service.Snapshot()), drop(service.SplitPages()),
+			service.RetireSeat(1), service.BringBackSeat(1), pool.Flush(), drop(service.Stop()),
+		} {
+			if !errors.Is(err, ErrHoldsSeat) {
+				t.Error(i, err)
 			}
 		}
 		for _, end := range []func() error{pool.Close, service.Close} {
