@@ -1,8 +1,8 @@
 // The live core as C++17 classes. Nothing here is proved. Service calls likes_service.h, and likes_core.hpp has the
 // classes of a program that changes phases by itself.
 //
-// What a call of likes_service.h refuses is thrown as likes::Error, with its status. A call by a thread that holds a
-// seat of the service waits for nobody: it throws LIKES_HOLDS_SEAT.
+// What a call of likes_service.h refuses is thrown as likes::Error, with its status. A thread that holds a seat of the
+// service waits for nobody: a call that could wait for a seat throws LIKES_HOLDS_SEAT.
 #pragma once
 
 #include <likes_service.h>
@@ -211,6 +211,8 @@ public:
 
     // The pages that are split in the present split phase, or were in the last one.
     std::vector<std::uint32_t> split_pages() {
+        // Their call in C has no status: where it is refused, it gives no pages.
+        expect(likes_service_seat_fault(service_, 0), LIKES_OK);
         std::vector<std::uint32_t> pages(LIKES_MAX_SPLIT);
         pages.resize(likes_service_split_pages(service_, pages.data(), pages.size()));
         return pages;

@@ -112,7 +112,7 @@ static void proposals() {
     hold(service.look(4, 1).count == 8, "a look after a page was split");
     hold(service.stop().counts == std::vector<std::uint64_t>{6, 8}, "final counts of pages that were split");
     hold(thrown([&] { service.propose({1}); }) == LIKES_NOT_STARTED, "a proposal after the end");
-    hold(service.split_pages().empty(), "split pages after the end");
+    hold(thrown([&] { service.split_pages(); }) == LIKES_NOT_STARTED, "split pages after the end");
 }
 
 // A marked page is split in every split phase, which come by themselves. Its counts are those of one moment.
@@ -205,7 +205,17 @@ static void seats(likes::Service &service) {
         for (std::uint32_t user : {0u, 1u})
             hold(thrown([&] { service.like(user, 0); }) == LIKES_HOLDS_SEAT, "a like by a thread with a seat");
         hold(thrown([&] { service.look(0, 0); }) == LIKES_HOLDS_SEAT, "a look by a thread with a seat");
+        hold(thrown([&] { service.look_within(0, 0, 1s); }) == LIKES_HOLDS_SEAT, "a deadline of a thread with a seat");
+        hold(thrown([&] { service.glance(0, 0); }) == LIKES_HOLDS_SEAT, "a glance by a thread with a seat");
+        hold(thrown([&] { service.last(0); }) == LIKES_HOLDS_SEAT, "a last like for a thread with a seat");
+        hold(thrown([&] { service.lasts(); }) == LIKES_HOLDS_SEAT, "last likes for a thread with a seat");
         hold(thrown([&] { service.counts(); }) == LIKES_HOLDS_SEAT, "counts for a thread with a seat");
+        hold(thrown([&] { service.snapshot(); }) == LIKES_HOLDS_SEAT, "a snapshot for a thread with a seat");
+        hold(thrown([&] { service.propose({0}); }) == LIKES_HOLDS_SEAT, "a proposal by a thread with a seat");
+        hold(thrown([&] { service.split_pages(); }) == LIKES_HOLDS_SEAT, "split pages for a thread with a seat");
+        hold(thrown([&] { service.retire_seat(0); }) == LIKES_HOLDS_SEAT, "a thread with a seat retires one");
+        hold(thrown([&] { service.bring_back_seat(0); }) == LIKES_HOLDS_SEAT, "a thread with a seat brings one back");
+        hold(thrown([&] { service.stop(); }) == LIKES_HOLDS_SEAT, "an end by a thread with a seat");
         hold(thrown([&] { (void)service.hold(1 - number); }) == LIKES_HOLDS_SEAT, "a second seat");
     }
 }
@@ -216,7 +226,12 @@ static void late(likes::Service &service) {
         hold(service.stop().counts == std::vector<std::uint64_t>{5, 8}, "other final counts");
     hold(thrown([&] { service.like(4, 0); }) == LIKES_NOT_STARTED, "a like after the end");
     hold(thrown([&] { service.look(4, 0); }) == LIKES_NOT_STARTED, "a look after the end");
+    hold(thrown([&] { service.look_within(4, 0, 1s); }) == LIKES_NOT_STARTED, "a deadline after the end");
     hold(thrown([&] { service.glance(4, 0); }) == LIKES_NOT_STARTED, "a glance after the end");
+    hold(thrown([&] { service.last(4); }) == LIKES_NOT_STARTED, "a last like after the end");
+    hold(thrown([&] { service.lasts(); }) == LIKES_NOT_STARTED, "last likes after the end");
+    hold(thrown([&] { service.retire_seat(0); }) == LIKES_NOT_STARTED, "a seat that retires after the end");
+    hold(thrown([&] { service.bring_back_seat(0); }) == LIKES_NOT_STARTED, "a seat that is brought back after the end");
     hold(thrown([&] { (void)service.hold(0); }) == LIKES_NOT_STARTED, "a seat after the end");
     hold(thrown([&] { (void)service.writer(); }) == LIKES_NOT_STARTED, "a writer after the end");
     hold(thrown([&] { service.snapshot(); }) == LIKES_NOT_STARTED, "a snapshot after the end");
