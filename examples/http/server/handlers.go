@@ -79,7 +79,7 @@ func (a *answer) WriteHeader(code int) {
 	a.ResponseWriter.WriteHeader(code)
 }
 
-// like adds a like, and answers once it is counted.
+// like adds a like, and answers once a writer has it: it is counted within some milliseconds.
 func like(_ *server, c *counter, w http.ResponseWriter, r *http.Request) error {
 	user, name, err := readUserAndPage(w, r, c.users)
 	if err != nil {

@@ -1,6 +1,6 @@
 // A server that counts likes, and keeps them in a file:
 //
-//	POST /like     user (a number) and page (a name), in the body or the query; answers 204 once the like is counted
+//	POST /like     user (a number) and page (a name), in the body or the query; answers 204 once a writer has the like
 //	GET /look      user and page; answers the page's exact count and the user's last like, as JSON
 //	GET /pages     answers the counts of all pages at one moment, as JSON
 //	GET /metrics   answers numbers for Prometheus
