@@ -17,9 +17,9 @@ type File struct {
 
 // Open keeps other servers off a file, which need not exist yet. It makes NAME.lock, which stays.
 func Open(name string) (*File, error) {
-	// A file that is a link stays one: what it leads to is written anew.
-	if real, err := filepath.EvalSymlinks(name); err == nil {
-		name = real
+	name, err := followed(name)
+	if err != nil {
+		return nil, err
 	}
 	lock, err := os.OpenFile(name+".lock", os.O_RDWR|os.O_CREATE, 0o600)
 	if err != nil {
@@ -34,6 +34,28 @@ func Open(name string) (*File, error) {
 		return nil, fmt.Errorf("%s: %w", name, err)
 	}
 	return &File{name, lock}, nil
+}
+
+// mostLinks is how many links lead to a file at most, as in Linux.
+const mostLinks = 40
+
+// followed is the file that a name leads to, which need not exist yet. A save takes that file's place, so links stay
+// links.
+func followed(name string) (string, error) {
+	for links := 0; links <= mostLinks; links++ {
+		to, err := os.Readlink(name)
+		if err != nil {
+			// It is no link. If its folder can't be read, the lock can't be made either.
+			return name, nil
+		}
+		if !filepath.IsAbs(to) {
+			// Not by Join, which takes "folder/.." away: the folder may be a link.
+			folder, _ := filepath.Split(name)
+			to = folder + to
+		}
+		name = to
+	}
+	return "", fmt.Errorf("%s: too many links", name)
 }
 
 // Close lets another server have the file.

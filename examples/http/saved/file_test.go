@@ -165,6 +165,42 @@ func TestLock(t *testing.T) {
 	}
 }
 
+// Links stay links, also those to a file that doesn't exist yet, and from a folder that is a link itself.
+func TestLinks(t *testing.T) {
+	folder := t.TempDir()
+	os.MkdirAll(folder+"/disk/links", 0o700)
+	links := map[string]string{
+		"first": "links/second", "links": "disk/links", "disk/links/second": "../third",
+		"disk/third": folder + "/disk/counts",
+	}
+	for name, to := range links {
+		if err := os.Symlink(to, folder+"/"+name); err != nil {
+			t.Fatal(err)
+		}
+	}
+	file := opened(t, folder+"/first")
+	for count := uint64(1); count < 3; count++ {
+		if err := file.Save(counted(count)); err != nil {
+			t.Error(err)
+		}
+		file.has(t, count)
+	}
+	for name, to := range links {
+		if at, err := os.Readlink(folder + "/" + name); at != to {
+			t.Error(name, at, err)
+		}
+	}
+	if second, err := Open(folder + "/disk/counts"); err == nil || !strings.Contains(err.Error(), "another server") {
+		t.Error(second, err)
+	}
+	file.Close()
+	opened(t, folder+"/disk/counts").has(t, 2)
+	os.Symlink("circle", folder+"/circle")
+	if circle, err := Open(folder + "/circle"); err == nil || err.Error() != folder+"/circle: too many links" {
+		t.Error(circle, err)
+	}
+}
+
 func TestNoFile(t *testing.T) {
 	folder := t.TempDir()
 	if _, err := Open(folder + "/none/counts"); err == nil {
