@@ -5,6 +5,7 @@ package main
 
 import (
 	"encoding/json"
+	"errors"
 	"flag"
 	"fmt"
 	"io"
@@ -24,6 +25,19 @@ var (
 	pages    = flag.Int("pages", 8, "how many pages are liked")
 	users    = flag.Int("users", 1000, "how many users like and look, those with the lowest numbers")
 )
+
+// check says which numbers make no load. Each client needs a user of its own.
+func check() error {
+	switch {
+	case *clients < 1:
+		return errors.New("-clients is 1 or more")
+	case *pages < 1:
+		return errors.New("-pages is 1 or more")
+	case *users < *clients:
+		return fmt.Errorf("-users is %d or more, one for each client", *clients)
+	}
+	return nil
+}
 
 // client is what a client has done.
 type client struct {
@@ -96,8 +110,31 @@ func (c *client) run(web *http.Client, each int) error {
 	return nil
 }
 
+// compare holds that each page has the likes that it had before and those that were made, and gives the number of
+// these. A page that isn't listed has none.
+func compare(before, after map[string]uint64, all []*client) (liked uint64, err error) {
+	right := map[string]uint64{}
+	for page := range after {
+		right[page] = 0
+	}
+	for page, count := range before {
+		right[page] = count
+	}
+	for _, c := range all {
+		for page, count := range c.liked {
+			right[page] += count
+			liked += count
+		}
+	}
+	for page, count := range right {
+		if after[page] != count {
+			return 0, fmt.Errorf("the count of %s is %d, and not %d", page, after[page], count)
+		}
+	}
+	return liked, nil
+}
+
 func load() error {
-	flag.Parse()
 	transport := http.DefaultTransport.(*http.Transport).Clone()
 	transport.MaxIdleConnsPerHost = *clients
 	web := &http.Client{Transport: transport}
@@ -128,21 +165,20 @@ func load() error {
 	if err := get(web, *at+"/pages", &after); err != nil {
 		return err
 	}
-	var liked uint64
-	for page, count := range after {
-		for _, c := range all {
-			count -= c.liked[page]
-			liked += c.liked[page]
-		}
-		if count != before[page] {
-			return fmt.Errorf("the count of %s is wrong", page)
-		}
+	liked, err := compare(before, after, all)
+	if err != nil {
+		return err
 	}
 	fmt.Printf("%d requests, %d of them likes, %.0f a second: all counts are exact\n", each**clients, liked, float64(each**clients)/took)
 	return nil
 }
 
 func main() {
+	flag.Parse()
+	if err := check(); err != nil {
+		fmt.Fprintln(os.Stderr, err)
+		os.Exit(2)
+	}
 	if err := load(); err != nil {
 		fmt.Fprintln(os.Stderr, err)
 		os.Exit(1)
