@@ -127,6 +127,11 @@ static void be_late(uint32_t user, uint32_t page) {
     IS(took >= 2 * MS && took < 400 * MS, true);
 }
 
+static void *be_late_at(void *at) {
+    be_late(*(uint32_t *)at, 1);
+    return NULL;
+}
+
 /* Looks at a page that is split for long. Three are late; by the fourth, those that wait take half of the room. */
 static void late_looks(void) {
     likes_answer answer;
@@ -189,6 +194,43 @@ static void held_seat(void) {
     IS(likes_service_snapshot(service, totals, PAGES, lasts, USERS), LIKES_COUNTED);
     for (uint32_t user = 0; user < USERS; user++)
         IS(lasts[user], LIKES_NO_PAGE);
+    stop(totals);
+}
+
+/* A thread that waits for a phase in a row, and lends its seat meanwhile. Then it holds the seat on, and calls it. */
+static void *lend_seat(void *at) {
+    likes_request row = {.user = 2, .page = 1, .op = LIKES_LIKE};
+    likes_answer answer;
+    likes_seat *seat = likes_service_lock(service, *(uint32_t *)at);
+    set(&is_held);
+    while (likes_service_phase(service) < 2)
+        IS(likes_service_run(service, *(uint32_t *)at, &row, 1, &answer), 1);
+    while (!is_set(&is_over)) {
+        likes_seat_turn(seat);
+        sleep_for(MS / 5);
+    }
+    likes_service_unlock(service, *(uint32_t *)at);
+    return NULL;
+}
+
+/* A look that waits for a seat which is lent is late in time, also if the seat comes back and goes on being held. */
+static void lent_seat(void) {
+    pthread_t lender, holder;
+    uint32_t lent = 2, held = 1;
+    uint64_t totals[PAGES];
+    start(8, 1000, 512);
+    is_held = false;
+    IS(likes_service_lock(service, held) != NULL, true);
+    start_thread(&lender, lend_seat, &lent);
+    while (!is_set(&is_held))
+        sleep_for(MS);
+    sleep_for(50 * MS); /* until a phase is ending, which waits for this thread's seat */
+    start_thread(&holder, be_late_at, &lent);
+    sleep_for(MS / 2);
+    likes_service_unlock(service, held);
+    pthread_join(holder, NULL);
+    set(&is_over);
+    pthread_join(lender, NULL);
     stop(totals);
 }
 
@@ -255,6 +297,7 @@ int main(void) {
     moments(1000);
     late_looks();
     held_seat();
+    lent_seat();
     deadlines(1, 50);
     deadlines(16, 500);
     puts("all calls answered right");

@@ -125,21 +125,21 @@ bool likes_place_turn(likes_place *place) {
     return could;
 }
 
-/* Waits until a seat isn't lent, with the place's lock held. False: it is too late. */
+/* Sleeps until a seat that is lent comes back, with the place's lock held, which is given back meanwhile. False: it is
+ * too late, and the thread doesn't have the lock. */
 static bool await_back(likes_place *place, uint64_t until) {
-    while (place->is_lent && !likes_is_over(until)) {
-        uint32_t backs = __atomic_load_n(&place->backs, __ATOMIC_SEQ_CST);
-        if (likes_place_unlock(place))
-            likes_place_turn(place);
-        likes_futex_wait(&place->backs, backs, until);
-        likes_lock_take(&place->lock, UINT64_MAX);
-    }
-    return !place->is_lent;
+    uint32_t backs = __atomic_load_n(&place->backs, __ATOMIC_SEQ_CST);
+    if (likes_place_unlock(place))
+        likes_place_turn(place);
+    likes_futex_wait(&place->backs, backs, until);
+    return likes_lock_take(&place->lock, until);
 }
 
 bool likes_place_wait(likes_place *place, bool has_lock, uint64_t until) {
     has_lock = has_lock || likes_lock_take(&place->lock, until);
-    if (has_lock && (!place->is_lent || await_back(place, until))) {
+    while (has_lock && place->is_lent && !likes_is_over(until))
+        has_lock = await_back(place, until);
+    if (has_lock && !place->is_lent) {
         likes_add(&place->tally.calls, 1);
         return true;
     }
