@@ -48,7 +48,7 @@ typedef struct likes_writer likes_writer;
 /* What a service has done since it was started. */
 typedef struct likes_statistics {
     uint64_t phases;       /* how many phases have ended */
-    uint64_t likes;        /* how many likes were counted */
+    uint64_t likes;        /* how many likes were counted, but by likes_seat_like or likes_seat_run at a locked seat */
     uint64_t looks;        /* how many looks were answered by likes_service_look and likes_service_look_within */
     uint64_t waits;        /* how many of these looks had to wait for a phase */
     uint64_t wait_time;    /* how long they waited in all, in nanoseconds */
@@ -124,8 +124,8 @@ uint32_t likes_writer_flush(likes_writer *writer);
 size_t likes_writer_drop(likes_writer *writer);
 
 /* Flushes, and gives the memory back: LIKES_OK, also for NULL. Where likes stay kept, and of any other answer of
- * likes_writer_flush, the writer stays open: bring the seat back, or drop them. A service is not ended while a writer
- * is open. */
+ * likes_writer_flush, the writer stays open: bring the seat back, or drop them. One that keeps none takes no lock, so a
+ * thread that holds a seat may close it. A service is not ended while a writer is open. */
 uint32_t likes_writer_close(likes_writer *writer);
 
 /* Writes the page of a user's last like: an answer of likes_seat_last. Any thread may call it. */

@@ -80,7 +80,8 @@ class [[nodiscard]] Writer {
 public:
     explicit Writer(likes_service *service) { expect(likes_writer_open(service, &writer_), LIKES_OK); }
 
-    // It is flushed. Likes for a seat that has left are forgotten: close() tells of them.
+    // It is flushed. Likes for a seat that has left are forgotten, and all if the thread holds a seat: close() tells of
+    // them.
     ~Writer() {
         if (likes_writer_close(writer_) == LIKES_OK)
             return;

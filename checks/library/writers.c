@@ -230,9 +230,11 @@ static void wrong_uses(void) {
     IS(likes_writer_look(writer, 0, 0, &answer), LIKES_HOLDS_SEAT);
     IS(likes_writer_flush(writer), LIKES_HOLDS_SEAT);
     IS(likes_writer_close(writer), LIKES_HOLDS_SEAT);
-    likes_service_unlock(service, 2);
+    /* One that keeps nothing takes no lock. */
+    IS(likes_writer_drop(writer), 1);
     IS(likes_writer_close(writer), LIKES_OK);
-    stop(1);
+    likes_service_unlock(service, 2);
+    stop(0);
 }
 
 /* Each allocation is refused in turn, and nothing is left of what was begun. */

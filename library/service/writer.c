@@ -234,8 +234,10 @@ size_t likes_writer_drop(likes_writer *writer) {
 }
 
 uint32_t likes_writer_close(likes_writer *writer) {
-    uint32_t status = writer != NULL ? likes_writer_flush(writer) : (uint32_t)LIKES_OK;
-    if (status != LIKES_OK || writer == NULL)
+    if (writer == NULL)
+        return LIKES_OK;
+    uint32_t status = (writer->older | writer->begun) != 0 ? likes_writer_flush(writer) : (uint32_t)LIKES_OK;
+    if (status != LIKES_OK)
         return status;
     __atomic_fetch_sub(&writer->service->writers, 1, __ATOMIC_SEQ_CST);
     free(writer);

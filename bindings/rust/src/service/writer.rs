@@ -14,7 +14,8 @@ use crate::service::Service;
 /// [`flush`](Self::flush), [`look`](Self::look) and [`close`](Self::close). Without calls there is no bound in time, so
 /// a thread flushes before it rests. Likes of a user by one writer are counted in their order.
 ///
-/// A writer that is dropped is flushed. Likes of seats that have left are lost then: `close` tells of them.
+/// A writer that is dropped is flushed. Likes of seats that have left are lost then, and all if the thread holds a seat:
+/// `close` tells of them.
 ///
 /// No service ends before its writers:
 ///
