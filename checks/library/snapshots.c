@@ -64,6 +64,15 @@ static uint32_t last_of(uint32_t user, const uint64_t *counts) {
     return first == 0 ? LIKES_NO_PAGE : first == second ? 2 * user + 1 : 2 * user;
 }
 
+/* On a busy machine a thread that holds its seat may stand still for a tenth of a second: then there is no moment, and
+ * the snapshot is taken again. */
+static void take_snapshot(uint64_t *counts, uint32_t *lasts) {
+    uint32_t status = LIKES_NO_MOMENT;
+    for (int tries = 0; status == LIKES_NO_MOMENT && tries < 4; tries++)
+        status = likes_service_snapshot(service, counts, PAGES, lasts, USERS);
+    IS(status, LIKES_COUNTED);
+}
+
 /* Counts and last likes are of one moment, while threads go on. The statistics have all likes at the end. */
 static void moments(uint32_t period) {
     static liker likers[USERS];
@@ -77,7 +86,7 @@ static void moments(uint32_t period) {
         start_thread(&likers[i].thread, like_by_turns, &likers[i]);
     }
     for (uint32_t n = 0; n < SNAPSHOTS; n++) {
-        IS(likes_service_snapshot(service, counts, PAGES, lasts, USERS), LIKES_COUNTED);
+        take_snapshot(counts, lasts);
         for (uint32_t user = 0; user < USERS; user++)
             IS(lasts[user], last_of(user, counts));
         IS(likes_service_split_pages(service, split, LIKES_MAX_SPLIT) >= 1, true);
