@@ -43,7 +43,7 @@ BLOCK, BATCH, LONGEST = 1 << 18, 4096, 1 << 20
 # How many processes share a log at most.
 MOST = 2
 
-# How many requests are cached with their meaning.
+# How many requests are cached with their meaning, before a batch adds its own.
 KEPT = 1 << 17
 
 # Why lines of a web server's log are left out, and rows of a CSV file.
@@ -207,10 +207,13 @@ class Meanings(dict):
         self.matched = set()  # the ops whose patterns match a request
         self.first = None  # the first request
 
-    def __missing__(self, request):
-        if len(self) == KEPT:
+    def make_room(self):
+        """Empties a full cache, between batches: at its end a batch asks for the users that its requests name."""
+        if len(self) >= KEPT:
             for kept in (self, self.users, self.empty):
                 kept.clear()
+
+    def __missing__(self, request):
         text = without_escapes(request) if "\\" in request else request
         matches = ((op, pattern.match(text)) for op, pattern in self.patterns.items())
         op, match = next(filter(operator.itemgetter(1), matches), ("", None))
@@ -312,6 +315,7 @@ class Combined(Log):
         meanings = self.meanings
         addresses, users, requests, statuses, _ = columns = list(map(list, zip(*found)))
         self.read_apart(columns, first)
+        meanings.make_room()
         numbers = list(map(meanings.__getitem__, requests))
         for at in places(numbers, 0):
             if statuses[at]:
