@@ -56,7 +56,7 @@ class Part:
     """A part of a log, which is one run: its pages, and the requests for each file."""
 
     def __init__(self, number, folder, files):
-        self.number, self.pages, self.follows = number, [], False
+        self.number, self.pages = number, []
         self.pages_file = f"{folder}/pages.csv"
         self.files = [f"{folder}/requests-{place:02}.csv" for place in range(files)]
         self.texts = [[f"{rows.REQUESTS}\n"] for _ in range(files)]
@@ -69,7 +69,6 @@ class Part:
 
     def follow(self, part):
         """Takes the pages of a part whose files are full."""
-        self.follows = True
         for page in part.pages:
             self.add(page)
 
@@ -229,7 +228,8 @@ class Dealt:
                 page.split = "yes" if rank < marked else "no"
 
     def all_pages(self):
-        return [page for part in self.parts if not part.follows for page in part.pages]
+        """The pages of all parts, each once: a part that follows another one has its pages too, and new ones."""
+        return list(dict.fromkeys(page for part in self.parts for page in part.pages))
 
     def write(self, marked=None):
         """Deals the log, and writes all files that runs need."""
