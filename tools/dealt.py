@@ -200,7 +200,7 @@ class Dealt:
         return next(line for line, user in zip(batch.lines, batch.users) if self.users[user] >= USERS)
 
     def write_requests(self):
-        for part in self.parts[:]:
+        for part in self.parts:  # and those that follow, which may get no more requests, but have files
             part.write()
             most = max(part.counts)
             if most > REQUESTS:
