@@ -43,11 +43,21 @@ def version():
         return "of the repository, not of a release"
 
 
+class Parser(argparse.ArgumentParser):
+    """A parser whose help is output: a fault if it can't be printed."""
+
+    def _print_message(self, message, file=None):
+        if file is sys.stdout:
+            put(message.splitlines(), file)
+        else:
+            tell(*message.splitlines())
+
+
 def options(text):
     """The options of a tool, with its docstring as help. A release has the tools under other names."""
     if os.path.basename(sys.argv[0]).startswith("likes-"):
         text = re.sub(r"\btools/(?=[a-z])", "likes-", text)
-    parser = argparse.ArgumentParser(description=text, formatter_class=argparse.RawDescriptionHelpFormatter)
+    parser = Parser(description=text, formatter_class=argparse.RawDescriptionHelpFormatter)
     parser.add_argument("--version", action="version", version=f"%(prog)s {version()}", help="print the version")
     return parser
 
@@ -123,22 +133,24 @@ def put(lines, out):
     try:
         print(*lines, sep="\n", file=out, flush=True)
     except BrokenPipeError:
+        let_go(sys.stdout)
         raise
     except OSError as error:
-        let_go()
         raise Fault(f"standard output: {error.strerror}") from None
 
 
 def tell(*lines):
-    """Prints lines on standard error. One that can't be printed is no fault: all is done by then."""
-    with contextlib.suppress(OSError):
+    """Prints lines on standard error. One that can't be printed is no fault, and the exit status stays."""
+    try:
         print(*lines, sep="\n", file=sys.stderr, flush=True)
+    except OSError:
+        let_go(sys.stderr)
 
 
 @contextlib.contextmanager
 def progress(say, out=None):
     """Shows on a terminal how far a tool is, after two seconds, unless its output goes there too."""
-    if not (sys.stderr and sys.stderr.isatty()) or out and out.isatty():
+    if not sys.stderr.isatty() or out and out.isatty():
         yield
         return
     ended = threading.Event()
@@ -166,13 +178,32 @@ def stop(number, _):
     raise Stopped(number)
 
 
-def let_go():
-    """Drops what is left to print."""
-    os.dup2(os.open(os.devnull, os.O_WRONLY), sys.stdout.fileno())
+def let_go(stream):
+    """Drops what is left to print, which the interpreter would try again at the end."""
+    os.dup2(os.open(os.devnull, os.O_WRONLY), stream.fileno())
+
+
+def open_closed():
+    """Opens the standard streams that are closed, so that no file gets their numbers. Standard input still can't be
+    read, and standard output can't be written. Standard error drops its lines."""
+    if sys.stdin is None:
+        os.open(os.devnull, os.O_WRONLY)
+    if sys.stdout is None:
+        sys.stdout = open(os.open(os.devnull, os.O_RDONLY), "w", encoding="utf-8")
+    if sys.stderr is None:
+        sys.stderr = open(os.devnull, "w", encoding="utf-8", errors="backslashreplace")
+
+
+def fail(line, status=1):
+    """Ends with a line and a status, and without what is left to print."""
+    let_go(sys.stdout)
+    tell(line)
+    sys.exit(status)
 
 
 def run(main):
     """Runs a tool. On a fault it prints a line and exits with status 1, and at a signal with the signal's status."""
+    open_closed()
     if sys.argv[1:] == ["help"]:
         sys.argv[1] = "--help"
     for number in SIGNALS:
@@ -182,16 +213,14 @@ def run(main):
         main()
         sys.stdout.flush()
     except Fault as fault:
-        sys.exit(str(fault))
+        fail(str(fault))
     except Stopped as stopped:
         number = stopped.args[0]
-        print(f"stopped by {signal.Signals(number).name}", file=sys.stderr)
-        sys.exit(128 + number)
+        fail(f"stopped by {signal.Signals(number).name}", 128 + number)
     except BrokenPipeError:
-        let_go()
+        let_go(sys.stdout)
         sys.exit(PIPE)
     except MemoryError:
-        sys.exit("out of memory")
+        fail("out of memory")
     except OSError as error:
-        let_go()
-        sys.exit(f"{error.filename or 'standard output'}: {error.strerror}")
+        fail(f"{error.filename or 'standard output'}: {error.strerror}")
