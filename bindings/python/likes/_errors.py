@@ -1,5 +1,7 @@
 """What is raised."""
 
+from typing import Tuple, Type
+
 from ._statuses import FIRST_ERROR, STATUSES, Status
 
 
@@ -10,12 +12,19 @@ class Refused(Exception):
         self.status = Status(status)
         super().__init__(self.status.text)
 
+    # An exception is copied by a call with its arguments, the text here. So pickle, and pools of processes.
+    def __reduce__(self) -> Tuple[Type["Refused"], Tuple[int]]:
+        return Refused, (int(self.status),)
+
 
 class Closed(Exception):
     """A call of something that is closed."""
 
     def __init__(self) -> None:
         super().__init__("closed")
+
+    def __reduce__(self) -> Tuple[Type["Closed"], Tuple[()]]:
+        return Closed, ()
 
 
 def outcome(number: int) -> Status:

@@ -33,17 +33,17 @@ def seen(look: Any) -> Seen:
 
 
 class Row:
-    """A row of requests, of which some are done, and of these some wait. The tag of a request is its place."""
+    """A row of requests, of which some are done, and of these some wait. Tags are numbered from `first` on."""
 
-    def __init__(self, requests: Sequence[Asked]) -> None:
-        self.length, self.done, self.waits = len(requests), 0, 0
+    def __init__(self, requests: Sequence[Asked], first: int = 0) -> None:
+        self.first, self.length, self.done, self.waits = first, len(requests), 0, 0
         self.rows, self.answers = (Request * self.length)(), (Answer * self.length)()
-        for tag, (op, user, page) in enumerate(requests):
-            self.put(tag, op, user, page)
+        for place, (op, user, page) in enumerate(requests):
+            self.put(place, op, user, page)
 
-    def put(self, tag: int, op: int, user: int, page: int) -> None:
+    def put(self, place: int, op: int, user: int, page: int) -> None:
         try:
-            REQUEST.pack_into(self.rows, tag * REQUEST.size, tag, user, page, op)
+            REQUEST.pack_into(self.rows, place * REQUEST.size, self.first + place, user, page, op)
         except struct.error:
             for name, value in (("op", op), ("user", user), ("page", page)):
                 whole(name, value)

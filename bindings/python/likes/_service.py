@@ -3,11 +3,13 @@
 A call from Python takes about a microsecond by itself. Other threads run meanwhile.
 """
 
+import itertools
 import threading
 import time
+import weakref
 from ctypes import byref, c_uint32, c_uint64, c_void_p
 from types import TracebackType
-from typing import Any, List, NamedTuple, Optional, Sequence, Type
+from typing import Any, List, NamedTuple, Optional, Sequence, Set, Type
 
 from ._errors import Closed, Refused, check
 from ._library import MOST, Answer, FoundLook, Opening, last_of, load, microseconds, row_of, whole
@@ -17,6 +19,8 @@ from ._statuses import MAX_SPLIT, Status
 
 # How long `run` sleeps between two looks for answers, in seconds.
 PAUSE = 0.0001
+
+OK = int(Status.OK)
 
 
 class Moment(NamedTuple):
@@ -41,32 +45,37 @@ class Statistics(NamedTuple):
 
 
 class Calls:
-    """The calls that have begun, so that an end waits for them."""
+    """The calls that have begun, so that an end waits for them. Each thread has a lock, and holds it in a call. `with`
+    gives a lock in C back whatever a signal handler raises. A lock in Python, as a Condition, may stay taken."""
 
     def __init__(self) -> None:
-        self._changed, self._running, self._is_shut = threading.Condition(threading.Lock()), 0, False
+        self._own, self._is_shut = threading.local(), False
+        self._locks: Set[Any] = set()  # weak, since threads end
 
-    def __enter__(self) -> None:
-        with self._changed:
-            if self._is_shut:
-                raise Closed
-            self._running += 1
+    def own(self) -> Any:
+        """The lock of this thread. A signal handler may take it again, in the middle of a call."""
+        lock = getattr(self._own, "lock", None)
+        if lock is None:
+            lock = threading.RLock()
+            # First here: an end has to know of each lock that is held.
+            self._locks.add(weakref.ref(lock, self._locks.discard))
+            self._own.lock = lock
+        return lock
 
-    def __exit__(self, *_: object) -> None:
-        with self._changed:
-            self._running -= 1
-            if self._is_shut:
-                self._changed.notify_all()
+    def check(self) -> None:
+        """With its lock held, a thread asks whether it may call."""
+        if self._is_shut:
+            raise Closed
 
     def shut(self) -> None:
         """Keeps new calls out, and waits for those that have begun."""
-        with self._changed:
-            self._is_shut = True
-            self._changed.wait_for(lambda: self._running == 0)
-
-    def open(self) -> None:
-        with self._changed:
-            self._is_shut = False
+        if self.own()._is_owned():
+            raise RuntimeError("this thread is in a call of the service")
+        self._is_shut = True
+        for lock in [it() for it in list(self._locks)]:
+            if lock is not None:
+                with lock:
+                    pass
 
 
 class Likes:
@@ -90,7 +99,10 @@ class Likes:
         lasts: Sequence[Optional[int]] = (),
     ) -> None:
         self._library, self._at, self._end = load(), c_void_p(), None  # type: Any, Any, Optional[Moment]
-        self._calls, self._ending = Calls(), threading.Lock()
+        self._calls, self._ending, self._runs = Calls(), threading.Lock(), itertools.count()
+        self._writers: Set[Writer] = set()
+        # The arrays of the last moment, and what the calls of the end have answered.
+        self._arrays, self._ends = None, []  # type: Any, List[int]
         opening = Opening(counts, users, seats, room, hot, marks, lasts, period)
         check(self._library.likes_service_open(opening.options, byref(self._at)), Status.OK)
         self._pages, self._users = len(counts), users
@@ -104,7 +116,8 @@ class Likes:
         self.close()
 
     def _call(self, call: Any, *words: Any) -> Any:
-        with self._calls:
+        with self._calls.own():
+            self._calls.check()
             return call(self._at, *words)
 
     @property
@@ -143,15 +156,23 @@ class Likes:
 
     def writer(self) -> "Writer":
         """Opens a writer, for a thread's likes. It is closed before the service."""
-        at = c_void_p()
-        check(self._call(self._library.likes_writer_open, byref(at)), Status.OK)
-        return Writer(at)
+        writer = Writer(self._writers)
+        try:
+            # Not while the service ends: that has seen which writers are open.
+            with self._ending:
+                check(self._call(self._library.likes_writer_open, byref(writer._at)), Status.OK)
+        except BaseException:
+            writer.close()
+            raise
+        return writer
 
     def run(self, number: int, requests: Sequence[Asked]) -> List[Told]:
         """Runs rows of (op, user, page) at a seat. Gives an answer for each: for a look what it shows, for a like
         LIKED, and the Status of a request that is refused."""
-        row, told = Row(requests), []  # type: Row, List[Told]
-        with self._calls:
+        # Tags are below 2^63, and no two rows have the same: found looks of a row that was given up stay at the seat.
+        row, told = Row(requests, next(self._runs) % 2**31 << 32), []  # type: Row, List[Told]
+        with self._calls.own():
+            self._calls.check()
             number = whole("seat", number, self._seats - 1)
             with self._rows[number]:
                 while not self._run_on(number, row, told):
@@ -161,20 +182,22 @@ class Likes:
 
     def _run_on(self, number: int, row: Row, told: List[Told]) -> bool:
         """Runs what is left of a row, and takes what was found. Whether all is answered."""
-        library, at, found = self._library, self._at, FoundLook()
-        if not library.likes_service_lock(at, number):
-            raise Refused(library.likes_service_seat_fault(at, number))
+        library, at, found, looks = self._library, self._at, FoundLook(), []
+        # To unlock a seat that isn't held does nothing. So the lock is taken in here, where no exception can keep it.
         try:
+            if not library.likes_service_lock(at, number):
+                raise Refused(library.likes_service_seat_fault(at, number))
             done = library.likes_service_run(at, number, *row.left()[:3])
-            looks = []
             while library.likes_service_take_found(at, number, byref(found)):
                 looks.append((found.tag, seen(found)))
         finally:
             library.likes_service_unlock(at, number)
         told += row.note(done)
         for tag, shown in looks:
-            told[tag] = shown
-            row.waits -= 1
+            place = tag - row.first
+            if 0 <= place < row.length:
+                told[place] = shown
+                row.waits -= 1
         return row.done == row.length and row.waits == 0
 
     def last(self, user: int) -> Optional[int]:
@@ -240,23 +263,31 @@ class Likes:
 
     def stop(self) -> Moment:
         """Ends the service, and gives its last moment, each time the same. It waits for calls that have begun, and
-        later ones raise Closed. Where a writer is open it raises Refused, with OPEN_WRITER, and nothing is done."""
+        later ones raise Closed. Where a writer is open it raises Refused, with OPEN_WRITER, and nothing is done. A
+        signal handler in the middle of a call can't end the service: RuntimeError."""
         with self._ending:
             if self._end is None:
+                # Asked before calls are kept out: a refusal disturbs none of them.
+                if any(writer._is_open() for writer in list(self._writers)):
+                    raise Refused(Status.OPEN_WRITER)
                 self._calls.shut()
-                try:
-                    check(self._library.likes_service_retire(self._at), Status.OK)
-                except Refused:
-                    self._calls.open()
-                    raise
-                self._end = self._last_moment()
+                self._end, self._arrays = self._last_moment(), None
             return self._end
 
     def _last_moment(self) -> Moment:
-        counts, lasts = (c_uint64 * self._pages)(), (c_uint32 * self._users)()
-        self._library.likes_service_lasts(self._at, lasts, self._users)
-        self._library.likes_service_stop(self._at, counts, self._pages)
-        self._library.likes_service_close(self._at)
+        """Makes the calls that end the service. None is refused. After an exception of a signal handler the next end
+        goes on with the next of them, so it frees nothing twice: a call is made and noted in one step of C."""
+        if self._arrays is None:
+            self._arrays = (c_uint64 * self._pages)(), (c_uint32 * self._users)()
+        library, at, (counts, lasts) = self._library, self._at, self._arrays
+        steps = [
+            (library.likes_service_retire, (at,)),
+            (library.likes_service_lasts, (at, lasts, self._users)),
+            (library.likes_service_stop, (at, counts, self._pages)),
+            (library.likes_service_close, (at,)),
+        ]
+        for call, words in steps[len(self._ends) :]:
+            self._ends.extend(itertools.starmap(call, [words]))
         return Moment(list(counts), [last_of(page) for page in lasts])
 
     def close(self) -> None:
@@ -273,8 +304,11 @@ class Writer:
     counted in their order.
     """
 
-    def __init__(self, at: Any) -> None:
-        self._library, self._at, self._lock = load(), at, threading.Lock()
+    def __init__(self, writers: Set["Writer"]) -> None:
+        self._library, self._at, self._lock = load(), c_void_p(), threading.Lock()
+        self._ends: List[int] = []  # what the last close has answered
+        self._writers = writers  # those of the service that may be open
+        writers.add(self)
 
     def __enter__(self) -> "Writer":
         return self
@@ -284,35 +318,41 @@ class Writer:
     ) -> None:
         self.close()
 
+    def _is_open(self) -> bool:
+        return bool(self._at) and OK not in self._ends
+
+    def _call(self, call: Any, *words: Any) -> Any:
+        with self._lock:
+            return call(None if OK in self._ends else self._at, *words)
+
     def like(self, user: int, page: int) -> None:
         """Keeps a like, which will be counted. Refused with GONE or LIKE_LIMIT, it isn't kept: 64 likes are, for a seat
         that doesn't take them."""
         user, page = whole("user", user), whole("page", page)
-        with self._lock:
-            check(self._library.likes_writer_like(self._at, user, page), Status.OK)
+        check(self._call(self._library.likes_writer_like, user, page), Status.OK)
 
     def look(self, user: int, page: int) -> Seen:
         """Hands over the likes of the user's seat, and looks. So it shows what this writer was told before."""
         answer = Answer()
         user, page = whole("user", user), whole("page", page)
-        with self._lock:
-            check(self._library.likes_writer_look(self._at, user, page, byref(answer)), Status.SEEN)
+        check(self._call(self._library.likes_writer_look, user, page, byref(answer)), Status.SEEN)
         return seen(answer)
 
     def flush(self) -> None:
         """Hands over all likes: each is counted. Refused with GONE or LIKE_LIMIT, those of seats that don't take them
         stay kept."""
-        with self._lock:
-            check(self._library.likes_writer_flush(self._at), Status.OK)
+        check(self._call(self._library.likes_writer_flush), Status.OK)
 
     def drop(self) -> int:
         """Forgets the likes that are kept, and gives their number. They are not counted."""
-        with self._lock:
-            return int(self._library.likes_writer_drop(self._at))
+        return int(self._call(self._library.likes_writer_drop))
 
     def close(self) -> None:
         """Flushes the writer and ends it. Where likes stay kept it raises what flush does, and stays open. It may be
         called again."""
         with self._lock:
-            check(self._library.likes_writer_close(self._at), Status.OK)
-            self._at = None
+            if OK not in self._ends:
+                # Made and noted in one step of C: no exception gets in between, so nothing is freed twice.
+                self._ends[:] = map(self._library.likes_writer_close, (self._at,))
+            check(self._ends[0], Status.OK)
+            self._writers.discard(self)

@@ -1,11 +1,17 @@
 """The class Likes and its writers: right calls, wrong ones, calls after the end, services that go on, and threads."""
 
+import copy
+import pickle
+import random
+import signal
+import sys
 import threading
 import time
 import unittest
 from typing import Any, Callable, Dict, List, Tuple
+from unittest import mock
 
-from likes import GLANCE, LIKE, LIKED, LOOK, NO_HOT, Closed, Likes, Moment, Refused, Seen, Status, Told
+from likes import GLANCE, LIKE, LIKED, LOOK, NO_HOT, Closed, Likes, Moment, Refused, Seen, Status, Told, _service
 
 from .numbers import OUTSIDE, WRONG
 
@@ -25,6 +31,42 @@ def in_threads(work: Callable[[int], None], number: int) -> None:
         thread.start()
     for thread in threads:
         thread.join()
+
+
+class Late(Exception):
+    """What a signal handler raises."""
+
+
+def late(*_: object) -> None:
+    raise Late
+
+
+def broken_off(call: Callable[[], object], times: int) -> None:
+    """Makes a call again and again, and breaks it off somewhere so many times."""
+    before = signal.signal(signal.SIGALRM, late)
+    try:
+        for _ in range(times):
+            try:
+                signal.setitimer(signal.ITIMER_REAL, random.uniform(1e-6, 4e-5))
+                while True:
+                    call()
+            except Late:
+                pass
+    finally:
+        signal.setitimer(signal.ITIMER_REAL, 0)
+        signal.signal(signal.SIGALRM, before)
+
+
+def once(library: Any, name: str) -> Any:
+    """Lets a call of the library be made once, and no more."""
+    call, made = getattr(library, name), []  # type: Any, List[str]
+
+    def first(*words: Any) -> Any:
+        made.append(name)
+        assert made == [name], made
+        return call(*words)
+
+    return mock.patch.object(library, name, first)
 
 
 class Openings(unittest.TestCase):
@@ -300,6 +342,105 @@ class Service(unittest.TestCase):
 
             in_threads(work, 5)
             self.assertEqual(service.stop().counts, [5 + sum(done), 0])
+
+
+class Breaks(unittest.TestCase):
+    """Exceptions of signal handlers, as that of Ctrl-C."""
+
+    # In 3.9, one may be raised between the end of a `with` and its lock's release.
+    @unittest.skipIf(sys.version_info < (3, 10), "with isn't sure in 3.9")
+    def test_calls(self) -> None:
+        """An end doesn't wait for calls that were broken off."""
+        service = opened()
+        broken_off(lambda: service.like(4, 0), 500)
+        broken_off(lambda: service.run(0, [(LIKE, 4, 0)]), 500)
+        # Daemons: where they hang, the test ends.
+        calls: List[Callable[[], object]] = [lambda: service.run(0, [(LIKE, 4, 0)]), service.stop]
+        for call in calls:
+            thread = threading.Thread(target=call, daemon=True)
+            thread.start()
+            thread.join(20)
+            self.assertFalse(thread.is_alive())
+
+    def give_up(self, service: Likes) -> None:
+        """Gives up a row of three looks at seat 0 that wait."""
+        with mock.patch.object(time, "sleep", late):
+            while True:
+                try:
+                    service.run(0, [(LOOK, 4, 0)] * 3)
+                except Late:
+                    return
+
+    def test_given_up_rows(self) -> None:
+        """What is found of them later is no answer to the next row."""
+        for row in ([(LIKE, 4, 1)] * 4, [(LIKE, 4, 1)]):
+            with opened(room=64, marks=[0], period=0.001) as service:
+                self.give_up(service)
+                service.counts()
+                with mock.patch.object(time, "sleep", late):
+                    self.assertEqual(service.run(0, row), [LIKED] * len(row))
+
+    def test_locked_seats(self) -> None:
+        """A seat is given back, also where an exception comes just after it is locked."""
+        with opened() as service:
+            lock = service._library.likes_service_lock
+            broken = mock.patch.object(service._library, "likes_service_lock", lambda *words: late(lock(*words)))
+            with broken:
+                self.assertRaises(Late, service.run, 0, [(LIKE, 4, 0)])
+            service.like(4, 0)
+
+    def test_handlers(self) -> None:
+        """A handler in the middle of a call makes others, but doesn't end the service."""
+        with opened(room=64, marks=[0], period=0.001) as service:
+
+            def handle(_: float) -> None:
+                service.like(4, 1)
+                self.assertRaises(RuntimeError, service.close)
+                raise Late
+
+            with mock.patch.object(time, "sleep", handle), self.assertRaises(Late):
+                while True:
+                    service.run(0, [(LOOK, 4, 0)])
+            self.assertEqual(service.look(4, 1), Seen(1, 1))
+
+    def test_ends(self) -> None:
+        """A writer and a service are freed once, also where an exception comes just after."""
+        service = opened()
+        library, writer = service._library, service.writer()
+        writer.like(4, 0)
+        with once(library, "likes_writer_close"):
+            with mock.patch.object(_service, "check", late):
+                self.assertRaises(Late, writer.close)
+            self.assertRaises(Closed, writer.like, 4, 0)
+            writer.close()
+        with once(library, "likes_service_retire"), once(library, "likes_service_close"):
+            with mock.patch.object(_service, "Moment", late):
+                self.assertRaises(Late, service.stop)
+            self.assertRaises(Closed, service.like, 4, 0)
+            self.assertEqual(service.stop(), Moment([6, 0], [None] * 4 + [0] + [None] * 4))
+
+    def test_writers_in_opening(self) -> None:
+        """A writer that nobody got is closed."""
+        with opened() as service:
+            with mock.patch.object(_service, "check", late):
+                self.assertRaises(Late, service.writer)
+
+
+class Refusals(unittest.TestCase):
+    def test_open_writers(self) -> None:
+        """A refused end keeps no calls out, and waits for none."""
+        with opened() as service, service.writer():
+            with mock.patch.object(service._calls, "shut") as shut, self.assertRaises(Refused) as caught:
+                service.stop()
+            self.assertEqual((caught.exception.status, shut.called), (Status.OPEN_WRITER, False))
+            service.like(4, 0)
+
+    def test_copies(self) -> None:
+        """Exceptions go from one process to another."""
+        for error in (Refused(Status.UNKNOWN_USER), Closed()):
+            for other in (pickle.loads(pickle.dumps(error)), copy.copy(error)):
+                self.assertEqual((type(other), str(other)), (type(error), str(error)))
+                self.assertEqual(vars(other), vars(error))
 
 
 if __name__ == "__main__":
