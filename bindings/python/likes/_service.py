@@ -329,7 +329,9 @@ class Writer:
         """Keeps a like, which will be counted. Refused with GONE or LIKE_LIMIT, it isn't kept: 64 likes are, for a seat
         that doesn't take them."""
         user, page = whole("user", user), whole("page", page)
-        check(self._call(self._library.likes_writer_like, user, page), Status.OK)
+        with self._lock:  # as _call, which takes longer
+            at = None if OK in self._ends else self._at
+            check(self._library.likes_writer_like(at, user, page), Status.OK)
 
     def look(self, user: int, page: int) -> Seen:
         """Hands over the likes of the user's seat, and looks. So it shows what this writer was told before."""

@@ -46,12 +46,14 @@ def broken_off(call: Callable[[], object], times: int) -> None:
     before = signal.signal(signal.SIGALRM, late)
     try:
         for _ in range(times):
+            begun = time.monotonic()
             try:
-                signal.setitimer(signal.ITIMER_REAL, random.uniform(1e-6, 4e-5))
+                # A signal just before a wait doesn't end it. The next one does.
+                signal.setitimer(signal.ITIMER_REAL, random.uniform(1e-6, 4e-5), 10)
                 while True:
                     call()
             except Late:
-                pass
+                assert time.monotonic() - begun < 10, "a call hangs"
     finally:
         signal.setitimer(signal.ITIMER_REAL, 0)
         signal.signal(signal.SIGALRM, before)
