@@ -7,7 +7,8 @@
  *
  * A thread with many requests locks a seat for a batch of them: likes_service_lock, likes_service_run,
  * likes_service_take_found, likes_service_unlock. While a seat is unlocked, others do its phase work. While it is
- * locked, the thread that holds it calls it at least once each phase, and waits for nothing else.
+ * locked, the thread that holds it calls it at least once each phase, and waits for nothing else. Other threads' looks
+ * that are found there are answered at its next row, or once it unlocks the seat.
  *
  * A call whose seat is between two phases tries again for 50 microseconds, and then sleeps. A look that waits to be
  * found sleeps at once.
@@ -50,7 +51,7 @@ typedef struct likes_statistics {
     uint64_t phases;       /* how many phases have ended */
     uint64_t likes;        /* how many likes were counted, but by likes_seat_like or likes_seat_run at a locked seat */
     uint64_t looks;        /* how many looks were answered by likes_service_look and likes_service_look_within */
-    uint64_t waits;        /* how many of these looks had to wait for a phase */
+    uint64_t waits;        /* how many of these looks had to wait until they were found */
     uint64_t wait_time;    /* how long they waited in all, in nanoseconds */
     uint64_t longest_wait; /* how long one of them waited at most, in nanoseconds */
     uint64_t late;         /* how many looks had no answer in time */
@@ -137,8 +138,9 @@ uint32_t likes_service_last(likes_service *service, uint32_t user, uint32_t *pag
 uint32_t likes_service_lasts(likes_service *service, uint32_t *lasts, size_t users);
 
 /* The counts of all pages at one moment, the end of a joined phase: LIKES_COUNTED, also where all seats have left. Or
- * LIKES_WRONG_RANGE, where the array hasn't one entry for each page. It takes up to two phases. (In the last phase of
- * all, after 2^48, there is no moment: LIKES_NO_MOMENT.) */
+ * LIKES_WRONG_RANGE, where the array hasn't one entry for each page. It takes up to two phases. Where all seats have
+ * left and are held, it waits until one is unlocked. (In the last phase of all, after 2^48, there is no moment:
+ * LIKES_NO_MOMENT.) */
 uint32_t likes_service_counts(likes_service *service, uint64_t *counts, size_t pages);
 
 /* The same, and all users' last likes at that moment, by user number: what a new service is opened with to go on from

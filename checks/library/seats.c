@@ -251,6 +251,61 @@ static void looks_meanwhile(uint32_t period) {
     stop(0);
 }
 
+/* A service of one seat, with page 0 split in every split phase. The seat leaves. */
+static void start_gone(void) {
+    static const uint64_t counts[PAGES] = {10, 20};
+    static const uint32_t marks[] = {0};
+    likes_options options = {.seats = 1, .users = USERS, .room = 2, .hot = 512};
+    IS(open_shared(options, counts, PAGES, marks, 1, NULL, 0, 1000, &service), LIKES_OK);
+    sleep_for(5000000);
+    IS(likes_service_retire_seat(service, 0), LIKES_OK);
+}
+
+/* A thread brings the seat back by its own call, and looks through it: what waits is found, though nobody makes another
+ * call of the service. */
+static void look_after_rest(void) {
+    likes_answer answer = {.status = LIKES_GONE};
+    likes_found found = {.tag = 0};
+    start_gone();
+    likes_seat *seat = likes_service_lock(service, 0);
+    sleep_for(20000000);
+    IS(likes_seat_come_back(seat), LIKES_RUNS);
+    while (answer.status != LIKES_WAITS) {
+        likes_service_tick(service);
+        likes_seat_look(seat, 0, 0, 7, &answer);
+    }
+    while (!likes_seat_take_found(seat, &found))
+        likes_seat_turn(seat);
+    IS(found.tag, 7);
+    likes_service_unlock(service, 0);
+    stop(0);
+}
+
+/* A thread that holds a seat for a while. */
+static void *hold_one(void *at) {
+    IS(likes_service_lock(service, 0) != NULL, true);
+    set((bool *)at);
+    sleep_for(200000000);
+    likes_service_unlock(service, 0);
+    return NULL;
+}
+
+/* Counts wait until a seat is unlocked, where the only one has left and is held. They hardly use a processor. */
+static void counts_of_held(void) {
+    pthread_t thread;
+    bool is_held = false;
+    uint64_t counts[PAGES];
+    start_gone();
+    start_thread(&thread, hold_one, &is_held);
+    while (!is_set(&is_held))
+        sleep_for(1000000);
+    uint64_t worked = clock_of(CLOCK_THREAD_CPUTIME_ID);
+    IS(likes_service_counts(service, counts, PAGES), LIKES_COUNTED);
+    IS(clock_of(CLOCK_THREAD_CPUTIME_ID) - worked < 50000000, true);
+    pthread_join(thread, NULL);
+    stop(0);
+}
+
 /* Every call that takes locks is refused while the thread holds a seat, whichever seat it needs. */
 static void all_refused(uint32_t user) {
     likes_answer answer = {.count = 1};
@@ -321,6 +376,8 @@ int main(void) {
     static const uint32_t periods[] = {1, 1000, 10000};
     alarm(100);
     holding();
+    look_after_rest();
+    counts_of_held();
     for (int n = 0; n < 3; n++) {
         all_by_hand(periods[n], false);
         all_by_hand(periods[n], true);

@@ -170,6 +170,28 @@ static void late_looks(void) {
     IS(totals[0], 1);
 }
 
+/* Found looks of rows that nobody takes fill the room. A look is refused then as a seat refuses it. */
+static void full_room(void) {
+    likes_request row[3];
+    likes_answer answers[3];
+    uint64_t totals[PAGES];
+    start(4, 1000, 512);
+    for (uint64_t tag = 0; tag < 3; tag++)
+        row[tag] = (likes_request){.tag = tag, .op = LIKES_LOOK};
+    do {
+        IS(likes_service_lock(service, 0) != NULL, true);
+        IS(likes_service_run(service, 0, row, 3, answers) <= 3, true);
+        likes_service_unlock(service, 0);
+    } while (likes_service_look(service, 0, 0, answers) != LIKES_NO_ROOM);
+    IS(likes_service_look(service, USERS, 0, answers), LIKES_UNKNOWN_USER);
+    IS(likes_service_look(service, 0, PAGES, answers), LIKES_UNKNOWN_PAGE);
+    IS(likes_service_retire_seat(service, 0), LIKES_OK);
+    IS(likes_service_look(service, 0, 0, answers), LIKES_GONE);
+    IS(likes_service_look(service, USERS, 0, answers), LIKES_GONE);
+    IS(likes_service_bring_back_seat(service, 0), LIKES_OK);
+    stop(totals);
+}
+
 /* A thread that holds a seat, in no call. */
 static void *hold_seat(void *at) {
     IS(likes_service_lock(service, *(uint32_t *)at) != NULL, true);
@@ -305,6 +327,7 @@ int main(void) {
     moments(1);
     moments(1000);
     late_looks();
+    full_room();
     held_seat();
     lent_seat();
     deadlines(1, 50);

@@ -12,6 +12,9 @@
  *   counts the longest of 1,000 looks in three seconds, while three threads ask for counts as fast as they can: 20 ms.
  *          On one processor a thread waits for the turns of all others: there it is 100 looks, and 100 ms
  *   turns  the same, while three threads make turns of the driver and of the seats as fast as they can
+ *   lasts  100 looks, each of 100 ms at most, while eight threads read last likes and split pages as fast as they can
+ *   batches  the mean of 20 likes, while another thread locks their seat for 20 ms again and again: 200 ms
+ *   found  how long a look takes whose seat is held for 200 ms, with rows that go on: 100 ms
  *   held   the processor time of a like, a look, a row and a thread that asks for counts, each on its own thread, while
  *          another thread holds a seat for half a second: 5 ms each, and 25 ms together
  *   idle   how often the threads of an idle service wake up in two seconds, and their processor time: never, 1 ms
@@ -202,21 +205,32 @@ static void *make_turns(void *at) {
     return NULL;
 }
 
+/* Reads as fast as it can. */
+static void *read_on(void *at) {
+    worker *it = (worker *)at;
+    uint32_t pages[LIKES_MAX_SPLIT];
+    for (; !is_set(&is_over); it->calls++) {
+        likes_service_last(service, 0, pages);
+        likes_service_split_pages(service, pages, LIKES_MAX_SPLIT);
+    }
+    return NULL;
+}
+
 /* For three seconds at most, unless a look starves: then the alarm ends it. */
-static void storm(const char *what, void *(*work)(void *), bool is_shared) {
+static void storm(const char *what, void *(*work)(void *), uint32_t threads, bool is_shared) {
     static uint64_t times[STORM];
-    worker workers[3];
+    worker workers[8];
     size_t looks = 0;
     uint64_t phases = likes_service_phase(service), until = clock_now() + UINT64_C(3000000000);
-    for (uint32_t i = 0; i < 3; i++)
-        begin(&workers[i], i, work);
+    for (uint32_t i = 0; i < threads; i++)
+        begin(&workers[i], i % SEATS, work);
     alarm(20);
     for (; looks < STORM && clock_now() < until; looks++) {
         times[looks] = time_look();
         sleep_for(100000);
     }
     phases = likes_service_phase(service) - phases;
-    end(workers, 3);
+    end(workers, (int)threads);
     tell(what, times, looks, 0, 0);
     printf("%zu looks, %llu phases; ", looks, (unsigned long long)phases);
     is_wrong |= looks < (is_shared ? STORM / 10 : STORM) || times[looks - 1] > (is_shared ? 100000000 : 20000000);
@@ -281,6 +295,60 @@ static void held(void) {
     printf("while a seat is held: like %.1f ms, look %.1f ms, row %.1f ms, counts %.1f ms, all threads %.1f ms; ",
            (double)worked[0] / 1e6, (double)worked[1] / 1e6, (double)worked[2] / 1e6, (double)worked[3] / 1e6,
            (double)worked[4] / 1e6);
+}
+
+/* Runs rows at seat 0 for so long. */
+static void run_for(uint64_t nanoseconds) {
+    likes_request row = {.page = 1};
+    likes_answer answer;
+    uint64_t until = clock_now() + nanoseconds;
+    likes_service_lock(service, 0);
+    while (clock_now() < until)
+        hold(likes_service_run(service, 0, &row, 1, &answer) == 1, "a row was not done");
+    likes_service_unlock(service, 0);
+}
+
+static void *run_batches(void *at) {
+    for (worker *it = (worker *)at; !is_set(&is_over); it->calls++)
+        run_for(20000000);
+    return NULL;
+}
+
+/* A thread that has waited for a seat gets it before the one that had it. */
+static void batches(void) {
+    worker busy;
+    uint64_t took = 0;
+    begin(&busy, 0, run_batches);
+    for (int n = 0; n < 20; n++) {
+        uint64_t began = clock_now();
+        hold(likes_service_like(service, 0, 1) == LIKES_LIKED, "a like was refused");
+        took += clock_now() - began;
+        sleep_for(1000000);
+    }
+    end(&busy, 1);
+    printf("likes beside batches of 20 ms: mean %.1f ms; ", (double)took / 20e6);
+    is_wrong |= took > 20 * UINT64_C(200000000);
+}
+
+static void *time_one(void *at) {
+    ((worker *)at)->worked = time_wait();
+    return NULL;
+}
+
+/* The look waits at its seat before that is held. The thread that holds it finds the look, and wakes who waits. */
+static void found_while_held(uint32_t microseconds) {
+    worker looker;
+    uint64_t phase = likes_service_phase(service);
+    while (likes_service_phase(service) < phase + 2) {
+        likes_service_like(service, 1, 1);
+        sleep_for(50000);
+    }
+    begin(&looker, 0, time_one);
+    sleep_for(UINT64_C(100) * microseconds);
+    run_for(200000000);
+    end(&looker, 1);
+    printf("a look at a seat that is held: %.1f ms; ", (double)looker.worked / 1e6);
+    is_wrong |= looker.worked > 100000000;
 }
 
 static long switches(void) {
@@ -350,9 +418,15 @@ static void measure(const char *what, int processors, uint32_t microseconds) {
     else if (strcmp(what, "ticks") == 0)
         ticks(microseconds, processors > 1);
     else if (strcmp(what, "counts") == 0)
-        storm("looks beside counts", ask_counts, processors == 1);
+        storm("looks beside counts", ask_counts, 3, processors == 1);
     else if (strcmp(what, "turns") == 0)
-        storm("looks beside turns", make_turns, processors == 1);
+        storm("looks beside turns", make_turns, 3, processors == 1);
+    else if (strcmp(what, "lasts") == 0)
+        storm("looks beside last likes", read_on, 8, true);
+    else if (strcmp(what, "batches") == 0)
+        batches();
+    else if (strcmp(what, "found") == 0)
+        found_while_held(microseconds);
     else if (strcmp(what, "held") == 0)
         held();
     else if (strcmp(what, "idle") == 0)

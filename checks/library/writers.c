@@ -205,6 +205,26 @@ static void not_ended(void) {
     stop(3);
 }
 
+/* A writer is opened while the driver's thread sleeps, for nothing is split: a like is counted after a period. */
+static void sleeping_driver(void) {
+    static const uint64_t none[PAGES];
+    likes_options options = {.seats = 64, .users = 64, .room = 8};
+    likes_writer *writer = NULL;
+    uint32_t likes = 1;
+    IS(open_shared(options, none, PAGES, NULL, 0, NULL, 0, 1000, &service), LIKES_OK);
+    sleep_for(20 * MS);
+    IS(likes_writer_open(service, &writer), LIKES_OK);
+    like(writer, 0, 0, 1);
+    uint64_t began = clock_now();
+    for (; counted() == 0; likes++) {
+        sleep_for(MS);
+        like(writer, 1 + likes % 63, 0, 1);
+    }
+    IS(clock_now() - began < 500 * (uint64_t)MS, true);
+    IS(likes_writer_close(writer), LIKES_OK);
+    stop(likes);
+}
+
 static void wrong_uses(void) {
     likes_writer *writer = NULL, *none = NULL;
     likes_answer answer = {.count = 1};
@@ -359,6 +379,7 @@ int main(int count, char **words) {
     static const uint32_t seats[] = {1, 3, 64}, periods[] = {1, 1000, 20000, 100};
     uint64_t seed = strtoull(words[1], NULL, 10), seconds = strtoull(words[2], NULL, 10), likes = 0;
     alarm((unsigned)(60 + seconds));
+    sleeping_driver();
     wrong_uses();
     no_memory();
     full_rows(1);

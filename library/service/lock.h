@@ -32,6 +32,12 @@ static inline bool likes_lock_try(likes_lock *lock) {
     return true;
 }
 
+/* Takes the mark that others left, with the lock held. Whether there was one. */
+static inline bool likes_lock_take_mark(likes_lock *lock) {
+    return __atomic_load_n(&lock->is_missed, __ATOMIC_SEQ_CST) &&
+           __atomic_exchange_n(&lock->is_missed, false, __ATOMIC_SEQ_CST);
+}
+
 /* Gives a lock back. Whether somebody tried it in vain. */
 static inline bool likes_lock_give(likes_lock *lock) {
     __atomic_store_n(&lock->is_taken, 0, __ATOMIC_RELEASE);
@@ -39,6 +45,10 @@ static inline bool likes_lock_give(likes_lock *lock) {
         likes_futex_wake(&lock->is_taken, 1);
     return __atomic_load_n(&lock->is_missed, __ATOMIC_RELAXED);
 }
+
+/* Lets threads take a lock that wait for it already, for a millisecond at most, before one takes it that will have it
+ * for long. */
+void likes_lock_give_way(likes_lock *lock);
 
 /* Waits for a lock until a time by likes_clock. Whether the lock is taken. */
 bool likes_lock_wait(likes_lock *lock, uint64_t until);

@@ -1,6 +1,15 @@
 /* Looks, which may have to wait for a phase. */
 #include "held.h"
 
+/* Why a look is refused for which there is no room, in the order of a seat's answers. */
+static uint32_t fault_without_room(const likes_service *service, likes_place *place, uint32_t user, uint32_t page) {
+    if (likes_seat_turn(&place->seat) == LIKES_GONE)
+        return LIKES_GONE;
+    if (user >= service->users)
+        return LIKES_UNKNOWN_USER;
+    return page >= service->pages ? LIKES_UNKNOWN_PAGE : LIKES_NO_ROOM;
+}
+
 /* Looks at a place, with its lock held: the seat's answer, but not LIKES_BETWEEN. A look that waits is given, and its
  * answer will go to `to`. */
 static likes_wait *look_at(likes_service *service, likes_place *place, uint32_t user, uint32_t page, uint64_t until,
@@ -9,7 +18,7 @@ static likes_wait *look_at(likes_service *service, likes_place *place, uint32_t 
     likes_wait *wait = place->unused;
     /* The ring must have room for what the seat may find before this look. */
     if (wait == NULL || place->others.length > place->others.room / 2) {
-        likes_refuse(to, LIKES_NO_ROOM);
+        likes_refuse(to, fault_without_room(service, place, user, page));
         return NULL;
     }
     uint64_t tag = likes_tag_of(wait);
@@ -59,7 +68,8 @@ static void await_room(likes_place *place, uint64_t until, uint64_t founds) {
     pthread_mutex_unlock(&place->asleep);
 }
 
-/* Looks until a time. A look that waits may end its phase, if half of the room is taken; so it makes a turn. */
+/* Looks until a time. A look that waits may end its phase, if half of the room is taken; so it makes a turn, or has the
+ * driver's thread look once more: a mark that it left may be missed (lock.h). */
 static uint32_t look_until(likes_service *service, uint32_t user, uint32_t page, uint64_t until, likes_answer *to) {
     likes_place *place = likes_place_of(service, user);
     for (;;) {
@@ -69,8 +79,8 @@ static uint32_t look_until(likes_service *service, uint32_t user, uint32_t page,
         uint64_t founds = place->founds, since = wait != NULL ? likes_clock() : 0;
         bool has_room = to->status != LIKES_NO_ROOM || place->first == NULL;
         likes_place_give(service, place);
-        if (wait != NULL || !has_room)
-            likes_service_advance(service);
+        if ((wait != NULL || !has_room) && likes_service_advance(service) == LIKES_NOT_ALL_IN)
+            likes_service_call(service);
         if (wait != NULL)
             await_look(place, wait, since, until, to);
         if (has_room)

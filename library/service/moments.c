@@ -5,8 +5,8 @@
 static void write_lasts(likes_service *service, uint32_t number, uint32_t *lasts) {
     uint32_t row[256], seats = service->seats;
     uint32_t users = service->users / seats + (number < service->users % seats);
-    for (uint32_t from = 0; from < users; from += 256) {
-        uint32_t length = users - from < 256 ? users - from : 256;
+    for (uint32_t from = 0, length; from < users; from += length) {
+        length = users - from < 256 ? users - from : 256;
         likes_seat_lasts(&service->places[number].seat, from, row, length);
         for (uint32_t i = 0; i < length; i++)
             lasts[(size_t)(from + i) * seats + number] = row[i];
@@ -20,8 +20,11 @@ uint32_t likes_service_lasts(likes_service *service, uint32_t *lasts, size_t use
     if (users != service->users)
         return LIKES_WRONG_RANGE;
     for (uint32_t number = 0; number < service->seats; number++) {
+        likes_lock_give_way(&service->places[number].lock);
         likes_lock_take(&service->places[number].lock, UINT64_MAX);
         write_lasts(service, number, lasts);
+        if (likes_lock_take_mark(&service->places[number].lock))
+            likes_place_work(&service->places[number]);
         likes_place_give(service, &service->places[number]);
     }
     return LIKES_OK;
@@ -65,20 +68,23 @@ static uint32_t go_to_moment(likes_service *service, uint64_t *counts, size_t pa
         if (turn == LIKES_ENDED)
             end_for_all(service);
         likes_service_seat_turns(service);
-        if (turn == LIKES_NOT_ALL_IN)
+        if (turn == LIKES_NOT_ALL_IN || turn == LIKES_ENDED)
             likes_pass(began);
     }
     return status;
 }
 
 /* Writes all last likes at such a moment. A thread that holds its seat lends it soon, if it waits for a phase in a call
- * of the service. */
+ * of the service. One that doesn't for a while is in no call; who has the lock otherwise gives it back. */
 static uint32_t write_moment_lasts(likes_service *service, uint32_t *lasts) {
     uint64_t until = likes_clock() + LIKES_MOMENT;
     for (uint32_t number = 0; number < service->seats; number++) {
         likes_place *place = &service->places[number];
-        if (!likes_lock_take(&place->lock, until))
-            return LIKES_NO_MOMENT;
+        while (!likes_lock_take(&place->lock, until)) {
+            if (__atomic_load_n(&place->is_held, __ATOMIC_RELAXED))
+                return LIKES_NO_MOMENT;
+            until = likes_clock() + LIKES_MOMENT;
+        }
         write_lasts(service, number, lasts);
         if (likes_place_unlock(place))
             likes_place_turn(place);

@@ -50,6 +50,7 @@ typedef struct likes_place {
     uint64_t founds;               /* how often looks were found. Read under one of the two locks, written under both */
     uint64_t row_phase, row_waits; /* about how many looks of rows wait in that phase */
     const struct likes_service *service;
+    bool is_held;                  /* a thread holds the seat; atomic */
     struct likes_place *next_held; /* for the thread that holds the seat (held.h) */
 } likes_place;
 
@@ -86,6 +87,14 @@ static inline bool likes_place_unlock(likes_place *place) {
     if (wakes != 0)
         likes_place_wake(place, wakes);
     return is_missed;
+}
+
+/* The same at once, for a thread that keeps the lock. */
+static inline void likes_place_wake_now(likes_place *place) {
+    uint8_t wakes = place->wakes;
+    place->wakes = 0;
+    if (wakes != 0)
+        likes_place_wake(place, wakes);
 }
 
 /* Makes a place with its locks, or gives back what one has. */

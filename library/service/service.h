@@ -53,6 +53,7 @@ struct likes_service {
     uint64_t pulse;    /* for writers: goes up LIKES_PULSES times in a period. 0: the service rests; atomic */
     uint64_t due;      /* when the phase may end, by likes_clock; atomic */
     uint64_t next;     /* when the driver's next turn is worth making, by likes_clock; atomic */
+    uint64_t beat;     /* when the next pulse is due, by likes_clock; atomic */
     uint64_t released; /* the phase that was last released; atomic, written under `changing` */
     char apart_too[LIKES_LINES];
     uint32_t writers;  /* how many are open; atomic */
@@ -61,7 +62,7 @@ struct likes_service {
     bool has_holders;  /* a thread has held a seat; atomic */
     likes_lock driving;
     likes_driver driver;      /* used under `driving` */
-    uint64_t pulses, pulsed;  /* under `driving`: how many pulses there were, and when the last one */
+    uint64_t pulses;          /* under `driving`: how many pulses there were */
     bool is_ending;           /* under `driving`: the end of the present phase was announced */
     uint32_t quiet;           /* under `driving`: how many rounds had no call, one after the other */
     uint64_t calls;           /* under `driving`: how many calls there had been when the last round ended */
@@ -97,6 +98,9 @@ bool likes_service_starves(const likes_service *service);
 /* Makes turns of the driver and of the seats that nobody holds, until nothing is left that can be done now. It gives
  * the last answer of the driver. */
 uint32_t likes_service_advance(likes_service *service);
+
+/* Gives `driving` back, and makes the turn first that others left. */
+void likes_service_give_driving(likes_service *service);
 
 /* Makes the next round count as one with a call, with `driving` held. So the next two split phases come. */
 void likes_service_stir(likes_service *service);

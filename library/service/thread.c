@@ -21,18 +21,18 @@ static void nap_for(likes_service *service, uint64_t nanoseconds) {
 
 /* How long the thread sleeps in a phase that runs: until the phase is due, and without end where the service rests. In
  * a split phase where threads hold their seats, that is a millisecond at most: those that call their seats directly
- * don't tell when looks take half of the room. Where writers are open, it is a part of a period at most, for the
- * pulse. */
+ * don't tell when looks take half of the room. Where writers are open, it is until the next pulse at most. */
 static uint64_t nap_of(likes_service *service) {
     if (__atomic_load_n(&service->is_resting, __ATOMIC_SEQ_CST))
         return UINT64_MAX;
-    uint64_t left = likes_time_left(&service->due, likes_clock()), most = LIKES_LONG_NAP;
+    uint64_t now = likes_clock(), left = likes_time_left(&service->due, now), most = LIKES_LONG_NAP;
     bool is_split = __atomic_load_n(&service->released, __ATOMIC_SEQ_CST) % 2 == 1;
     if (is_split && __atomic_load_n(&service->has_holders, __ATOMIC_SEQ_CST))
         most = LIKES_DRIVER_NAP;
-    if (__atomic_load_n(&service->writers, __ATOMIC_SEQ_CST) > 0 && most > service->period / LIKES_PULSES)
-        most = service->period / LIKES_PULSES;
-    return left < LIKES_SPIN_TIME ? LIKES_SPIN_TIME : left > most ? most : left;
+    if (__atomic_load_n(&service->writers, __ATOMIC_SEQ_CST) > 0 && most > likes_time_left(&service->beat, now))
+        most = likes_time_left(&service->beat, now);
+    uint64_t nap = left < most ? left : most;
+    return nap < LIKES_SPIN_TIME ? LIKES_SPIN_TIME : nap;
 }
 
 /* Makes turns, and gives the answer of the last one. Where all seats have left, the service rests: one that comes back

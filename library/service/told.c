@@ -52,7 +52,7 @@ uint32_t likes_service_propose(likes_service *service, const uint32_t *pages, si
     likes_service_stir(service);
     if (likes_driver_phase(&service->driver) % 2 == 0)
         likes_service_hurry(service);
-    likes_lock_give(&service->driving);
+    likes_service_give_driving(service);
     likes_service_call(service);
     return status;
 }
@@ -62,7 +62,6 @@ size_t likes_service_split_pages(likes_service *service, uint32_t *pages, size_t
         return 0;
     likes_lock_take(&service->driving, UINT64_MAX);
     size_t written = likes_driver_split_pages(&service->driver, pages, pages_len);
-    if (likes_lock_give(&service->driving))
-        likes_service_advance(service);
+    likes_service_give_driving(service);
     return written;
 }

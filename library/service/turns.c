@@ -117,11 +117,11 @@ static uint32_t joined_turn(likes_service *service, uint64_t now, bool is_new) {
 
 /* Goes on to the next pulse, if that is due, with `driving` held. */
 static void pulse(likes_service *service, uint64_t now) {
-    bool is_due = now - service->pulsed >= service->period / LIKES_PULSES;
+    bool is_due = likes_time_left(&service->beat, now) == 0;
     is_due |= __atomic_load_n(&service->pulse, __ATOMIC_RELAXED) == 0;
     if (!is_due || __atomic_load_n(&service->is_resting, __ATOMIC_SEQ_CST))
         return;
-    service->pulsed = now;
+    likes_set_time(&service->beat, now + service->period / LIKES_PULSES);
     __atomic_store_n(&service->pulse, ++service->pulses, __ATOMIC_SEQ_CST);
 }
 
@@ -157,7 +157,22 @@ static uint32_t try_turn(likes_service *service, bool *has_work) {
     }
     if (has_news)
         pthread_cond_broadcast(&service->changed);
+    if (*has_work && __atomic_load_n(&service->is_resting, __ATOMIC_SEQ_CST))
+        likes_service_call(service);
     return status;
+}
+
+void likes_service_give_driving(likes_service *service) {
+    bool has_work = false, has_news = false;
+    if (likes_lock_take_mark(&service->driving))
+        driver_turn(service, &has_work, &has_news);
+    bool is_missed = likes_lock_give(&service->driving);
+    if (has_news)
+        pthread_cond_broadcast(&service->changed);
+    if (has_work)
+        likes_service_seat_turns(service);
+    if (has_work || is_missed)
+        likes_service_advance(service);
 }
 
 uint32_t likes_service_advance(likes_service *service) {

@@ -152,10 +152,14 @@ uint32_t likes_writer_open(likes_service *service, likes_writer **writer) {
     made->seats = service->seats;
     made->pages = (uint32_t)service->pages;
     made->inverse = service->inverse;
-    made->pulse = NO_PULSE;
     for (uint32_t seat = 0; seat < service->seats; seat++)
         made->ends[seat] = made->rows[seat];
     __atomic_fetch_add(&service->writers, 1, __ATOMIC_SEQ_CST);
+    /* From now on the driver's thread sleeps until the next pulse at most. */
+    likes_service_call(service);
+    likes_service_advance(service);
+    uint64_t pulse = __atomic_load_n(&service->pulse, __ATOMIC_RELAXED);
+    made->pulse = pulse == 0 ? NO_PULSE : pulse;
     *writer = made;
     return LIKES_OK;
 }
