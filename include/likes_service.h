@@ -99,10 +99,10 @@ uint32_t likes_service_glance(likes_service *service, uint32_t user, uint32_t pa
 /* Writers
  *
  * A writer is one thread's, for likes at full speed: it keeps them in rows, one for each seat, and hands a row over as
- * a whole. Till then others miss its likes. A row is handed over when it has 64 likes, at the latest by the writer's
- * first call after a period has passed since it was begun, by likes_writer_flush and close, and by likes_writer_look of
- * a user of the same seat. Without calls there is no bound in time, so a thread flushes before it rests. The likes of a
- * user by one writer are counted in their order. */
+ * a whole. Till then others miss its likes. A row is handed over when it has 64 likes; about a period after it was
+ * begun, once the driver's thread gets a processor, by a call that keeps a like or looks; by likes_writer_flush and
+ * close; and by likes_writer_look of a user of the same seat. Without calls there is no bound in time, so a thread
+ * flushes before it rests. The likes of a user by one writer are counted in their order. */
 
 /* Opens a writer: LIKES_OK, and then `writer`, which pointed to NULL, points to it. Else that stays as it is:
  * LIKES_NOT_STARTED, IN_USE or NO_MEMORY. A writer takes 4 KB, and 0.5 KB for each seat. */
@@ -144,8 +144,9 @@ uint32_t likes_service_lasts(likes_service *service, uint32_t *lasts, size_t use
 uint32_t likes_service_counts(likes_service *service, uint64_t *counts, size_t pages);
 
 /* The same, and all users' last likes at that moment, by user number: what a new service is opened with to go on from
- * it. All seats stand still until they are written. LIKES_NO_MOMENT: another thread held its seat for a tenth of a
- * second, in no call of the service, and some last likes are not written. */
+ * it. All seats stand still until they are written. LIKES_NO_MOMENT: since this call first found that another thread holds
+ * a seat, that thread has held it for a tenth of a second, in no call of the service. Then some numbers, or all, are not
+ * written. */
 uint32_t likes_service_snapshot(likes_service *service, uint64_t *counts, size_t pages, uint32_t *lasts, size_t users);
 
 /* The phase that the driver has last released, or 0 where likes_service_fault isn't LIKES_OK. Any thread may call it,

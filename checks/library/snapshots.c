@@ -228,6 +228,101 @@ static void held_seat(void) {
     stop(totals);
 }
 
+/* A seat that is held in no call: there is no moment after a tenth of a second, while the thread still holds it. */
+static void held_for_long(void) {
+    pthread_t thread;
+    uint32_t held = 1, lasts[USERS];
+    uint64_t totals[PAGES];
+    start(8, 1000, 512);
+    is_held = false;
+    start_thread(&thread, hold_seat, &held);
+    while (!is_set(&is_held))
+        sleep_for(MS);
+    uint64_t began = clock_now();
+    IS(likes_service_snapshot(service, totals, PAGES, lasts, USERS), LIKES_NO_MOMENT);
+    IS(clock_now() - began >= 100 * MS, true);
+    set(&is_over);
+    pthread_join(thread, NULL);
+    IS(likes_service_snapshot(service, totals, PAGES, lasts, USERS), LIKES_COUNTED);
+    stop(totals);
+}
+
+/* Holds a seat until its phase has ended, and for some time more, in no call. How long it held it. */
+typedef struct {
+    uint32_t number;
+    uint64_t begins, lasts, took;
+} holder;
+
+static void *hold_ended(void *at) {
+    holder *it = (holder *)at;
+    sleep_for(it->begins);
+    uint64_t began = clock_now();
+    likes_seat *seat = likes_service_lock(service, it->number);
+    set(&is_held);
+    while (likes_seat_turn(seat) != LIKES_BETWEEN)
+        sleep_for(MS / 5);
+    sleep_for(it->lasts);
+    likes_service_unlock(service, it->number);
+    it->took = clock_now() - began;
+    return NULL;
+}
+
+/* Two seats are held, one after the other, for less than a tenth of a second each, and for more than that together: a
+ * snapshot waits for both. */
+static void held_by_turns(void) {
+    holder holders[2] = {{0, 0, 85 * MS, 0}, {1, 75 * MS, 40 * MS, 0}};
+    pthread_t threads[2];
+    uint32_t lasts[USERS];
+    uint64_t totals[PAGES];
+    start(8, 1000, 512);
+    is_held = false;
+    start_thread(&threads[0], hold_ended, &holders[0]);
+    while (!is_set(&is_held))
+        sleep_for(MS / 5);
+    start_thread(&threads[1], hold_ended, &holders[1]);
+    uint32_t status = likes_service_snapshot(service, totals, PAGES, lasts, USERS);
+    for (int i = 0; i < 2; i++)
+        pthread_join(threads[i], NULL);
+    if (holders[0].took < 100 * MS && holders[1].took < 100 * MS)
+        IS(status, LIKES_COUNTED);
+    stop(totals);
+}
+
+/* Likes by which phases go on. */
+static void *like_on(void *at) {
+    while (!is_set(&is_over))
+        IS(likes_service_like(service, 1, 0), LIKES_LIKED);
+    return at;
+}
+
+/* While last likes are written that take long, phases go on: there are more than two for each seat, which has been held
+ * up to then. */
+static void many_lasts(void) {
+    enum { MANY = 16000000 };
+    static const uint64_t counts[1];
+    static const uint32_t marks[] = {0};
+    likes_options options = {.seats = 2, .users = MANY, .room = 8, .hot = 512};
+    uint32_t *lasts = malloc(MANY * sizeof *lasts);
+    uint64_t totals[1], took = clock_now();
+    pthread_t thread;
+    hold(lasts != NULL, "there is no memory");
+    IS(open_shared(options, counts, 1, marks, 1, NULL, 0, 1000, &service), LIKES_OK);
+    is_over = false;
+    start_thread(&thread, like_on, NULL);
+    took = clock_now();
+    uint64_t phase = likes_service_phase(service);
+    IS(likes_service_lasts(service, lasts, MANY), LIKES_OK);
+    uint64_t phases = likes_service_phase(service) - phase;
+    took = clock_now() - took;
+    hold(phases >= 4 + took / MS / 8, "phases stood still");
+    set(&is_over);
+    pthread_join(thread, NULL);
+    free(lasts);
+    IS(likes_service_stop(service, totals, 1), LIKES_OK);
+    likes_service_close(service);
+    service = NULL;
+}
+
 /* A thread that waits for a phase in a row, and lends its seat meanwhile. Then it holds the seat on, and calls it. */
 static void *lend_seat(void *at) {
     likes_request row = {.user = 2, .page = 1, .op = LIKES_LIKE};
@@ -329,7 +424,10 @@ int main(void) {
     late_looks();
     full_room();
     held_seat();
+    held_for_long();
+    held_by_turns();
     lent_seat();
+    many_lasts();
     deadlines(1, 50);
     deadlines(16, 500);
     puts("all calls answered right");

@@ -156,6 +156,29 @@ static void after_period(uint32_t period, bool rests) {
     stop(likes);
 }
 
+/* A like that was kept before a rest is counted by the first call after it, however soon that comes. Pulses are 100 ms
+ * apart, and a service in which nothing is split rests within some milliseconds. */
+static void after_rest(void) {
+    static const uint64_t none[PAGES];
+    likes_options options = {.seats = SEATS, .users = USERS, .room = 8};
+    likes_writer *writer = NULL;
+    uint32_t last;
+    IS(open_shared(options, none, PAGES, NULL, 0, NULL, 0, 300000, &service), LIKES_OK);
+    IS(likes_writer_open(service, &writer), LIKES_OK);
+    for (uint32_t page = 0; page < PAGES; page++) {
+        like(writer, 0, page, 1);
+        sleep_for(350 * MS);
+        IS(likes_service_like(service, 1, 0), LIKES_LIKED);
+        sleep_for(10 * MS);
+        like(writer, 2, 0, 1);
+        IS(likes_service_last(service, 0, &last), LIKES_OK);
+        IS(last, page);
+        IS(likes_writer_flush(writer), LIKES_OK);
+    }
+    IS(likes_writer_close(writer), LIKES_OK);
+    stop(3 * PAGES);
+}
+
 /* Likes for a seat that has left stay kept. */
 static void gone(void) {
     likes_writer *writer = start(SEATS, 10000000);
@@ -392,6 +415,7 @@ int main(int count, char **words) {
         after_period(period, true);
         after_period(period, false);
     }
+    after_rest();
     in_order(1);
     in_order(1000);
     uint64_t end = clock_now() + seconds * UINT64_C(1000000000);

@@ -44,8 +44,6 @@ uint32_t likes_service_last(likes_service *service, uint32_t user, uint32_t *pag
     likes_place *place = likes_place_of(service, user);
     likes_lock_take(&place->lock, UINT64_MAX);
     uint32_t status = likes_seat_last(&place->seat, user, page);
-    if (likes_lock_take_mark(&place->lock))
-        likes_place_work(place);
     likes_place_give(service, place);
     return status;
 }

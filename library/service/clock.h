@@ -39,9 +39,13 @@ static inline void likes_set_time(uint64_t *at, uint64_t time) {
     __atomic_store_n(at, time, __ATOMIC_SEQ_CST);
 }
 
+static inline uint64_t likes_time(const uint64_t *at) {
+    return __atomic_load_n(at, __ATOMIC_SEQ_CST);
+}
+
 /* How long it is until a time. */
 static inline uint64_t likes_time_left(const uint64_t *at, uint64_t now) {
-    uint64_t time = __atomic_load_n(at, __ATOMIC_SEQ_CST);
+    uint64_t time = likes_time(at);
     return time > now ? time - now : 0;
 }
 

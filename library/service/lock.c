@@ -7,10 +7,8 @@
  * call has the lock, and shorter than to sleep and be woken. */
 #define SPINS 32u
 
-/* How long a thread sleeps at first before it looks again, in nanoseconds, and then twice as long each time, up to the
- * most. */
-#define NAP UINT64_C(1000000)
-#define LONGEST_NAP (64 * NAP)
+/* How long a thread lets others take a lock before it does, in nanoseconds. */
+#define WAY UINT64_C(1000000)
 
 /* Takes a lock once it is free, if that is soon. */
 static bool spin(likes_lock *lock) {
@@ -23,15 +21,13 @@ static bool spin(likes_lock *lock) {
 }
 
 bool likes_lock_wait(likes_lock *lock, uint64_t until) {
-    bool is_taken = false, is_late = false;
     if (spin(lock))
         return true;
     __atomic_fetch_add(&lock->waiting, 1, __ATOMIC_SEQ_CST);
-    for (uint64_t nap = NAP; !is_taken && !is_late; nap = nap < LONGEST_NAP ? nap * 2 : nap) {
-        uint64_t end = likes_clock() + nap;
-        likes_futex_wait(&lock->is_taken, 1, end < until ? end : until);
+    bool is_taken = likes_lock_take_free(lock);
+    while (!is_taken && !likes_is_over(until)) {
+        likes_futex_wait(&lock->is_taken, 1, until);
         is_taken = likes_lock_take_free(lock);
-        is_late = likes_is_over(until);
     }
     __atomic_fetch_sub(&lock->waiting, 1, __ATOMIC_SEQ_CST);
     return is_taken;
@@ -40,7 +36,7 @@ bool likes_lock_wait(likes_lock *lock, uint64_t until) {
 void likes_lock_give_way(likes_lock *lock) {
     if (__atomic_load_n(&lock->waiting, __ATOMIC_SEQ_CST) == 0)
         return;
-    uint64_t until = likes_clock() + NAP;
+    uint64_t until = likes_clock() + WAY;
     while (__atomic_load_n(&lock->waiting, __ATOMIC_SEQ_CST) > 0 && !likes_is_over(until))
         sched_yield();
 }

@@ -1,10 +1,8 @@
 /* A lock for things that the next thread can do as well. A thread that only tries it leaves a mark, which the thread
  * that gives it back finds. Threads that wait for it come before those that try it.
  *
- * It is given back by a plain store. An atomic exchange, as a mutex makes it, would wait until all stores before it have
- * left the processor, and a like stores where no cache has the user's last one. So the thread that gives the lock back
- * may miss a mark or a sleeper of that very moment. The next one that gives it back sees it, sleepers look again by
- * themselves, and so does the driver's thread. */
+ * Each step is sequentially consistent. One thread gives the lock back and then looks for marks and sleepers, and the
+ * other leaves its mark or counts itself as waiting and then looks at the lock. So one of the two sees the other. */
 #ifndef LIKES_LOCK_H
 #define LIKES_LOCK_H
 
@@ -40,10 +38,10 @@ static inline bool likes_lock_take_mark(likes_lock *lock) {
 
 /* Gives a lock back. Whether somebody tried it in vain. */
 static inline bool likes_lock_give(likes_lock *lock) {
-    __atomic_store_n(&lock->is_taken, 0, __ATOMIC_RELEASE);
-    if (__builtin_expect(__atomic_load_n(&lock->waiting, __ATOMIC_ACQUIRE) > 0, false))
+    __atomic_store_n(&lock->is_taken, 0, __ATOMIC_SEQ_CST);
+    if (__builtin_expect(__atomic_load_n(&lock->waiting, __ATOMIC_SEQ_CST) > 0, false))
         likes_futex_wake(&lock->is_taken, 1);
-    return __atomic_load_n(&lock->is_missed, __ATOMIC_RELAXED);
+    return __atomic_load_n(&lock->is_missed, __ATOMIC_SEQ_CST);
 }
 
 /* Lets threads take a lock that wait for it already, for a millisecond at most, before one takes it that will have it

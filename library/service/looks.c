@@ -68,8 +68,7 @@ static void await_room(likes_place *place, uint64_t until, uint64_t founds) {
     pthread_mutex_unlock(&place->asleep);
 }
 
-/* Looks until a time. A look that waits may end its phase, if half of the room is taken; so it makes a turn, or has the
- * driver's thread look once more: a mark that it left may be missed (lock.h). */
+/* Looks until a time. A look that waits may end its phase, if half of the room is taken; so it makes a turn. */
 static uint32_t look_until(likes_service *service, uint32_t user, uint32_t page, uint64_t until, likes_answer *to) {
     likes_place *place = likes_place_of(service, user);
     for (;;) {
@@ -79,8 +78,8 @@ static uint32_t look_until(likes_service *service, uint32_t user, uint32_t page,
         uint64_t founds = place->founds, since = wait != NULL ? likes_clock() : 0;
         bool has_room = to->status != LIKES_NO_ROOM || place->first == NULL;
         likes_place_give(service, place);
-        if ((wait != NULL || !has_room) && likes_service_advance(service) == LIKES_NOT_ALL_IN)
-            likes_service_call(service);
+        if (wait != NULL || !has_room)
+            likes_service_advance(service);
         if (wait != NULL)
             await_look(place, wait, since, until, to);
         if (has_room)

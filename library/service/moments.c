@@ -1,7 +1,17 @@
 /* Counts and last likes, of one moment or as they are. */
 #include "held.h"
 
-/* Writes the last likes of a seat's users into an array by user number, with the place's lock held. */
+/* Does what others left to the thread that has a place's lock, which keeps it. */
+static void work_meanwhile(likes_service *service, likes_place *place) {
+    if (!likes_lock_take_mark(&place->lock))
+        return;
+    likes_place_work(place);
+    likes_place_wake_now(place);
+    likes_service_advance(service);
+}
+
+/* Writes the last likes of a seat's users into an array by user number, with the place's lock held. That takes long
+ * where there are many, and phases go on meanwhile. */
 static void write_lasts(likes_service *service, uint32_t number, uint32_t *lasts) {
     uint32_t row[256], seats = service->seats;
     uint32_t users = service->users / seats + (number < service->users % seats);
@@ -10,6 +20,7 @@ static void write_lasts(likes_service *service, uint32_t number, uint32_t *lasts
         likes_seat_lasts(&service->places[number].seat, from, row, length);
         for (uint32_t i = 0; i < length; i++)
             lasts[(size_t)(from + i) * seats + number] = row[i];
+        work_meanwhile(service, &service->places[number]);
     }
 }
 
@@ -23,8 +34,6 @@ uint32_t likes_service_lasts(likes_service *service, uint32_t *lasts, size_t use
         likes_lock_give_way(&service->places[number].lock);
         likes_lock_take(&service->places[number].lock, UINT64_MAX);
         write_lasts(service, number, lasts);
-        if (likes_lock_take_mark(&service->places[number].lock))
-            likes_place_work(&service->places[number]);
         likes_place_give(service, &service->places[number]);
     }
     return LIKES_OK;
@@ -42,8 +51,7 @@ static void end_for_all(likes_service *service) {
             likes_service_turn(service, LIKES_END);
             likes_seat_retire(&place->seat);
         }
-        if (likes_place_unlock(place))
-            likes_place_turn(place);
+        likes_place_give(service, place);
         return;
     }
 }
@@ -57,47 +65,75 @@ static uint32_t turn_to_moment(likes_service *service) {
     return likes_service_turn(service, LIKES_END);
 }
 
+/* A seat as a call that waits for it last found it, and since when it has been so. */
+typedef struct sighting {
+    uint64_t since;
+    uint32_t holds;
+} sighting;
+
+/* Whether a thread has held a seat for LIKES_MOMENT, in no call of the service, since it was first found so. */
+static bool is_held_long(const likes_place *place, sighting *seen) {
+    uint64_t now = likes_clock();
+    uint32_t holds = __atomic_load_n(&place->holds, __ATOMIC_RELAXED);
+    if (holds != seen->holds) {
+        seen->holds = holds;
+        seen->since = now;
+    }
+    return holds % 2 == 1 && now - seen->since >= LIKES_MOMENT;
+}
+
+static bool is_any_held_long(const likes_service *service, sighting *seen) {
+    bool is_any = false;
+    for (uint32_t number = 0; number < service->seats; number++)
+        is_any |= is_held_long(&service->places[number], &seen[number]);
+    return is_any;
+}
+
 /* Goes on to a moment at which no count changes, with `driving` held, and writes the counts. A service's last phase
- * goes on: there is none in it. */
-static uint32_t go_to_moment(likes_service *service, uint64_t *counts, size_t pages) {
+ * goes on: there is none in it. With `seen`, it gives up once a seat is held for long. */
+static uint32_t go_to_moment(likes_service *service, uint64_t *counts, size_t pages, sighting *seen) {
     uint32_t status, turn = LIKES_RELEASED;
     uint64_t began = likes_clock();
+    bool is_late = false;
     while ((status = likes_driver_snapshot(&service->driver, 0, counts, pages)) == LIKES_NO_MOMENT &&
-           turn != LIKES_GOES_ON) {
+           turn != LIKES_GOES_ON && !is_late) {
         turn = turn_to_moment(service);
         if (turn == LIKES_ENDED)
             end_for_all(service);
-        likes_service_seat_turns(service);
-        if (turn == LIKES_NOT_ALL_IN || turn == LIKES_ENDED)
+        likes_service_seats_work(service);
+        if (turn == LIKES_NOT_ALL_IN || turn == LIKES_ENDED) {
+            is_late = seen != NULL && is_any_held_long(service, seen);
             likes_pass(began);
+        }
     }
     return status;
 }
 
 /* Writes all last likes at such a moment. A thread that holds its seat lends it soon, if it waits for a phase in a call
- * of the service. One that doesn't for a while is in no call; who has the lock otherwise gives it back. */
-static uint32_t write_moment_lasts(likes_service *service, uint32_t *lasts) {
-    uint64_t until = likes_clock() + LIKES_MOMENT;
+ * of the service. Who has the lock otherwise gives it back. */
+static uint32_t write_moment_lasts(likes_service *service, uint32_t *lasts, sighting *seen) {
     for (uint32_t number = 0; number < service->seats; number++) {
         likes_place *place = &service->places[number];
-        while (!likes_lock_take(&place->lock, until)) {
-            if (__atomic_load_n(&place->is_held, __ATOMIC_RELAXED))
-                return LIKES_NO_MOMENT;
-            until = likes_clock() + LIKES_MOMENT;
+        bool is_taken = false;
+        while (!is_taken && !is_held_long(place, &seen[number]))
+            is_taken = likes_lock_take(&place->lock, likes_clock() + LIKES_PHASE_NAP);
+        if (!is_taken) {
+            likes_place_turn(place); /* somebody may have left its work to this thread, which waited for the lock */
+            return LIKES_NO_MOMENT;
         }
         write_lasts(service, number, lasts);
-        if (likes_place_unlock(place))
-            likes_place_turn(place);
+        likes_place_give(service, place);
     }
     return LIKES_COUNTED;
 }
 
 /* Writes counts, and last likes too where an array is given. */
 static uint32_t write_moment(likes_service *service, uint64_t *counts, size_t pages, uint32_t *lasts) {
+    sighting seen[LIKES_MAX_SEATS] = {{0, 0}};
     likes_lock_take(&service->driving, UINT64_MAX);
-    uint32_t status = go_to_moment(service, counts, pages);
+    uint32_t status = go_to_moment(service, counts, pages, lasts != NULL ? seen : NULL);
     if (status == LIKES_COUNTED && lasts != NULL)
-        status = write_moment_lasts(service, lasts);
+        status = write_moment_lasts(service, lasts, seen);
     likes_service_stir(service);
     likes_service_hurry(service);
     likes_lock_give(&service->driving);

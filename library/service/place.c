@@ -1,6 +1,6 @@
 /* Places: who gets which found look, and the phase work of seats that nobody holds. */
 #include "../proved.h"
-#include "place.h"
+#include "service.h"
 
 #include <stdlib.h>
 
@@ -129,8 +129,7 @@ bool likes_place_turn(likes_place *place) {
  * too late, and the thread doesn't have the lock. */
 static bool await_back(likes_place *place, uint64_t until) {
     uint32_t backs = __atomic_load_n(&place->backs, __ATOMIC_SEQ_CST);
-    if (likes_place_unlock(place))
-        likes_place_turn(place);
+    likes_place_give(place->service, place);
     likes_futex_wait(&place->backs, backs, until);
     return likes_lock_take(&place->lock, until);
 }
@@ -143,7 +142,9 @@ bool likes_place_wait(likes_place *place, bool has_lock, uint64_t until) {
         likes_add(&place->tally.calls, 1);
         return true;
     }
-    if (has_lock ? likes_place_unlock(place) : __atomic_load_n(&place->lock.is_missed, __ATOMIC_SEQ_CST))
-        likes_place_turn(place);
+    if (has_lock)
+        likes_place_give(place->service, place);
+    else if (__atomic_load_n(&place->lock.is_missed, __ATOMIC_SEQ_CST))
+        likes_place_give_missed(place->service, place);
     return false;
 }

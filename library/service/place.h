@@ -49,8 +49,9 @@ typedef struct likes_place {
     pthread_cond_t found;
     uint64_t founds;               /* how often looks were found. Read under one of the two locks, written under both */
     uint64_t row_phase, row_waits; /* about how many looks of rows wait in that phase */
-    const struct likes_service *service;
-    bool is_held;                  /* a thread holds the seat; atomic */
+    struct likes_service *service;
+    uint32_t holds; /* odd while a thread holds the seat and is in no call of the service; goes up each time that
+                       changes; atomic */
     struct likes_place *next_held; /* for the thread that holds the seat (held.h) */
 } likes_place;
 
@@ -66,6 +67,11 @@ static inline uint64_t likes_tag_of(const likes_wait *wait) {
 /* Adds to a number that one thread writes at a time, and others read. */
 static inline void likes_add(uint64_t *at, uint64_t by) {
     __atomic_store_n(at, __atomic_load_n(at, __ATOMIC_RELAXED) + by, __ATOMIC_RELAXED);
+}
+
+/* Notes that a thread begins or ends to hold a seat, or a call of the service while it holds the seat. */
+static inline void likes_place_note_hold(likes_place *place) {
+    __atomic_store_n(&place->holds, __atomic_load_n(&place->holds, __ATOMIC_RELAXED) + 1, __ATOMIC_RELAXED);
 }
 
 /* Writes an answer that shows nothing, and gives its status. */

@@ -17,7 +17,7 @@ likes_seat *likes_service_lock(likes_service *service, uint32_t number) {
     likes_place *place = &service->places[number];
     likes_lock_give_way(&place->lock);
     likes_place_take(place, UINT64_MAX);
-    __atomic_store_n(&place->is_held, true, __ATOMIC_RELAXED);
+    likes_place_note_hold(place);
     place->next_held = likes_held;
     likes_held = place;
     bool is_first = !__atomic_load_n(&service->has_holders, __ATOMIC_SEQ_CST);
@@ -35,7 +35,7 @@ void likes_service_unlock(likes_service *service, uint32_t number) {
     while (*at != place)
         at = &(*at)->next_held;
     *at = place->next_held;
-    __atomic_store_n(&place->is_held, false, __ATOMIC_RELAXED);
+    likes_place_note_hold(place);
     likes_place_give(service, place);
 }
 
@@ -117,12 +117,14 @@ size_t likes_service_run(likes_service *service, uint32_t number, const likes_re
         return 0;
     }
     likes_place *place = &service->places[number];
+    likes_place_note_hold(place);
     size_t done = run_tagged(service, place, requests, length, answers);
     likes_place_deliver(place);
     likes_place_wake_now(place);
     likes_add(&place->tally.likes, count_likes(answers, done));
     if (is_half_full(place, answers, done) || done < length)
         likes_service_advance(service);
+    likes_place_note_hold(place);
     return done;
 }
 

@@ -3,14 +3,15 @@
  *     (likes_service_advance): the driver's thread when a phase is due, a thread that ticks, the last seat to answer,
  *     or a look by which those that wait take half of the room.
  *   - A seat that nobody holds. Whoever ends a phase does the seat's phase work, if the seat's lock is free. Otherwise
- *     it leaves that to the thread that has the lock, which does the work when it gives the lock back (likes_lock). The
- *     driver's turns are passed on in the same way. The driver's thread looks again from time to time.
+ *     it leaves that to the thread that has the lock, which does the work when it gives the lock back (likes_lock), and
+ *     then makes the driver's turn. Those turns are passed on in the same way.
  *   - A thread whose seat is between two phases tries again for LIKES_SPIN_TIME. Then it sleeps until the next phase is
  *     released, and lends the seat meanwhile: others may do its phase work and read its last likes, and whoever else
  *     wants the seat sleeps too. If its call comes too late LIKES_MISSES times, no split phase ends before the call is
  *     made (`starving`).
  *   - A service without calls. After LIKES_QUIET_ROUNDS rounds without a call and without a seat that is held, a joined
- *     phase goes on, and the driver's thread sleeps until the next call wakes it (`is_resting`). */
+ *     phase goes on, and the driver's thread sleeps until the next call wakes it (`is_resting`). No other thread begins
+ *     such a rest. */
 #ifndef LIKES_SERVICE_INTERNAL_H
 #define LIKES_SERVICE_INTERNAL_H
 
@@ -52,6 +53,7 @@ struct likes_service {
     bool is_resting;   /* the driver's thread sleeps until a call comes; atomic */
     uint64_t pulse;    /* for writers: goes up LIKES_PULSES times in a period. 0: the service rests; atomic */
     uint64_t due;      /* when the phase may end, by likes_clock; atomic */
+    uint64_t wakes_at; /* until when the driver's thread sleeps. 0: it is awake, or sleeps until it is called; atomic */
     uint64_t next;     /* when the driver's next turn is worth making, by likes_clock; atomic */
     uint64_t beat;     /* when the next pulse is due, by likes_clock; atomic */
     uint64_t released; /* the phase that was last released; atomic, written under `changing` */
@@ -66,6 +68,7 @@ struct likes_service {
     bool is_ending;           /* under `driving`: the end of the present phase was announced */
     uint32_t quiet;           /* under `driving`: how many rounds had no call, one after the other */
     uint64_t calls;           /* under `driving`: how many calls there had been when the last round ended */
+    bool may_rest;            /* under `driving`: the last turn left nothing to do until a call comes */
     pthread_mutex_t changing; /* for those that wait for a phase */
     pthread_cond_t changed;
     likes_phase phase;
@@ -95,11 +98,17 @@ uint32_t likes_service_turn(likes_service *service, uint32_t end);
 /* Whether the present phase, which is split, has to go on for threads that missed others. With `driving` held. */
 bool likes_service_starves(const likes_service *service);
 
+/* Does the phase work of the seats that nobody holds. */
+void likes_service_seats_work(likes_service *service);
+
+/* How many calls were made at all seats. */
+uint64_t likes_service_calls(const likes_service *service);
+
 /* Makes turns of the driver and of the seats that nobody holds, until nothing is left that can be done now. It gives
  * the last answer of the driver. */
 uint32_t likes_service_advance(likes_service *service);
 
-/* Gives `driving` back, and makes the turn first that others left. */
+/* Gives `driving` back, and makes the turn that others left. */
 void likes_service_give_driving(likes_service *service);
 
 /* Makes the next round count as one with a call, with `driving` held. So the next two split phases come. */
@@ -107,12 +116,6 @@ void likes_service_stir(likes_service *service);
 
 /* Makes a turn of the driver due at once. */
 void likes_service_hurry(likes_service *service);
-
-/* Notes that the driver's thread sleeps until it is called. Then there is no pulse. */
-static inline void likes_service_rest(likes_service *service) {
-    __atomic_store_n(&service->is_resting, true, __ATOMIC_SEQ_CST);
-    __atomic_store_n(&service->pulse, 0, __ATOMIC_SEQ_CST);
-}
 
 /* thread.c: the driver's thread. */
 void *likes_service_thread(void *service);

@@ -1,25 +1,26 @@
 /* The driver's turns, and the phase work of the seats that nobody holds. */
 #include "service.h"
 
-void likes_service_seat_turns(likes_service *service) {
-    if (likes_service_fault(service) != LIKES_OK)
-        return;
+void likes_service_seats_work(likes_service *service) {
     for (uint32_t i = 0; i < service->seats; i++)
         if (!likes_place_turn(&service->places[i]))
             __atomic_store_n(&service->was_held, true, __ATOMIC_SEQ_CST);
 }
 
-/* How many calls were made at all seats. */
-static uint64_t calls_of(const likes_service *service) {
+uint64_t likes_service_calls(const likes_service *service) {
     uint64_t calls = 0;
     for (uint32_t i = 0; i < service->seats; i++)
         calls += __atomic_load_n(&service->places[i].tally.calls, __ATOMIC_RELAXED);
     return calls;
 }
 
+static bool is_quiet(const likes_service *service) {
+    return service->quiet >= LIKES_QUIET_ROUNDS;
+}
+
 /* Ends a round, with `driving` held. */
 static void end_round(likes_service *service) {
-    uint64_t calls = calls_of(service);
+    uint64_t calls = likes_service_calls(service);
     bool was_held = __atomic_exchange_n(&service->was_held, false, __ATOMIC_SEQ_CST);
     service->quiet = calls != service->calls || was_held ? 0 : service->quiet + 1;
     service->calls = calls;
@@ -28,28 +29,12 @@ static void end_round(likes_service *service) {
 void likes_service_stir(likes_service *service) {
     service->quiet = 0;
     service->calls = UINT64_MAX;
+    service->may_rest = false;
 }
 
 void likes_service_hurry(likes_service *service) {
     likes_set_time(&service->due, 0);
     likes_set_time(&service->next, 0);
-}
-
-/* Lets the driver's thread sleep until it is called, with `driving` held. Calls are made under a seat's lock. So a call
- * was made before this thread has had that lock, and is seen here, or it sees that the driver rests. */
-static void begin_rest(likes_service *service) {
-    bool is_quiet = true;
-    likes_service_rest(service);
-    for (uint32_t i = 0; i < service->seats && is_quiet; i++) {
-        is_quiet = likes_lock_take_free(&service->places[i].lock);
-        if (is_quiet && likes_place_unlock(&service->places[i]))
-            likes_place_turn(&service->places[i]);
-    }
-    if (!is_quiet || calls_of(service) != service->calls) {
-        __atomic_store_n(&service->is_resting, false, __ATOMIC_SEQ_CST);
-        likes_service_hurry(service);
-        likes_service_stir(service);
-    }
 }
 
 uint32_t likes_service_turn(likes_service *service, uint32_t end) {
@@ -96,82 +81,86 @@ static uint32_t split_turn(likes_service *service, uint64_t now) {
  * it goes on too. */
 static uint32_t joined_turn(likes_service *service, uint64_t now, bool is_new) {
     uint64_t left = likes_time_left(&service->due, now), nap = LIKES_LONG_NAP;
-    bool was_quiet = service->quiet >= LIKES_QUIET_ROUNDS;
+    bool was_quiet = is_quiet(service);
     if (was_quiet || (left == 0 && !is_new && !service->is_ending))
         end_round(service);
-    bool is_quiet = service->quiet >= LIKES_QUIET_ROUNDS, may_end = (is_new || was_quiet || left == 0) && !is_quiet;
+    bool may_end = (is_new || was_quiet || left == 0) && !is_quiet(service);
     uint32_t status = likes_service_turn(service, may_end ? LIKES_END_IF_IT_SERVES : LIKES_NO_END);
     if (status == LIKES_ANNOUNCED && !is_new)
         likes_set_time(&service->due, now);
     if (status == LIKES_RELEASED && left < service->period / 2)
         likes_set_time(&service->due, now + service->period / 2);
-    if (status == LIKES_GOES_ON && !is_quiet && service->may_find)
+    if (status == LIKES_GOES_ON && service->may_find)
         nap = service->period < LIKES_DRIVER_NAP ? service->period : LIKES_DRIVER_NAP;
-    if (status == LIKES_GOES_ON && (may_end || is_quiet))
+    if (status == LIKES_GOES_ON && (may_end || is_quiet(service)))
         likes_set_time(&service->due, now + nap);
     likes_set_time(&service->next, now + (status == LIKES_GOES_ON ? likes_time_left(&service->due, now) : 0));
-    if (status == LIKES_GOES_ON && is_quiet && !__atomic_load_n(&service->is_resting, __ATOMIC_SEQ_CST))
-        begin_rest(service);
+    service->may_rest = status == LIKES_ENDED || (status == LIKES_GOES_ON && is_quiet(service));
     return status;
 }
 
-/* Goes on to the next pulse, if that is due, with `driving` held. */
+/* Goes on to the next pulse, if that is due, with `driving` held. After a rest it goes on by two: what writers have kept
+ * since before it is due. */
 static void pulse(likes_service *service, uint64_t now) {
-    bool is_due = likes_time_left(&service->beat, now) == 0;
-    is_due |= __atomic_load_n(&service->pulse, __ATOMIC_RELAXED) == 0;
+    bool has_rested = __atomic_load_n(&service->pulse, __ATOMIC_RELAXED) == 0;
+    bool is_due = has_rested || likes_time_left(&service->beat, now) == 0;
     if (!is_due || __atomic_load_n(&service->is_resting, __ATOMIC_SEQ_CST))
         return;
     likes_set_time(&service->beat, now + service->period / LIKES_PULSES);
-    __atomic_store_n(&service->pulse, ++service->pulses, __ATOMIC_SEQ_CST);
+    service->pulses += has_rested ? 2 : 1;
+    __atomic_store_n(&service->pulse, service->pulses, __ATOMIC_SEQ_CST);
 }
 
-/* The driver's turn, with `driving` held. `has_work` is set where seats have phase work to do, and `has_news` where the
- * threads have to be told that sleep until a phase is released. They sleep on in a joined phase that ends at once, and
- * their seats are lent meanwhile. */
-static uint32_t driver_turn(likes_service *service, bool *has_work, bool *has_news) {
-    uint64_t now = likes_clock();
+/* What comes of turns of the driver, for the thread that made them. */
+typedef struct outcome {
+    bool has_work;  /* seats have phase work to do */
+    bool has_news;  /* the threads have to be told that sleep until a phase is released */
+    bool is_sooner; /* the driver's thread would sleep past the time at which the phase may end now */
+} outcome;
+
+/* The driver's turn, with `driving` held. Threads that wait for a phase sleep on in a joined phase that ends at once,
+ * and their seats are lent meanwhile. */
+static uint32_t driver_turn(likes_service *service, outcome *of) {
+    uint64_t now = likes_clock(), due = likes_time(&service->due);
     uint32_t status;
+    service->may_rest = false;
     pulse(service, now);
     if (likes_driver_phase(&service->driver) % 2 == 0) {
         status = joined_turn(service, now, false);
-        *has_work |= status == LIKES_ANNOUNCED;
-        *has_news |= status == LIKES_RELEASED;
+        of->has_work |= status == LIKES_ANNOUNCED;
+        of->has_news |= status == LIKES_RELEASED;
     } else {
         status = split_turn(service, now);
-        *has_work |= status == LIKES_ANNOUNCED || status == LIKES_RELEASED;
+        of->has_work |= status == LIKES_ANNOUNCED || status == LIKES_RELEASED;
         if (status == LIKES_RELEASED) {
             status = joined_turn(service, now, true);
-            *has_news |= status != LIKES_ANNOUNCED;
+            of->has_news |= status != LIKES_ANNOUNCED;
         }
     }
+    uint64_t next_due = likes_time(&service->due);
+    of->is_sooner |= next_due != due && next_due < likes_time(&service->wakes_at);
     return status;
 }
 
-/* Makes a turn, or leaves it to the thread that is making one. */
+/* Makes a turn, or leaves it to the thread that is making one, and says whether seats have work to do then. */
 static uint32_t try_turn(likes_service *service, bool *has_work) {
     uint32_t status = LIKES_NOT_ALL_IN;
-    bool is_missed = true, has_news = false;
+    outcome of = {false, false, false};
+    bool is_missed = true;
     while (is_missed && likes_lock_try(&service->driving)) {
-        status = driver_turn(service, has_work, &has_news);
+        status = driver_turn(service, &of);
         is_missed = likes_lock_give(&service->driving);
     }
-    if (has_news)
+    if (of.has_news)
         pthread_cond_broadcast(&service->changed);
-    if (*has_work && __atomic_load_n(&service->is_resting, __ATOMIC_SEQ_CST))
+    if (of.is_sooner || (of.has_work && __atomic_load_n(&service->is_resting, __ATOMIC_SEQ_CST)))
         likes_service_call(service);
+    *has_work = of.has_work;
     return status;
 }
 
 void likes_service_give_driving(likes_service *service) {
-    bool has_work = false, has_news = false;
-    if (likes_lock_take_mark(&service->driving))
-        driver_turn(service, &has_work, &has_news);
-    bool is_missed = likes_lock_give(&service->driving);
-    if (has_news)
-        pthread_cond_broadcast(&service->changed);
-    if (has_work)
-        likes_service_seat_turns(service);
-    if (has_work || is_missed)
+    if (likes_lock_give(&service->driving))
         likes_service_advance(service);
 }
 
@@ -179,22 +168,21 @@ uint32_t likes_service_advance(likes_service *service) {
     uint32_t status;
     bool has_work;
     do {
-        has_work = false;
         status = try_turn(service, &has_work);
         if (has_work)
-            likes_service_seat_turns(service);
+            likes_service_seats_work(service);
     } while (has_work);
     return status;
 }
 
 uint32_t likes_service_drive(likes_service *service) {
     uint32_t fault = likes_service_fault(service);
-    bool has_work = false;
+    bool has_work;
     if (fault != LIKES_OK)
         return fault;
     uint32_t status = try_turn(service, &has_work);
     if (has_work) {
-        likes_service_seat_turns(service);
+        likes_service_seats_work(service);
         likes_service_advance(service);
     }
     return status;
@@ -203,4 +191,11 @@ uint32_t likes_service_drive(likes_service *service) {
 void likes_service_tick(likes_service *service) {
     if (likes_service_fault(service) == LIKES_OK && likes_time_left(&service->next, likes_clock()) == 0)
         likes_service_drive(service);
+}
+
+void likes_service_seat_turns(likes_service *service) {
+    if (likes_service_fault(service) != LIKES_OK)
+        return;
+    likes_service_seats_work(service);
+    likes_service_advance(service);
 }

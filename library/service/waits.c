@@ -24,7 +24,7 @@ static limits limits_until(uint64_t until) {
 static void lend(likes_service *service, likes_place *place, uint64_t phase, uint64_t until) {
     uint64_t nap = likes_clock() + LIKES_PHASE_NAP;
     place->is_lent = true;
-    likes_place_unlock(place);
+    likes_place_give(service, place);
     pthread_mutex_lock(&service->changing);
     if (service->released <= phase)
         likes_wait_until(&service->changed, &service->changing, nap < until ? nap : until);

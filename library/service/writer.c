@@ -2,8 +2,8 @@
  *
  * A row is handed over when it is full, and else by the service's pulse, a number that its driver's turns raise three
  * times in a period. A call that sees another one hands over the rows that were begun before the last one: so none is
- * kept for longer than a period, as long as the writer is called, and a call reads no clock. While the service rests,
- * there is no pulse, and a call reads the clock. */
+ * kept for much longer than a period, as long as the writer is called, and a call reads no clock. While the service
+ * rests, there is no pulse, and a call reads the clock. When it goes on, there are two pulses at once. */
 #include "held.h"
 
 #include <stdlib.h>
