@@ -101,8 +101,8 @@ uint32_t likes_service_glance(likes_service *service, uint32_t user, uint32_t pa
  * A writer is one thread's, for likes at full speed: it keeps them in rows, one for each seat, and hands a row over as
  * a whole. Till then others miss its likes. A row is handed over when it has 64 likes; about a period after it was
  * begun, once the driver's thread gets a processor, by a call that keeps a like or looks; by likes_writer_flush and
- * close; and by likes_writer_look of a user of the same seat. Without calls there is no bound in time, so a thread
- * flushes before it rests. The likes of a user by one writer are counted in their order. */
+ * close; and by likes_writer_look of a page that it has, or of a user of its seat. Without calls there is no bound in
+ * time, so a thread flushes before it rests. The likes of a user by one writer are counted in their order. */
 
 /* Opens a writer: LIKES_OK, and then `writer`, which pointed to NULL, points to it. Else that stays as it is:
  * LIKES_NOT_STARTED, IN_USE or NO_MEMORY. A writer takes 4 KB, and 0.5 KB for each seat. */
@@ -113,8 +113,9 @@ uint32_t likes_writer_open(likes_service *service, likes_writer **writer);
  * doesn't take them, LIKES_GONE and LIKE_LIMIT. */
 uint32_t likes_writer_like(likes_writer *writer, uint32_t user, uint32_t page);
 
-/* Hands over the row of a user's seat, and looks as likes_service_look does: so the look shows what this writer was
- * told before. Where likes stay kept it answers LIKES_GONE or LIKE_LIMIT. */
+/* Hands over each row that has likes of this page, and the row of this user's seat, and looks as likes_service_look
+ * does: so the look shows all that this writer was told before. Where likes of such a row stay kept it answers
+ * LIKES_GONE or LIKE_LIMIT. */
 uint32_t likes_writer_look(likes_writer *writer, uint32_t user, uint32_t page, likes_answer *answer);
 
 /* Hands over all rows: LIKES_OK, each like is counted. LIKES_GONE or LIKE_LIMIT: those of a seat that has left, or that

@@ -96,7 +96,8 @@ public:
 
     void like(std::uint32_t user, std::uint32_t page) { expect(likes_writer_like(writer_, user, page), LIKES_OK); }
 
-    // The look of a service, which shows what this writer was told before.
+    // Hands over the likes of the user's seat and all rows with likes of the page, and looks. So it shows all that this
+    // writer was told before. Where likes that it would show stay kept, it throws LIKES_GONE.
     Seen look(std::uint32_t user, std::uint32_t page) {
         likes_answer answer = {};
         expect(likes_writer_look(writer_, user, page, &answer), LIKES_SEEN);

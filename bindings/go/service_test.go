@@ -257,6 +257,43 @@ func TestWriters(t *testing.T) {
 	}
 }
 
+// A look through a writer shows each like of its page that the writer was told, by whichever user, unless likes of the
+// page stay kept for a seat that has left.
+func TestWriterShowsWhatItWasTold(t *testing.T) {
+	service := start(t, Options{Seats: 4, Users: 8, Period: 100 * time.Second}, 0, 0)
+	writer, err := service.NewWriter()
+	if err != nil {
+		t.Fatal(err)
+	}
+	for user := uint32(0); user < 8; user++ {
+		if err := writer.Like(user, 1); err != nil {
+			t.Error(err)
+		}
+		if seen, err := writer.Look((user+3)%8, 1); err != nil || seen.Count != uint64(user)+1 {
+			t.Error(seen, err)
+		}
+	}
+	if err := service.RetireSeat(2); err != nil {
+		t.Error(err)
+	}
+	if err := writer.Like(2, 1); err != nil {
+		t.Error(err)
+	}
+	if _, err := writer.Look(0, 1); !errors.Is(err, ErrGone) {
+		t.Error(err)
+	}
+	if seen, err := writer.Look(0, 0); err != nil || seen != (Seen{1, 0}) {
+		t.Error(seen, err)
+	}
+	if dropped := writer.Drop(); dropped != 1 {
+		t.Error(dropped)
+	}
+	if err := writer.Close(); err != nil {
+		t.Error(err)
+	}
+	stop(t, service)
+}
+
 // A pool counts likes by itself, shows each user its own at once, and ends with all of them.
 func TestPool(t *testing.T) {
 	const goroutines, each = 32, 500

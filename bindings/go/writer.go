@@ -36,8 +36,8 @@ func (w *Writer) Like(user, page uint32) error {
 	return wanted(C.likes_writer_like(w.c, C.uint32_t(user), C.uint32_t(page)), OK)
 }
 
-// Look hands over the likes of the user's seat, and looks as Service.Look does. So it shows what this writer was told
-// before.
+// Look hands over the likes of the user's seat and all rows with likes of the page, and looks as Service.Look does. So
+// it shows all that this writer was told before. ErrGone or ErrLikeLimit: likes that it would show stay kept.
 func (w *Writer) Look(user, page uint32) (Seen, error) {
 	if w.c == nil {
 		return Seen{}, ErrClosed

@@ -1,6 +1,7 @@
-/* Writers: a row is handed over when it has 64 likes, at the first call after a period, by flush, look and close; likes
- * for a seat that has left stay kept, until it is back or they are dropped; a service isn't ended while a writer is
- * open; likes of a user are counted in their order; totals and last likes of many threads; wrong uses; and no memory.
+/* Writers: a row is handed over when it has 64 likes, at the first call after a period, by flush, look and close; a look
+ * shows all that its writer was told of its user and its page; likes for a seat that has left stay kept, until it is
+ * back or they are dropped; a service isn't ended while a writer is open; likes of a user are counted in their order;
+ * totals and last likes of many threads; wrong uses; and no memory.
  *
  * usage: writers SEED SECONDS
  *
@@ -87,7 +88,7 @@ static void full_rows(uint32_t seats) {
     stop(10 * ROW);
 }
 
-/* By flush, look and close. A look is of its user's row alone, and shows what the writer was told. */
+/* By flush, look and close. A look is of its user's row, where no other has likes of the page. */
 static void on_request(void) {
     likes_writer *writer = start(SEATS, 10000000);
     likes_answer answer;
@@ -110,6 +111,59 @@ static void on_request(void) {
     IS(likes_writer_close(writer), LIKES_OK);
     IS(counted(), 12);
     stop(12);
+}
+
+/* A look hands over each row that has likes of its page, wherever they stand in it, and no other but its user's. */
+static void of_page(uint32_t seats) {
+    likes_writer *writer = start(seats, 10000000);
+    likes_answer answer;
+    uint64_t likes = 0;
+    for (uint32_t place = 0; place < ROW - 1; place++) {
+        /* Users 0 and 1 have a seat each, where there are several, and so has user 2. */
+        for (uint32_t i = 0; i < ROW - 1; i++)
+            like(writer, 0, i == place ? 1 : 2, 1);
+        like(writer, 2, 0, 1);
+        IS(counted(), likes);
+        IS(likes_writer_look(writer, 1, 1, &answer), LIKES_SEEN);
+        IS(answer.count, place + 1);
+        IS(answer.last, LIKES_NO_PAGE);
+        likes += ROW - 1;
+        IS(counted(), likes);
+        IS(likes_writer_look(writer, 1, 2, &answer), LIKES_SEEN);
+        IS(answer.count, (place + 1) * (ROW - 2));
+        IS(counted(), likes);
+        IS(likes_writer_look(writer, 2, PAGES, &answer), LIKES_UNKNOWN_PAGE);
+        IS(counted(), ++likes);
+    }
+    like(writer, 0, 1, 1);
+    IS(likes_writer_look(writer, USERS, 1, &answer), LIKES_UNKNOWN_USER);
+    IS(counted(), likes);
+    IS(likes_writer_close(writer), LIKES_OK);
+    stop(likes + 1);
+}
+
+/* Each like is shown by the next look of its page, by whichever user, and of its user. */
+static void said_and_seen(uint64_t random, uint32_t seats) {
+    likes_writer *writer = start(seats, 10000000);
+    uint64_t counts[PAGES] = {0}, likes = 0;
+    uint32_t last[USERS];
+    likes_answer answer;
+    memset(last, 0xff, sizeof last);
+    for (int times = 0; times < 2000; times++) {
+        uint32_t user = (uint32_t)below(&random, USERS), page = 1 + (uint32_t)below(&random, PAGES - 1);
+        if (below(&random, 8) > 0) {
+            like(writer, user, page, 1);
+            last[user] = page;
+            counts[page]++;
+            likes++;
+        } else {
+            IS(likes_writer_look(writer, user, page, &answer), LIKES_SEEN);
+            IS(answer.count, counts[page]);
+            IS(answer.last, last[user]);
+        }
+    }
+    IS(likes_writer_close(writer), LIKES_OK);
+    stop(likes);
 }
 
 /* Calls that keep the service from its rest. */
@@ -191,6 +245,8 @@ static void gone(void) {
     IS(likes_writer_look(writer, 1, 1, &answer), LIKES_GONE);
     IS(answer.status, LIKES_GONE);
     IS(likes_writer_look(writer, 0, 2, &answer), LIKES_SEEN);
+    IS(likes_writer_look(writer, 0, 1, &answer), LIKES_GONE);
+    IS(answer.count + answer.last, 0);
     IS(likes_writer_close(writer), LIKES_GONE);
     like(writer, 1, 1, ROW - 5);
     IS(likes_writer_like(writer, 1, 1), LIKES_GONE);
@@ -409,6 +465,10 @@ int main(int count, char **words) {
     full_rows(SEATS);
     full_rows(64);
     on_request();
+    of_page(SEATS);
+    of_page(64);
+    for (uint64_t n = 0; n < 3; n++)
+        said_and_seen(seed + n, seats[n]);
     gone();
     not_ended();
     for (uint32_t period = 2000; period <= 20000; period *= 10) {

@@ -208,13 +208,30 @@ uint32_t likes_writer_like(likes_writer *writer, uint32_t user, uint32_t page) {
     return keep(writer, likes_remainder(user, writer->inverse, writer->seats), user, page);
 }
 
+static bool has_page(const likes_writer *writer, size_t seat, uint32_t page) {
+    uint32_t length = length_of(writer, seat), found = 0;
+    for (uint32_t i = 0; i < length; i++)
+        found |= writer->rows[seat][i].page == page;
+    return found;
+}
+
+/* The seats whose rows have likes of a page, or may have some of a user. A bit for each. */
+static uint64_t seats_with(const likes_writer *writer, uint32_t user, uint32_t page) {
+    uint64_t found = UINT64_C(1) << likes_remainder(user, writer->inverse, writer->seats);
+    for (uint64_t seats = writer->older | writer->begun; seats != 0; seats &= seats - 1) {
+        size_t seat = (size_t)__builtin_ctzll(seats);
+        found |= (uint64_t)has_page(writer, seat, page) << seat;
+    }
+    return found;
+}
+
 uint32_t likes_writer_look(likes_writer *writer, uint32_t user, uint32_t page, likes_answer *answer) {
     uint32_t fault = fault_of(writer);
     if (fault != LIKES_OK)
         return likes_refuse(answer, fault);
     notice(writer);
     if (user < writer->users) {
-        uint32_t status = hand_over(writer, likes_remainder(user, writer->inverse, writer->seats));
+        uint32_t status = hand_over_all(writer, seats_with(writer, user, page));
         if (status != LIKES_OK)
             return likes_refuse(answer, status);
     }

@@ -163,7 +163,8 @@ static void writers() {
     hold(counts[0] + counts[1] + counts[2] == threads * each, "likes of writers");
     likes::Writer writer = service.writer();
     writer.like(3, 1);
-    hold(writer.look(3, 1).last == 1u && writer.look(3, 1).count == counts[1] + 1, "a writer's own like");
+    hold(writer.look(4, 1).count == counts[1] + 1, "a writer's own like, in a look of another seat's user");
+    hold(writer.look(3, 1).last == 1u, "a writer's own like");
     hold(thrown([&] { service.stop(); }) == LIKES_OPEN_WRITER, "an end under a writer");
     likes::Writer other = std::move(writer);
     hold(thrown([&] { writer.like(3, 1); }) == LIKES_NOT_STARTED, "a like of a writer that was moved");
@@ -184,6 +185,8 @@ static void leaving() {
     writer.like(1, 0);
     writer.like(2, 0);
     hold(thrown([&] { writer.flush(); }) == LIKES_GONE, "a flush to a seat that has left");
+    hold(thrown([&] { writer.look(2, 0); }) == LIKES_GONE, "a look of a page of which likes stay kept");
+    hold(writer.look(2, 1).count == 0, "a look of another page");
     hold(thrown([&] { writer.close(); }) == LIKES_GONE, "an end of a writer with likes that are kept");
     hold(service.counts()[0] == 1, "a seat that is there counts");
     service.bring_back_seat(1);

@@ -334,7 +334,8 @@ class Writer:
             check(self._library.likes_writer_like(at, user, page), Status.OK)
 
     def look(self, user: int, page: int) -> Seen:
-        """Hands over the likes of the user's seat, and looks. So it shows what this writer was told before."""
+        """Hands over the likes of the user's seat and all rows with likes of the page, and looks. So it shows all that
+        this writer was told before. Refused with GONE or LIKE_LIMIT, likes that it would show stay kept."""
         answer = Answer()
         user, page = whole("user", user), whole("page", page)
         check(self._call(self._library.likes_writer_look, user, page, byref(answer)), Status.SEEN)

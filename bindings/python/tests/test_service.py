@@ -273,6 +273,18 @@ class Service(unittest.TestCase):
             writer.close()
         self.assertEqual(sum(service.stop().counts), threads * each)
 
+    def test_looks_of_a_writer(self) -> None:
+        """A look through a writer shows each like of its page that the writer was told, by whichever user."""
+        with opened(users=8, counts=[0, 0], seats=4, period=100) as service, service.writer() as writer:
+            for user in range(8):
+                writer.like(user, 1)
+                self.assertEqual(writer.look((user + 3) % 8, 1).count, user + 1)
+            service.retire_seat(2)
+            writer.like(2, 1)
+            self.refused(Status.GONE, writer.look, 0, 1)
+            self.assertEqual(writer.look(0, 0), Seen(1, 0))
+            self.assertEqual(writer.drop(), 1)
+
     def test_leaving(self) -> None:
         """Likes of a seat that has left stay kept until it is back."""
         with opened(users=4) as service:

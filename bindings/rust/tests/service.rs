@@ -182,6 +182,23 @@ fn a_thread_that_holds_a_seat_never_waits_for_itself() {
     assert_eq!((done, answers[0].outcome()), (Ok(1), Err(Error::WrongTag)));
 }
 
+/// A look through a writer shows each like of its page that the writer was told, by whichever user.
+#[test]
+fn a_writer_shows_what_it_was_told() {
+    let period = Some(Duration::from_secs(100));
+    let service = Service::open(&Options { period, ..options(4, 8, 4) }, &[0, 0]).unwrap();
+    let mut writer = service.writer().unwrap();
+    for user in 0..8 {
+        writer.like(user, 1).unwrap();
+        assert_eq!(writer.look((user + 3) % 8, 1).unwrap().count, u64::from(user) + 1);
+    }
+    service.retire_seat(2).unwrap();
+    writer.like(2, 1).unwrap();
+    assert_eq!(writer.look(0, 1), Err(Error::Gone));
+    assert_eq!(writer.look(0, 0), Ok(Seen { last: Last::of(1), count: 0 }));
+    assert_eq!(writer.forget_likes(), 1);
+}
+
 #[test]
 fn a_writer_keeps_likes_of_a_seat_that_has_left() {
     let service = open(2, 4, 4);

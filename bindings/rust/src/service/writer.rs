@@ -56,12 +56,12 @@ impl<'a> Writer<'a> {
         check(unsafe { ffi::likes_writer_like(self.at, user, page) })
     }
 
-    /// Hands over the likes of the user's seat, and looks as [`Service::look`] does. So it shows what this writer was
-    /// told before.
+    /// Hands over the likes of the user's seat and all rows with likes of the page, and looks as [`Service::look`] does.
+    /// So it shows all that this writer was told before.
     ///
     /// # Errors
     ///
-    /// Those of [`Service::look`], and [`Error::LikeLimit`].
+    /// Those of [`Service::look`], and [`Error::Gone`] or [`Error::LikeLimit`] where likes that it would show stay kept.
     pub fn look(&mut self, user: u32, page: u32) -> Result<Seen, Error> {
         let mut answer = Answer::NONE;
         // SAFETY: the writer is borrowed for this call, which writes the answer.
