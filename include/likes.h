@@ -6,9 +6,11 @@
  * guide.
  *
  * Rules for the host
- *   - Pointers. Every pointer is valid and aligned for its type. An array has the stated length; if that is 0, the
- *     pointer may be NULL. No other pointer is NULL, but for one to a handle that is to be freed. What two pointers of
- *     one call point to doesn't overlap. What a call writes needs no value before.
+ *   - Pointers. Every pointer is valid and aligned for its type, and an array has the stated length. What two pointers
+ *     of one call point to doesn't overlap. What a call writes needs no value before.
+ *   - NULL. It may be an array of no entries, counts that are all 0, or a handle that is to be freed. Any other array
+ *     that is NULL is refused, and so are NULL options and a NULL driver of likes_open: by LIKES_NULL, or by 0 where a
+ *     call gives a number. No other pointer of these calls is NULL.
  *   - One call at a time on each driver and each seat, from any thread. Two calls on the same object are ordered by a
  *     lock, by a thread's start or join, or by a sequentially consistent atomic. Only likes_phase_now may be called by
  *     several threads at once, until one of them frees the phase.
@@ -77,12 +79,12 @@ typedef struct likes_phase {
 
 /* What a service is opened with. A field that is left out is 0, and that means its default, if it has one. */
 typedef struct likes_options {
-    const uint64_t *counts; /* the initial count of each page, at most LIKES_MAX_COUNT */
+    const uint64_t *counts; /* the initial count of each page, at most LIKES_MAX_COUNT; NULL: all are 0 */
     size_t pages;           /* how many: 1 to LIKES_MAX_PAGES. Pages are numbered from 0, and take 8 bytes each. */
     const uint32_t *marks;  /* the pages that are split in every split phase, in any order, no two alike */
-    size_t marks_len;       /* 0 to LIKES_MAX_MARKS */
+    size_t marks_len;       /* 1 to LIKES_MAX_MARKS; without marks 0, and marks is NULL */
     const uint32_t *lasts;  /* the page of each user's last like, by user number, or LIKES_NO_PAGE */
-    size_t lasts_len;       /* as many as users; 0: no user has a last like */
+    size_t lasts_len;       /* as many as users; 0, and lasts is NULL: no user has a last like */
     uint32_t users;         /* how many: 1 to 2^32 - 1. Users are numbered from 0, and take 4 bytes each. */
     uint32_t seats;         /* 1 to LIKES_MAX_SEATS; 0: 16 for each processor, and at most 64 */
     uint32_t room;      /* how many looks a seat keeps, waiting and found ones together: 1 to LIKES_MAX_ROOM; 0: 64 */
@@ -133,13 +135,16 @@ enum likes_status {
     LIKES_WRONG_RESERVED = 109, /* a reserved field of the options isn't 0 */
     LIKES_WRONG_PAGES = 110,    /* there are no pages, or more than LIKES_MAX_PAGES */
     LIKES_WRONG_MARKS = 111,    /* more than LIKES_MAX_MARKS, a mark of no page, two of the same, or marks that can't
-                                   all have buckets of their own, as very few lists of many marks */
+                                   all have buckets of their own, as very few lists of many marks; or an array without
+                                   its length, or a length without an array */
     LIKES_WRONG_COUNT = 112,    /* an initial count is over LIKES_MAX_COUNT */
     LIKES_WRONG_SEATS = 113,
     LIKES_WRONG_USERS = 114,
     LIKES_WRONG_ROOM = 115,
     LIKES_WRONG_HOT = 116,
-    LIKES_WRONG_LASTS = 117 /* there are last likes, but not one for each user, or one is of no page */
+    LIKES_WRONG_LASTS = 117, /* there are last likes, but not one for each user, or one is of no page; or an array
+                                without its length, or a length without an array */
+    LIKES_NULL = 118         /* a pointer is NULL that may not be */
 };
 
 #define LIKES_FIRST_ERROR 100u
@@ -151,12 +156,13 @@ static inline bool likes_is_success(uint32_t status) {
 }
 
 /* Opens a service. The counts and the last likes of an earlier one, opened again, go on where it ended. LIKES_OK fills
- * the driver. Else the handle stays as it was, and the answer is the first of these that applies: LIKES_IN_USE,
+ * the driver. Else the handle stays as it was, and the answer is the first of these that applies: LIKES_NULL, IN_USE,
  * WRONG_RESERVED, WRONG_PAGES, WRONG_MARKS, WRONG_COUNT, WRONG_SEATS, WRONG_USERS, WRONG_LASTS, WRONG_ROOM, WRONG_HOT,
- * NO_MEMORY. */
+ * NO_MEMORY. (Where counts is NULL, it takes 8 bytes more for each page meanwhile. If it gets none, NO_MEMORY may come
+ * before other errors.) */
 uint32_t likes_open(const likes_options *options, likes_driver *driver);
 
-/* How many seats a service has, and 0 of an empty handle. */
+/* How many seats a service has, and 0 of an empty handle or NULL. */
 uint32_t likes_driver_seats(const likes_driver *driver);
 
 /* Hands out the seats, at the first call seat 0, then 1 and so on: LIKES_OK, or the first that applies of LIKES_IN_USE,
@@ -242,7 +248,7 @@ typedef struct likes_request {
 /* Runs requests one by one, and gives the number of those done. It stops before the first that is LIKES_BETWEEN or
  * LIKES_NO_ROOM, and at the end of the shorter array. The answer at which it stopped has that status, and those behind
  * it stay as they were. LIKES_UNKNOWN_OP comes before all that a seat's call answers, and without phase work. At an
- * empty handle it does none, and the first answer is LIKES_EMPTY. */
+ * empty handle it does none, and the first answer is LIKES_EMPTY; if requests is NULL and has a length, LIKES_NULL. */
 size_t likes_seat_run(likes_seat *seat, const likes_request *requests, size_t requests_len, likes_answer *answers,
                       size_t answers_len);
 
@@ -286,7 +292,7 @@ uint32_t likes_driver_snapshot(likes_driver *driver, uint32_t from, uint64_t *co
 
 /* Writes the pages that are split in the present split phase, or were in the last one, no two alike and the marked ones
  * among them. It answers how many it wrote: as many as the array has room for, and with room for LIKES_MAX_SPLIT all of
- * them. Before the first split phase they are the marked ones. Of an empty handle it writes none. */
+ * them. Before the first split phase they are the marked ones. Of an empty handle, or to NULL, it writes none. */
 size_t likes_driver_split_pages(likes_driver *driver, uint32_t *pages, size_t pages_len);
 
 /* Proposes pages to be split beside the marked ones, the first LIKES_MAX_SPLIT of the array, in place of those that the

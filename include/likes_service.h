@@ -25,20 +25,25 @@ extern "C" {
 /* What these calls answer, beside the statuses of likes.h. They are errors, and likes_status_text has their texts. But
  * for LIKES_LATE, nothing was done.
  *
- * A call of a service or a writer that is NULL, or of a service that was stopped, answers LIKES_NOT_STARTED, but for
- * those that close. Calls that take locks answer LIKES_HOLDS_SEAT to a thread that holds a seat of the service: they
- * could wait for the thread itself. These are all but likes_service_unlock, run, take_found, drive, tick, seat_turns,
- * phase, seats, statistics and fault, and likes_writer_open and likes_writer_drop. */
+ * A call of a service or a writer that is NULL answers LIKES_NOT_STARTED, and one of a service that was stopped
+ * LIKES_STOPPED, but for those that close. If another pointer is NULL, and isn't an array of no entries, the answer is
+ * LIKES_NULL before all others, or 0 or false where a call gives no status.
+ *
+ * Calls that take locks answer LIKES_HOLDS_SEAT to a thread that holds a seat of the service: they could wait for the
+ * thread itself. These are all but likes_service_unlock, run, take_found, drive, tick, seat_turns, phase, seats,
+ * statistics and fault, and likes_writer_open and likes_writer_drop. */
 enum likes_service_status {
     LIKES_NO_THREAD = 1000,    /* the driver's thread can't be started */
     LIKES_WRONG_PERIOD = 1001, /* period_us is over LIKES_MAX_PERIOD_US */
-    LIKES_NOT_STARTED = 1002,  /* the service or the writer is NULL, or the service was stopped */
+    LIKES_NOT_STARTED = 1002,  /* the service or the writer is NULL */
     LIKES_UNKNOWN_SEAT = 1003, /* the service has fewer seats */
     LIKES_LATE = 1004,         /* the look had no answer in time. If it was made, its answer is thrown away */
     LIKES_HOLDS_SEAT = 1005,   /* the calling thread holds a seat of the service */
     LIKES_NOT_LOCKED = 1006,   /* the calling thread doesn't hold the seat */
     LIKES_OPEN_WRITER = 1007,  /* a writer of the service is open */
-    LIKES_WRONG_TAG = 1008     /* the tag of a look in a row is 2^63 or more */
+    LIKES_WRONG_TAG = 1008,    /* the tag of a look in a row is 2^63 or more */
+    LIKES_STOPPED = 1009,      /* the service was stopped */
+    LIKES_WRONG_LENGTH = 1010  /* an array hasn't one entry for each page, or for each user */
 };
 
 typedef struct likes_service likes_service;
@@ -62,8 +67,8 @@ typedef struct likes_statistics {
  * no phases change.
  *
  * `service` points to NULL. LIKES_OK: now it points to the service. Else it stays as it is, and the answer is the first
- * that applies of LIKES_IN_USE, where it isn't NULL, LIKES_WRONG_PERIOD, an answer of likes_open, LIKES_NO_MEMORY and
- * LIKES_NO_THREAD. */
+ * that applies of LIKES_NULL, LIKES_IN_USE, where it points to something, LIKES_WRONG_PERIOD, an answer of likes_open,
+ * LIKES_NO_MEMORY and LIKES_NO_THREAD. */
 uint32_t likes_service_open(const likes_options *options, likes_service **service);
 
 /* How many seats it has: 0 where likes_service_fault isn't LIKES_OK. User u belongs to seat u % seats. */
@@ -73,7 +78,7 @@ uint32_t likes_service_seats(const likes_service *service);
  * it. Or nothing is done: LIKES_HOLDS_SEAT or LIKES_OPEN_WRITER. */
 uint32_t likes_service_close(likes_service *service);
 
-/* What is wrong with a service: LIKES_NOT_STARTED, or LIKES_OK. */
+/* What is wrong with a service: LIKES_NOT_STARTED, LIKES_STOPPED, or LIKES_OK. */
 uint32_t likes_service_fault(const likes_service *service);
 
 /* Why likes_service_lock gives NULL: the same, or LIKES_UNKNOWN_SEAT, or LIKES_HOLDS_SEAT, where the calling thread
@@ -105,7 +110,7 @@ uint32_t likes_service_glance(likes_service *service, uint32_t user, uint32_t pa
  * time, so a thread flushes before it rests. The likes of a user by one writer are counted in their order. */
 
 /* Opens a writer: LIKES_OK, and then `writer`, which pointed to NULL, points to it. Else that stays as it is:
- * LIKES_NOT_STARTED, IN_USE or NO_MEMORY. A writer takes 4 KB, and 0.5 KB for each seat. */
+ * LIKES_NULL, NOT_STARTED, STOPPED, IN_USE or NO_MEMORY. A writer takes 4 KB, and 0.5 KB for each seat. */
 uint32_t likes_writer_open(likes_service *service, likes_writer **writer);
 
 /* Keeps a like, which will be counted: LIKES_OK. Or nothing is kept: LIKES_NOT_STARTED, where the writer is NULL, or
@@ -133,13 +138,13 @@ uint32_t likes_writer_close(likes_writer *writer);
 /* Writes the page of a user's last like: an answer of likes_seat_last. Any thread may call it. */
 uint32_t likes_service_last(likes_service *service, uint32_t user, uint32_t *page);
 
-/* Writes the pages of all users' last likes, by user number, as likes_open takes them: LIKES_OK, or LIKES_WRONG_RANGE,
+/* Writes the pages of all users' last likes, by user number, as likes_open takes them: LIKES_OK, or LIKES_WRONG_LENGTH,
  * where the array hasn't one entry for each user. Those of one seat are of one moment, and after likes_service_retire
  * all are final: with the counts that likes_service_stop then gives, a new service goes on where this one has ended. */
 uint32_t likes_service_lasts(likes_service *service, uint32_t *lasts, size_t users);
 
 /* The counts of all pages at one moment, the end of a joined phase: LIKES_COUNTED, also where all seats have left. Or
- * LIKES_WRONG_RANGE, where the array hasn't one entry for each page. It takes up to two phases. Where all seats have
+ * LIKES_WRONG_LENGTH, where the array hasn't one entry for each page. It takes up to two phases. Where all seats have
  * left and are held, it waits until one is unlocked. (In the last phase of all, after 2^48, there is no moment:
  * LIKES_NO_MOMENT.) */
 uint32_t likes_service_counts(likes_service *service, uint64_t *counts, size_t pages);
@@ -177,8 +182,8 @@ void likes_service_unlock(likes_service *service, uint32_t number);
 
 /* Runs requests at a seat that the thread has locked, through changes of phases, and gives the number of those done. It
  * stops early only at a look that has no room: take found looks, and go on with that request. At a seat that the thread
- * doesn't hold no request is done, and the first answer is LIKES_NOT_STARTED, UNKNOWN_SEAT or NOT_LOCKED. Tags of looks
- * are below 2^63: another is answered LIKES_WRONG_TAG, and is none of those that wait. */
+ * doesn't hold no request is done, and the first answer is LIKES_NOT_STARTED, STOPPED, UNKNOWN_SEAT or NOT_LOCKED. Tags
+ * of looks are below 2^63: another is answered LIKES_WRONG_TAG, and is none of those that wait. */
 size_t likes_service_run(likes_service *service, uint32_t number, const likes_request *requests, size_t length,
                          likes_answer *answers);
 
@@ -186,7 +191,7 @@ size_t likes_service_run(likes_service *service, uint32_t number, const likes_re
  * False: there is none. */
 bool likes_service_take_found(likes_service *service, uint32_t number, likes_found *found);
 
-/* Takes up to found_len found looks at once, and gives their number. */
+/* Takes up to found_len found looks at once, and gives their number. The seat isn't NULL. */
 size_t likes_seat_take_all_found(likes_seat *seat, likes_found *found, size_t found_len);
 
 /* Makes a turn of the driver, and gives its answer. If that begins or ends a phase, it also does what comes of it: the
@@ -215,7 +220,7 @@ uint32_t likes_service_bring_back_seat(likes_service *service, uint32_t number);
  * likes_service_lasts, likes_service_counts, likes_service_snapshot, likes_service_stop and likes_service_close. */
 uint32_t likes_service_retire(likes_service *service);
 
-/* Ends the service and gives the final counts: LIKES_OK. Or nothing is done: LIKES_OPEN_WRITER, or LIKES_WRONG_RANGE,
+/* Ends the service and gives the final counts: LIKES_OK. Or nothing is done: LIKES_OPEN_WRITER, or LIKES_WRONG_LENGTH,
  * where the array hasn't one entry for each page. All threads are done with it. Found looks that were not taken are
  * lost, and so are last likes: take both between likes_service_retire and this. */
 uint32_t likes_service_stop(likes_service *service, uint64_t *counts, size_t pages);

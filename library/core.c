@@ -1,10 +1,13 @@
-/* The calls of likes.h that have defaults, or take NULL for an array of no entries or for a handle, over the proved
- * ones, which don't. All other calls of likes.h are the proved ones themselves. */
+/* The calls of likes.h that have defaults or take NULL, over the proved ones, which don't. All other calls of likes.h
+ * are the proved ones themselves. */
 #include "defaults.h"
+#include "missing.h"
 #include "proved.h"
 
+#include <stdlib.h>
+
 static const uint64_t no_count;
-static const uint32_t no_page;
+static const uint32_t no_page, wrong_page = LIKES_NO_PAGE - 1;
 static const likes_request no_request;
 
 /* The numbers for the proved call, with defaults. There `hot` 0 means that no page gets hot by itself. */
@@ -23,21 +26,59 @@ static likes_proved_options numbers_of(const likes_options *options) {
     return made;
 }
 
-uint32_t likes_open(const likes_options *options, likes_driver *driver) {
+/* Pages for the proved call. */
+typedef struct page_list {
+    const uint32_t *at;
+    size_t length;
+} page_list;
+
+/* An array without a length, or a length without an array, goes on as one page that no service has: so it is refused as
+ * any other wrong list is, in the order of faults. */
+static page_list list_of(const uint32_t *pages, size_t length) {
+    page_list list = {pages, length};
+    if ((pages == NULL) != (length == 0)) {
+        list.at = &wrong_page;
+        list.length = 1;
+    } else if (length == 0) {
+        list.at = &no_page;
+    }
+    return list;
+}
+
+/* Opens with counts of so many pages, which aren't NULL. */
+static uint32_t open_with(const likes_options *options, const uint64_t *counts, size_t pages, likes_driver *driver) {
     likes_proved_options numbers = numbers_of(options);
-    const uint64_t *counts = options->counts != NULL ? options->counts : &no_count;
-    size_t pages = options->counts != NULL ? options->pages : 0;
-    const uint32_t *marks = options->marks_len > 0 ? options->marks : &no_page;
-    const uint32_t *lasts = options->lasts_len > 0 ? options->lasts : &no_page;
+    page_list marks = list_of(options->marks, options->marks_len), lasts = list_of(options->lasts, options->lasts_len);
     uint32_t status =
-        likes_proved_open(&numbers, counts, pages, marks, options->marks_len, lasts, options->lasts_len, driver);
+        likes_proved_open(&numbers, counts, pages, marks.at, marks.length, lasts.at, lasts.length, driver);
     if (status == LIKES_OK)
         driver->seats = numbers.seats;
     return status;
 }
 
+/* Opens with counts of 0, for which it takes memory meanwhile, unless their number is wrong. */
+static uint32_t open_with_zeros(const likes_options *options, likes_driver *driver) {
+    size_t pages = options->pages;
+    if (pages == 0 || pages > LIKES_MAX_PAGES)
+        return open_with(options, &no_count, 0, driver);
+    uint64_t *zeros = (uint64_t *)calloc(pages, sizeof *zeros);
+    if (zeros == NULL)
+        return LIKES_NO_MEMORY;
+    uint32_t status = open_with(options, zeros, pages, driver);
+    free(zeros);
+    return status;
+}
+
+uint32_t likes_open(const likes_options *options, likes_driver *driver) {
+    if (options == NULL || driver == NULL)
+        return LIKES_NULL;
+    if (options->counts == NULL)
+        return open_with_zeros(options, driver);
+    return open_with(options, options->counts, options->pages, driver);
+}
+
 uint32_t likes_driver_seats(const likes_driver *driver) {
-    return (uint32_t)driver->seats;
+    return driver != NULL ? (uint32_t)driver->seats : 0;
 }
 
 uint32_t likes_seat_of(uint32_t user, uint32_t seats) {
@@ -46,32 +87,58 @@ uint32_t likes_seat_of(uint32_t user, uint32_t seats) {
 
 uint32_t likes_seat_lasts(likes_seat *seat, uint32_t from, uint32_t *pages, size_t pages_len) {
     uint32_t page;
+    if (likes_is_missing(pages, pages_len))
+        return LIKES_NULL;
     return likes_proved_seat_lasts(seat, from, pages_len == 0 ? &page : pages, pages_len);
 }
 
-size_t likes_seat_run(likes_seat *seat, const likes_request *requests, size_t requests_len, likes_answer *answers,
-                      size_t answers_len) {
+/* Runs requests where an array is NULL: none, if that has a length. */
+__attribute__((noinline, cold)) static size_t run_without(likes_seat *seat, const likes_request *requests,
+                                                          size_t requests_len, likes_answer *answers,
+                                                          size_t answers_len) {
     likes_answer answer;
+    if (likes_is_missing(answers, answers_len))
+        return 0;
+    if (likes_is_missing(requests, requests_len)) {
+        if (answers_len > 0)
+            answers[0] = (likes_answer){.status = LIKES_NULL};
+        return 0;
+    }
     return likes_proved_seat_run(seat, requests_len == 0 ? &no_request : requests, requests_len,
                                  answers_len == 0 ? &answer : answers, answers_len);
 }
 
+size_t likes_seat_run(likes_seat *seat, const likes_request *requests, size_t requests_len, likes_answer *answers,
+                      size_t answers_len) {
+    if (requests == NULL || answers == NULL)
+        return run_without(seat, requests, requests_len, answers, answers_len);
+    return likes_proved_seat_run(seat, requests, requests_len, answers, answers_len);
+}
+
 uint32_t likes_driver_snapshot(likes_driver *driver, uint32_t from, uint64_t *counts, size_t counts_len) {
     uint64_t count;
+    if (likes_is_missing(counts, counts_len))
+        return LIKES_NULL;
     return likes_proved_driver_snapshot(driver, from, counts_len == 0 ? &count : counts, counts_len);
 }
 
 size_t likes_driver_split_pages(likes_driver *driver, uint32_t *pages, size_t pages_len) {
     uint32_t page;
+    if (likes_is_missing(pages, pages_len))
+        return 0;
     return likes_proved_driver_split_pages(driver, pages_len == 0 ? &page : pages, pages_len);
 }
 
 uint32_t likes_driver_propose(likes_driver *driver, const uint32_t *pages, size_t pages_len) {
+    if (likes_is_missing(pages, pages_len))
+        return LIKES_NULL;
     return likes_proved_driver_propose(driver, pages_len == 0 ? &no_page : pages, pages_len);
 }
 
 uint32_t likes_driver_last_counts(likes_driver *driver, uint32_t from, uint64_t *counts, size_t counts_len) {
     uint64_t count;
+    if (likes_is_missing(counts, counts_len))
+        return LIKES_NULL;
     return likes_proved_driver_last_counts(driver, from, counts_len == 0 ? &count : counts, counts_len);
 }
 

@@ -26,6 +26,7 @@ static const char *const errors[] = {
     "room is 1 to 4096",
     "hot is 1 to 1000000",
     "last likes are one for each user, of a page or none",
+    "a pointer is NULL",
 };
 
 /* From LIKES_NO_THREAD on. */
@@ -40,6 +41,8 @@ static const char *const of_services[] = {
     "the thread does not hold the seat",
     "a writer is open",
     "a tag is below 9223372036854775808",
+    "the service was stopped",
+    "an array has one entry for each page, or for each user",
 };
 
 /* The text of a status among some, of which the first has a number. NULL: it is none of them. */

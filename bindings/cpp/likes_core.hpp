@@ -66,9 +66,9 @@ public:
             lasts_.push_back(last.value_or(LIKES_NO_PAGE));
         numbers_.counts = counts.data();
         numbers_.pages = counts.size();
-        numbers_.marks = options.marks.data();
+        numbers_.marks = data(options.marks);
         numbers_.marks_len = options.marks.size();
-        numbers_.lasts = lasts_.data();
+        numbers_.lasts = data(lasts_);
         numbers_.lasts_len = lasts_.size();
         numbers_.users = options.users;
         numbers_.seats = given(options.seats);
@@ -82,6 +82,11 @@ public:
     const likes_options *numbers() const { return &numbers_; }
 
 private:
+    // In C, an array without a length is refused, and a vector of no entries may have memory.
+    static const std::uint32_t *data(const std::vector<std::uint32_t> &pages) {
+        return pages.empty() ? nullptr : pages.data();
+    }
+
     // In C, 0 is the default, and here it is a wrong number.
     static std::uint32_t given(std::optional<std::uint32_t> number) {
         return number == 0u ? UINT32_MAX : number.value_or(0);

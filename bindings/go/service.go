@@ -211,7 +211,7 @@ func (s *Service) Snapshot() (*Moment, error) {
 	return m, nil
 }
 
-// ReadSnapshot writes a snapshot over another one, whose memory it takes. ErrWrongRange: that is of another service.
+// ReadSnapshot writes a snapshot over another one, whose memory it takes. ErrWrongLength: that is of another service.
 func (s *Service) ReadSnapshot(m *Moment) error {
 	return s.call(0, func() error {
 		return wanted(C.likes_service_snapshot(s.c, countsAt(m.Counts), C.size_t(len(m.Counts)), pagesAt(m.Lasts),

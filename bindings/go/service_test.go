@@ -116,7 +116,7 @@ func TestSnapshots(t *testing.T) {
 		}
 	}
 	for _, m := range []*Moment{{make([]uint64, 2), make([]uint32, 2)}, {make([]uint64, 3), make([]uint32, 1)}, {}} {
-		if err := service.ReadSnapshot(m); !errors.Is(err, ErrWrongRange) {
+		if err := service.ReadSnapshot(m); !errors.Is(err, ErrWrongLength) {
 			t.Error(err)
 		}
 	}

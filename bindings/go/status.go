@@ -51,6 +51,7 @@ const (
 	ErrNoThread    Error = C.LIKES_NO_THREAD
 	ErrWrongPeriod Error = C.LIKES_WRONG_PERIOD
 	ErrUnknownSeat Error = C.LIKES_UNKNOWN_SEAT
+	ErrWrongLength Error = C.LIKES_WRONG_LENGTH
 	ErrLate        Error = C.LIKES_LATE        // the look had no answer in time
 	ErrHoldsSeat   Error = C.LIKES_HOLDS_SEAT  // the goroutine holds a seat, by WithSeat
 	ErrOpenWriter  Error = C.LIKES_OPEN_WRITER // a writer or a pool is open

@@ -2,8 +2,8 @@
  *
  *   - No call but likes_open may allocate, and none but those that free may give memory back. Each free of a seat or of
  *     a driver must give some back, and once all of a service and its phase are freed, in any order, all of it.
- *   - Each allocation of an opening is refused in turn, alone and with all that follow it. Each such opening must
- *     answer that it is out of memory, leave the driver empty, and give back what it took.
+ *   - Each allocation of an opening is refused in turn, alone and with all that follow it, also where counts are NULL.
+ *     Each such opening must answer that it is out of memory, leave the driver empty, and give back what it took.
  *
  * It replaces malloc and its kin, and calls those of the GNU C library by their other names. */
 #include "opening.h"
@@ -114,15 +114,17 @@ static void fail(int line, const char *call, const char *text) {
             fail(__LINE__, #call, "gives nothing back");            \
     } while (0)
 
+/* The initial counts. */
+static const uint64_t zeros[PAGES], *counts_of_all = zeros;
+
 /* Opens the service, where these allocations are refused. */
 static uint32_t open_service(size_t from, size_t to) {
-    static const uint64_t counts[PAGES];
     static const uint32_t marks[] = {0}, lasts[USERS];
     static const likes_options options = {.seats = SEATS, .users = USERS, .room = ROOM, .hot = 10};
     first = from;
     last = to;
     made = blocks = 0;
-    uint32_t status = open_core(options, counts, PAGES, marks, 1, lasts, USERS, &driver);
+    uint32_t status = open_core(options, counts_of_all, PAGES, marks, 1, lasts, USERS, &driver);
     first = last = 0;
     return status;
 }
@@ -289,9 +291,14 @@ int main(void) {
                 use((enum stage)stage, driver_after, phase_after);
     if (open_service(0, 0) != LIKES_OK)
         fail(__LINE__, "likes_open", "has failed");
-    size_t allocations = made;
+    size_t allocations = made, held = blocks;
     likes_driver_free(&driver);
     refuse(allocations);
+    counts_of_all = NULL;
+    if (open_service(0, 0) != LIKES_OK || made != allocations + 1 || blocks != held)
+        fail(__LINE__, "likes_open", "without counts takes another number of blocks, or leaves some behind");
+    likes_driver_free(&driver);
+    refuse(allocations + 1);
     printf("each of %zu allocations refused\n", allocations);
     return 0;
 }

@@ -446,8 +446,83 @@ static void defaults(void) {
     likes_driver_free(&driver);
     /* No pages, and no users. */
     IS(likes_open(&(likes_options){.counts = counts, .users = 1}, &driver), LIKES_WRONG_PAGES);
-    IS(likes_open(&(likes_options){.pages = 2, .users = 1}, &driver), LIKES_WRONG_PAGES);
+    IS(likes_open(&(likes_options){.users = 1}, &driver), LIKES_WRONG_PAGES);
+    IS(likes_open(&(likes_options){.pages = LIKES_MAX_PAGES + 1, .users = 1}, &driver), LIKES_WRONG_PAGES);
     IS(likes_open(&(likes_options){.counts = counts, .pages = 2}, &driver), LIKES_WRONG_USERS);
+}
+
+/* Without counts, all are 0. */
+static void zeros(void) {
+    likes_options options = {.pages = LIKES_MAX_PAGES, .users = 1, .seats = 1};
+    likes_driver driver = {0};
+    likes_seat seat = {0};
+    uint64_t counts[3] = {8, 8, 8};
+    IS(likes_open(&options, &driver), LIKES_OK);
+    IS(likes_driver_take_seat(&driver, &seat), LIKES_OK);
+    IS(likes_seat_like(&seat, 0, LIKES_MAX_PAGES - 2), LIKES_LIKED);
+    IS(likes_seat_retire(&seat), LIKES_GONE);
+    IS(likes_driver_last_counts(&driver, LIKES_MAX_PAGES - 3, counts, 3), LIKES_COUNTED);
+    IS(counts[0] + counts[2], 0);
+    IS(counts[1], 1);
+    likes_seat_free(&seat);
+    likes_driver_free(&driver);
+}
+
+/* An array without its length is refused, and so is a length without an array, each in the order of openings. */
+static void forgotten(void) {
+    static const uint64_t counts[] = {1};
+    static const uint32_t pages[] = {0};
+    likes_driver driver = {0};
+    likes_options lasts = {.counts = counts, .pages = 1, .users = 1, .lasts = pages}, marks = lasts;
+    IS(likes_open(&lasts, &driver), LIKES_WRONG_LASTS);
+    lasts.users = 0;
+    IS(likes_open(&lasts, &driver), LIKES_WRONG_USERS);
+    for (uint32_t users = 1; users < 4; users++) {
+        lasts = (likes_options){.counts = counts, .pages = 1, .users = users, .lasts_len = users};
+        IS(likes_open(&lasts, &driver), LIKES_WRONG_LASTS);
+        lasts.lasts = pages;
+        lasts.lasts_len = 0;
+        IS(likes_open(&lasts, &driver), LIKES_WRONG_LASTS);
+    }
+    marks.lasts = NULL;
+    marks.marks = pages;
+    IS(likes_open(&marks, &driver), LIKES_WRONG_MARKS);
+    marks.pages = 0;
+    IS(likes_open(&marks, &driver), LIKES_WRONG_PAGES);
+    marks = (likes_options){.counts = counts, .pages = 1, .users = 1, .marks_len = 1};
+    IS(likes_open(&marks, &driver), LIKES_WRONG_MARKS);
+    marks = (likes_options){.counts = counts, .users = 1};
+    IS(likes_open(&marks, &driver), LIKES_WRONG_PAGES);
+    IS(driver.at == NULL, true);
+}
+
+/* Pointers that are NULL. Nothing is done. */
+static void nulls(void) {
+    static const uint64_t counts[] = {7};
+    static const uint32_t marks[] = {0};
+    opened it = open_service((likes_options){.seats = 1, .users = 1, .room = 1}, counts, 1, marks, 1);
+    likes_options options = {.counts = counts, .pages = 1, .users = 1};
+    likes_request request = {.op = LIKES_LIKE};
+    likes_answer answer = {.count = 9, .status = 9};
+    likes_driver driver = {0};
+    uint64_t last = 8;
+    IS(likes_open(NULL, &driver), LIKES_NULL);
+    IS(likes_open(NULL, &it.driver), LIKES_NULL);
+    IS(likes_open(&options, NULL), LIKES_NULL);
+    IS(likes_driver_seats(NULL), 0);
+    IS(likes_seat_run(&it.seats[0], &request, 1, NULL, 1), 0);
+    IS(likes_seat_run(&it.seats[0], NULL, 1, &answer, 1), 0);
+    IS(answer.status, LIKES_NULL);
+    IS(answer.count, 0);
+    IS(likes_seat_lasts(&it.seats[0], 0, NULL, 1), LIKES_NULL);
+    IS(likes_driver_snapshot(&it.driver, 0, NULL, 1), LIKES_NULL);
+    IS(likes_driver_last_counts(&it.driver, 0, NULL, 1), LIKES_NULL);
+    IS(likes_driver_propose(&it.driver, NULL, 1), LIKES_NULL);
+    IS(likes_driver_split_pages(&it.driver, NULL, 1), 0);
+    IS(likes_seat_retire(&it.seats[0]), LIKES_GONE);
+    IS(likes_driver_last_counts(&it.driver, 0, &last, 1), LIKES_COUNTED);
+    IS(last, 7);
+    free_service(&it);
 }
 
 /* An opening in which everything is wrong is put right in the order in which it is refused. */
@@ -1228,6 +1303,7 @@ static const struct {
     {LIKES_WRONG_ROOM, "room is 1 to 4096"},
     {LIKES_WRONG_HOT, "hot is 1 to 1000000"},
     {LIKES_WRONG_LASTS, "last likes are one for each user, of a page or none"},
+    {LIKES_NULL, "a pointer is NULL"},
     {LIKES_NO_THREAD, "no thread"},
     {LIKES_WRONG_PERIOD, "period_us is 1 to 1000000000"},
     {LIKES_NOT_STARTED, "not started"},
@@ -1237,8 +1313,10 @@ static const struct {
     {LIKES_NOT_LOCKED, "the thread does not hold the seat"},
     {LIKES_OPEN_WRITER, "a writer is open"},
     {LIKES_WRONG_TAG, "a tag is below 9223372036854775808"},
+    {LIKES_STOPPED, "the service was stopped"},
+    {LIKES_WRONG_LENGTH, "an array has one entry for each page, or for each user"},
 };
-enum { TOLD = sizeof told / sizeof *told, OUTCOMES = 18, ERRORS = 18 };
+enum { TOLD = sizeof told / sizeof *told, OUTCOMES = 18, ERRORS = 19 };
 
 /* Each status has its number and its text. No other number has one. Those that say success are told apart. */
 static void statuses(void) {
@@ -1297,6 +1375,9 @@ int main(int count, char **words) {
     room();
     openings();
     defaults();
+    zeros();
+    forgotten();
+    nulls();
     order_of_openings();
     marks();
     empty_handles();

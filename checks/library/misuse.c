@@ -1,7 +1,8 @@
 /* Wrong uses of likes_service.h, each of which must be answered by a status: calls of a service that is NULL, or was
  * stopped; a service that is opened where there is one; wrong seats and periods; seats that have all left; looks with
- * the host's own tags at a seat that also answers likes_service_look; and arrays of no entries. Threads read the phase
- * while it changes, and a service can't start its thread. Pages are proposed and split.
+ * the host's own tags at a seat that also answers likes_service_look; arrays of no entries, of a wrong length, or with
+ * a length that was forgotten; and each pointer that is NULL. Threads read the phase while it changes, and a service
+ * can't start its thread. Pages are proposed and split.
  *
  * If a call is answered otherwise, it prints a line and exits with status 1. After 30 seconds a signal ends it. */
 #include "harness.h"
@@ -37,6 +38,7 @@ static void all_refused(likes_service *it, uint32_t status) {
     likes_answer answer = {.count = 1};
     likes_found found;
     likes_statistics told = {.likes = 8};
+    likes_writer *writer = NULL;
     uint64_t counts[2] = {5, 6};
     uint32_t last = 7;
     IS(likes_service_like(it, 0, 0), status);
@@ -70,6 +72,8 @@ static void all_refused(likes_service *it, uint32_t status) {
     IS(likes_service_bring_back_seat(it, 0), status);
     IS(likes_service_fault(it), status);
     IS(likes_service_seat_fault(it, 0), status);
+    IS(likes_writer_open(it, &writer), status);
+    IS(writer == NULL, true);
     IS(last, 7);
     IS(likes_service_retire(it), status);
     IS(likes_service_stop(it, counts, 2), status);
@@ -80,8 +84,8 @@ static void all_refused(likes_service *it, uint32_t status) {
 /* Stops the service, and closes it. */
 static void stop(uint64_t *totals, size_t pages) {
     IS(likes_service_stop(service, totals, pages), LIKES_OK);
-    all_refused(service, LIKES_NOT_STARTED);
-    likes_service_close(service);
+    all_refused(service, LIKES_STOPPED);
+    IS(likes_service_close(service), LIKES_OK);
     service = NULL;
 }
 
@@ -95,7 +99,7 @@ static void not_started(void) {
     IS(start(2, 4, 1), LIKES_OK);
     IS(start(2, 4, 1), LIKES_IN_USE);
     IS(likes_service_like(service, 0, 0), LIKES_LIKED);
-    IS(likes_service_stop(service, totals, 1), LIKES_WRONG_RANGE);
+    IS(likes_service_stop(service, totals, 1), LIKES_WRONG_LENGTH);
     stop(totals, 2);
     IS(totals[0], 11);
     all_refused(service, LIKES_NOT_STARTED);
@@ -394,15 +398,98 @@ static void no_entries(void) {
     IS(likes_seat_take_all_found(seat, NULL, 0), 0);
     likes_service_unlock(service, 0);
     IS(likes_service_run(service, 1, NULL, 0, NULL), 0);
-    IS(likes_service_counts(service, NULL, 0), LIKES_WRONG_RANGE);
+    IS(likes_service_counts(service, NULL, 0), LIKES_WRONG_LENGTH);
     for (int times = 0; times < 3; times++) {
         IS(likes_service_counts(service, totals, 1), LIKES_COUNTED);
         IS(totals[0], 5);
     }
-    IS(likes_service_lasts(service, NULL, 0), LIKES_WRONG_RANGE);
-    IS(likes_service_stop(service, NULL, 0), LIKES_WRONG_RANGE);
+    IS(likes_service_lasts(service, NULL, 0), LIKES_WRONG_LENGTH);
+    IS(likes_service_snapshot(service, NULL, 0, NULL, 0), LIKES_WRONG_LENGTH);
+    IS(likes_service_stop(service, NULL, 0), LIKES_WRONG_LENGTH);
     stop(totals, 1);
     IS(totals[0], 5);
+}
+
+/* Counts that are NULL are zeros. Last likes or marks without a length, or a length without an array, are refused. */
+static void forgotten(void) {
+    static const uint32_t lasts[] = {1, 0};
+    uint64_t totals[3];
+    likes_options options = {.pages = 3, .users = 2};
+    IS(likes_service_open(&options, &service), LIKES_OK);
+    IS(likes_service_like(service, 1, 2), LIKES_LIKED);
+    stop(totals, 3);
+    IS(totals[0] + totals[1], 0);
+    IS(totals[2], 1);
+    options.lasts = lasts;
+    IS(likes_service_open(&options, &service), LIKES_WRONG_LASTS);
+    options = (likes_options){.pages = 3, .users = 2, .lasts_len = 2};
+    IS(likes_service_open(&options, &service), LIKES_WRONG_LASTS);
+    options = (likes_options){.pages = 3, .users = 2, .marks = lasts};
+    IS(likes_service_open(&options, &service), LIKES_WRONG_MARKS);
+    options = (likes_options){.pages = 3, .users = 2, .marks_len = 1};
+    IS(likes_service_open(&options, &service), LIKES_WRONG_MARKS);
+    options = (likes_options){.users = 2};
+    IS(likes_service_open(&options, &service), LIKES_WRONG_PAGES);
+    options = (likes_options){.pages = LIKES_MAX_PAGES + 1, .users = 2};
+    IS(likes_service_open(&options, &service), LIKES_WRONG_PAGES);
+    IS(service == NULL, true);
+}
+
+/* Each pointer of a call is NULL in turn, of a service in any state: nothing is done, and nothing else is said. */
+static void null_pointers(likes_service *it) {
+    likes_options options = {.pages = 1, .users = 1};
+    likes_service *none = NULL;
+    likes_request request = {.op = LIKES_LIKE};
+    likes_answer answer = {.count = 1};
+    uint64_t counts[2];
+    uint32_t lasts[100];
+    IS(likes_service_open(NULL, &none), LIKES_NULL);
+    IS(likes_service_open(NULL, &it), LIKES_NULL);
+    IS(likes_service_open(&options, NULL), LIKES_NULL);
+    IS(none == NULL, true);
+    IS(likes_service_look(it, 0, 0, NULL), LIKES_NULL);
+    IS(likes_service_look_within(it, 0, 0, 1000, NULL), LIKES_NULL);
+    IS(likes_service_glance(it, 0, 0, NULL), LIKES_NULL);
+    IS(likes_service_last(it, 0, NULL), LIKES_NULL);
+    IS(likes_service_lasts(it, NULL, 100), LIKES_NULL);
+    IS(likes_service_counts(it, NULL, 2), LIKES_NULL);
+    IS(likes_service_snapshot(it, NULL, 2, lasts, 100), LIKES_NULL);
+    IS(likes_service_snapshot(it, counts, 2, NULL, 100), LIKES_NULL);
+    IS(likes_service_statistics(it, NULL), LIKES_NULL);
+    IS(likes_service_propose(it, NULL, 1), LIKES_NULL);
+    IS(likes_service_split_pages(it, NULL, 1), 0);
+    IS(likes_writer_open(it, NULL), LIKES_NULL);
+    IS(likes_writer_look(NULL, 0, 0, NULL), LIKES_NULL);
+    IS(likes_service_stop(it, NULL, 2), LIKES_NULL);
+    IS(likes_service_run(it, 0, &request, 1, NULL), 0);
+    IS(likes_service_run(it, 0, NULL, 1, NULL), 0);
+    IS(likes_service_run(it, 0, NULL, 1, &answer), 0);
+    IS(answer.status, LIKES_NULL);
+    IS(answer.count, 0);
+    IS(likes_service_take_found(it, 0, NULL), false);
+}
+
+static void nulls(void) {
+    uint64_t totals[2];
+    likes_writer *writer = NULL;
+    null_pointers(NULL);
+    IS(start(1, 4, 1000), LIKES_OK);
+    null_pointers(service);
+    likes_seat *seat = likes_service_lock(service, 0);
+    null_pointers(service);
+    IS(likes_seat_take_all_found(seat, NULL, 1), 0);
+    likes_service_unlock(service, 0);
+    IS(likes_writer_open(service, &writer), LIKES_OK);
+    IS(likes_writer_like(writer, 0, 1), LIKES_OK);
+    IS(likes_writer_look(writer, 0, 1, NULL), LIKES_NULL);
+    null_pointers(service);
+    IS(likes_writer_close(writer), LIKES_OK);
+    IS(likes_service_stop(service, totals, 2), LIKES_OK);
+    IS(totals[0], 10);
+    IS(totals[1], 21);
+    null_pointers(service);
+    IS(likes_service_close(service), LIKES_OK);
+    service = NULL;
 }
 
 /* Last likes, while the service goes on and after all seats have retired, from which another service goes on. */
@@ -419,8 +506,8 @@ static void last_likes(void) {
     IS(likes_service_last(service, 64, &last), LIKES_OK);
     IS(last, LIKES_NO_PAGE);
     IS(likes_service_last(service, 100, &last), LIKES_UNKNOWN_USER);
-    IS(likes_service_lasts(service, lasts, 99), LIKES_WRONG_RANGE);
-    IS(likes_service_lasts(service, lasts, 101), LIKES_WRONG_RANGE);
+    IS(likes_service_lasts(service, lasts, 99), LIKES_WRONG_LENGTH);
+    IS(likes_service_lasts(service, lasts, 101), LIKES_WRONG_LENGTH);
     IS(likes_service_retire(service), LIKES_OK);
     IS(likes_service_lasts(service, lasts, 100), LIKES_OK);
     for (uint32_t user = 0; user < 100; user++)
@@ -451,6 +538,8 @@ int main(void) {
     taken(2);
     phases();
     no_entries();
+    forgotten();
+    nulls();
     last_likes();
     puts("all wrong uses answered right");
     return 0;

@@ -1,13 +1,32 @@
 /* The calls of library/core.c, without the library: the proved calls below them are defined here, and see what they are
- * passed. An array of no entries must come as a pointer that isn't NULL, and everything else as it was.
+ * passed. An array of no entries must come as a pointer that isn't NULL, and everything else as it was. Any other array
+ * that is NULL is refused, and no proved call is made.
  *
  * If something else is passed, it prints a line and exits with status 1. */
+#include <stdlib.h>
+
+/* In place of calloc in core.c, which gives this back: while `has_no_memory`, nothing is given. */
+static int has_no_memory, taken, given_back;
+
+static void *take_zeros(size_t number, size_t size) {
+    taken += !has_no_memory;
+    return has_no_memory ? NULL : calloc(number, size);
+}
+
+static void give_back(void *block) {
+    given_back += block != NULL;
+    free(block);
+}
+
+#define calloc take_zeros
+#define free give_back
 #include "../../library/core.c"
+#undef calloc
+#undef free
 
 #include "opening.h"
 
 #include <stdio.h>
-#include <stdlib.h>
 
 /* In place of what depends on the processors. */
 enum { default_seats = 48 };
@@ -22,6 +41,8 @@ static struct {
     likes_proved_options options;
     size_t first_len, second_len, third_len;
     uint32_t from;
+    uint32_t mark, last; /* the first ones of an opening, if there are some */
+    uint64_t sum;        /* of its counts */
     int calls;
 } seen;
 
@@ -35,6 +56,11 @@ uint32_t likes_proved_open(const likes_proved_options *options, const uint64_t *
     seen.second_len = marks_len;
     seen.third = lasts;
     seen.third_len = lasts_len;
+    seen.mark = marks_len > 0 ? marks[0] : 0;
+    seen.last = lasts_len > 0 ? lasts[0] : 0;
+    seen.sum = 0;
+    for (size_t page = 0; page < pages; page++)
+        seen.sum += counts[page];
     seen.options = *options;
     return 41;
 }
@@ -131,13 +157,71 @@ static void has_defaults(void) {
     likes_options options = {.counts = counts, .pages = 1};
     HOLD(likes_open(&options, &driver) == 41 && has_numbers(default_seats, 0, 64, 512));
     options = (likes_options){.users = 3, .seats = 1, .room = 5, .hot = LIKES_NO_HOT, .pages = 9};
-    HOLD(likes_open(&options, &driver) == 41 && has_numbers(1, 3, 5, 0) && seen.first_len == 0);
+    HOLD(likes_open(&options, &driver) == 41 && has_numbers(1, 3, 5, 0) && seen.first_len == 9);
     options = (likes_options){.seats = 65, .room = 4097, .hot = LIKES_NO_HOT - 1};
     HOLD(likes_open(&options, &driver) == 41 && has_numbers(65, 0, 4097, LIKES_NO_HOT - 1));
     options = (likes_options){.hot = 1, .reserved = 2, .reserved_too = {3, 4, 5, 6, 7}};
     HOLD(likes_open(&options, &driver) == 41 && has_numbers(default_seats, 0, 64, 1));
     for (uint64_t i = 0; i < 6; i++)
         HOLD(seen.options.reserved[i] == i + 2);
+}
+
+/* Counts that are NULL are zeros, for which memory is taken unless there are no or too many pages. */
+static void has_zeros(void) {
+    likes_driver driver = {0};
+    likes_options options = {.pages = 1000, .users = 1};
+    taken = given_back = 0;
+    HOLD(likes_open(&options, &driver) == 41 && seen.first_len == 1000 && seen.sum == 0);
+    options.pages = LIKES_MAX_PAGES;
+    HOLD(likes_open(&options, &driver) == 41 && seen.first_len == LIKES_MAX_PAGES && seen.sum == 0);
+    HOLD(taken == 2 && given_back == 2);
+    for (int n = 0; n < 3; n++) {
+        options.pages = n == 0 ? 0 : n == 1 ? LIKES_MAX_PAGES + 1 : SIZE_MAX;
+        HOLD(likes_open(&options, &driver) == 41 && seen.first != NULL && seen.first_len == 0);
+    }
+    HOLD(taken == 2 && given_back == 2);
+    int calls = seen.calls;
+    options.pages = 1;
+    has_no_memory = 1;
+    HOLD(likes_open(&options, &driver) == LIKES_NO_MEMORY && seen.calls == calls);
+    has_no_memory = 0;
+}
+
+/* An array without a length, or a length without an array, is passed on as a page that no service has. */
+static void has_wrong_lists(void) {
+    static const uint32_t pages[] = {0, 1};
+    static const uint64_t counts[] = {1};
+    likes_driver driver = {0};
+    likes_options wrong[] = {{.marks = pages}, {.marks_len = 2}, {.lasts = pages}, {.lasts_len = 1}};
+    for (size_t n = 0; n < 4; n++) {
+        wrong[n].counts = counts;
+        wrong[n].pages = 1;
+        wrong[n].users = 1;
+        HOLD(likes_open(&wrong[n], &driver) == 41);
+        HOLD(n < 2 ? seen.second_len == 1 && seen.mark == UINT32_MAX - 1 : seen.second_len == 0);
+        HOLD(n < 2 ? seen.third_len == 0 : seen.third_len == 1 && seen.last == UINT32_MAX - 1);
+    }
+}
+
+/* What else is NULL is refused, and no proved call is made. */
+static void refuses(void) {
+    likes_options options = {.pages = 1, .users = 1};
+    likes_driver driver = {0};
+    likes_seat seat = {0};
+    likes_request request = {0};
+    likes_answer answer = {.count = 9, .status = 9};
+    int calls = seen.calls;
+    HOLD(likes_open(NULL, &driver) == LIKES_NULL && likes_open(&options, NULL) == LIKES_NULL);
+    HOLD(likes_driver_seats(NULL) == 0);
+    HOLD(likes_seat_lasts(&seat, 0, NULL, 1) == LIKES_NULL);
+    HOLD(likes_driver_snapshot(&driver, 0, NULL, 1) == LIKES_NULL);
+    HOLD(likes_driver_last_counts(&driver, 0, NULL, 1) == LIKES_NULL);
+    HOLD(likes_driver_propose(&driver, NULL, 1) == LIKES_NULL);
+    HOLD(likes_driver_split_pages(&driver, NULL, 1) == 0);
+    HOLD(likes_seat_run(&seat, &request, 1, NULL, 1) == 0 && likes_seat_run(&seat, NULL, 1, NULL, 1) == 0);
+    HOLD(likes_seat_run(&seat, NULL, 1, NULL, 0) == 0 && answer.status == 9);
+    HOLD(likes_seat_run(&seat, NULL, 1, &answer, 1) == 0 && answer.status == LIKES_NULL && answer.count == 0);
+    HOLD(seen.calls == calls);
 }
 
 int main(void) {
@@ -171,16 +255,20 @@ int main(void) {
     HOLD(seen.calls == 56);
     HOLD(driver.seats == 0); /* nothing was opened */
     has_defaults();
+    has_zeros();
+    has_wrong_lists();
+    refuses();
+    HOLD(seen.calls == 69);
     likes_seat_free(NULL);
     likes_driver_free(NULL);
     likes_phase_free(NULL);
-    HOLD(seen.calls == 60);
+    HOLD(seen.calls == 69);
     likes_seat_free(&seat);
     HOLD(seen.first == &seat);
     likes_driver_free(&driver);
     HOLD(seen.first == &driver);
     likes_phase_free(&phase);
-    HOLD(seen.first == &phase && seen.calls == 63);
+    HOLD(seen.first == &phase && seen.calls == 72);
     HOLD(likes_seat_of(7, 3) == 1 && likes_seat_of(UINT32_MAX, 16) == 15);
     puts("all passed on as it should be");
     return 0;

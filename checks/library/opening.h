@@ -1,5 +1,5 @@
-/* Openings for the programs of checks/library/, which name arrays and numbers apart. Where `hot` is 0, no page gets hot
- * by itself. */
+/* Openings for the programs of checks/library/, which name arrays and numbers apart. An array of no entries goes as
+ * NULL. Where `hot` is 0, no page gets hot by itself. */
 #ifndef LIVE_OPENING_H
 #define LIVE_OPENING_H
 
@@ -9,9 +9,9 @@ static inline likes_options options_with(likes_options it, const uint64_t *count
                                          size_t marks_len, const uint32_t *lasts, size_t lasts_len) {
     it.counts = counts;
     it.pages = pages;
-    it.marks = marks;
+    it.marks = marks_len > 0 ? marks : NULL;
     it.marks_len = marks_len;
-    it.lasts = lasts;
+    it.lasts = lasts_len > 0 ? lasts : NULL;
     it.lasts_len = lasts_len;
     if (it.hot == 0)
         it.hot = LIKES_NO_HOT;

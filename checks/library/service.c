@@ -139,7 +139,7 @@ static void play(uint64_t seed, uint32_t room, uint32_t period) {
     take_counts();
     for (uint32_t i = 0; i < THREADS; i++)
         pthread_join(workers[i].thread, NULL);
-    hold(likes_service_stop(service, totals, PAGES - 1) == LIKES_WRONG_RANGE, "a wrong length was taken");
+    hold(likes_service_stop(service, totals, PAGES - 1) == LIKES_WRONG_LENGTH, "a wrong length was taken");
     hold(likes_service_stop(service, totals, PAGES) == LIKES_OK, "the service was not stopped");
     likes_service_close(service);
     service = NULL;

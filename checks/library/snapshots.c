@@ -20,7 +20,7 @@ static void start(uint32_t room, uint32_t period, uint32_t hot) {
 
 static void stop(uint64_t *totals) {
     IS(likes_service_stop(service, totals, PAGES), LIKES_OK);
-    IS(likes_service_fault(service), LIKES_NOT_STARTED);
+    IS(likes_service_fault(service), LIKES_STOPPED);
     likes_service_close(service);
     service = NULL;
 }
@@ -101,8 +101,8 @@ static void moments(uint32_t period) {
     IS(told.likes, likes);
     IS(told.looks + told.waits + told.late, 0);
     IS(told.phases >= SNAPSHOTS, true);
-    IS(likes_service_snapshot(service, counts, PAGES, lasts, USERS - 1), LIKES_WRONG_RANGE);
-    IS(likes_service_snapshot(service, counts, PAGES - 1, lasts, USERS), LIKES_WRONG_RANGE);
+    IS(likes_service_snapshot(service, counts, PAGES, lasts, USERS - 1), LIKES_WRONG_LENGTH);
+    IS(likes_service_snapshot(service, counts, PAGES - 1, lasts, USERS), LIKES_WRONG_LENGTH);
     IS(likes_service_retire(service), LIKES_OK);
     IS(likes_service_snapshot(service, counts, PAGES, lasts, USERS), LIKES_COUNTED);
     for (uint32_t user = 0; user < USERS; user++)

@@ -25,6 +25,8 @@ uint32_t likes_service_like(likes_service *service, uint32_t user, uint32_t page
 
 uint32_t likes_service_glance(likes_service *service, uint32_t user, uint32_t page, likes_answer *answer) {
     uint32_t fault = likes_call_fault(service);
+    if (answer == NULL)
+        return LIKES_NULL;
     if (fault != LIKES_OK)
         return likes_refuse(answer, fault);
     likes_place *place = likes_place_of(service, user);
@@ -39,6 +41,8 @@ uint32_t likes_service_glance(likes_service *service, uint32_t user, uint32_t pa
 
 uint32_t likes_service_last(likes_service *service, uint32_t user, uint32_t *page) {
     uint32_t fault = likes_call_fault(service);
+    if (page == NULL)
+        return LIKES_NULL;
     if (fault != LIKES_OK)
         return fault;
     likes_place *place = likes_place_of(service, user);

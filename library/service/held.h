@@ -3,6 +3,7 @@
 #ifndef LIKES_HELD_H
 #define LIKES_HELD_H
 
+#include "../missing.h"
 #include "service.h"
 
 /* One place of each service, in a list. It is reached without a call, also in a shared library. */
@@ -27,7 +28,7 @@ static inline bool likes_holds(const likes_place *it) {
 /* Why a call that takes locks is refused, or LIKES_OK. */
 static inline uint32_t likes_call_fault(const likes_service *service) {
     if (service == NULL || !service->is_open)
-        return LIKES_NOT_STARTED;
+        return service == NULL ? LIKES_NOT_STARTED : LIKES_STOPPED;
     return likes_held != NULL && likes_holds_any(service) ? (uint32_t)LIKES_HOLDS_SEAT : (uint32_t)LIKES_OK;
 }
 

@@ -102,6 +102,8 @@ static uint32_t count_look(likes_service *service, uint32_t user, const likes_an
 
 uint32_t likes_service_look(likes_service *service, uint32_t user, uint32_t page, likes_answer *answer) {
     uint32_t fault = likes_call_fault(service);
+    if (answer == NULL)
+        return LIKES_NULL;
     if (fault != LIKES_OK)
         return likes_refuse(answer, fault);
     look_until(service, user, page, UINT64_MAX, answer);
@@ -111,6 +113,8 @@ uint32_t likes_service_look(likes_service *service, uint32_t user, uint32_t page
 uint32_t likes_service_look_within(likes_service *service, uint32_t user, uint32_t page, uint32_t microseconds,
                                    likes_answer *answer) {
     uint32_t fault = likes_call_fault(service);
+    if (answer == NULL)
+        return LIKES_NULL;
     if (fault != LIKES_OK)
         return likes_refuse(answer, fault);
     look_until(service, user, page, likes_clock() + UINT64_C(1000) * microseconds, answer);

@@ -26,10 +26,12 @@ static void write_lasts(likes_service *service, uint32_t number, uint32_t *lasts
 
 uint32_t likes_service_lasts(likes_service *service, uint32_t *lasts, size_t users) {
     uint32_t fault = likes_call_fault(service);
+    if (likes_is_missing(lasts, users))
+        return LIKES_NULL;
     if (fault != LIKES_OK)
         return fault;
     if (users != service->users)
-        return LIKES_WRONG_RANGE;
+        return LIKES_WRONG_LENGTH;
     for (uint32_t number = 0; number < service->seats; number++) {
         likes_lock_give_way(&service->places[number].lock);
         likes_lock_take(&service->places[number].lock, UINT64_MAX);
@@ -145,16 +147,20 @@ static uint32_t write_moment(likes_service *service, uint64_t *counts, size_t pa
 
 uint32_t likes_service_counts(likes_service *service, uint64_t *counts, size_t pages) {
     uint32_t fault = likes_call_fault(service);
+    if (likes_is_missing(counts, pages))
+        return LIKES_NULL;
     if (fault != LIKES_OK)
         return fault;
-    return pages == service->pages ? write_moment(service, counts, pages, NULL) : (uint32_t)LIKES_WRONG_RANGE;
+    return pages == service->pages ? write_moment(service, counts, pages, NULL) : (uint32_t)LIKES_WRONG_LENGTH;
 }
 
 uint32_t likes_service_snapshot(likes_service *service, uint64_t *counts, size_t pages, uint32_t *lasts, size_t users) {
     uint32_t fault = likes_call_fault(service);
+    if (likes_is_missing(counts, pages) || likes_is_missing(lasts, users))
+        return LIKES_NULL;
     if (fault != LIKES_OK)
         return fault;
     if (pages != service->pages || users != service->users)
-        return LIKES_WRONG_RANGE;
+        return LIKES_WRONG_LENGTH;
     return write_moment(service, counts, pages, lasts);
 }

@@ -64,6 +64,8 @@ static uint32_t begin(likes_service *service, const likes_options *options) {
 
 uint32_t likes_service_open(const likes_options *options, likes_service **service) {
     likes_driver driver = {0};
+    if (options == NULL || service == NULL)
+        return LIKES_NULL;
     if (*service != NULL)
         return LIKES_IN_USE;
     if (options->period_us > LIKES_MAX_PERIOD_US)
@@ -126,10 +128,12 @@ uint32_t likes_service_retire(likes_service *service) {
 
 uint32_t likes_service_stop(likes_service *service, uint64_t *counts, size_t pages) {
     uint32_t fault = end_fault(service);
+    if (likes_is_missing(counts, pages))
+        return LIKES_NULL;
     if (fault != LIKES_OK)
         return fault;
     if (pages != service->pages)
-        return LIKES_WRONG_RANGE;
+        return LIKES_WRONG_LENGTH;
     likes_service_retire(service);
     likes_driver_last_counts(&service->driver, 0, counts, pages);
     likes_service_end(service);
@@ -140,7 +144,7 @@ uint32_t likes_service_close(likes_service *service) {
     uint32_t status = likes_service_retire(service);
     if (status == LIKES_OK)
         likes_service_end(service);
-    if (status != LIKES_OK && status != LIKES_NOT_STARTED)
+    if (status != LIKES_OK && status != LIKES_NOT_STARTED && status != LIKES_STOPPED)
         return status;
     free(service);
     return LIKES_OK;

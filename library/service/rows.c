@@ -108,9 +108,18 @@ static size_t run_tagged(likes_service *service, likes_place *place, const likes
     return done;
 }
 
+/* Refuses a row whose requests or answers are NULL. */
+LIKES_SELDOM static size_t refuse_row(likes_answer *answers) {
+    if (answers != NULL)
+        likes_refuse(answers, LIKES_NULL);
+    return 0;
+}
+
 size_t likes_service_run(likes_service *service, uint32_t number, const likes_request *requests, size_t length,
                          likes_answer *answers) {
     uint32_t fault = likes_held_fault(service, number);
+    if ((requests == NULL || answers == NULL) && length > 0)
+        return refuse_row(answers);
     if (fault != LIKES_OK) {
         if (length > 0)
             likes_refuse(answers, fault);
@@ -129,7 +138,7 @@ size_t likes_service_run(likes_service *service, uint32_t number, const likes_re
 }
 
 bool likes_service_take_found(likes_service *service, uint32_t number, likes_found *found) {
-    if (likes_held_fault(service, number) != LIKES_OK)
+    if (likes_held_fault(service, number) != LIKES_OK || found == NULL)
         return false;
     return likes_place_take_found(&service->places[number], found);
 }
@@ -144,6 +153,8 @@ bool likes_seat_take_found(likes_seat *seat, likes_found *found) {
 
 size_t likes_seat_take_all_found(likes_seat *seat, likes_found *found, size_t found_len) {
     size_t taken = 0;
+    if (likes_is_missing(found, found_len))
+        return 0;
     while (taken < found_len && likes_seat_take_found(seat, &found[taken]))
         taken++;
     return taken;

@@ -2,7 +2,9 @@
 #include "held.h"
 
 uint32_t likes_service_fault(const likes_service *service) {
-    return service != NULL && service->is_open ? LIKES_OK : LIKES_NOT_STARTED;
+    if (service == NULL)
+        return LIKES_NOT_STARTED;
+    return service->is_open ? LIKES_OK : LIKES_STOPPED;
 }
 
 uint32_t likes_service_seat_fault(const likes_service *service, uint32_t number) {
@@ -34,6 +36,8 @@ static void add_tally(const likes_place *place, likes_statistics *to) {
 
 uint32_t likes_service_statistics(likes_service *service, likes_statistics *statistics) {
     uint32_t fault = likes_service_fault(service);
+    if (statistics == NULL)
+        return LIKES_NULL;
     memset(statistics, 0, sizeof *statistics);
     if (fault != LIKES_OK)
         return fault;
@@ -45,6 +49,8 @@ uint32_t likes_service_statistics(likes_service *service, likes_statistics *stat
 
 uint32_t likes_service_propose(likes_service *service, const uint32_t *pages, size_t pages_len) {
     uint32_t fault = likes_call_fault(service);
+    if (likes_is_missing(pages, pages_len))
+        return LIKES_NULL;
     if (fault != LIKES_OK)
         return fault;
     likes_lock_take(&service->driving, UINT64_MAX);
@@ -58,7 +64,7 @@ uint32_t likes_service_propose(likes_service *service, const uint32_t *pages, si
 }
 
 size_t likes_service_split_pages(likes_service *service, uint32_t *pages, size_t pages_len) {
-    if (likes_call_fault(service) != LIKES_OK)
+    if (likes_call_fault(service) != LIKES_OK || likes_is_missing(pages, pages_len))
         return 0;
     likes_lock_take(&service->driving, UINT64_MAX);
     size_t written = likes_driver_split_pages(&service->driver, pages, pages_len);

@@ -138,6 +138,8 @@ static inline uint32_t fault_of(const likes_writer *writer) {
 
 uint32_t likes_writer_open(likes_service *service, likes_writer **writer) {
     uint32_t fault = likes_service_fault(service);
+    if (writer == NULL)
+        return LIKES_NULL;
     if (fault != LIKES_OK)
         return fault;
     if (*writer != NULL)
@@ -227,6 +229,8 @@ static uint64_t seats_with(const likes_writer *writer, uint32_t user, uint32_t p
 
 uint32_t likes_writer_look(likes_writer *writer, uint32_t user, uint32_t page, likes_answer *answer) {
     uint32_t fault = fault_of(writer);
+    if (answer == NULL)
+        return LIKES_NULL;
     if (fault != LIKES_OK)
         return likes_refuse(answer, fault);
     notice(writer);

@@ -57,6 +57,7 @@ static void openings() {
     hold(open([](auto &it) { it.room = 0; }, {0}) == LIKES_WRONG_ROOM, "no room");
     hold(open([](auto &it) { it.users = 0; }, {0}) == LIKES_WRONG_USERS, "no users");
     hold(open([](auto &it) { it.marks = {2}; }, {5, 7}) == LIKES_WRONG_MARKS, "a wrong mark");
+    hold(open([](auto &it) { it.marks.reserve(4); }, {0}) == LIKES_OK, "no marks, in a vector with memory");
     hold(open([](auto &) {}, {0}) == LIKES_OK, "a right opening");
 }
 
@@ -111,8 +112,8 @@ static void proposals() {
     service.propose({});
     hold(service.look(4, 1).count == 8, "a look after a page was split");
     hold(service.stop().counts == std::vector<std::uint64_t>{6, 8}, "final counts of pages that were split");
-    hold(thrown([&] { service.propose({1}); }) == LIKES_NOT_STARTED, "a proposal after the end");
-    hold(thrown([&] { service.split_pages(); }) == LIKES_NOT_STARTED, "split pages after the end");
+    hold(thrown([&] { service.propose({1}); }) == LIKES_STOPPED, "a proposal after the end");
+    hold(thrown([&] { service.split_pages(); }) == LIKES_STOPPED, "split pages after the end");
 }
 
 // A marked page is split in every split phase, which come by themselves. Its counts are those of one moment.
@@ -126,7 +127,7 @@ static void marks() {
     }
     hold(service.counts() == std::vector<std::uint64_t>{5, 8}, "the counts of a moment");
     service.stop();
-    hold(thrown([&] { service.counts(); }) == LIKES_NOT_STARTED && service.phase() == 0, "counts after the end");
+    hold(thrown([&] { service.counts(); }) == LIKES_STOPPED && service.phase() == 0, "counts after the end");
 }
 
 // A look whose answer comes too late is none.
@@ -227,18 +228,18 @@ static void seats(likes::Service &service) {
 static void late(likes::Service &service) {
     for (int times = 0; times < 3; times++)
         hold(service.stop().counts == std::vector<std::uint64_t>{5, 8}, "other final counts");
-    hold(thrown([&] { service.like(4, 0); }) == LIKES_NOT_STARTED, "a like after the end");
-    hold(thrown([&] { service.look(4, 0); }) == LIKES_NOT_STARTED, "a look after the end");
-    hold(thrown([&] { service.look_within(4, 0, 1s); }) == LIKES_NOT_STARTED, "a deadline after the end");
-    hold(thrown([&] { service.glance(4, 0); }) == LIKES_NOT_STARTED, "a glance after the end");
-    hold(thrown([&] { service.last(4); }) == LIKES_NOT_STARTED, "a last like after the end");
-    hold(thrown([&] { service.lasts(); }) == LIKES_NOT_STARTED, "last likes after the end");
-    hold(thrown([&] { service.retire_seat(0); }) == LIKES_NOT_STARTED, "a seat that retires after the end");
-    hold(thrown([&] { service.bring_back_seat(0); }) == LIKES_NOT_STARTED, "a seat that is brought back after the end");
-    hold(thrown([&] { (void)service.hold(0); }) == LIKES_NOT_STARTED, "a seat after the end");
-    hold(thrown([&] { (void)service.writer(); }) == LIKES_NOT_STARTED, "a writer after the end");
-    hold(thrown([&] { service.snapshot(); }) == LIKES_NOT_STARTED, "a snapshot after the end");
-    hold(thrown([&] { service.statistics(); }) == LIKES_NOT_STARTED, "statistics after the end");
+    hold(thrown([&] { service.like(4, 0); }) == LIKES_STOPPED, "a like after the end");
+    hold(thrown([&] { service.look(4, 0); }) == LIKES_STOPPED, "a look after the end");
+    hold(thrown([&] { service.look_within(4, 0, 1s); }) == LIKES_STOPPED, "a deadline after the end");
+    hold(thrown([&] { service.glance(4, 0); }) == LIKES_STOPPED, "a glance after the end");
+    hold(thrown([&] { service.last(4); }) == LIKES_STOPPED, "a last like after the end");
+    hold(thrown([&] { service.lasts(); }) == LIKES_STOPPED, "last likes after the end");
+    hold(thrown([&] { service.retire_seat(0); }) == LIKES_STOPPED, "a seat that retires after the end");
+    hold(thrown([&] { service.bring_back_seat(0); }) == LIKES_STOPPED, "a seat that is brought back after the end");
+    hold(thrown([&] { (void)service.hold(0); }) == LIKES_STOPPED, "a seat after the end");
+    hold(thrown([&] { (void)service.writer(); }) == LIKES_STOPPED, "a writer after the end");
+    hold(thrown([&] { service.snapshot(); }) == LIKES_STOPPED, "a snapshot after the end");
+    hold(thrown([&] { service.statistics(); }) == LIKES_STOPPED, "statistics after the end");
 }
 
 int main() {

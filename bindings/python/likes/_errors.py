@@ -36,7 +36,8 @@ def outcome(number: int) -> Status:
 
 def check(number: int, wanted: Status) -> None:
     """Raises a status that isn't the one that is wanted."""
-    if number == Status.NOT_STARTED:
+    if number == wanted:
+        return
+    if number in (Status.NOT_STARTED, Status.STOPPED):
         raise Closed
-    if number != wanted:
-        raise Refused(number)
+    raise Refused(number)

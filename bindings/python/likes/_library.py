@@ -156,7 +156,7 @@ def whole(name: str, value: Any, most: int = MOST) -> int:
 
 
 def row_of(name: str, values: Sequence[Any]) -> Any:
-    """An array of page numbers, with a place more, so that none is NULL."""
+    """An array of page numbers, with a place more."""
     return (c_uint32 * (len(values) + 1))(*(whole(name, value) for value in values))
 
 
@@ -203,9 +203,9 @@ class Opening:
         self.options = Options(
             counts=row,
             pages=len(counts),
-            marks=marked,
+            marks=marked if len(marks) > 0 else None,  # C refuses an array without a length
             marks_len=len(marks),
-            lasts=last,
+            lasts=last if len(lasts) > 0 else None,
             lasts_len=len(lasts),
             users=whole("users", users),
             seats=given("seats", seats),

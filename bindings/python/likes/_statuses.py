@@ -48,6 +48,7 @@ class Status(IntEnum):
     WRONG_ROOM = 115
     WRONG_HOT = 116
     WRONG_LASTS = 117
+    NULL = 118
     NO_THREAD = 1000
     WRONG_PERIOD = 1001
     NOT_STARTED = 1002
@@ -57,6 +58,8 @@ class Status(IntEnum):
     NOT_LOCKED = 1006
     OPEN_WRITER = 1007
     WRONG_TAG = 1008
+    STOPPED = 1009
+    WRONG_LENGTH = 1010
 
     @property
     def text(self) -> str:

@@ -1,5 +1,6 @@
 //! What a service is opened with, and the limits of `likes.h`.
 
+use std::ptr;
 use std::time::Duration;
 
 use crate::answers::Last;
@@ -66,9 +67,9 @@ impl Options<'_> {
         Numbers {
             counts: counts.as_ptr(),
             pages: counts.len(),
-            marks: self.marks.as_ptr(),
+            marks: at(self.marks),
             marks_len: self.marks.len(),
-            lasts: self.lasts.as_ptr(),
+            lasts: at(self.lasts),
             lasts_len: self.lasts.len(),
             users: self.users,
             seats: given(self.seats),
@@ -88,6 +89,15 @@ impl Options<'_> {
             reserved: 0,
             reserved_too: [0; 5],
         }
+    }
+}
+
+/// Where a slice begins, and NULL for an empty one: C refuses an array without a length.
+fn at<T>(slice: &[T]) -> *const T {
+    if slice.is_empty() {
+        ptr::null()
+    } else {
+        slice.as_ptr()
     }
 }
 
