@@ -247,19 +247,19 @@ static void held_for_long(void) {
     stop(totals);
 }
 
-/* Holds a seat until its phase has ended, and for some time more, in no call. How long it held it. */
+/* Holds a seat until its joined phase has ended, and for some time more, in no call. How long it held it. */
 typedef struct {
     uint32_t number;
     uint64_t begins, lasts, took;
-} holder;
+} seat_holder;
 
 static void *hold_ended(void *at) {
-    holder *it = (holder *)at;
+    seat_holder *it = (seat_holder *)at;
     sleep_for(it->begins);
     uint64_t began = clock_now();
     likes_seat *seat = likes_service_lock(service, it->number);
     set(&is_held);
-    while (likes_seat_turn(seat) != LIKES_BETWEEN)
+    while (likes_seat_turn(seat) != LIKES_BETWEEN || likes_seat_phase(seat) % 2 == 1)
         sleep_for(MS / 5);
     sleep_for(it->lasts);
     likes_service_unlock(service, it->number);
@@ -268,13 +268,13 @@ static void *hold_ended(void *at) {
 }
 
 /* Two seats are held, one after the other, for less than a tenth of a second each, and for more than that together: a
- * snapshot waits for both. */
+ * snapshot waits for both. No phase ends but for it. */
 static void held_by_turns(void) {
-    holder holders[2] = {{0, 0, 85 * MS, 0}, {1, 75 * MS, 40 * MS, 0}};
+    seat_holder holders[2] = {{0, 0, 85 * MS, 0}, {1, 75 * MS, 40 * MS, 0}};
     pthread_t threads[2];
     uint32_t lasts[USERS];
     uint64_t totals[PAGES];
-    start(8, 1000, 512);
+    start(8, 1000000, 512);
     is_held = false;
     start_thread(&threads[0], hold_ended, &holders[0]);
     while (!is_set(&is_held))
@@ -295,26 +295,32 @@ static void *like_on(void *at) {
     return at;
 }
 
-/* While last likes are written that take long, phases go on: there are more than two for each seat, which has been held
- * up to then. */
+/* Whether phases go on while last likes are written: about one in a millisecond, where they stood still for the time that
+ * a seat's took. */
+static bool phases_go_on(uint32_t *lasts, size_t users) {
+    uint64_t began = clock_now(), phase = likes_service_phase(service);
+    IS(likes_service_lasts(service, lasts, users), LIKES_OK);
+    uint64_t phases = likes_service_phase(service) - phase, took = clock_now() - began;
+    return phases >= 8 + took / MS / 8;
+}
+
+/* The last likes of many users, which take long to write. On a busy machine, phases may last longer too. */
 static void many_lasts(void) {
     enum { MANY = 16000000 };
     static const uint64_t counts[1];
     static const uint32_t marks[] = {0};
     likes_options options = {.seats = 2, .users = MANY, .room = 8, .hot = 512};
     uint32_t *lasts = malloc(MANY * sizeof *lasts);
-    uint64_t totals[1], took = clock_now();
+    uint64_t totals[1];
     pthread_t thread;
+    int tries = 8;
     hold(lasts != NULL, "there is no memory");
     IS(open_shared(options, counts, 1, marks, 1, NULL, 0, 1000, &service), LIKES_OK);
     is_over = false;
     start_thread(&thread, like_on, NULL);
-    took = clock_now();
-    uint64_t phase = likes_service_phase(service);
-    IS(likes_service_lasts(service, lasts, MANY), LIKES_OK);
-    uint64_t phases = likes_service_phase(service) - phase;
-    took = clock_now() - took;
-    hold(phases >= 4 + took / MS / 8, "phases stood still");
+    while (tries > 0 && !phases_go_on(lasts, MANY))
+        tries--;
+    hold(tries > 0, "phases stood still while last likes were written");
     set(&is_over);
     pthread_join(thread, NULL);
     free(lasts);
