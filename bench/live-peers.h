@@ -132,7 +132,7 @@ PEER_OF_ANY(relaxed_any, __ATOMIC_RELAXED, __atomic_fetch_add(&counts.words[WORD
             __atomic_load_n(&counts.words[WORD(page)], __ATOMIC_RELAXED))
 PEER_OF_ANY(sequential_any, __ATOMIC_SEQ_CST, __atomic_fetch_add(&counts.words[WORD(page)], 1, __ATOMIC_SEQ_CST),
             __atomic_load_n(&counts.words[WORD(page)], __ATOMIC_SEQ_CST))
-PEER_OF_ANY(sharded_any, __ATOMIC_SEQ_CST, add_to_shard(it->shard, page), sum_of_shards(page, it->threads))
+PEER_OF_ANY(sharded_any, __ATOMIC_RELAXED, add_to_shard(it->shard, page), sum_of_shards(page, it->threads))
 
 /* Waits for a record that another thread holds. */
 static void pause_for(unsigned tries) {

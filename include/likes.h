@@ -5,6 +5,8 @@
  * likes_driver_turn when a phase is due. likes_service.h does that part for you: begin there. EMBEDDING.md is the
  * guide.
  *
+ * No call changes errno.
+ *
  * Rules for the host
  *   - Pointers. Every pointer is valid and aligned for its type, and an array has the stated length. What two pointers
  *     of one call point to doesn't overlap. What a call writes needs no value before.

@@ -4,6 +4,7 @@
 #include "missing.h"
 #include "proved.h"
 
+#include <errno.h>
 #include <stdlib.h>
 
 static const uint64_t no_count;
@@ -70,11 +71,16 @@ static uint32_t open_with_zeros(const likes_options *options, likes_driver *driv
 }
 
 uint32_t likes_open(const likes_options *options, likes_driver *driver) {
+    int error = errno;
+    uint32_t status;
     if (options == NULL || driver == NULL)
         return LIKES_NULL;
     if (options->counts == NULL)
-        return open_with_zeros(options, driver);
-    return open_with(options, options->counts, options->pages, driver);
+        status = open_with_zeros(options, driver);
+    else
+        status = open_with(options, options->counts, options->pages, driver);
+    errno = error;
+    return status;
 }
 
 uint32_t likes_driver_seats(const likes_driver *driver) {

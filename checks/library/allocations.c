@@ -23,7 +23,9 @@ static size_t first, last, made, blocks;
 
 static bool is_refused(void) {
     made++;
-    return first <= made && made <= last;
+    bool is = first <= made && made <= last;
+    errno = is ? ENOMEM : errno;
+    return is;
 }
 
 /* Counts a block that is new, if there was memory for it. */
@@ -275,9 +277,10 @@ static void use(enum stage stage, uint32_t driver_after, uint32_t phase_after) {
 static void refuse(size_t allocations) {
     for (size_t number = 1; number <= allocations; number++) {
         for (int all = 0; all < 2; all++) {
+            errno = 0;
             uint32_t status = open_service(number, all ? SIZE_MAX : number);
-            if (status != LIKES_NO_MEMORY || driver.at != NULL || blocks != 0) {
-                printf("allocation %zu refused: status %u, %zu blocks left\n", number, status, blocks);
+            if (status != LIKES_NO_MEMORY || driver.at != NULL || blocks != 0 || errno != 0) {
+                printf("allocation %zu refused: status %u, %zu blocks left, errno %d\n", number, status, blocks, errno);
                 exit(1);
             }
         }

@@ -7,6 +7,7 @@
 #define _GNU_SOURCE
 #endif
 
+#include <errno.h>
 #include <pthread.h>
 #include <sched.h>
 #include <stdio.h>
@@ -50,8 +51,17 @@ static inline void hold_answer(int line, const char *call, uint64_t is, uint64_t
     }
 }
 
-/* Ends the program with a line, unless a call gives this answer. */
-#define IS(call, expected) hold_answer(__LINE__, #call, (uint64_t)(call), (uint64_t)(expected))
+/* An error number that no call sets. */
+#define UNTOUCHED 4711
+
+/* Ends the program with a line, unless a call gives this answer and leaves errno as it was. */
+#define IS(call, expected)                                         \
+    do {                                                           \
+        errno = UNTOUCHED;                                         \
+        uint64_t it_is = (uint64_t)(call);                         \
+        hold(errno == UNTOUCHED, #call ": errno has changed");     \
+        hold_answer(__LINE__, #call, it_is, (uint64_t)(expected)); \
+    } while (0)
 
 static inline void start_thread(pthread_t *thread, void *(*work)(void *), void *at) {
     hold(pthread_create(thread, NULL, work, at) == 0, "no thread was started");

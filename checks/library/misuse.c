@@ -16,6 +16,8 @@ int __real_pthread_create(pthread_t *thread, const pthread_attr_t *attributes, v
 int __wrap_pthread_create(pthread_t *thread, const pthread_attr_t *attributes, void *(*begin)(void *), void *at);
 
 int __wrap_pthread_create(pthread_t *thread, const pthread_attr_t *attributes, void *(*begin)(void *), void *at) {
+    if (has_no_threads)
+        errno = EAGAIN; /* the C library's may set it too */
     return has_no_threads ? EAGAIN : __real_pthread_create(thread, attributes, begin, at);
 }
 

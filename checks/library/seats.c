@@ -5,6 +5,8 @@
  * ever. */
 #include "harness.h"
 
+#include <signal.h>
+
 enum { SEATS = 4, USERS = 8, PAGES = 2, ROUNDS = 20, LEAVERS = 2 };
 
 static likes_service *service;
@@ -290,18 +292,38 @@ static void *hold_one(void *at) {
     return NULL;
 }
 
-/* Counts wait until a seat is unlocked, where the only one has left and is held. They hardly use a processor. */
+static void ignore(int number) {
+    (void)number;
+}
+
+/* Interrupts a thread's waits by signals. */
+static void *interrupt(void *at) {
+    while (!is_set(&is_over)) {
+        pthread_kill(*(pthread_t *)at, SIGUSR1);
+        sleep_for(1000000);
+    }
+    return at;
+}
+
+/* Counts wait until a seat is unlocked, where the only one has left and is held. They hardly use a processor, and signals
+ * don't show in errno. */
 static void counts_of_held(void) {
-    pthread_t thread;
+    pthread_t thread, interrupter, self = pthread_self();
+    struct sigaction action = {.sa_handler = ignore};
     bool is_held = false;
     uint64_t counts[PAGES];
     start_gone();
     start_thread(&thread, hold_one, &is_held);
     while (!is_set(&is_held))
         sleep_for(1000000);
+    sigaction(SIGUSR1, &action, NULL);
+    is_over = false;
+    start_thread(&interrupter, interrupt, &self);
     uint64_t worked = clock_of(CLOCK_THREAD_CPUTIME_ID);
     IS(likes_service_counts(service, counts, PAGES), LIKES_COUNTED);
     IS(clock_of(CLOCK_THREAD_CPUTIME_ID) - worked < 50000000, true);
+    set(&is_over);
+    pthread_join(interrupter, NULL);
     pthread_join(thread, NULL);
     stop(0);
 }

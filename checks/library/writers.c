@@ -20,6 +20,8 @@ static uint64_t until;
 static int refused;
 
 static bool is_refused(void) {
+    if (refused == 1)
+        errno = ENOMEM;
     return refused > 0 && --refused == 0;
 }
 
@@ -214,7 +216,7 @@ static void after_period(uint32_t period, bool rests) {
  * apart, and a service in which nothing is split rests within some milliseconds. */
 static void after_rest(void) {
     static const uint64_t none[PAGES];
-    likes_options options = {.seats = SEATS, .users = USERS, .room = 8};
+    likes_options options = {.seats = SEATS, .users = USERS, .room = 8, .hot = 512};
     likes_writer *writer = NULL;
     uint32_t last;
     IS(open_shared(options, none, PAGES, NULL, 0, NULL, 0, 300000, &service), LIKES_OK);
@@ -222,15 +224,17 @@ static void after_rest(void) {
     for (uint32_t page = 0; page < PAGES; page++) {
         like(writer, 0, page, 1);
         sleep_for(350 * MS);
-        IS(likes_service_like(service, 1, 0), LIKES_LIKED);
-        sleep_for(10 * MS);
+        for (int times = 0; times < 10; times++) {
+            IS(likes_service_like(service, 1, 0), LIKES_LIKED);
+            sleep_for(MS);
+        }
         like(writer, 2, 0, 1);
         IS(likes_service_last(service, 0, &last), LIKES_OK);
         IS(last, page);
         IS(likes_writer_flush(writer), LIKES_OK);
     }
     IS(likes_writer_close(writer), LIKES_OK);
-    stop(3 * PAGES);
+    stop(12 * PAGES);
 }
 
 /* Likes for a seat that has left stay kept. */

@@ -2,6 +2,7 @@
 #ifndef LIKES_CLOCK_H
 #define LIKES_CLOCK_H
 
+#include <errno.h>
 #include <pthread.h>
 #include <stdint.h>
 #include <time.h>
@@ -32,7 +33,9 @@ static inline void likes_pause(void) {
 
 static inline void likes_sleep(uint64_t nanoseconds) {
     struct timespec length = likes_timespec(nanoseconds);
+    int error = errno;
     nanosleep(&length, NULL);
+    errno = error;
 }
 
 static inline void likes_set_time(uint64_t *at, uint64_t time) {

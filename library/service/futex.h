@@ -2,7 +2,6 @@
 #ifndef LIKES_FUTEX_H
 #define LIKES_FUTEX_H
 
-#include <errno.h>
 #include <limits.h>
 #include <linux/futex.h>
 #include <sys/syscall.h>

@@ -62,7 +62,7 @@ static uint32_t begin(likes_service *service, const likes_options *options) {
     return service->has_thread ? LIKES_OK : LIKES_NO_THREAD;
 }
 
-uint32_t likes_service_open(const likes_options *options, likes_service **service) {
+static uint32_t open_service(const likes_options *options, likes_service **service) {
     likes_driver driver = {0};
     if (options == NULL || service == NULL)
         return LIKES_NULL;
@@ -86,6 +86,13 @@ uint32_t likes_service_open(const likes_options *options, likes_service **servic
         likes_service_end(opened);
         free(opened);
     }
+    return status;
+}
+
+uint32_t likes_service_open(const likes_options *options, likes_service **service) {
+    int error = errno;
+    uint32_t status = open_service(options, service);
+    errno = error;
     return status;
 }
 

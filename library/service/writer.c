@@ -145,7 +145,9 @@ uint32_t likes_writer_open(likes_service *service, likes_writer **writer) {
     if (*writer != NULL)
         return LIKES_IN_USE;
     const size_t row = ROW * sizeof(kept_like);
+    int error = errno;
     likes_writer *made = (likes_writer *)calloc(1, sizeof *made + (service->seats + 1) * row);
+    errno = error;
     if (made == NULL)
         return LIKES_NO_MEMORY;
     made->service = service;
