@@ -74,7 +74,7 @@ struct Statistics {
 };
 
 // Likes at full speed, of one thread at a time: it keeps them in rows, and hands a row over as a whole. Others see a
-// like once its row is full, at the writer's first call after a period, or by flush(), look() and close(). Without
+// like once its row is full, by a call about a period after the row was begun, or by flush(), look() and close(). Without
 // calls there is no bound in time, so a thread flushes before it rests. A writer is destroyed before its service.
 class [[nodiscard]] Writer {
 public:

@@ -6,9 +6,9 @@ import "C"
 // Writer keeps likes in rows, and hands a row over as a whole, for likes at full speed. One goroutine calls it at a
 // time.
 //
-// Others see a like once its row of 64 is full, at the writer's first call after a period, or by Flush, Look and Close.
-// Without calls there is no bound in time, so a goroutine flushes before it rests. Likes of a user by one writer are
-// counted in their order. A Pool flushes by itself.
+// Others see a like once its row of 64 is full, by a call about a period after the row was begun, or by Flush, Look and
+// Close. Without calls there is no bound in time, so a goroutine flushes before it rests. Likes of a user by one writer
+// are counted in their order. A Pool flushes by itself.
 type Writer struct {
 	c       *C.likes_writer
 	service *Service

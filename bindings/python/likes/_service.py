@@ -299,9 +299,9 @@ class Writer:
     """Likes of a thread, which it keeps in rows and hands over as a whole. Calls by several threads wait for each
     other.
 
-    Others see a like once its row of 64 is full, at the writer's first call after a period, or by flush, look and
-    close. Without calls there is no bound in time, so a thread flushes before it rests. Likes of a user by one writer are
-    counted in their order.
+    Others see a like once its row of 64 is full, by a call about a period after the row was begun, or by flush, look
+    and close. Without calls there is no bound in time, so a thread flushes before it rests. Likes of a user by one
+    writer are counted in their order.
     """
 
     def __init__(self, writers: Set["Writer"]) -> None:

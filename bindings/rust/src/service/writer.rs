@@ -10,7 +10,7 @@ use crate::service::Service;
 
 /// Likes of one thread, which keeps them in rows and hands a row over as a whole. It can go to another thread.
 ///
-/// Others see a like once its row of 64 is full, at the writer's first call after a period, or by
+/// Others see a like once its row of 64 is full, by a call about a period after the row was begun, or by
 /// [`flush`](Self::flush), [`look`](Self::look) and [`close`](Self::close). Without calls there is no bound in time, so
 /// a thread flushes before it rests. Likes of a user by one writer are counted in their order.
 ///
