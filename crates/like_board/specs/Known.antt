@@ -1,3 +1,4 @@
+-- What a seat of a board knows: a worker's view, or the coordinator's.
 use Rattle.std.specs.Prelude.{[]}
 use Rattle.like_core.specs.declared.opening.Opening.{Opening}
 use Rattle.like_core.specs.declared.view.WorkerSeatView.{WorkerSeatView}

@@ -1,3 +1,4 @@
+-- The marks of a board's pages, where there may be fewer than pages.
 use Rattle.std.specs.Prelude.{ℕ, ◌-◌, Bool, false, List, ◌++◌, length, replicate}
 
 -- a mark for each of this many pages: these marks, and none for the pages after them

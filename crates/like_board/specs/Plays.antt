@@ -1,3 +1,4 @@
+-- What the looks of a worker and of the coordinator tell of a phase word.
 use Rattle.std.specs.Prelude.{◌≡◌, ◌≢◌, ℕ, ◌^◌, ◌<◌, ◌≤◌, true, length, slice_index}
 use Rattle.like_core.specs.declared.worker_state.WorkerState.{WorkerState}
 use Rattle.like_core.specs.declared.sight.Sight.{Sight}

@@ -1,3 +1,4 @@
+-- The rule of a board, and the word and the views with which it begins.
 use Rattle.std.specs.Prelude.{ℕ}
 use Rattle.atomic_table.specs.Table.{State}
 use Rattle.like_core.specs.declared.opening.Opening.{Opening}

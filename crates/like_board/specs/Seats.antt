@@ -1,3 +1,4 @@
+-- Boards, seats and posts, as contracts see them: which board each is of, and what it knows.
 use Rattle.std.specs.Prelude.{◌≡◌, ℕ, ◌<◌, ◌==◌, List, ◌∷◌, Some, slice_get, count_by}
 use Rattle.atomic_table.specs.Seated.{TableId}
 use Rattle.like_core.specs.declared.opening.Opening.{Opening}

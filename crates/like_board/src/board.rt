@@ -54,7 +54,7 @@ impl Board {
         Board::with_limits(alloc, workers, counts, split, Limits::of_run())
     }
 
-    /// The same within other limits.
+    /// A new board within these limits, with the coordinator's seat and each worker's, in order.
     pub fn with_limits(
         alloc: Global,
         workers: u32,

@@ -21,7 +21,7 @@ use atomic_table::Seat;
 use like_core::{Form, Sight, View};
 use std::sync::Arc;
 
-/// The same value, of a type that any thread may take.
+/// Gives a value back: it shows that any thread may take one of its type.
 fn for_any_thread<T: Send>(value: T) -> T
     ensures { result ≡ value }
 {
@@ -65,7 +65,7 @@ impl WorkerSeat {
         PostAt { board, seat: self }
     }
 
-    /// The same at a board that the post owns together with others.
+    /// Takes the seat to its board, which the post owns together with others.
     pub fn at_shared(self, board: Arc<Board>) -> SharedPost
         requires { seat_board self ≡ board_id (arc_value board) }
         ensures board { post_board result ≡ seat_board self }

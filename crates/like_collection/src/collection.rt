@@ -31,8 +31,9 @@ pub fn collect(alloc: Global, sizes: &[u32], logs: &[WorkerLog]) -> Result<Repli
     slots.into_replies(alloc)
 }
 
-/// The same in parallel, where the entries of submitter s's requests are in log s mod N, of N logs. Else it collects one
-/// log after the other. It starts at most `starts` threads, and with 0 the calling thread collects all.
+/// Collects the answer of each request from the workers' logs, in parallel, if the entries of submitter s's requests are
+/// in log s mod N, of N logs; else one log after the other. The fault is the one that `collect` tells. It starts at most
+/// `starts` threads, and with 0 the calling thread collects all.
 pub fn collect_in_parallel<T: Threads + Sync>(
     rt: &T,
     alloc: Global,

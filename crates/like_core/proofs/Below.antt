@@ -1,3 +1,4 @@
+-- Tests of the numbers below a bound, and bits.
 use Rattle.std.proofs.Common.{◌≡◌, ℕ, zero, suc, ◌+◌, ◌-◌, ◌*◌, ◌/◌, ◌%◌, ◌^◌, ◌<◌, ◌==◌, ◌&&◌, ◌||◌, ◌⊎◌, bit_and, bit_or, max, subst, inl, inr, Bool, true, false, ap, sym, ◌∙◌, refl, eq-eqb, arith, zero-mul}
 use Rattle.std.specs.Int.{bit_at}
 use Rattle.std.proofs.lemmas.Bool.{cases_eq, eqb-true}

@@ -1,3 +1,4 @@
+-- Rows of zeros.
 use Rattle.std.proofs.Common.{◌≡◌, ℕ, inl, inr, List, length, EachIndex, slice_index}
 use Rattle.std.proofs.lemmas.Bool.{cases_lt}
 use Rattle.std.proofs.lemmas.List.{get_or_past}

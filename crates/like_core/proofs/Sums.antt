@@ -1,3 +1,4 @@
+-- Sums of a function below a bound.
 use Rattle.std.proofs.Common.{ℕ, zero, suc, ◌+◌, ◌<◌, ◌≤◌, inl, inr, arith, ap, refl, ◌≡◌}
 use Rattle.std.proofs.Math.Nat.{le-suc_iff}
 use Rattle.std.proofs.lemmas.Bool.{cases_eq}

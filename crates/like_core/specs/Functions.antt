@@ -1,3 +1,4 @@
+-- Functions of numbers: updates, sums and bits, and how often a number is in a list.
 use Rattle.std.specs.Prelude.{ℕ, zero, suc, ◌+◌, ◌*◌, ◌^◌, ◌==◌, Bool, true, false, ◌&&◌, if◌then◌else◌, List, [], ◌∷◌, count_by}
 use Rattle.std.specs.Int.{bit_at}
 

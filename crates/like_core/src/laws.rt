@@ -79,12 +79,12 @@ pub fn other_step_keeps_order()
     ensures { OtherStepKeepsOrder }
 {}
 
-/// So does a worker's seat that is given back: the coordinator's view then has what it did.
+/// A worker's seat that is given back leaves the order as it is: the coordinator's view then has what it did.
 pub fn join_keeps_order()
     ensures { JoinKeepsOrder }
 {}
 
-/// So does a new seat: its worker had none, so the order has no step of it.
+/// A new seat leaves the order as it is: its worker had none, so the order has no step of it.
 pub fn new_seat_keeps_order()
     ensures { NewSeatKeepsOrder }
 {}

@@ -83,7 +83,7 @@ impl Core {
         Core::with_limits(alloc, workers, counts, split, Limits::of_run())
     }
 
-    /// The same within other limits.
+    /// A new core within these limits.
     pub fn with_limits(
         alloc: Global,
         workers: u32,

@@ -27,9 +27,9 @@ pub fn read_plans<R: Read + Drop>(
     Ok(plans)
 }
 
-/// The same in parallel, with a thread for each file. The fault is still that of the first file at fault. A thread that
-/// can't be started is no fault: the caller's thread does its work. More files than a run takes are read by the
-/// caller's thread alone.
+/// The plans of the submitters, read in parallel, with a thread for each file. The fault is that of the first file at
+/// fault, as if they were read in order. A thread that can't be started is no fault: the caller's thread does its work.
+/// More files than a run takes are read by the caller's thread alone.
 pub fn read_plans_in_parallel<T: Threads + Sync, R: Read + Drop + Send>(
     rt: &T,
     alloc: Global,

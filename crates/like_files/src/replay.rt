@@ -48,8 +48,8 @@ pub fn replay_files<R: Read + Drop, W: Output>(
     Ok(())
 }
 
-/// The same for files that are open, with the request files read in parallel, and with the notice on the report, while
-/// `progress` hears of each part. The replay itself is the calling thread's work.
+/// Replays the run that open files ask for, and writes its report, with the notice on it. The request files are read in
+/// parallel, and `progress` hears of each part. The replay itself is the calling thread's work.
 pub fn replay_opened<T: Threads + Sync, R: Read + Drop + Send, W: Output, P: Progress>(
     rt: &T,
     alloc: Global,

@@ -51,8 +51,8 @@ pub fn run_files<T: Threads + Wait + Sync, R: Read + Drop + Send, W: Output>(
     Ok(())
 }
 
-/// The same for files that are open, with the notice on the report, while `progress` hears of each part. A script is
-/// left unread.
+/// Makes the run that open files ask for, on threads, and writes its report, with the notice on it. `progress` hears of
+/// each part. A script is left unread.
 pub fn run_opened<T: Threads + Wait + Sync, R: Read + Drop + Send, W: Output, P: Progress>(
     rt: &T,
     alloc: Global,

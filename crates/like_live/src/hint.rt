@@ -22,7 +22,7 @@ impl Hint {
         })
     }
 
-    /// The same one, for another owner.
+    /// Another owner of this hint.
     pub fn share(&self) -> Result<Hint, AllocError> {
         Ok(Hint {
             asked: Arc::try_clone(&self.asked)?,

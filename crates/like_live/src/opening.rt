@@ -53,7 +53,7 @@ impl Opening {
         )
     }
 
-    /// The same, for the numbers of an opening that isn't built yet.
+    /// Tests the numbers of an opening that isn't built yet, in the order of `OpenError`. It never answers `Memory`.
     pub fn check_numbers(
         counts: &[u64],
         marks: &[u32],

@@ -19,7 +19,7 @@ impl PhaseNow {
         })
     }
 
-    /// The same one, for another owner. It takes no memory, and is refused only where there are too many owners.
+    /// Another owner of this number. It takes no memory, and is refused only where there are too many owners.
     pub fn share(&self) -> Result<PhaseNow, AllocError> {
         Ok(PhaseNow {
             phase: Arc::try_clone(&self.phase)?,

@@ -116,7 +116,8 @@ impl<P: Post> Worker<P> {
         Worker::noting(alloc, setup, sizes, worker, post, true)
     }
 
-    /// The same, but the worker notes its additions only if `notes`, and else takes no memory for them.
+    /// Worker `worker` of a run with this many requests of each submitter. It notes its additions only if `notes`, and
+    /// else takes no memory for them. All its memory is taken here.
     pub fn noting(
         alloc: Global,
         setup: &Setup,

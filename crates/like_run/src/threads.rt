@@ -59,8 +59,8 @@ fn own_threads(setup: &Setup, plans: &[Vec<Request>]) -> u32
     setup.workers.saturating_add(submitters)
 }
 
-/// The same with at most `starts` threads. Those beyond workers and submitters collect the replies; with none beyond, the
-/// calling thread does.
+/// Makes a run that starts at most `starts` threads: one for each worker and each submitter, and those beyond collect
+/// the replies; with none beyond, the calling thread does. Its report has places.
 pub fn run_limited<R: Threads + Wait + Sync, G: Gate>(
     rt: &R,
     alloc: Global,

@@ -167,7 +167,7 @@ impl Users {
         self.last_at(self.placed(user))
     }
 
-    /// The same, for a user whose place is known.
+    /// The page of the last like, if any, of a user whose place is known.
     #[inline(always)]
     pub fn last_at(&self, placed: Placed) -> Option<u32>
         requires { IsPlaced self.now.share placed }
@@ -190,7 +190,7 @@ impl Users {
         self.set_at(placed, page);
     }
 
-    /// The same, for a user whose place is known.
+    /// Notes that the last like of a user whose place is known is of this page.
     #[inline(always)]
     pub fn set_at(&mut self, placed: Placed, page: u32)
         requires placed { IsPlaced self.old.share placed }

@@ -19,7 +19,7 @@ impl<'t> Trickle<'t> {
         }
     }
 
-    /// The same, but all reads after the first that fails succeed again.
+    /// A reader of this text whose first `reads` reads succeed, and then one fails. All after that succeed again.
     pub fn failing_once(text: &'t [u8], reads: usize) -> Self {
         Trickle {
             text,

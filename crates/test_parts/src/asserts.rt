@@ -15,7 +15,7 @@ pub fn assert_call(rt: &impl Abort, answered: bool, case: &str, call: usize) {
     assert!(rt; answered, "{case}: call {call}");
 }
 
-/// The same of a case that has a number.
+/// Asserts that a call of a case, which has a number, is answered as it says.
 pub fn assert_call_at(rt: &impl Abort, answered: bool, case: usize, call: usize) {
     assert!(rt; answered, "case {case}: call {call}");
 }

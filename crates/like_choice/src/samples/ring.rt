@@ -31,7 +31,7 @@ impl Ring {
         })
     }
 
-    /// The same one, for another owner.
+    /// Another owner of this ring.
     pub fn share(&self) -> Result<Ring, AllocError> {
         Ok(Ring {
             words: Arc::try_clone(&self.words)?,

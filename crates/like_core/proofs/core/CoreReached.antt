@@ -1,3 +1,4 @@
+-- A core that is stepped from a new one stands for reachable states.
 use Rattle.std.proofs.Common.{◌≡◌, List, [], ◌∷◌, fold, subst, sym, ◌∙◌}
 use Rattle.like_core.specs.declared.event.Event.{Event}
 use Rattle.like_core.specs.declared.opening.Opening.{Opening}

@@ -1,3 +1,4 @@
+-- One write in the rows that a core keeps, as a core makes it.
 use Rattle.std.proofs.Common.{◌≡◌, ℕ, ◌+◌, ◌<◌, List, [], length, get_or, set, length-set, ap, subst, sym, ◌∙◌, arith}
 use Rattle.std.proofs.lemmas.List.{get_or_read}
 use Rattle.like_core.specs.declared.pure_core.Core.{Core}

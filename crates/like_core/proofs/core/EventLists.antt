@@ -1,3 +1,4 @@
+-- Lists of events, each after those before it.
 use Rattle.std.proofs.Common.{◌≡◌, ℕ, zero, suc, List, [], ◌∷◌, fold, take, Some, subst, ap, sym, ◌∙◌, refl}
 use Rattle.std.specs.Prelude.{slice_get}
 use Rattle.like_core.specs.declared.event.Event.{Event}

@@ -1,3 +1,4 @@
+-- Each event keeps a state in phase, and a state in phase is exclusive.
 use Rattle.std.proofs.Common.{◌≡◌, ◌≢◌, ℕ, ◌+◌, ◌%◌, ◌<◌, ◌≤◌, ◌==◌, nat_lt, ◌⊎◌, inl, inr, Bool, true, false, ◌||◌, cond, List, [], ◌∷◌, ◌++◌, subst, ap, sym, ◌∙◌, refl, arith, fold}
 use Rattle.std.proofs.lemmas.Bool.{cases_lt, eqb-true, and_parts, cond-false, le-ltb}
 use Rattle.like_core.specs.declared.worker_state.WorkerState.{WorkerState}

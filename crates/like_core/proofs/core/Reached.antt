@@ -1,3 +1,4 @@
+-- The start is reachable, and so is what permitted events make of a reachable state.
 use Rattle.std.proofs.Common.{List, [], ◌∷◌, ◌++◌, subst, ap, sym, ◌∙◌, refl, fold}
 use Rattle.std.proofs.lemmas.List.Sums.{fold-append}
 use Rattle.like_core.specs.declared.event.Event.{Event}

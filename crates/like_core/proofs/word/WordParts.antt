@@ -1,3 +1,4 @@
+-- The fields of a packed word are at their places.
 use Rattle.std.proofs.Common.{◌≡◌, ◌≢◌, ℕ, ◌/◌, ◌^◌, ◌<◌, ◌≤◌, Option, Some, None, IsSome, IfSome, IfNone, IsSomeAnd, bit_and, sym, subst, ap, ◌∙◌, arith}
 use Rattle.std.proofs.lemmas.Nat.{and_mask}
 use lib.Pow.{pow_mono}

@@ -1,3 +1,4 @@
+-- The core that is stepped, and the states for which it stands.
 use Rattle.std.specs.Prelude.{◌≡◌, List, fold}
 use Rattle.like_core.specs.declared.event.Event.{Event}
 use Rattle.like_core.specs.declared.pure_core.Core.{Core}

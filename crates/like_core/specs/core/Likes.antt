@@ -1,3 +1,4 @@
+-- States with the likes that slices hold, and that events reach these too.
 use Rattle.std.specs.Prelude.{◌≡◌, ℕ, ◌<◌, true, List, ◌++◌, length}
 use Rattle.like_core.specs.declared.worker_state.WorkerState.TheVariants.{Runs}
 use Rattle.like_core.specs.declared.opening.Opening.{Opening}

@@ -1,3 +1,4 @@
+-- The states of the core that events reach.
 use Rattle.std.specs.Prelude.{◌≡◌, List, fold}
 use Rattle.like_core.specs.declared.event.Event.{Event}
 use Rattle.like_core.specs.declared.opening.Opening.{Opening}

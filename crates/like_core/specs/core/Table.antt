@@ -1,3 +1,4 @@
+-- The table of events: when each may happen, what it shows, and the numbers after it.
 use Rattle.std.specs.Prelude.{List, fold, take, slice_get, Some, ◌≡◌, ◌≢◌, ℕ, ◌+◌, ◌^◌, ◌<◌, true, false, if◌then◌else◌}
 use Rattle.like_core.specs.declared.worker_state.WorkerState.TheVariants.{Runs, Answered, Gone}
 use Rattle.like_core.specs.declared.sight.Sight.{Sight}

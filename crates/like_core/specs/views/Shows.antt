@@ -1,3 +1,4 @@
+-- The rule of a board: its words and the views of all seats show a state of the core.
 use Rattle.std.specs.Prelude.{◌≡◌, ◌⊎◌, ℕ, Bool, false, ◌+◌, ◌^◌, ◌<◌, ◌≤◌, All, nat_lt, true, if◌then◌else◌, List, [], ◌∷◌, length, take, slice_index, slice_set, IfSome, IsSome, fold}
 use Rattle.std.specs.List.{sum_by}
 use mathlib.Core.Option.{some}

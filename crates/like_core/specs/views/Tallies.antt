@@ -1,3 +1,4 @@
+-- How much may still be added to a page's count.
 use Rattle.std.specs.Prelude.{ℕ, ◌+◌, ◌-◌, ◌*◌, ◌≤◌, List, length}
 use Rattle.std.specs.List.{sum_by}
 use Rattle.like_core.specs.declared.limits.Limits.{Limits}

@@ -1,3 +1,4 @@
+-- The four kinds of a phase word, as bits.
 use Rattle.std.specs.Prelude.{ℕ}
 use Rattle.like_core.specs.declared.phase_word.kind.Kind.{Kind}
 use Rattle.like_core.specs.declared.phase_word.kind.Kind.TheVariants.{JoinedRunning, JoinedEnding, SplitRunning, SplitEnding}

@@ -1,3 +1,4 @@
+-- The fields of a `PhaseWord`.
 use Rattle.like_core.specs.declared.phase_word.PhaseWord.{PhaseWord}
 use Rattle.like_core.specs.word.Word.{Fields, word_fields}
 

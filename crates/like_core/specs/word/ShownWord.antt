@@ -1,3 +1,4 @@
+-- The phase word of a state of the core.
 use Rattle.std.specs.Prelude.{ℕ}
 use Rattle.like_core.specs.declared.opening.Opening.{Opening}
 use Rattle.like_core.specs.core.State.{CoreState}

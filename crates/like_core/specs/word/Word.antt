@@ -1,3 +1,4 @@
+-- The phase word of a program: its fields, and the number that has them.
 use Rattle.std.specs.Prelude.{◌≡◌, ℕ, ◌+◌, ◌*◌, ◌%◌, ◌^◌, ◌<◌, ◌≤◌, ◌↔◌, bit_and}
 use Rattle.like_core.specs.declared.phase_word.kind.Kind.{Kind}
 use Rattle.like_limits.specs.Limits.{max_workers}

@@ -37,7 +37,7 @@ impl<P: Post, W: Copy, C: Counts, T: BucketTags> Station<P, W, C, T> {
         self.count_like_at(placed, page)
     }
 
-    /// The same, for a user whose place is known.
+    /// Counts a like of a user whose place is known, as `count_like` does.
     #[inline(always)]
     pub fn count_like_at(&mut self, placed: Placed, page: u32) -> Option<u64>
         requires running { IsRunning self.old.post.state }
@@ -81,7 +81,7 @@ impl<P: Post, W: Copy, C: Counts, T: BucketTags> Station<P, W, C, T> {
         true
     }
 
-    /// The same, of a page that is not sliced.
+    /// Counts a like of a page that is not sliced where there is room for it, which was given. Says whether it did.
     #[inline(always)]
     pub fn try_plain_at(&mut self, placed: Placed, page: u32) -> bool
         requires running { IsRunning self.old.post.state }
@@ -116,7 +116,7 @@ impl<P: Post, W: Copy, C: Counts, T: BucketTags> Station<P, W, C, T> {
         self.read_at(placed, page)
     }
 
-    /// The same, for a user whose place is known.
+    /// Reads a page's count for a look of a user whose place is known.
     #[inline(always)]
     pub fn read_at(&mut self, placed: Placed, page: u32) -> Seen
         requires running { IsRunning self.old.post.state }
