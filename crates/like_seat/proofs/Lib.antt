@@ -6,6 +6,7 @@ pub mod Leading
 pub mod Looking
 pub mod MergedLikes
 pub mod Merging
+pub mod Moments
 pub mod WholeMerge
 pub mod SliceLogs
 pub mod Parts

@@ -2,6 +2,7 @@ pub mod Kept
 pub mod Lead
 pub mod LikeCount
 pub mod Merge
+pub mod Moments
 pub mod Parts
 pub mod StationView
 pub mod SlicedLike

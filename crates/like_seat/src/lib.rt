@@ -6,6 +6,7 @@
 //! hot pages of the next one, and releases it.
 #![tactic(auto)]
 
+mod laws;
 mod lead;
 mod like_count;
 mod merged;
@@ -14,6 +15,7 @@ mod slice_log;
 mod station;
 mod tables;
 
+pub use laws::posts_are_exclusive;
 pub use lead::{Lead, LeadOf, NoLead};
 pub use merged::Merged;
 pub use seen::Seen;
