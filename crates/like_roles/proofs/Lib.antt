@@ -15,3 +15,5 @@ pub mod notes
 pub mod Started
 pub mod choice
 pub mod Moved
+pub mod Rooms
+pub mod Moments

@@ -9,3 +9,4 @@ pub mod Judged
 pub mod Desk
 pub mod Follows
 pub mod Suspended
+pub mod Moments

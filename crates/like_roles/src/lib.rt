@@ -7,11 +7,13 @@
 
 mod coord_turn;
 mod coordinator;
+mod laws;
 mod turn;
 mod worker;
 
 pub use coord_turn::CoordTurn;
 pub use coordinator::{Coordinator, CoordinatorOf, NoCoordinator, OwnCoordinator};
+pub use laws::workers_are_exclusive;
 pub use like_promises::{Added, Chosen, Ran, Reply, Took, WorkerLog};
 pub use like_requests::{Gate, NoGate};
 pub use turn::Turn;
