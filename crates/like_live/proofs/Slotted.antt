@@ -22,12 +22,13 @@ use Rattle.like_core.proofs.Slots.{slots_tell}
 use Rattle.like_core.proofs.core.Moved.{reached_is_exclusive}
 use Rattle.like_core.proofs.views.SplitPages.{slices_are_split}
 use Rattle.like_seat.specs.StationView.{HasPhaseMask}
+use Rattle.like_seat.proofs.Moments.{state_at}
 use Rattle.like_limits.specs.Limits.{hot_pages}
 use Rattle.like_choice.specs.Slots.{SlotsView}
 use Rattle.like_live.specs.Driver.{DriverView, IsService}
 use Rattle.like_live.specs.Moments.{MarkedKeepSlots, SlicesAreSlots}
 use Rattle.like_live.specs.Splits.{slots_mask}
-use Rattle.like_live.proofs.Moments.{split-now, state-at}
+use Rattle.like_live.proofs.Moments.{split-now}
 use Rattle.like_live.proofs.Turning.{last-split}
 
 -- who runs a split phase runs a phase
@@ -77,7 +78,8 @@ slices_are_slots z m v s driver service at station split page there =
     let few : length z.counts ≤ service_limits.pages =
     subst (λ (o : Opening). length o.counts ≤ service_limits.pages) opening service.few_pages in
     let p = (reached_is_exclusive z m.shown.state m.shown.reachable).1 in
-    let odd : IsSplit m.shown.state.phase = split-now z m.shown.state at.view.worker _ p (state-at z m s at) split in
+    let is = state_at z m s.station.post at in
+    let odd : IsSplit m.shown.state.phase = split-now z m.shown.state at.view.worker _ p is split in
     let seat : PostView = post_of at.view in
     let runs : RunsSplit seat.state = subst (λ (q : PostView). RunsSplit q.state) at.post split in
     let masked : HasPhaseMask seat = subst HasPhaseMask at.post station.masked in

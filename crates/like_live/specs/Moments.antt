@@ -4,8 +4,7 @@ use mathlib.Core.Option.{some}
 use lib.ListN.{get_elem?}
 use Rattle.like_board.specs.Seats.{BoardId}
 use Rattle.like_core.specs.declared.opening.Opening.{Opening}
-use Rattle.like_core.specs.declared.view.View.TheVariants.{Coord, Worker}
-use Rattle.like_core.specs.declared.view.WorkerSeatView.{WorkerSeatView}
+use Rattle.like_core.specs.declared.view.View.TheVariants.{Coord}
 use Rattle.like_core.specs.core.Numbers.{AllGone}
 use Rattle.like_core.specs.core.State.{numbers}
 use Rattle.like_core.specs.Post.{PostView, slices}
@@ -13,7 +12,7 @@ use Rattle.like_core.specs.WorkerState.{RunsJoined, RunsSplit}
 use Rattle.like_core.specs.views.Places.{count_after}
 use Rattle.like_core.specs.views.Posts.{posts_of}
 use Rattle.like_core.specs.views.Shows.{Moment}
-use Rattle.like_core.specs.views.Views.{post_of}
+use Rattle.like_seat.specs.Moments.{IsPostAt}
 use Rattle.like_seat.specs.StationView.{IsStation}
 use Rattle.like_live.specs.declared.opening.Opening.{Opening as Asked}
 use Rattle.like_live.specs.Driver.{DriverView, IsSameDriver, IsService, new_driver}
@@ -24,12 +23,9 @@ use Rattle.like_live.specs.Splits.{IsSlotted}
 abbrev pub post_in : LiveView → PostView
 post_in s = record s.station.post { board = [] }
 
--- a seat at a moment: its post is what the view of a worker's seat means
-pub record IsSeatAt (z : Opening) (m : Moment z) (s : LiveView) : Type 0 where
-  pub place : ℕ
-  pub view : WorkerSeatView
-  pub there : get_elem? m.views place ≡ some (Worker view)
-  pub post : post_in s ≡ post_of view
+-- a seat at a moment: its post is there
+abbrev pub IsSeatAt : (z : Opening) → Moment z → LiveView → Type 0
+IsSeatAt z m s = IsPostAt z m s.station.post
 
 -- exclusion: at any moment, while one seat runs a joined phase, no seat runs a split one, and none has a like in its
 -- slice
