@@ -301,7 +301,9 @@ static void split_pages(void) {
     void *other_driver[2] = {NULL, NULL}, *seat = NULL;
     row it = right_options();
     put32(&it, SEATS, 1);
+    put_at(&it, MARKS, NULL);
     put64(&it, MARKS_LEN, 0);
+    put_at(&it, LASTS, NULL);
     put64(&it, LASTS_LEN, 0);
     IS(likes_open((likes_options *)&it, (likes_driver *)other_driver), 0);
     IS(likes_driver_take_seat((likes_driver *)other_driver, (likes_seat *)&seat), 0);
@@ -325,7 +327,9 @@ static bool gets_hot(uint32_t likes) {
     uint32_t turn = 9; /* LIKES_GOES_ON */
     put32(&it, SEATS, 1);
     put32(&it, HOT, likes);
+    put_at(&it, MARKS, NULL);
     put64(&it, MARKS_LEN, 0);
+    put_at(&it, LASTS, NULL);
     put64(&it, LASTS_LEN, 0);
     IS(likes_open((likes_options *)&it, (likes_driver *)hot_driver), 0);
     IS(likes_driver_take_seat((likes_driver *)hot_driver, (likes_seat *)&seat), 0);
