@@ -69,6 +69,7 @@ struct likes_service {
     uint32_t quiet;           /* under `driving`: how many rounds had no call, one after the other */
     uint64_t calls;           /* under `driving`: how many calls there had been when the last round ended */
     bool may_rest;            /* under `driving`: the last turn left nothing to do until a call comes */
+    bool has_left;            /* under `driving`: at the last turn, all seats had left */
     pthread_mutex_t changing; /* for those that wait for a phase */
     pthread_cond_t changed;
     likes_phase phase;

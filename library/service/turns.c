@@ -113,15 +113,17 @@ static void pulse(likes_service *service, uint64_t now) {
 
 /* What comes of turns of the driver, for the thread that made them. */
 typedef struct outcome {
-    bool has_work;  /* seats have phase work to do */
-    bool has_news;  /* the threads have to be told that sleep until a phase is released */
-    bool is_sooner; /* the driver's thread would sleep past the time at which the phase may end now */
+    bool has_work; /* seats have phase work to do */
+    bool has_news; /* the threads have to be told that sleep until a phase is released */
+    bool has_call; /* the driver's thread has to wake: it would sleep past the time at which the phase may end now, or a
+                      seat is back where all had left */
 } outcome;
 
 /* The driver's turn, with `driving` held. Threads that wait for a phase sleep on in a joined phase that ends at once,
  * and their seats are lent meanwhile. */
 static uint32_t driver_turn(likes_service *service, outcome *of) {
     uint64_t now = likes_clock(), due = likes_time(&service->due);
+    bool had_left = service->has_left;
     uint32_t status;
     service->may_rest = false;
     pulse(service, now);
@@ -137,8 +139,10 @@ static uint32_t driver_turn(likes_service *service, outcome *of) {
             of->has_news |= status != LIKES_ANNOUNCED;
         }
     }
+    service->has_left = status == LIKES_ENDED;
     uint64_t next_due = likes_time(&service->due);
-    of->is_sooner |= next_due != due && next_due < likes_time(&service->wakes_at);
+    of->has_call |= next_due != due && next_due < likes_time(&service->wakes_at);
+    of->has_call |= had_left && !service->has_left;
     return status;
 }
 
@@ -153,7 +157,7 @@ static uint32_t try_turn(likes_service *service, bool *has_work) {
     }
     if (of.has_news)
         pthread_cond_broadcast(&service->changed);
-    if (of.is_sooner || (of.has_work && __atomic_load_n(&service->is_resting, __ATOMIC_SEQ_CST)))
+    if (of.has_call || (of.has_work && __atomic_load_n(&service->is_resting, __ATOMIC_SEQ_CST)))
         likes_service_call(service);
     *has_work = of.has_work;
     return status;
