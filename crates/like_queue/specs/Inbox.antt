@@ -35,8 +35,10 @@ view_of v = record { plan = v.plan; taken = v.taken }
 abbrev pub NoneLeft : Inbox → Type 0
 NoneLeft v = (v.opened ≤ v.taken) × (v.taken ≤ length v.plan)
 
--- a take from a list inbox hands over what the inbox has, opens nothing, and answers nothing just where none is left
+-- a take from a list inbox hands over what the inbox has, opens nothing, takes only what is open, and answers nothing just
+-- where none is left
 pub record TakesFromList (v : Inbox) (answer : Taken) (w : Inbox) : Type 0 where
   pub handed : HandsOver (view_of v) answer (view_of w)
   pub opened : w.opened ≡ v.opened
+  pub only_open : w.taken ≤ v.opened
   pub nothing : (answer ≡ Nothing) ↔ NoneLeft v

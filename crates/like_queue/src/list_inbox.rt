@@ -85,11 +85,14 @@ impl ListInbox {
 }
 
 impl Inbox for ListInbox {
+    ghost use Rattle.std.specs.Prelude.{true};
     ghost use Rattle.like_queue.specs.Inbox.{view_of};
 
     ghost view = { view_of };
 
     ghost opened = { λ i. i.opened };
+
+    ghost only_open = { true };
 }
 
 impl<R> TakeWith<R> for ListInbox {

@@ -48,9 +48,13 @@ impl TakeEnd<'_> {
 }
 
 impl Inbox for TakeEnd<'_> {
+    ghost use Rattle.std.specs.Prelude.{false};
+
     ghost view = { inbox_of };
 
     ghost opened = { λ _. 0 };
+
+    ghost only_open = { false };
 }
 
 impl<R: Wait> TakeWith<R> for TakeEnd<'_> {
