@@ -41,7 +41,7 @@ all-back f P (x ∷ xs) all (suc k) d h =
     all-back f P xs (λ j e i. all (suc j) e (omega (arith, i))) k d (omega (arith, h))
 
 -- a fact of all that are dealt holds of those that one is dealt
-all-dealt : {A : Type 0} (P : A → Type 0) (n k : ℕ) (xs : List A) → 1 ≤ n → All P xs → All P (dealt n k xs)
+pub all-dealt : {A : Type 0} (P : A → Type 0) (n k : ℕ) (xs : List A) → 1 ≤ n → All P xs → All P (dealt n k xs)
 all-dealt P n k xs some all place d h =
     let there : k + n * place < length xs = (there-dealt n k xs place some).0 h in
     let same : slice_get (dealt n k xs) place ≡ Some (get_or xs (k + n * place) d) =

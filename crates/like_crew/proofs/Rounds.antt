@@ -11,7 +11,7 @@ use Rattle.like_crew.specs.Crew.{AreGone, CrewView}
 use Rattle.like_crew.specs.Fresh.{AllOpen, LooksFresh}
 use Rattle.like_crew.specs.Progress.{progress_in, progress_with}
 use Rattle.like_crew.specs.Steps.{FreshRound, IsRound, LeadsFresh, LookFresh, MakesFreshTurn}
-use Rattle.like_crew.specs.ServerTurns.{MakesTurn}
+use Rattle.like_crew.specs.ServerTurns.{MakesTurn, TakesOpen}
 use Rattle.like_crew.proofs.Leading.{coordinator-modelled, ended-told, gone-all}
 use Rattle.like_crew.proofs.lists.Pairs.{pairs-weaker}
 use Rattle.like_crew.proofs.servers.Turning.{all-modelled, all-stay-gone}
@@ -65,4 +65,6 @@ round-of ended b c d answer led same turned tells =
             (pairs-weaker (MakesFreshTurn seat) (LooksFresh seat.phase seat.ending) c.servers d.servers
             (λ s t f. f.1.fresh) turned);
       };
+      only_open = subst (λ ss. AllZip TakesOpen ss d.servers) led.rest
+          (pairs-weaker (MakesFreshTurn seat) TakesOpen c.servers d.servers (λ s t f. f.1.only_open) turned);
     })

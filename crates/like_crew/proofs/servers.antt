@@ -7,6 +7,7 @@ pub mod Sights
 pub mod Agreeing
 pub mod Later
 pub mod Opened
+pub mod OnlyOpen
 pub mod Finishing
 pub mod Leaving
 pub mod Making

@@ -1,10 +1,9 @@
 -- How far a crew is, in the words of the model of `like_ending`.
-use Rattle.std.specs.Prelude.{◌≡◌, ℕ, ◌-◌, List, length, map}
+use Rattle.std.specs.Prelude.{ℕ, ◌-◌, List, length, map}
 use Rattle.std.specs.List.{sum_by}
 use Rattle.like_requests.specs.declared.request.Request.{Request}
-use Rattle.like_requests.specs.declared.setup.Setup.{Setup}
 use Rattle.like_queue.specs.Inbox.{InboxView, item_count}
-use Rattle.like_ending.specs.Progress.{CrewProgress, IsStart, WorkerProgress, items_in}
+use Rattle.like_ending.specs.Progress.{CrewProgress, WorkerProgress}
 use Rattle.like_roles.specs.coordinator.CoordTurns.{CoordinatorView}
 use Rattle.like_crew.specs.Crew.{CrewView}
 use Rattle.like_crew.specs.Server.{ServerView}
@@ -38,10 +37,3 @@ progress_in c = progress_with c.coordinator c.servers
 -- how many items plans have: the requests, and an end mark each
 abbrev pub items_of : List (List Request) → ℕ
 items_of plans = sum_by item_count plans
-
--- a new crew is at the start, with the turns and the workers of the settings and all items of the plans
-pub record IsNewCrew (setup : Setup) (plans : List (List Request)) (c : CrewView) : Type 0 where
-  pub start : IsStart (progress_in c)
-  pub turns : c.coordinator.turns ≡ setup.turns
-  pub workers : length c.servers ≡ setup.workers
-  pub items : items_in (progress_in c) ≡ items_of plans

@@ -1,5 +1,5 @@
 -- What a turn does to a server, and what it does to open the lists of its submitters.
-use Rattle.std.specs.Prelude.{◌≡◌, ◌≢◌, ℕ, ◌+◌, ◌≤◌, min, slice_get, slice_index, slice_set, Some, None}
+use Rattle.std.specs.Prelude.{◌≡◌, ◌≢◌, ℕ, ◌+◌, ◌<◌, ◌≤◌, min, slice_get, slice_index, slice_set, Some, None}
 use Rattle.like_requests.specs.declared.request.Taken.{Taken}
 use Rattle.like_requests.specs.declared.request.Taken.TheVariants.{Nothing}
 use Rattle.like_queue.specs.Inbox.{HandsOver, InboxView, item_count}
@@ -27,6 +27,12 @@ pub data ServerTurns (answer : Turn) (s t : ServerView) : Type 0 where
       → Gives tried took answer t.worker
       → t ≡ record s { worker = t.worker; inboxes = slice_set s.inboxes (place_at s submitter) j }
       → ServerTurns answer s t
+
+-- a turn takes only what is open: of a list from which it takes, no more is taken then than is open
+abbrev pub TakesOpen : ServerView → ServerView → Type 0
+TakesOpen s t =
+    (place : ℕ) (i j : InboxView) → slice_get s.inboxes place ≡ Some i → slice_get t.inboxes place ≡ Some j
+    → i.taken < j.taken → j.taken ≤ slice_index s.opened place
 
 -- a whole turn of a server with this answer, which is one of the model's where its look is fresh
 pub record IsTurn (answer : Turn) (s t : ServerView) : Type 0 where

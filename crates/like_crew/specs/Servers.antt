@@ -1,11 +1,12 @@
 -- The servers of a run.
-use Rattle.std.specs.Prelude.{◌≡◌, ℕ, Bool, List, []}
+use Rattle.std.specs.Prelude.{◌≡◌, ℕ, Bool, List, length, map, replicate}
 use Rattle.std.specs.List.{AllZip, range_with_len}
-use Rattle.like_core.specs.declared.worker_state.WorkerState.TheVariants.{Runs}
-use Rattle.like_queue.specs.Inbox.{InboxView}
+use Rattle.like_requests.specs.declared.request.Request.{Request}
+use Rattle.like_requests.specs.declared.setup.Setup.{Setup}
 use Rattle.like_tables.specs.Share.{dealt, share_of}
 use Rattle.like_promises.specs.Workload.{Workload, submitters}
-use Rattle.like_crew.specs.Server.{ServerView, WorksFor}
+use Rattle.like_roles.specs.worker.New.{IsNew, IsPostOf}
+use Rattle.like_crew.specs.Server.{ServerView, WorksFor, untouched}
 
 -- the server of a worker of the run, at this board, which notes its additions or does not; it works for the run
 -- whatever pages are hot
@@ -22,13 +23,16 @@ abbrev pub AreServers : Workload → ℕ → List ℕ → Bool → List ServerVi
 AreServers workload workers board notes servers =
     AllZip (IsServer workload workers board notes) (range_with_len 0 workers) servers
 
--- a worker's server has done nothing yet: the worker runs phase 0 and holds no look, and the inboxes are its own of these
-pub record IsNewServer (workers : ℕ) (inboxes : List InboxView) (worker : ℕ) (s : ServerView) : Type 0 where
-  pub runs : s.worker.post.state ≡ Runs 0
-  pub none : s.worker.held.held ≡ []
-  pub own : s.inboxes ≡ dealt workers worker inboxes
+-- a worker's server has done nothing yet: no call was made on its post, and its worker is new; its inboxes are those of
+-- its submitters' plans, from which nothing was taken, and nothing of them is open
+pub record IsNewServer (setup : Setup) (plans : List (List Request)) (notes : Bool) (worker : ℕ) (s : ServerView)
+    : Type 0 where
+  pub post : IsPostOf worker setup.pages s.worker.post
+  pub new : IsNew setup (map length plans) worker s.worker.post notes s.worker
+  pub inboxes : s.inboxes ≡ map untouched (dealt setup.workers worker plans)
+  pub closed : s.opened ≡ replicate (length s.inboxes) 0
 
--- the servers of all workers, in order, with these inboxes
-abbrev pub AreNewServers : ℕ → List InboxView → List ServerView → Type 0
-AreNewServers workers inboxes servers =
-    AllZip (IsNewServer workers inboxes) (range_with_len 0 workers) servers
+-- the servers of all workers, in order
+abbrev pub AreNewServers : Setup → List (List Request) → Bool → List ServerView → Type 0
+AreNewServers setup plans notes servers =
+    AllZip (IsNewServer setup plans notes) (range_with_len 0 setup.workers) servers

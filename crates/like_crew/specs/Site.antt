@@ -1,10 +1,11 @@
 -- What a run uses.
-use Rattle.std.specs.Prelude.{◌≡◌, false, List, [], length, map}
+use Rattle.std.specs.Prelude.{◌≡◌, List, length, map}
 use Rattle.like_requests.specs.Pages.{counts_of, marks_of}
 use Rattle.like_requests.specs.declared.request.Request.{Request}
 use Rattle.like_requests.specs.declared.setup.Setup.{Setup}
 use Rattle.like_core.specs.declared.opening.Opening.{Opening}
 use Rattle.like_core.specs.core.State.{opening}
+use Rattle.like_board.specs.Rule.{opened_coord}
 use Rattle.like_board.specs.Seats.{board_id, coord_board, coord_view}
 use Rattle.like_roles.specs.worker.New.{AreNewSeats}
 use Rattle.like_crew.specs.declared.site.Seats.{Seats}
@@ -22,9 +23,6 @@ pub record IsSite (setup : Setup) (plans : List (List Request)) (site : Site) : 
 -- the seats of the coordinator and of each worker of a site's board; none has made a step yet
 pub record AreSeats (setup : Setup) (site : Site) (seats : Seats) : Type 0 where
   pub board : coord_board seats.coord ≡ board_id site.board
-  pub start : (coord_view seats.coord).phase ≡ 0
-  pub running : (coord_view seats.coord).ending ≡ false
-  pub no_masks : (coord_view seats.coord).masks ≡ []
-  pub opening : (coord_view seats.coord).opening ≡ opening_of setup
+  pub coord : coord_view seats.coord ≡ opened_coord (opening_of setup)
   pub workers : length seats.workers.items ≡ setup.workers
   pub new : AreNewSeats (board_id site.board) setup.pages seats.workers.items

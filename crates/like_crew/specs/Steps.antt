@@ -10,7 +10,7 @@ use Rattle.like_roles.specs.declared.turn.Turn.{Turn}
 use Rattle.like_crew.specs.Crew.{AreGone, CrewView}
 use Rattle.like_crew.specs.Fresh.{LooksFresh, ShowsWorkers}
 use Rattle.like_crew.specs.Server.{ServerView}
-use Rattle.like_crew.specs.ServerTurns.{IsTurn, MakesTurn, OpensOne}
+use Rattle.like_crew.specs.ServerTurns.{IsTurn, MakesTurn, OpensOne, TakesOpen}
 
 -- a step of the server of one worker, and of no other
 pub record AtServer (worker : ℕ) (Step : ServerView → ServerView → Type 0) (ss ts : List ServerView)
@@ -21,10 +21,12 @@ pub record AtServer (worker : ℕ) (Step : ServerView → ServerView → Type 0)
   pub step : Step before after
   pub rest : ts ≡ slice_set ss worker after
 
--- a whole turn of a server with this answer, whose look shows what the coordinator's seat knows
+-- a whole turn of a server with this answer, whose look shows what the coordinator's seat knows, and which takes only
+-- what is open
 pub record IsFreshTurn (c : CoordSeatView) (answer : Turn) (s t : ServerView) : Type 0 where
   pub turn : IsTurn answer s t
   pub fresh : LooksFresh c.phase c.ending s t
+  pub only_open : TakesOpen s t
 
 -- some such turn
 abbrev pub MakesFreshTurn : CoordSeatView → ServerView → ServerView → Type 0
@@ -60,7 +62,8 @@ pub record LookFresh {ended : Bool} {c d : CrewView} (round : IsRound ended c d)
   pub workers : let seat = d.coordinator.seat in
       AllZip (LooksFresh seat.phase seat.ending) c.servers d.servers
 
--- a round whose looks are fresh
+-- a round whose looks are fresh, and which takes only what is open
 pub record FreshRound (ended : Bool) (c d : CrewView) : Type 0 where
   pub round : IsRound ended c d
   pub looks : LookFresh round
+  pub only_open : AllZip TakesOpen c.servers d.servers

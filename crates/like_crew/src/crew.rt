@@ -3,8 +3,7 @@ ghost use Rattle.like_limits.specs.Limits.{max_requests};
 ghost use Rattle.like_queue.specs.Inbox.{view_of};
 ghost use Rattle.like_requests.specs.Setup.{FitsRun};
 ghost use Rattle.like_promises.specs.WorkloadOf.{lists_of};
-ghost use Rattle.like_crew.specs.Crew.{IsCrew, crew_of};
-ghost use Rattle.like_crew.specs.Progress.{IsNewCrew};
+ghost use Rattle.like_crew.specs.Crew.{IsCrew, IsNewCrew, crew_of};
 ghost use Rattle.like_crew.specs.Server.{AreUntouched, plans_of, untouched};
 ghost use Rattle.like_crew.specs.Site.{AreSeats, IsSite};
 
@@ -37,7 +36,7 @@ pub struct Crew<'a, I: Inbox> {
 
 impl<'a, I: Inbox> Crew<'a, I> {
     /// The crew of a run within the limits, at a new board, with an inbox for each submitter, from which nothing was
-    /// taken.
+    /// taken and of which nothing is open.
     pub fn of_inboxes(
         alloc: Global,
         setup: &Setup,
@@ -47,6 +46,7 @@ impl<'a, I: Inbox> Crew<'a, I> {
     ) -> Result<Crew<'a, I>, AllocError>
         requires within { FitsRun setup.now (plans_of (map I.view inboxes.items)) }
         requires untouched { AreUntouched (map I.view inboxes.items) }
+        requires closed { All (λ inbox. I.opened inbox ≡ 0) inboxes.items }
         requires site { IsSite setup.now (plans_of (map I.view inboxes.items)) site.now }
         requires seats { AreSeats setup.now site.now seats }
         ensures crew { IfOk result
@@ -82,8 +82,9 @@ impl<'a, I: Inbox> Crew<'a, I> {
 // The inboxes of plans, with nothing open.
 fn list_inboxes(alloc: Global, plans: Vec<Vec<Request>>) -> Result<Vec<ListInbox>, AllocError>
     requires { All (λ plan. length plan.items ≤ max_requests) plans.items }
-    ensures { IfOk result (λ inboxes. map view_of inboxes.items
+    ensures untouched { IfOk result (λ inboxes. map view_of inboxes.items
         ≡ map untouched (lists_of plans.items)) }
+    ensures closed { IfOk result (λ inboxes. All (λ inbox. inbox.opened ≡ 0) inboxes.items) }
 {
     let mut inboxes = Vec::new(alloc);
     for plan in plans {

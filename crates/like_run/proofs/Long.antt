@@ -1,5 +1,5 @@
 -- A replay that is unfinished is long.
-use Rattle.std.proofs.Common.{◌≡◌, ℕ, zero, suc, false, true≢false, List, [], ◌∷◌, length, map, option_map, sym, ap, ◌∙◌, subst}
+use Rattle.std.proofs.Common.{◌≡◌, ◌<◌, ℕ, zero, suc, false, true≢false, List, [], ◌∷◌, length, map, option_map, sym, ap, ◌∙◌, subst}
 use Rattle.std.specs.List.{All}
 use Rattle.std.proofs.lemmas.List.{length-map, map-set}
 use Rattle.std.proofs.lemmas.Option.{slice_get-map}
@@ -13,11 +13,12 @@ use Rattle.like_ending.specs.Progress.{WorkerProgress, items_in}
 use Rattle.like_ending.specs.Schedules.{IsFreshRound, Participant, TakeTurns, Unended, coordinator, worker}
 use Rattle.like_ending.proofs.Ends.{rounds_end}
 use Rattle.like_ending.proofs.Sums.{set_same}
-use Rattle.like_crew.specs.Crew.{CrewView}
+use Rattle.like_crew.specs.Crew.{CrewView, IsNewCrew}
 use Rattle.like_crew.specs.Fresh.{AllOpen}
-use Rattle.like_crew.specs.Progress.{IsNewCrew, items_of, progress_in, progress_of, progress_with}
+use Rattle.like_crew.specs.Progress.{items_of, progress_in, progress_of, progress_with}
 use Rattle.like_crew.proofs.Leading.{coordinator-modelled}
 use Rattle.like_crew.proofs.Rounds.{round-goes-on, round-modelled}
+use Rattle.like_crew.proofs.Starting.{new-items, new-start, new-turns, new-workers}
 use Rattle.like_crew.proofs.servers.Turning.{all-opened, all-stay-open, opened-one}
 use Rattle.like_run.specs.declared.rounds.fault.ReplayFault.{ReplayFault}
 use Rattle.like_run.specs.declared.rounds.fault.ReplayFault.TheVariants.{Settings, Memory, Unfinished}
@@ -108,33 +109,35 @@ open-all script n c d p =
 
 pub is-long : (setup : Setup) (plans : List (List Request)) (script : List Turned) (n : ℕ) (c d : CrewView)
     (p : Plays script n c d)
+    → 0 < setup.workers
     → IsNewCrew setup plans c
     → MayLast setup.turns (items_of plans) setup.workers n
-is-long setup plans script n c d p new =
+is-long setup plans script n c d p some new =
     let opened = open-all script n c d p in
     let rounds : Unended IsFreshRound n (progress_in p.made) (progress_in d) =
     subst (λ b. Unended IsFreshRound n b (progress_in d)) opened.0
     (rounds-modelled n p.opened d p.goes_round opened.1) in
     let most : MayLast c.coordinator.turns (items_in (progress_in c)) (length (map progress_of c.servers)) n =
-    rounds_end (participants script) n (progress_in c) (progress_in p.made) (progress_in d) new.start
+    rounds_end (participants script) n (progress_in c) (progress_in p.made) (progress_in d) (new-start setup plans c new)
     (entries-modelled script c p.made p.entries) rounds in
-    subst (λ t. MayLast t (items_of plans) setup.workers n) new.turns
-    (subst (λ i. MayLast c.coordinator.turns i setup.workers n) new.items
+    subst (λ t. MayLast t (items_of plans) setup.workers n) (new-turns setup plans c new)
+    (subst (λ i. MayLast c.coordinator.turns i setup.workers n) (new-items setup plans c some new)
     (subst (λ w. MayLast c.coordinator.turns (items_in (progress_in c)) w n)
-    (length-map c.servers progress_of ∙ new.workers) most))
+    (length-map c.servers progress_of ∙ new-workers setup plans c new) most))
 
 -- why a new crew that plays a script leaves nothing is why its replay gives no report
 pub under-way : (setup : Setup) (plans : List (List Request)) (script : List Turned) (c : CrewView)
     (fault : ReplayFault)
+    → 0 < setup.workers
     → IsNewCrew setup plans c
     → IsPlayFault script c fault
     → IsReplayFaultUnderWay setup plans script fault
-under-way setup plans script c (Settings why) new h = absurd h
-under-way setup plans script c Memory new h = tt
-under-way setup plans script c Unfinished new h = record {
+under-way setup plans script c (Settings why) some new h = absurd h
+under-way setup plans script c Memory some new h = tt
+under-way setup plans script c Unfinished some new h = record {
   start = c;
   new = new;
   not_ended = h;
   long = subst (λ n. MayLast setup.turns (items_of plans) setup.workers n) h.all
-      (is-long setup plans script h.rounds c h.last h.plays new);
+      (is-long setup plans script h.rounds c h.last h.plays some new);
 }

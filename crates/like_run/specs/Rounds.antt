@@ -9,8 +9,8 @@ use Rattle.like_run.specs.declared.rounds.fault.ReplayFault.TheVariants.{Setting
 use Rattle.like_requests.specs.declared.script.Turned.{Turned}
 use Rattle.like_requests.specs.declared.script.Turned.TheVariants.{OpenOne, Worker, Coordinator}
 use Rattle.like_ending.specs.Laws.{MayLast}
-use Rattle.like_crew.specs.Crew.{CrewView, HasInbox}
-use Rattle.like_crew.specs.Progress.{IsNewCrew, items_of}
+use Rattle.like_crew.specs.Crew.{CrewView, HasInbox, IsNewCrew}
+use Rattle.like_crew.specs.Progress.{items_of}
 use Rattle.like_crew.specs.Server.{IsLogOf, ServerView}
 use Rattle.like_promises.specs.declared.report.Report.{Report}
 use Rattle.like_requests.specs.Script.{IsFirstAway, IsInRun}

@@ -1,6 +1,6 @@
 -- How the servers of a run are made, one after the other.
-use Rattle.std.proofs.Common.{◌≡◌, ◌<◌, ◌≤◌, ◌+◌, [], ◌∷◌, ℕ, Bool, Fits, w32, List, Vec, Global, length, map, drop, get_or, remove, sym, ap, ◌∙◌, subst, add-one, arith}
-use Rattle.std.specs.List.{AllZip}
+use Rattle.std.proofs.Common.{◌≡◌, ◌<◌, ◌≤◌, ◌+◌, [], ◌∷◌, ℕ, suc, Bool, Fits, w32, List, Vec, Global, length, map, drop, get_or, remove, replicate, refl, sym, ap, ◌∙◌, subst, add-one, arith}
+use Rattle.std.specs.List.{All, AllZip}
 use Rattle.std.proofs.lemmas.List.{length-drop}
 use Rattle.like_limits.specs.Limits.{max_workers}
 use Rattle.like_requests.proofs.Planned.{plans-within}
@@ -9,14 +9,15 @@ use Rattle.like_requests.specs.declared.setup.Setup.{Setup}
 use Rattle.like_core.specs.Post.{PostView}
 use Rattle.like_queue.specs.Inbox.{InboxView}
 use Rattle.like_tables.specs.Share.{dealt, share_of}
+use Rattle.like_tables.specs.UserTable.{UserTable}
 use Rattle.like_tables.proofs.Dealt.{map-dealt}
 use Rattle.like_promises.specs.Workload.{Workload}
 use Rattle.like_promises.specs.WorkloadOf.{workload_of}
 use Rattle.like_roles.specs.worker.Follows.{IsWorkloadOf}
-use Rattle.like_roles.specs.worker.New.{IsPostOf}
-use Rattle.like_crew.specs.Servers.{IsServer}
-use Rattle.like_crew.specs.Server.{AreInboxesFor, AreOwnPlans, AreUntouched, ServerView, WorksFor, plans_of}
-use Rattle.like_crew.proofs.Makings.{hand-at, inboxes-for, is-server, remove-drop}
+use Rattle.like_roles.specs.worker.New.{IsNew, IsPostOf}
+use Rattle.like_crew.specs.Servers.{IsNewServer, IsServer}
+use Rattle.like_crew.specs.Server.{AreInboxesFor, AreOwnPlans, AreUntouched, ServerView, WorksFor, plans_of, untouched}
+use Rattle.like_crew.proofs.Makings.{all-dealt, hand-at, inboxes-for, is-server, remove-drop}
 
 -- what is in a hand
 abbrev pub held : {A : Type 0} → Vec A Global → List A
@@ -61,15 +62,66 @@ pub server-at : (setup : Setup) (sizes : List ℕ) (number k : ℕ) (inboxes own
     → own ≡ dealt setup.workers k inboxes
     → IsPostOf k setup.pages post
     → post.board ≡ board
-    → s.worker.last.share ≡ share_of setup.users (length sizes) setup.workers number
-    → s.worker.post ≡ post → s.worker.notes ≡ notes
+    → IsNew setup sizes number post notes s.worker
     → ((workload : Workload) → IsWorkloadOf setup sizes workload → AreOwnPlans workload setup.workers number own
     → WorksFor workload s)
     → IsServer (workload_of setup (plans_of inboxes)) setup.workers board notes k s
-server-at setup sizes number k inboxes own post board notes s same sized is fresh here share at noting works =
+server-at setup sizes number k inboxes own post board notes s same sized is fresh here new works =
     is-server setup sizes k inboxes own post board notes s sized is fresh here
-    (share ∙ ap (λ n. share_of setup.users (length sizes) setup.workers n) same) at noting
+    (ap (λ (t : UserTable). t.share) new.last
+    ∙ ap (λ n. share_of setup.users (length sizes) setup.workers n) same) new.at_post new.notes_are
     (λ workload of mine. works workload of (subst (λ n. AreOwnPlans workload setup.workers n own) (sym same) mine))
+
+-- inboxes from which nothing was taken are those of their plans
+as-untouched : (inboxes : List InboxView) → AreUntouched inboxes → inboxes ≡ map untouched (plans_of inboxes)
+as-untouched [] none = refl
+as-untouched (i ∷ inboxes) none =
+    let first : i ≡ untouched i.plan = λ m. record i { taken = none 0 i (omega arith) m } in
+    ap (λ x. x ∷ inboxes) first
+    ∙ ap (λ xs. untouched i.plan ∷ xs) (as-untouched inboxes (λ k d there. none (suc k) d (omega (arith, there))))
+
+-- of closed inboxes nothing is open
+all-closed : {A B : Type 0} (opened : A → ℕ) (view : A → B) (inboxes : List A) → All (λ i. opened i ≡ 0) inboxes
+    → map opened inboxes ≡ replicate (length (map view inboxes)) 0
+all-closed opened view [] none = refl
+all-closed opened view (i ∷ inboxes) none =
+    let first : opened i ≡ 0 = none 0 i (omega arith) in
+    ap (λ n. n ∷ map opened inboxes) first
+    ∙ ap (λ ns. 0 ∷ ns) (all-closed opened view inboxes (λ k d there. none (suc k) d (omega (arith, there))))
+
+-- nothing of a hand is open where nothing of all inboxes is
+pub hand-closed : {A : Type 0} (opened : A → ℕ) (view : A → InboxView) (hands left : List (Vec A Global)) (k workers : ℕ)
+    (hand : Vec A Global) (items : List A)
+    → ((worker : ℕ) → worker < workers → get_or (map held hands) worker [] ≡ dealt workers worker items)
+    → length hands ≡ workers
+    → k < workers
+    → left ≡ drop k hands
+    → hand ≡ get_or left 0 hand
+    → All (λ i. opened i ≡ 0) items → map opened (held hand) ≡ replicate (length (map view (held hand))) 0
+hand-closed opened view hands left k workers hand items own sized below rest first none =
+    all-closed opened view (held hand)
+    (subst (All (λ i. opened i ≡ 0)) (sym (hand-at held hands left k workers hand items own sized below rest first))
+    (all-dealt (λ i. opened i ≡ 0) workers k items (omega (arith, below)) none))
+
+-- a server with a new worker and closed inboxes is new
+pub new-server : (setup : Setup) (sizes : List ℕ) (number k : ℕ) (inboxes own : List InboxView) (post : PostView)
+    (notes : Bool) (s : ServerView)
+    → number ≡ k
+    → sizes ≡ map length (plans_of inboxes)
+    → AreUntouched inboxes
+    → own ≡ dealt setup.workers k inboxes
+    → IsPostOf k setup.pages post
+    → IsNew setup sizes number post notes s.worker
+    → s.inboxes ≡ own → s.opened ≡ replicate (length own) 0 → IsNewServer setup (plans_of inboxes) notes k s
+new-server setup sizes number k inboxes own post notes s same sized none is fresh new inboxes_are closed = record {
+  post = subst (IsPostOf k setup.pages) (sym new.at_post) fresh;
+  new = subst (λ p. IsNew setup (map length (plans_of inboxes)) k p notes s.worker) (sym new.at_post)
+      (subst (λ n. IsNew setup (map length (plans_of inboxes)) n post notes s.worker) same
+      (subst (λ ns. IsNew setup ns number post notes s.worker) sized new));
+  inboxes = inboxes_are ∙ is ∙ ap (dealt setup.workers k) (as-untouched inboxes none)
+      ∙ sym (map-dealt untouched setup.workers k (plans_of inboxes));
+  closed = closed ∙ ap (λ (xs : List InboxView). replicate (length xs) 0) (sym inboxes_are);
+}
 
 -- no server was made yet
 pub none-made : (R : ℕ → ServerView → Type 0) (servers : List ServerView) → servers ≡ [] → AllZip R [] servers

@@ -3,6 +3,7 @@ use Rattle.std.proofs.Common.{◌≡◌, ◌<◌, ◌+◌, ℕ, Bool, List, [], 
 use Rattle.std.proofs.lemmas.List.{length-map, map_push}
 use mathlib.Core.Option.{some}
 use lib.ListN.{get_elem?}
+use Rattle.like_requests.specs.declared.request.Request.{Request}
 use Rattle.like_requests.specs.declared.setup.Setup.{Setup}
 use Rattle.like_core.specs.declared.opening.Opening.{Opening}
 use Rattle.like_core.specs.declared.view.View.{View}
@@ -18,7 +19,7 @@ use Rattle.like_roles.specs.worker.New.{IsPostOf}
 use Rattle.like_crew.specs.OwnCrew.{AreSeated, IsSeated, those_in}
 use Rattle.like_crew.specs.OwnServer.{OwnServerView, server_at}
 use Rattle.like_crew.specs.Server.{ServerView}
-use Rattle.like_crew.specs.Servers.{IsServer}
+use Rattle.like_crew.specs.Servers.{IsNewServer, IsServer}
 use Rattle.like_crew.specs.Site.{opening_of}
 use Rattle.like_crew.proofs.servers.Exchanged.{exchanged, exchanged-all, exchanged-more, next-is}
 use Rattle.like_crew.proofs.servers.Owned.{works-at}
@@ -54,6 +55,43 @@ server-off workload workers board notes worker s is = record {
   board_is = refl;
   notes_are = is.notes_are;
   works = λ hot. works-at (record workload { hot = hot }) s [] (is.works hot);
+}
+
+-- and is new if it was
+pub new-off : (setup : Setup) (plans : List (List Request)) (notes : Bool) (worker : ℕ) (s : ServerView)
+    → IsNewServer setup plans notes worker s
+    → IsNewServer setup plans notes worker (server_at s [])
+new-off setup plans notes worker s is = record {
+  post = record {
+    is_his = is.post.is_his;
+    marks = is.post.marks;
+    limits = is.post.limits;
+    factor = is.post.factor;
+    fresh = record {
+      runs = is.post.fresh.runs;
+      never_looked = is.post.fresh.never_looked;
+      no_looks = is.post.fresh.no_looks;
+      did_nothing = is.post.fresh.did_nothing;
+      no_masks = is.post.fresh.no_masks;
+    };
+  };
+  new = record {
+    at_post = refl;
+    held = is.new.held;
+    slice = is.new.slice;
+    sliced = is.new.sliced;
+    left = is.new.left;
+    ended = is.new.ended;
+    cursor = is.new.cursor;
+    pending = is.new.pending;
+    last = is.new.last;
+    taken = is.new.taken;
+    ran = is.new.ran;
+    notes_are = is.new.notes_are;
+    adds = is.new.adds;
+  };
+  inboxes = is.inboxes;
+  closed = is.closed;
 }
 
 -- what all seats of a new board know, once these servers have had it

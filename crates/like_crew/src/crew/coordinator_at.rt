@@ -2,7 +2,7 @@ ghost use Rattle.std.specs.Prelude.{◌≡◌, [], IfOk};
 ghost use Rattle.like_core.specs.OpeningLimits.{run_limits};
 ghost use Rattle.like_board.specs.Seats.{board_id, coord_board, coord_view};
 ghost use Rattle.like_roles.specs.coordinator.CoordTurns.{CoordTurns, HasEndedJoined};
-ghost use Rattle.like_crew.specs.Crew.{CoordinatorGoesOn};
+ghost use Rattle.like_crew.specs.Crew.{CoordinatorGoesOn, new_coordinator};
 
 use crate::crew::run_coordinator::RunCoordinator;
 use like_board::{Board, CoordSeat};
@@ -45,11 +45,8 @@ impl<'a> CoordinatorAt<'a> {
         requires limits { (coord_view seat).opening.limits ≡ run_limits }
         requires new { (coord_view seat).phase ≡ 0 }
         requires no_masks { (coord_view seat).masks ≡ [] }
-        ensures board { IfOk result (λ coordinator. coordinator.board ≡ board_id board.now) }
-        ensures seat { IfOk result (λ coordinator. coordinator.seat ≡ coord_view seat) }
-        ensures turns { IfOk result (λ coordinator. coordinator.turns ≡ turns) }
-        ensures left { IfOk result (λ coordinator. coordinator.left ≡ turns) }
-        ensures hot { IfOk result (λ coordinator. coordinator.choice.hot ≡ hot) }
+        ensures { IfOk result (λ coordinator. coordinator
+            ≡ new_coordinator (board_id board.now) (coord_view seat) turns hot) }
     {
         let coordinator = RunCoordinator::new(alloc, seat, turns, hot, counts)?;
         Ok(CoordinatorAt { board, coordinator })

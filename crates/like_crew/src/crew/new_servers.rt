@@ -1,4 +1,4 @@
-ghost use Rattle.std.specs.Prelude.{◌≡◌, IfOk, length, map};
+ghost use Rattle.std.specs.Prelude.{◌≡◌, All, IfOk, length, map};
 ghost use Rattle.like_requests.specs.Setup.{FitsRun};
 ghost use Rattle.like_board.specs.Seats.{board_id, board_numbers};
 ghost use Rattle.like_roles.specs.worker.New.{AreNewSeats};
@@ -25,6 +25,7 @@ pub fn servers_of<'a, I: Inbox>(
 ) -> Result<Vec<Server<BoardPost<'a>, I>>, AllocError>
     requires within { FitsRun setup.now (plans_of (map I.view inboxes.items)) }
     requires untouched { AreUntouched (map I.view inboxes.items) }
+    requires closed { All (λ inbox. I.opened inbox ≡ 0) inboxes.items }
     requires sizes { sizes.now ≡ map length (plans_of (map I.view inboxes.items)) }
     requires len { length seats.items ≡ setup.now.workers }
     requires seats { AreNewSeats (board_id board.now) setup.now.pages seats.items }
@@ -32,7 +33,7 @@ pub fn servers_of<'a, I: Inbox>(
         let workload = workload_of setup.now (plans_of (map I.view inboxes.items)) in
         AreServers workload setup.now.workers board_is notes servers.items) }
     ensures new { IfOk result (λ servers.
-        AreNewServers setup.now.workers (map I.view inboxes.items) servers.items) }
+        AreNewServers setup.now (plans_of (map I.view inboxes.items)) notes servers.items) }
 {
     let mut hands = deal(alloc, inboxes, setup.workers)?;
     let mut servers = Vec::new(alloc);

@@ -4,9 +4,8 @@ ghost use Rattle.like_core.specs.declared.worker_state.WorkerState.TheVariants.{
 ghost use Rattle.like_requests.specs.Setup.{FitsRun};
 ghost use Rattle.like_promises.specs.WorkloadOf.{lists_of};
 ghost use Rattle.like_roles.specs.coordinator.CoordTurns.{HasEndedJoined};
-ghost use Rattle.like_crew.specs.Crew.{AreGone, GoesOn, HasInbox, IsCrewAt};
+ghost use Rattle.like_crew.specs.Crew.{AreGone, GoesOn, HasInbox, IsCrewAt, IsNewCrew};
 ghost use Rattle.like_crew.specs.OwnCrew.{HasOutcome};
-ghost use Rattle.like_crew.specs.Progress.{IsNewCrew};
 ghost use Rattle.like_crew.specs.Server.{ServerView};
 ghost use Rattle.like_crew.specs.ServerTurns.{OpensAll, OpensOne, place_at};
 ghost use Rattle.like_crew.specs.Steps.{AtServer, FreshRound, IsFreshTurn, LeadsFresh, LeadsToEnd, MakesFreshTurn, OpensMore};

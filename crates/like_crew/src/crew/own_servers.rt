@@ -1,5 +1,5 @@
 //! The servers of a crew whose thread owns its board: how they are made, and how they are taken apart.
-ghost use Rattle.std.specs.Prelude.{◌≡◌, [], IfOk, Some, length, map};
+ghost use Rattle.std.specs.Prelude.{◌≡◌, [], All, IfOk, Some, length, map};
 ghost use Rattle.std.specs.List.{AllZip};
 ghost use Rattle.like_core.specs.declared.view.CoordSeatView.{CoordSeatView};
 ghost use Rattle.like_requests.specs.Setup.{FitsRun};
@@ -34,6 +34,7 @@ pub fn own_servers<I: Inbox>(
 ) -> Result<(Vec<Option<OwnServer<I>>>, OwnBoard), AllocError>
     requires within { FitsRun setup.now (plans_of (map I.view inboxes.items)) }
     requires untouched { AreUntouched (map I.view inboxes.items) }
+    requires closed { All (λ inbox. I.opened inbox ≡ 0) inboxes.items }
     requires sizes { sizes.now ≡ map length (plans_of (map I.view inboxes.items)) }
     requires opening { own_opening board ≡ opening_of setup.now }
     requires views { own_views board ≡ new_views (own_opening board) }
@@ -43,7 +44,7 @@ pub fn own_servers<I: Inbox>(
         AreServers (workload_of setup.now (plans_of (map I.view inboxes.items))) setup.now.workers [] notes
         (servers_in r.0.items)) }
     ensures new { IfOk result (λ r.
-        AreNewServers setup.now.workers (map I.view inboxes.items) (servers_in r.0.items)) }
+        AreNewServers setup.now (plans_of (map I.view inboxes.items)) notes (servers_in r.0.items)) }
     ensures seated { IfOk result (λ r.
         AreSeated (own_views r.1) (opened_coord (opening_of setup.now)) r.0.items) }
 {

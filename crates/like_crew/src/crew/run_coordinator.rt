@@ -2,7 +2,7 @@ ghost use Rattle.std.specs.Prelude.{◌≡◌, [], IfOk};
 ghost use Rattle.like_core.specs.OpeningLimits.{run_limits};
 ghost use Rattle.like_board.specs.Led.{IsLedBy, led};
 ghost use Rattle.like_roles.specs.coordinator.CoordTurns.{ChoseByCounts, HasEndedJoined, TurnsAt};
-ghost use Rattle.like_crew.specs.Crew.{CoordinatorGoesOn};
+ghost use Rattle.like_crew.specs.Crew.{CoordinatorGoesOn, new_coordinator};
 
 use like_board::{LeadSeat, LeadsAt};
 use like_promises::Chosen;
@@ -41,11 +41,8 @@ impl<S: LeadSeat> RunCoordinator<S> {
         requires limits { (S.view seat).opening.limits ≡ run_limits }
         requires new { (S.view seat).phase ≡ 0 }
         requires no_masks { (S.view seat).masks ≡ [] }
-        ensures board { IfOk result (λ coordinator. coordinator.board ≡ S.board seat) }
-        ensures seat { IfOk result (λ coordinator. coordinator.seat ≡ S.view seat) }
-        ensures turns { IfOk result (λ coordinator. coordinator.turns ≡ turns) }
-        ensures left { IfOk result (λ coordinator. coordinator.left ≡ turns) }
-        ensures hot { IfOk result (λ coordinator. coordinator.choice.hot ≡ hot) }
+        ensures { IfOk result (λ coordinator. coordinator
+            ≡ new_coordinator (S.board seat) (S.view seat) turns hot) }
     {
         match CoordinatorOf::new(alloc, seat, turns, hot, counts) {
             Ok(coordinator) => Ok(RunCoordinator { coordinator }),

@@ -1,13 +1,12 @@
-ghost use Rattle.std.specs.Prelude.{◌≡◌, ◌<◌, ℕ, [], IfOk, IfErr, length, map};
+ghost use Rattle.std.specs.Prelude.{◌≡◌, ◌<◌, ℕ, IfOk, IfErr, length, map, true};
 ghost use Rattle.like_core.specs.declared.worker_state.WorkerState.TheVariants.{Gone};
-ghost use Rattle.like_tables.specs.Share.{share_of};
 ghost use Rattle.like_requests.specs.Setup.{IsWithin};
-ghost use Rattle.like_roles.specs.worker.New.{IsPostOf};
+ghost use Rattle.like_roles.specs.worker.New.{IsNew, IsPostOf};
 ghost use Rattle.like_promises.specs.Workload.{Workload};
 ghost use Rattle.like_roles.specs.worker.Follows.{IsWorkloadOf};
 ghost use Rattle.like_crew.specs.Fresh.{IsModelled};
 ghost use Rattle.like_crew.specs.Server.{AreInboxesFor, AreOwnPlans, IsLogOf, ServerGoesOn, WorksFor};
-ghost use Rattle.like_crew.specs.ServerTurns.{OpensAll, OpensOne, OpensWhole, ServerTurns, place_at};
+ghost use Rattle.like_crew.specs.ServerTurns.{OpensAll, OpensOne, OpensWhole, ServerTurns, TakesOpen, place_at};
 
 mod own_server;
 
@@ -59,12 +58,10 @@ impl<P: Post, I: Inbox> Server<P, I> {
         requires is_worker { number < setup.now.workers }
         requires post { IsPostOf number setup.now.pages (P.view post) }
         requires inboxes { AreInboxesFor setup.now sizes.now number (map I.view inboxes.items) }
-        ensures share { IfOk result (λ server.
-            server.worker.last.share ≡ share_of setup.now.users (length sizes.now) setup.now.workers number) }
-        ensures at_post { IfOk result (λ server. server.worker.post ≡ P.view post) }
-        ensures notes { IfOk result (λ server. server.worker.notes ≡ notes) }
-        ensures held { IfOk result (λ server. server.worker.held.held ≡ []) }
+        ensures new { IfOk result (λ server.
+            IsNew setup.now sizes.now number (P.view post) notes server.worker) }
         ensures inboxes { IfOk result (λ server. server.inboxes ≡ map I.view inboxes.items) }
+        ensures opened { IfOk result (λ server. server.opened ≡ map I.opened inboxes.items) }
         ensures works { IfOk result (λ server. (workload : Workload)
             → IsWorkloadOf setup.now sizes.now workload
             → AreOwnPlans workload setup.now.workers number (map I.view inboxes.items) → WorksFor workload server) }
@@ -91,6 +88,7 @@ impl<P: Post, I: Inbox> Server<P, I> {
         I: TakeWith<R>,
         ensures case { ServerTurns result self.old self.new }
         ensures modelled { IsModelled self.old self.new }
+        ensures only_open { I.only_open ≡ true → TakesOpen self.old self.new }
         ensures goes_on { ServerGoesOn self.old self.new }
         ensures retired { result ≡ Turn.Retired → self.new.worker.post.state ≡ Gone }
     {

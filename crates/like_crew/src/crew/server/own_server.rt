@@ -1,4 +1,4 @@
-ghost use Rattle.std.specs.Prelude.{◌≡◌, ◌<◌, ℕ, List, [], length};
+ghost use Rattle.std.specs.Prelude.{◌≡◌, ◌<◌, ℕ, List, [], length, true};
 ghost use mathlib.Core.Option.{some};
 ghost use lib.ListN.{get_elem?};
 ghost use Rattle.like_core.specs.declared.view.CoordSeatView.{CoordSeatView};
@@ -13,7 +13,7 @@ ghost use Rattle.like_board.specs.OwnPosts.{CameBack};
 ghost use Rattle.like_crew.specs.Fresh.{IsModelled, LooksFresh};
 ghost use Rattle.like_crew.specs.OwnServer.{server_at, CameBackFrom};
 ghost use Rattle.like_crew.specs.Server.{IsLogOf, ServerGoesOn};
-ghost use Rattle.like_crew.specs.ServerTurns.{OpensAll, OpensOne, ServerTurns, place_at};
+ghost use Rattle.like_crew.specs.ServerTurns.{OpensAll, OpensOne, ServerTurns, TakesOpen, place_at};
 
 use crate::crew::server::Server;
 use like_board::{OwnBoard, OwnPost, OwnWorkerSeat};
@@ -96,6 +96,7 @@ impl<I: Inbox> OwnServer<I> {
         requires { Knows board self.place (Worker self.seat) }
         ensures case { ServerTurns result.answer self.as_server result.server.as_server }
         ensures modelled { IsModelled self.as_server result.server.as_server }
+        ensures only_open { I.only_open ≡ true → TakesOpen self.as_server result.server.as_server }
         ensures goes_on { ServerGoesOn self.as_server result.server.as_server }
         ensures retired { result.answer ≡ Turn.Retired → result.server.as_server.worker.post.state ≡ Gone }
         ensures fresh { (c : CoordSeatView) → get_elem? (own_views board) 0 ≡ some (Coord c)

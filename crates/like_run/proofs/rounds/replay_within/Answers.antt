@@ -93,4 +93,4 @@ returns-in_err-outcome-clause-fault c =
     let p = err_from_is_err_and c.from_residual-in_err-outcome.result c.from_residual-in_err-outcome.ensures.1 in
     rw (p.1, p.2)
     (under-way c.args.setup.now (lists_of c.args.plans.items) c.args.script.now c.in_ok-crew.crew
-    c.in_err-outcome.field-0.0 c.in_ok-crew.ensures.new c.in_err-outcome.ensures.fault)
+    c.in_err-outcome.field-0.0 c.requires.within.numbers.workers.0 c.in_ok-crew.ensures.new c.in_err-outcome.ensures.fault)

@@ -1,4 +1,4 @@
-use Rattle.std.proofs.Common.{◌≡◌, ◌≤◌, ◌+◌, ◌∙◌, ℕ, List, Result, Ok, Err, IfOk, OnOk, length, map, sym, subst, ap, arith}
+use Rattle.std.proofs.Common.{◌≡◌, ◌≤◌, ◌+◌, ◌∙◌, ℕ, List, Result, Ok, Err, IfOk, OnOk, length, map, refl, sym, subst, ap, arith}
 use Rattle.std.proofs.lemmas.List.{length-map}
 use Rattle.std.proofs.lemmas.Result.{IfOk-weaker}
 use Rattle.like_limits.specs.Limits.{max_submitters}
@@ -72,6 +72,9 @@ of_inboxes-requires-clause-untouched g c =
     are-untouched (map inbox_of c.in_ok-sends.takes.items) (lists_of c.args.plans.items)
     (inboxes-of (lists_of c.args.plans.items) c.in_ok-lines.field-0 c.in_ok-sends.takes.items c.in_ok-lines.ensures
     (c.in_ok-sends.ensures.takes ∙ ap (map new_taker) c.deref.ensures.value))
+
+pub of_inboxes-requires-clause-closed : goal.of_inboxes-requires-clause-closed
+of_inboxes-requires-clause-closed g c = λ k d there. refl
 
 pub of_inboxes-requires-clause-site : goal.of_inboxes-requires-clause-site
 of_inboxes-requires-clause-site g c =

@@ -1,7 +1,8 @@
-use Rattle.std.proofs.Common.{map, ap, ◌∙◌, sym}
+use Rattle.std.proofs.Common.{ap, ◌∙◌, sym}
 use Rattle.like_core.specs.declared.view.CoordSeatView.{CoordSeatView}
-use Rattle.like_core.specs.declared.opening.Opening.{Opening}
-use Rattle.like_crew.proofs.Starting.{is-new}
+use Rattle.like_board.specs.Seats.{board_id}
+use Rattle.like_roles.specs.coordinator.CoordTurns.{CoordinatorView}
+use Rattle.like_crew.specs.Crew.{new_coordinator}
 use Rattle.like_crew.proofs.crew.Crew.of_inboxes.Goals as goal
 
 pub servers_of-requires-clause-sizes : goal.servers_of-requires-clause-sizes
@@ -9,27 +10,37 @@ servers_of-requires-clause-sizes g c = c.deref.ensures.value ∙ c.requires.site
 
 pub new-requires-clause-counts : goal.new-requires-clause-counts
 new-requires-clause-counts g c =
-    c.deref-2.ensures.value ∙ c.requires.site.counts ∙ sym (ap (λ (o : Opening). o.counts) c.requires.seats.opening)
+    c.deref-2.ensures.value ∙ c.requires.site.counts
+    ∙ sym (ap (λ (v : CoordSeatView). v.opening.counts) c.requires.seats.coord)
 
 pub new-requires-clause-limits : goal.new-requires-clause-limits
-new-requires-clause-limits g c = ap (λ (o : Opening). o.limits) c.requires.seats.opening
+new-requires-clause-limits g c = ap (λ (v : CoordSeatView). v.opening.limits) c.requires.seats.coord
+
+pub new-requires-clause-new : goal.new-requires-clause-new
+new-requires-clause-new g c = ap (λ (v : CoordSeatView). v.phase) c.requires.seats.coord
+
+pub new-requires-clause-no_masks : goal.new-requires-clause-no_masks
+new-requires-clause-no_masks g c = ap (λ (v : CoordSeatView). v.masks) c.requires.seats.coord
 
 pub returns-clause-crew : goal.returns-clause-crew
-returns-clause-crew g c = record {
-  board = c.in_ok-coordinator.ensures.board;
-  crew = record {
-    opening = ap (λ (v : CoordSeatView). v.opening) c.in_ok-coordinator.ensures.seat ∙ c.requires.seats.opening;
-    turns = c.in_ok-coordinator.ensures.turns;
-    hot = c.in_ok-coordinator.ensures.hot;
-    servers = c.in_ok-servers.ensures.servers;
-  };
-}
+returns-clause-crew g c =
+    let coordinator = c.in_ok-coordinator.ensures in
+    record {
+      board = ap (λ (v : CoordinatorView). v.board) coordinator;
+      crew = record {
+        opening = ap (λ (v : CoordinatorView). v.seat.opening) coordinator
+            ∙ ap (λ (v : CoordSeatView). v.opening) c.requires.seats.coord;
+        turns = ap (λ (v : CoordinatorView). v.turns) coordinator;
+        hot = ap (λ (v : CoordinatorView). v.choice.hot) coordinator;
+        servers = c.in_ok-servers.ensures.servers;
+      };
+    }
 
 pub returns-clause-new : goal.returns-clause-new
-returns-clause-new g c =
-    let seat = c.in_ok-coordinator.ensures.seat in
-    is-new c.args.setup.now (map g.I.Inbox.view c.args.inboxes.items) _ c.requires.within.numbers.workers.0
-    c.requires.untouched
-    (ap (λ (v : CoordSeatView). v.phase) seat ∙ c.requires.seats.start)
-    (ap (λ (v : CoordSeatView). v.ending) seat ∙ c.requires.seats.running) c.in_ok-coordinator.ensures.turns
-    c.in_ok-coordinator.ensures.left c.in_ok-servers.ensures.new
+returns-clause-new g c = record {
+  board = board_id c.args.site.now.board;
+  notes = c.args.site.now.notes;
+  coordinator = c.in_ok-coordinator.ensures
+      ∙ ap (λ (v : CoordSeatView). new_coordinator (board_id c.args.site.now.board) v c.args.setup.now.turns c.args.setup.now.hot) c.requires.seats.coord;
+  servers = c.in_ok-servers.ensures.new;
+}

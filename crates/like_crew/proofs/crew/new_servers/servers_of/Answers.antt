@@ -9,12 +9,12 @@ use Rattle.like_board.specs.Seats.{board_id, board_numbers, seat_meaning}
 use Rattle.like_core.specs.Post.{PostView}
 use Rattle.like_queue.specs.Inbox.{InboxView}
 use Rattle.like_tables.specs.Share.{dealt}
-use Rattle.like_roles.specs.worker.New.{IsPostOf}
+use Rattle.like_roles.specs.worker.New.{IsNew, IsPostOf}
 use Rattle.like_crew.specs.Servers.{IsNewServer, IsServer}
 use Rattle.like_promises.specs.WorkloadOf.{workload_of}
 use Rattle.like_crew.specs.Server.{ServerView, plans_of}
 use Rattle.like_crew.proofs.Makings.{one-pushed}
-use Rattle.like_crew.proofs.servers.Making.{fits-worker, hand-is, hand-left, inboxes-at, none-made, others, server-at}
+use Rattle.like_crew.proofs.servers.Making.{fits-worker, hand-closed, hand-is, hand-left, inboxes-at, new-server, none-made, others, server-at}
 use Rattle.like_crew.proofs.crew.new_servers.servers_of.Goals as goal
 
 pub new-requires-clause-within : goal.new-requires-clause-within
@@ -76,22 +76,24 @@ loop-seat-preserved g c =
     let fresh = c.requires.seats k c.in-Some.seat
     (slice_get_read c.args.seats.items (length c.args.seats.items) k c.in-Some.seat refl turn.0 turn.1) in
     let longer : length (l.yielded ++ c.in-Some.seat ∷ []) ≡ k + 1 = length_push l.yielded c.in-Some.seat in
+    let same : c.len-number.result ≡ k = c.len-number.ensures ∙ l.servers.ok.0 ∙ l.invariant.len in
+    let new = subst (λ (p : PostView). IsNew c.args.setup.now c.args.sizes.now c.len-number.result p c.args.notes
+    c.in-Ok.server.worker) c.at.ensures.meaning c.in-Ok.ensures.new in
     let server : R k c.in-Ok.server =
     server-at c.args.setup.now c.args.sizes.now c.len-number.result k inboxes own
     (seat_meaning c.in-Some.seat) board c.args.notes c.in-Ok.server
-    (c.len-number.ensures ∙ l.servers.ok.0 ∙ l.invariant.len) c.requires.sizes is
-    fresh.1 (ap board_numbers fresh.0) c.in-Ok.ensures.share
-    (c.in-Ok.ensures.at_post ∙ c.at.ensures.meaning) c.in-Ok.ensures.notes c.in-Ok.ensures.works in
+    same c.requires.sizes is fresh.1 (ap board_numbers fresh.0) new c.in-Ok.ensures.works in
     let both = one-pushed R k
     (length (l.yielded ++ c.in-Some.seat ∷ [])) l.servers.items _ c.in-Ok.server c.in_ok-push-in-Ok.ensures.items
     l.invariant.len longer l.invariant.servers server in
-    let Q : ℕ → ServerView → Type 0 = IsNewServer workers inboxes in
+    let Q : ℕ → ServerView → Type 0 = IsNewServer c.args.setup.now (plans_of inboxes) c.args.notes in
+    let closed = hand-closed g.I.Inbox.opened g.I.Inbox.view c.in_ok-hands.hands.items l.hands.items k workers
+    c.remove-inboxes.result c.args.inboxes.items c.in_ok-hands.ensures.dealt c.in_ok-hands.ensures.len below
+    l.invariant.hands c.remove-inboxes.ensures.value c.requires.closed in
     let none_done : Q k c.in-Ok.server =
-    record {
-      runs = ap (λ (p : PostView). p.state) (c.in-Ok.ensures.at_post ∙ c.at.ensures.meaning) ∙ fresh.1.fresh.runs;
-      none = c.in-Ok.ensures.held;
-      own = c.in-Ok.ensures.inboxes ∙ is;
-    } in
+    new-server c.args.setup.now c.args.sizes.now c.len-number.result k inboxes own (seat_meaning c.in-Some.seat)
+    c.args.notes c.in-Ok.server same c.requires.sizes c.requires.untouched is fresh.1 new c.in-Ok.ensures.inboxes
+    (c.in-Ok.ensures.opened ∙ closed) in
     let news = one-pushed Q k
     (length (l.yielded ++ c.in-Some.seat ∷ [])) l.servers.items _ c.in-Ok.server c.in_ok-push-in-Ok.ensures.items
     l.invariant.len longer l.invariant.new none_done in
@@ -113,7 +115,7 @@ loop-seat-init g c = record {
   servers = none-made
       (IsServer (workload_of c.args.setup.now (plans_of (map g.I.Inbox.view c.args.inboxes.items))) c.args.setup.now.workers
       (board_numbers (board_id c.args.board.now)) c.args.notes) c.new-servers.result.items c.new-servers.ensures.items;
-  new = none-made (IsNewServer c.args.setup.now.workers (map g.I.Inbox.view c.args.inboxes.items))
+  new = none-made (IsNewServer c.args.setup.now (plans_of (map g.I.Inbox.view c.args.inboxes.items)) c.args.notes)
       c.new-servers.result.items c.new-servers.ensures.items;
 }
 
@@ -170,7 +172,7 @@ returns-clause-new g c =
     let all = YieldsList-from_vec {s = c.into_iter-seat-iterator.result} c.args.seats.items from.0
     (from.1 ∙ c.args.seats.ok.0) in
     let t = YieldsList-end all l.yielded _ l.yielded_by _ c.next.new.self c.in-None.is c.next.ensures.steps in
-    subst (λ n. AllZip (IsNewServer c.args.setup.now.workers (map g.I.Inbox.view c.args.inboxes.items))
+    subst (λ n. AllZip (IsNewServer c.args.setup.now (plans_of (map g.I.Inbox.view c.args.inboxes.items)) c.args.notes)
     (range_with_len 0 n) l.servers.items) (t.1 ∙ c.requires.len) l.invariant.new
 
 pub at-requires : goal.at-requires

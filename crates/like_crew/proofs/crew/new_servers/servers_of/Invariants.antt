@@ -13,6 +13,6 @@ invariant-loop-seat g l = record {
   servers : AllZip
       (IsServer (workload_of l.setup (plans_of (map g.I.Inbox.view l.fn.inboxes.items))) l.setup.workers
       (board_numbers (board_id l.board)) l.notes) (range_with_len 0 (length l.yielded)) l.servers.items;
-  new : AllZip (IsNewServer l.setup.workers (map g.I.Inbox.view l.fn.inboxes.items)) (range_with_len 0 (length l.yielded))
-      l.servers.items;
+  new : AllZip (IsNewServer l.setup (plans_of (map g.I.Inbox.view l.fn.inboxes.items)) l.notes)
+      (range_with_len 0 (length l.yielded)) l.servers.items;
 }

@@ -21,8 +21,8 @@ use Rattle.like_crew.specs.OwnServer.{OwnServerView}
 use Rattle.like_crew.specs.Server.{ServerView, plans_of}
 use Rattle.like_crew.specs.Servers.{IsNewServer, IsServer}
 use Rattle.like_crew.proofs.Makings.{one-pushed}
-use Rattle.like_crew.proofs.servers.Making.{fits-worker, hand-is, hand-left, inboxes-at, none-made, others, server-at}
-use Rattle.like_crew.proofs.servers.OwnMaking.{all-seated, next-known, own-post, seats-more, server-off, views-more, views_with}
+use Rattle.like_crew.proofs.servers.Making.{fits-worker, hand-closed, hand-is, hand-left, inboxes-at, new-server, none-made, others, server-at}
+use Rattle.like_crew.proofs.servers.OwnMaking.{all-seated, new-off, next-known, own-post, seats-more, server-off, views-more, views_with}
 use Rattle.like_crew.proofs.servers.Seated.{full-again, servers-pushed, those-long, those-pushed}
 use Rattle.like_crew.proofs.crew.own_servers.own_servers.Goals as goal
 
@@ -40,7 +40,7 @@ loop-seat-init g c =
       servers = none-made
           (IsServer (workload_of c.args.setup.now (plans_of (map g.I.Inbox.view c.args.inboxes.items)))
           c.args.setup.now.workers [] c.args.notes) (servers_in c.new-servers.result.items) servers;
-      new = none-made (IsNewServer c.args.setup.now.workers (map g.I.Inbox.view c.args.inboxes.items))
+      new = none-made (IsNewServer c.args.setup.now (plans_of (map g.I.Inbox.view c.args.inboxes.items)) c.args.notes)
           (servers_in c.new-servers.result.items) servers;
       seats = λ worker s e. absurd (cc (sym (ap (λ xs. slice_get (those_in xs) worker) none) ∙ e));
       views = c.requires.views ∙ ap (views_with (own_opening c.args.board)) (sym none);
@@ -163,7 +163,7 @@ loop-seat-preserved g c =
     let mine : List InboxView = map g.I.Inbox.view c.remove-inboxes.result.items in
     let R : ℕ → ServerView → Type 0 =
     IsServer (workload_of c.args.setup.now (plans_of inboxes)) workers [] c.args.notes in
-    let Q : ℕ → ServerView → Type 0 = IsNewServer workers inboxes in
+    let Q : ℕ → ServerView → Type 0 = IsNewServer c.args.setup.now (plans_of inboxes) c.args.notes in
     let is : mine ≡ dealt workers k inboxes =
     hand-is g.I.Inbox.view c.in_ok-hands.hands.items l.hands.items k workers c.remove-inboxes.result
     c.args.inboxes.items c.in_ok-hands.ensures.dealt c.in_ok-hands.ensures.len below l.invariant.hands
@@ -174,18 +174,21 @@ loop-seat-preserved g c =
     subst (IsPostOf k c.args.setup.now.pages) (sym c.lend-post.ensures.meaning)
     (own-post c.args.setup.now z k (own_view c.in-Some.seat) _ c.requires.opening fresh.1 fresh.2) in
     let made : ServerView = c.in-Ok.server in
+    let same : c.len-number.result ≡ k = c.len-number.ensures ∙ l.servers.ok.0 ∙ l.invariant.len in
     let server : R k c.back-server.result.0.as_server =
     subst (R k) (sym c.back-server.ensures.server)
     (server-off (workload_of c.args.setup.now (plans_of inboxes)) workers lent.board c.args.notes k made
     (server-at c.args.setup.now c.args.sizes.now c.len-number.result k inboxes mine lent lent.board c.args.notes made
-    (c.len-number.ensures ∙ l.servers.ok.0 ∙ l.invariant.len) c.requires.sizes is fits refl c.in-Ok.ensures.share c.in-Ok.ensures.at_post c.in-Ok.ensures.notes
-    c.in-Ok.ensures.works)) in
+    same c.requires.sizes is fits refl c.in-Ok.ensures.new c.in-Ok.ensures.works)) in
+    let closed = hand-closed g.I.Inbox.opened g.I.Inbox.view c.in_ok-hands.hands.items l.hands.items k workers
+    c.remove-inboxes.result c.args.inboxes.items c.in_ok-hands.ensures.dealt c.in_ok-hands.ensures.len below
+    l.invariant.hands c.remove-inboxes.ensures.value c.requires.closed in
     let none_done : Q k c.back-server.result.0.as_server =
-    subst (Q k) (sym c.back-server.ensures.server) (record {
-      runs = ap (λ (p : PostView). p.state) c.in-Ok.ensures.at_post ∙ fits.fresh.runs;
-      none = c.in-Ok.ensures.held;
-      own = c.in-Ok.ensures.inboxes ∙ is;
-    }) in
+    subst (Q k) (sym c.back-server.ensures.server)
+    (new-off c.args.setup.now (plans_of inboxes) c.args.notes k made
+    (new-server c.args.setup.now c.args.sizes.now c.len-number.result k inboxes mine lent c.args.notes made same
+    c.requires.sizes c.requires.untouched is fits c.in-Ok.ensures.new c.in-Ok.ensures.inboxes
+    (c.in-Ok.ensures.opened ∙ closed))) in
     let t : OwnServerView = c.back-server.result.0 in
     let after = c.push.new.self.items in
     let pushed = those-pushed l.servers.items after t l.invariant.full c.in_ok-push-in-Ok.ensures.items in
@@ -193,7 +196,8 @@ loop-seat-preserved g c =
     servers-pushed l.servers.items after t pushed in
     let many : length (servers_in l.servers.items) ≡ k = length-map (those_in l.servers.items) (λ (s : OwnServerView). s.as_server) ∙ sized in
     let came = c.back-server.ensures.came (own_views l.board) (own_place c.in-Some.seat) (own_view c.in-Some.seat)
-    (ap (λ (p : PostView). p.board) c.in-Ok.ensures.at_post ∙ ap (λ (p : PostView). p.board) c.lend-post.ensures.meaning) in
+    (ap (λ (p : PostView). p.board) c.in-Ok.ensures.new.at_post
+    ∙ ap (λ (p : PostView). p.board) c.lend-post.ensures.meaning) in
     let both = one-pushed R k (length (l.yielded ++ c.in-Some.seat ∷ [])) (servers_in l.servers.items) (servers_in after)
     t.as_server more many longer l.invariant.servers server in
     let news = one-pushed Q k (length (l.yielded ++ c.in-Some.seat ∷ [])) (servers_in l.servers.items) (servers_in after)
@@ -231,7 +235,7 @@ returns-clause-new g c =
     let all = YieldsList-from_vec {s = c.into_iter-seat-iterator.result} c.args.seats.items from.0
     (from.1 ∙ c.args.seats.ok.0) in
     let t = YieldsList-end all l.yielded _ l.yielded_by _ c.next.new.self c.in-None.is c.next.ensures.steps in
-    subst (λ n. AllZip (IsNewServer c.args.setup.now.workers (map g.I.Inbox.view c.args.inboxes.items))
+    subst (λ n. AllZip (IsNewServer c.args.setup.now (plans_of (map g.I.Inbox.view c.args.inboxes.items)) c.args.notes)
     (range_with_len 0 n) (servers_in l.servers.items)) (t.1 ∙ c.requires.len) l.invariant.new
 
 pub returns-clause-seated : goal.returns-clause-seated

@@ -17,8 +17,8 @@ invariant-loop-seat g l = record {
   servers : AllZip
       (IsServer (workload_of l.setup (plans_of (map g.I.Inbox.view l.fn.inboxes.items))) l.setup.workers [] l.notes)
       (range_with_len 0 (length l.yielded)) (servers_in l.servers.items);
-  new : AllZip (IsNewServer l.setup.workers (map g.I.Inbox.view l.fn.inboxes.items)) (range_with_len 0 (length l.yielded))
-      (servers_in l.servers.items);
+  new : AllZip (IsNewServer l.setup (plans_of (map g.I.Inbox.view l.fn.inboxes.items)) l.notes)
+      (range_with_len 0 (length l.yielded)) (servers_in l.servers.items);
   seats : (worker : ℕ) (s : OwnServerView) → slice_get (those_in l.servers.items) worker ≡ Some s → IsSeated worker s;
   views : own_views l.board ≡ views_with (own_opening l.fn.board) l.servers.items;
 }

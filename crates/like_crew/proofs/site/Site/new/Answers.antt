@@ -4,8 +4,8 @@ use Rattle.std.proofs.lemmas.List.{length-map}
 use Rattle.like_requests.specs.Pages.{Page}
 use Rattle.like_requests.specs.declared.request.Request.{Request}
 use Rattle.like_limits.specs.Limits.{max_count, max_pages, max_requests}
-use Rattle.like_core.specs.declared.view.CoordSeatView.{CoordSeatView}
 use Rattle.like_core.specs.core.State.{opening}
+use Rattle.like_board.specs.Rule.{opened_coord}
 use Rattle.like_board.specs.Seats.{board_id}
 use Rattle.like_roles.proofs.Seats.{new_seats}
 use Rattle.like_crew.proofs.Makings.{all-back, all-map, map-twice}
@@ -38,13 +38,10 @@ returns-clause-seats c =
     c.deref-2.ensures.value ∙ c.in_ok-marks.ensures.marks in
     record {
       board = c.in_ok-board.ensures.coord_here;
-      start = ap (λ (v : CoordSeatView). v.phase) c.in_ok-board.ensures.coord;
-      running = ap (λ (v : CoordSeatView). v.ending) c.in_ok-board.ensures.coord;
-      no_masks = ap (λ (v : CoordSeatView). v.masks) c.in_ok-board.ensures.coord;
-      opening = ap (λ (v : CoordSeatView). v.opening) c.in_ok-board.ensures.coord
-          ∙ ap (λ (xs : List ℕ). opening c.args.setup.now.workers xs c.deref-2.result.now) counts
-          ∙ ap (λ (xs : List Bool). opening c.args.setup.now.workers
-          (map (λ (p : Page). p.count) c.args.setup.now.pages) xs) marks;
+      coord = c.in_ok-board.ensures.coord
+          ∙ ap (λ (xs : List ℕ). opened_coord (opening c.args.setup.now.workers xs c.deref-2.result.now)) counts
+          ∙ ap (λ (xs : List Bool). opened_coord (opening c.args.setup.now.workers
+          (map (λ (p : Page). p.count) c.args.setup.now.pages) xs)) marks;
       workers = c.in_ok-board.ensures.seats;
       new = new_seats (board_id c.in_ok-board.board)
           (opening c.args.setup.now.workers c.deref.result.now c.deref-2.result.now) c.args.setup.now.pages

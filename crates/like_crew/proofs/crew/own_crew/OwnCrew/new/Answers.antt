@@ -7,17 +7,17 @@ use Rattle.like_requests.specs.Setup.{FitsRun}
 use Rattle.like_core.specs.core.State.{opening}
 use Rattle.like_core.specs.declared.opening.Opening.{Opening}
 use Rattle.like_core.specs.declared.view.CoordSeatView.{CoordSeatView}
+use Rattle.like_board.specs.Led.{no_board}
 use Rattle.like_board.specs.Own.{own_opening, own_views}
 use Rattle.like_board.specs.Rule.{opened_coord}
 use Rattle.like_queue.specs.Inbox.{view_of}
 use Rattle.like_promises.specs.WorkloadOf.{lists_of, workload_of}
-use Rattle.like_crew.specs.Crew.{CrewView}
+use Rattle.like_roles.specs.coordinator.CoordTurns.{CoordinatorView}
+use Rattle.like_crew.specs.Crew.{new_coordinator}
 use Rattle.like_crew.specs.OwnCrew.{AreSeated, servers_in}
-use Rattle.like_crew.specs.Progress.{IsNewCrew}
-use Rattle.like_crew.specs.Servers.{AreServers}
+use Rattle.like_crew.specs.Servers.{AreNewServers, AreServers}
 use Rattle.like_crew.specs.Site.{opening_of}
 use Rattle.like_crew.proofs.Makings.{all-map, all-small, are-untouched, plans-are}
-use Rattle.like_crew.proofs.Starting.{is-new}
 use Rattle.like_crew.proofs.crew.own_crew.OwnCrew.new.Goals as goal
 
 pub new-requires-clause-counts : goal.new-requires-clause-counts
@@ -49,18 +49,21 @@ list_inboxes-requires c = all-small c.args.setup.now c.args.plans.items c.requir
 pub own_servers-requires-clause-within : goal.own_servers-requires-clause-within
 own_servers-requires-clause-within c =
     let plans = plans-are (map view_of c.in_ok-inboxes.inboxes.items) (lists_of c.args.plans.items)
-    c.in_ok-inboxes.ensures in
+    c.in_ok-inboxes.ensures.untouched in
     subst (FitsRun c.args.setup.now) (sym plans) c.requires.within
 
 pub own_servers-requires-clause-untouched : goal.own_servers-requires-clause-untouched
 own_servers-requires-clause-untouched c =
-    are-untouched (map view_of c.in_ok-inboxes.inboxes.items) (lists_of c.args.plans.items) c.in_ok-inboxes.ensures
+    are-untouched (map view_of c.in_ok-inboxes.inboxes.items) (lists_of c.args.plans.items) c.in_ok-inboxes.ensures.untouched
 
 pub own_servers-requires-clause-sizes : goal.own_servers-requires-clause-sizes
 own_servers-requires-clause-sizes c =
     let plans = plans-are (map view_of c.in_ok-inboxes.inboxes.items) (lists_of c.args.plans.items)
-    c.in_ok-inboxes.ensures in
+    c.in_ok-inboxes.ensures.untouched in
     c.requires.sizes ∙ ap (map length) (sym plans)
+
+pub own_servers-requires-clause-closed : goal.own_servers-requires-clause-closed
+own_servers-requires-clause-closed c = c.in_ok-inboxes.ensures.closed
 
 pub own_servers-requires-clause-opening : goal.own_servers-requires-clause-opening
 own_servers-requires-clause-opening c =
@@ -120,7 +123,8 @@ invariant_of-result c =
     ∙ ap (λ (xs : List ℕ). opening setup.workers xs c.deref-2.result.now) counts
     ∙ ap (λ (xs : List Bool). opening setup.workers (map (λ (p : Page). p.count) setup.pages) xs) marks in
     let seat : c.in_ok-coordinator.coordinator.seat ≡ opened_coord (opening_of setup) =
-    c.in_ok-coordinator.ensures.seat ∙ c.in_ok-board.ensures.coord ∙ ap opened_coord opened in (
+    ap (λ (v : CoordinatorView). v.seat) c.in_ok-coordinator.ensures ∙ c.in_ok-board.ensures.coord
+    ∙ ap opened_coord opened in (
       subst (λ (v : CoordSeatView). AreSeated (own_views c.in_ok-servers.board) v c.in_ok-servers.servers.items)
           (sym seat) c.in_ok-servers.ensures.seated,
       ap (λ (xs : List ℕ). length xs) c.in_ok-counts.ensures.counts
@@ -139,13 +143,14 @@ returns-clause-crew c =
     ∙ ap (λ (xs : List ℕ). opening setup.workers xs c.deref-2.result.now) counts
     ∙ ap (λ (xs : List Bool). opening setup.workers (map (λ (p : Page). p.count) setup.pages) xs) marks in
     let seat : c.in_ok-coordinator.coordinator.seat ≡ opened_coord (opening_of setup) =
-    c.in_ok-coordinator.ensures.seat ∙ c.in_ok-board.ensures.coord ∙ ap opened_coord opened in
+    ap (λ (v : CoordinatorView). v.seat) c.in_ok-coordinator.ensures ∙ c.in_ok-board.ensures.coord
+    ∙ ap opened_coord opened in
     let plans = plans-are (map view_of c.in_ok-inboxes.inboxes.items) (lists_of c.args.plans.items)
-    c.in_ok-inboxes.ensures in
+    c.in_ok-inboxes.ensures.untouched in
     record {
       opening = ap (λ (v : CoordSeatView). v.opening) seat;
-      turns = c.in_ok-coordinator.ensures.turns;
-      hot = c.in_ok-coordinator.ensures.hot;
+      turns = ap (λ (v : CoordinatorView). v.turns) c.in_ok-coordinator.ensures;
+      hot = ap (λ (v : CoordinatorView). v.choice.hot) c.in_ok-coordinator.ensures;
       servers = subst (λ ps. AreServers (workload_of setup ps) setup.workers [] c.args.notes
           (servers_in c.in_ok-servers.servers.items)) plans c.in_ok-servers.ensures.servers;
     }
@@ -161,14 +166,14 @@ returns-clause-new c =
     c.in_ok-board.ensures.opening
     ∙ ap (λ (xs : List ℕ). opening setup.workers xs c.deref-2.result.now) counts
     ∙ ap (λ (xs : List Bool). opening setup.workers (map (λ (p : Page). p.count) setup.pages) xs) marks in
-    let seat : c.in_ok-coordinator.coordinator.seat ≡ opened_coord (opening_of setup) =
-    c.in_ok-coordinator.ensures.seat ∙ c.in_ok-board.ensures.coord ∙ ap opened_coord opened in
     let plans = plans-are (map view_of c.in_ok-inboxes.inboxes.items) (lists_of c.args.plans.items)
-    c.in_ok-inboxes.ensures in
-    let crew : CrewView =
-    record { coordinator = c.in_ok-coordinator.coordinator; servers = servers_in c.in_ok-servers.servers.items } in
-    subst (λ ps. IsNewCrew setup ps crew) plans
-    (is-new setup (map view_of c.in_ok-inboxes.inboxes.items) crew c.requires.within.numbers.workers.0
-    (are-untouched (map view_of c.in_ok-inboxes.inboxes.items) (lists_of c.args.plans.items) c.in_ok-inboxes.ensures)
-    (ap (λ (v : CoordSeatView). v.phase) seat) (ap (λ (v : CoordSeatView). v.ending) seat)
-    c.in_ok-coordinator.ensures.turns c.in_ok-coordinator.ensures.left c.in_ok-servers.ensures.new)
+    c.in_ok-inboxes.ensures.untouched in
+    record {
+      board = no_board;
+      notes = c.args.notes;
+      coordinator = c.in_ok-coordinator.ensures
+          ∙ ap (λ (v : CoordSeatView). new_coordinator no_board v setup.turns setup.hot)
+          (c.in_ok-board.ensures.coord ∙ ap opened_coord opened);
+      servers = subst (λ ps. AreNewServers setup ps c.args.notes (servers_in c.in_ok-servers.servers.items)) plans
+          c.in_ok-servers.ensures.new;
+    }

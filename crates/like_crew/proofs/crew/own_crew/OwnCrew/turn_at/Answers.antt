@@ -1,4 +1,4 @@
-use Rattle.std.proofs.Common.{◌≡◌, ◌<◌, length, set, Some, sym, subst}
+use Rattle.std.proofs.Common.{◌≡◌, ◌<◌, length, set, Some, refl, sym, subst}
 use Rattle.std.specs.Option.{IsSome}
 use Rattle.like_board.specs.Own.{own_views}
 use Rattle.like_crew.specs.Crew.{CrewView, GoesOn}
@@ -73,6 +73,7 @@ returns-clause-case c =
       record {
         turn = record { whole = told.case; modelled = told.modelled };
         fresh = told.fresh seat (lead-known (own_views board) seat slots it.seated);
+        only_open = told.only_open refl;
       },
       told.retired,
     ))

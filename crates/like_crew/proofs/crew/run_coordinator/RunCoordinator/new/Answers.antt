@@ -1,5 +1,7 @@
-use Rattle.std.proofs.Common.{◌≡◌, ap, ◌∙◌, arith}
+use Rattle.std.proofs.Common.{◌≡◌, ℕ, List, ap, ◌∙◌, arith}
+use Rattle.like_roles.specs.coordinator.Choice.{first_choice}
 use Rattle.like_roles.specs.coordinator.CoordTurns.{CoordinatorView, IsBeforeEnd}
+use Rattle.like_crew.specs.Crew.{new_coordinator}
 use Rattle.like_crew.proofs.crew.run_coordinator.RunCoordinator.new.Goals as goal
 
 -- a coordinator that has released no phase is before the end
@@ -14,17 +16,9 @@ invariant_of-result g c =
       c.in-Ok.ensures.chose c.requires.new c.requires.no_masks,
     )
 
-pub returns-in-Ok-clause-board : goal.returns-in-Ok-clause-board
-returns-in-Ok-clause-board g c = ap (λ (w : CoordinatorView). w.board) c.in-Ok.ensures.new
-
-pub returns-in-Ok-clause-seat : goal.returns-in-Ok-clause-seat
-returns-in-Ok-clause-seat g c = ap (λ (w : CoordinatorView). w.seat) c.in-Ok.ensures.new
-
-pub returns-in-Ok-clause-turns : goal.returns-in-Ok-clause-turns
-returns-in-Ok-clause-turns g c = ap (λ (w : CoordinatorView). w.turns) c.in-Ok.ensures.new
-
-pub returns-in-Ok-clause-hot : goal.returns-in-Ok-clause-hot
-returns-in-Ok-clause-hot g c = ap (λ (w : CoordinatorView). w.choice.hot) c.in-Ok.ensures.new
-
-pub returns-in-Ok-clause-left : goal.returns-in-Ok-clause-left
-returns-in-Ok-clause-left g c = ap (λ (w : CoordinatorView). w.left) c.in-Ok.ensures.new
+pub returns-in-Ok : goal.returns-in-Ok
+returns-in-Ok g c =
+    c.in-Ok.ensures.new
+    ∙ ap (λ (counts : List ℕ). record (new_coordinator (g.S.LeadSeat.board c.args.seat) (g.S.LeadSeat.view c.args.seat)
+    c.args.turns c.args.hot) { choice = first_choice c.args.hot counts })
+    c.requires.counts

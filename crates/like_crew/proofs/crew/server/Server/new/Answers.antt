@@ -1,8 +1,6 @@
 use Rattle.std.proofs.Common.{◌≡◌, length, map, sym, ap, subst}
 use Rattle.like_tables.specs.Share.{Share, share_of}
 use Rattle.like_tables.specs.UserTable.{UserTable, table_without_likes}
-use Rattle.like_tables.specs.Waiting.{Waiting}
-use Rattle.like_tables.specs.declared.held.Held.{Held}
 use Rattle.like_crew.specs.Server.{AreOwnPlans}
 use Rattle.like_crew.proofs.servers.Finishing.{agree-new}
 use Rattle.like_crew.proofs.crew.server.Server.new.Goals as goal
@@ -29,6 +27,3 @@ returns-clause-works g c = λ workload of own.
           (sym share) own;
       follows = λ _. c.in_ok-worker.ensures.follows workload of;
     }
-
-pub returns-clause-held : goal.returns-clause-held
-returns-clause-held g c = ap (λ (w : Waiting Held). w.held) c.in_ok-worker.ensures.new.held

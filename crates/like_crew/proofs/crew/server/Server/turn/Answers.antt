@@ -10,11 +10,12 @@ use Rattle.like_roles.specs.declared.turn.Turn.{Turn}
 use Rattle.like_roles.specs.declared.turn.Turn.TheVariants.{Retired, Try}
 use Rattle.like_roles.specs.worker.Turns as turns
 use Rattle.like_roles.specs.worker.Turns.{Gives, Turns}
-use Rattle.like_crew.specs.ServerTurns.{ServerTurns, place_at, tries, tries_none}
+use Rattle.like_crew.specs.ServerTurns.{ServerTurns, TakesOpen, place_at, tries, tries_none}
 use Rattle.like_crew.specs.Server.{Agree, ServerGoesOn, WorksFor, ServerView}
 use Rattle.like_crew.proofs.servers.Agreeing.{agree-give, agree-turn, can-give, none-pending, notes-given, serves-give, serves-turn, share-given}
 use Rattle.like_crew.proofs.servers.Modelled.{server-modelled}
 use Rattle.like_crew.proofs.servers.Numbers.{place-own}
+use Rattle.like_crew.proofs.servers.OnlyOpen.{takes-none, takes-open}
 use Rattle.like_crew.proofs.servers.Posts.{gives-whose, turns-whose, whose}
 use Rattle.like_crew.proofs.servers.Sights.{turns-tries}
 use Rattle.std.proofs.lemmas.List.{length-map, length-set, map-set}
@@ -272,3 +273,42 @@ returns-in_default-clause-modelled g c =
     server-modelled c.turn.result c.args.self.now _
     (subst (λ (s : ServerView). Agree s.worker s.inboxes) c.self.view_is c.self.invariant.2)
     (returns-in_default-clause-case g c)
+
+pub returns-in-Try-clause-only_open : goal.returns-in-Try-clause-only_open
+returns-in-Try-clause-only_open g c = λ only.
+    let u : WorkerView = c.self.inside.worker in
+    let v : WorkerView = c.turn.new.self in
+    let w : WorkerView = c.give.new.self in
+    let view = g.I.Inbox.view in
+    let lists = c.self.inside.inboxes.items in
+    let place = c.tried-place.result in
+    let a : Agree v (map view lists) =
+    agree-turn u v (map view lists) c.turn.result c.turn.ensures.case c.turn.ensures.takes c.self.invariant.2 in
+    let p = c.in-Try.ensures.pending in
+    let here = inbox-at view v lists p.0 c.tried-place.result c.index_mut.result.now a p.1.0 c.tried-place.ensures p.1.2
+    c.index_mut.ensures.value in
+    let after : ServerView =
+    record {
+      worker =
+          w;
+      inboxes = map view (set lists place c.take_with-taken.new.self);
+      opened =
+          map g.I.Inbox.opened (set lists place c.take_with-taken.new.self);
+    } in
+    subst (λ s. TakesOpen s after) c.self.view_is
+    (takes-open view g.I.Inbox.opened u w lists place c.index_mut.result.now c.take_with-taken.new.self
+    (ap (slice_get (map view lists)) here.0 ∙ here.1) c.index_mut.ensures.value
+    (c.take_with-taken.ensures.only_open only))
+
+pub returns-in_default-clause-only_open : goal.returns-in_default-clause-only_open
+returns-in_default-clause-only_open g c = λ only.
+    let v : WorkerView = c.turn.new.self in
+    let lists = c.self.inside.inboxes.items in
+    let after : ServerView =
+    record { worker = v; inboxes = map g.I.Inbox.view lists; opened = map g.I.Inbox.opened lists } in
+    subst (λ s. TakesOpen s after) c.self.view_is
+    (takes-none (record {
+      worker = c.self.inside.worker;
+      inboxes = map g.I.Inbox.view lists;
+      opened = map g.I.Inbox.opened lists;
+    }) v)

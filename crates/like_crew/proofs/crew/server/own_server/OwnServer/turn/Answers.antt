@@ -6,7 +6,7 @@ use Rattle.like_board.specs.Lent.{lent_board}
 use Rattle.like_board.specs.Own.{own_views}
 use Rattle.like_crew.specs.Fresh.{IsModelled}
 use Rattle.like_crew.specs.Server.{ServerGoesOn, ServerView}
-use Rattle.like_crew.specs.ServerTurns.{ServerTurns}
+use Rattle.like_crew.specs.ServerTurns.{ServerTurns, TakesOpen}
 use Rattle.like_crew.proofs.servers.Owned.{lent-fresh, lent-goes_on, lent-turns}
 use Rattle.like_crew.proofs.crew.server.own_server.OwnServer.turn.Goals as goal
 
@@ -35,6 +35,12 @@ returns-clause-modelled g c =
     subst (λ (t : ServerView). IsModelled c.args.self.as_server t) (sym c.back-server.ensures.server)
     (subst (λ (x : ServerView). IsModelled x c.turn-answer.new.self) c.lend-server.ensures.lent
     c.turn-answer.ensures.modelled)
+
+pub returns-clause-only_open : goal.returns-clause-only_open
+returns-clause-only_open g c = λ only.
+    subst (λ (t : ServerView). TakesOpen c.args.self.as_server t) (sym c.back-server.ensures.server)
+    (subst (λ (x : ServerView). TakesOpen x c.turn-answer.new.self) c.lend-server.ensures.lent
+    (c.turn-answer.ensures.only_open only))
 
 pub returns-clause-came : goal.returns-clause-came
 returns-clause-came g c =
