@@ -48,6 +48,7 @@ pub fn collect_in_parallel<T: Threads + Sync>(
 {
     match parts_of(rt, alloc, sizes, logs, starts as usize + 1) {
         Ok(parts) if !logs.is_empty() => Ok(join(alloc, sizes.len(), parts)?),
+        Err(CollectFault::Memory) => Err(CollectFault::Memory),
         _ => collect(alloc, sizes, logs),
     }
 }

@@ -1,7 +1,8 @@
-ghost use Rattle.std.specs.Prelude.{◌≡◌, ◌≢◌, ◌<◌, ◌≤◌, ℕ, [], All, IfOk, Ok, length, map, slice_get, slice_index_or, Some};
+ghost use Rattle.std.specs.Prelude.{◌≡◌, ◌≢◌, ◌<◌, ◌≤◌, ◌↔◌, ℕ, [], All, Any, Err, IfOk, IsTrue, Ok, length, map, slice_get, slice_index_or, Some};
 ghost use Rattle.like_limits.specs.Limits.{max_submitters};
 ghost use Rattle.like_promises.specs.Collected.{rows_of};
 ghost use Rattle.like_promises.specs.declared.log.WorkerLog.{WorkerLog as Log};
+ghost use Rattle.like_collection.specs.declared.collect_fault.CollectFault.TheVariants.{Memory};
 ghost use Rattle.like_collection.specs.Parts.{AreParts, IsPart, own, own_sizes, row_in};
 
 use crate::collect_fault::CollectFault;
@@ -95,18 +96,31 @@ fn own_size(size: u32, submitter: usize, workers: usize, worker: usize) -> u32
     }
 }
 
-// The parts, or the fault of the first that has one.
+// The parts, or `Memory` if one was refused memory, or else the fault of the first that has one.
 fn all_of(
     alloc: Global,
     collected: Vec<Result<Replies, CollectFault>>,
 ) -> Result<Vec<Replies>, CollectFault>
-    ensures { IfOk result (λ parts. collected.items ≡ map Ok parts.items) }
+    ensures parts { IfOk result (λ parts. collected.items ≡ map Ok parts.items) }
+    ensures memory { Any (λ part. part ≡ Err Memory) collected.items → result ≡ Err Memory }
 {
+    if lacks_memory(&collected) {
+        return Err(CollectFault::Memory);
+    }
     let mut parts = Vec::with_capacity(alloc, collected.len())?;
     for part in collected {
         parts.push(part?)?;
     }
     Ok(parts)
+}
+
+// Whether one was refused memory.
+fn lacks_memory(collected: &[Result<Replies, CollectFault>]) -> bool
+    ensures { IsTrue result ↔ Any (λ part. part ≡ Err Memory) collected.now }
+{
+    collected
+        .iter()
+        .any(|part| matches!(part, Err(CollectFault::Memory)))
 }
 
 /// The rows of the parts, each from the part of its submitter's worker.

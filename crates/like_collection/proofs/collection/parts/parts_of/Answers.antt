@@ -24,4 +24,4 @@ returns g c =
           ∙ ap Ok (get_or_from_slice_get parts.items worker part part there) in
           IfOk-at_ok _ (given.left ∙ is) given.call log at;
     })
-    c.all_of.ensures
+    c.all_of.ensures.parts
