@@ -1,4 +1,4 @@
-ghost use Rattle.std.specs.Prelude.{◌≡◌, ◌<◌, ◌≤◌, ℕ, All, IfOk, List, MatchResult, Ok, OnOk, Some, length, map, slice_get, take};
+ghost use Rattle.std.specs.Prelude.{◌≡◌, ◌<◌, ◌≤◌, ℕ, All, IfOk, List, MatchResult, Ok, OnOk, Some, length, map, max, min, slice_get, take};
 ghost use Rattle.std.specs.List.{flat_map};
 ghost use Rattle.std.specs.Io.KnownBytes.{Appends, Keeps};
 ghost use Rattle.like_replies.specs.Output.{HasBegun, TellsOutput, Writes};
@@ -26,21 +26,18 @@ pub fn room_for(names: &Names, sections: &[Section]) -> usize {
     })
 }
 
-/// Sheets with this much room, for this many sections: at most eight, and fewer if there is no memory for more.
+/// Sheets with this much room, one for each of so many sections, but at least one and at most eight.
 pub fn sheets_with(
     alloc: Global,
     count: usize,
     room: usize,
 ) -> Result<Vec<Result<Sheet, AllocError>>, AllocError>
-    ensures { IfOk result (λ sheets. 0 < length sheets.items) }
+    ensures { IfOk result (λ sheets. length sheets.items ≡ max 1 (min count 8)) }
 {
-    let mut sheets = Vec::with_capacity(alloc, AT_ONCE)?;
-    sheets.push(Ok(Sheet::with_room(alloc, room)?))?;
-    for _more in 1..count.min(AT_ONCE) {
-        let Ok(sheet) = Sheet::with_room(alloc, room) else {
-            return Ok(sheets);
-        };
-        sheets.push(Ok(sheet))?;
+    let count = count.clamp(1, AT_ONCE);
+    let mut sheets = Vec::with_capacity(alloc, count)?;
+    for _sheet in 0..count {
+        sheets.push(Ok(Sheet::with_room(alloc, room)?))?;
     }
     Ok(sheets)
 }
