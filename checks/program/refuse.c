@@ -24,6 +24,9 @@ enum kind { GROWTH, START, OPEN, READ, WRITE, KINDS };
 /* Starts and joins of threads that are noted, at most. */
 #define NOTED 1000
 
+/* Places in the program that are noted, at most. */
+#define PLACES 64
+
 static struct counts {
     unsigned long of[KINDS];
     unsigned long status;
@@ -34,6 +37,9 @@ static struct counts {
     /* The starts and joins of the main thread: how many growths it made until then, and the started thread's number. */
     unsigned long noted;
     struct { unsigned long growths, thread; } events[NOTED];
+    /* The places in the program that asked for a growth and were refused, and those that asked for the last growth before
+     * the start of a thread, which is the thread's own. */
+    unsigned long refused[PLACES], own[PLACES];
 } *counts;
 
 static unsigned long kind, first, last;
@@ -47,6 +53,9 @@ static long alive;
  * to start or join another or to end. What that takes and gives back doesn't count. */
 static __thread unsigned long number, growths;
 static __thread int is_inside;
+
+/* The place in the program that asked for this thread's last growth. */
+static __thread void *asker;
 
 __attribute__((constructor)) static void begin(void) {
     int file = open(getenv("REFUSE_COUNTS"), O_RDWR);
@@ -82,16 +91,38 @@ static void hold(long blocks) {
         __atomic_add_fetch(&held, blocks, __ATOMIC_SEQ_CST);
 }
 
-void *malloc(size_t size) {
+/* Notes a place in the program, as how far it is from the program's beginning. */
+static void note_place(unsigned long *places, void *place) {
+    Dl_info program;
+    if (counts == NULL || counts == MAP_FAILED || is_again || !place || !dladdr(place, &program))
+        return;
+    unsigned long far = (char *)place - (char *)program.dli_fbase;
+    for (int at = 0; at < PLACES; at++) {
+        unsigned long none = 0;
+        if (__atomic_compare_exchange_n(&places[at], &none, far, 0, __ATOMIC_SEQ_CST, __ATOMIC_SEQ_CST) || none == far)
+            return;
+    }
+}
+
+/* Counts a growth that a place in the program asks for, and tells whether it is refused. */
+static int refuses_growth(void *place) {
     growths += !is_inside;
-    void *block = refuses(GROWTH, ENOMEM) ? NULL : NEXT(malloc)(size);
+    if (!is_inside)
+        asker = place;
+    if (!refuses(GROWTH, ENOMEM))
+        return 0;
+    note_place(counts->refused, place);
+    return 1;
+}
+
+void *malloc(size_t size) {
+    void *block = refuses_growth(__builtin_return_address(0)) ? NULL : NEXT(malloc)(size);
     hold(block != NULL);
     return block;
 }
 
 void *realloc(void *block, size_t size) {
-    growths += !is_inside;
-    void *moved = refuses(GROWTH, ENOMEM) ? NULL : NEXT(realloc)(block, size);
+    void *moved = refuses_growth(__builtin_return_address(0)) ? NULL : NEXT(realloc)(block, size);
     hold(block == NULL && moved != NULL);
     return moved;
 }
@@ -130,6 +161,7 @@ static void note(unsigned long thread) {
 }
 
 int pthread_create(pthread_t *thread, const pthread_attr_t *how, void *(*call)(void *), void *value) {
+    note_place(counts->own, asker);
     if (is_refused(START))
         return EAGAIN;
     unsigned long of = __atomic_add_fetch(&started, 1, __ATOMIC_SEQ_CST);
