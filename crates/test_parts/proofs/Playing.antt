@@ -1,11 +1,12 @@
 -- A worker that the tests play with.
-use Rattle.std.proofs.Common.{zero, suc, ◌≡◌, ℕ, ◌+◌, ◌-◌, ◌^◌, ◌<◌, ◌≤◌, ◌==◌, Bool, true, false, cond, List, [], ◌∷◌, ◌++◌, length, get_or, set, count_by, None, Some, subst, ap, sym, ◌∙◌, refl, arith}
+use Rattle.std.proofs.Common.{zero, suc, ◌≡◌, ℕ, ◌+◌, ◌-◌, ◌^◌, ◌<◌, ◌≤◌, ◌==◌, Bool, true, false, cond, List, Vec, Global, [], ◌∷◌, ◌++◌, length, map, get_or, set, count_by, None, Some, subst, ap, sym, ◌∙◌, refl, arith}
+use Rattle.std.specs.List.{All}
 use Rattle.std.proofs.lemmas.Bool.{eq-eqb}
 use Rattle.std.proofs.lemmas.List.{get_or-map, get_or-set_same, length-map, length-replicate, length-set}
 use Rattle.std.proofs.lemmas.List.Sums.{sum_by_push}
 use Rattle.std.proofs.lemmas.Option.{get_or_from_slice_get, slice_get_within}
 use Rattle.like_requests.specs.Pages.{ArePages, Page, counts_of}
-use Rattle.like_requests.specs.Setup.{FitsRun, IsThere, IsWithin}
+use Rattle.like_requests.specs.Setup.{FitsRun, IsPlan, IsThere}
 use Rattle.like_requests.proofs.Planned.{plans-within}
 use Rattle.like_requests.specs.declared.request.Request.{Request}
 use Rattle.like_requests.specs.declared.request.Taken.{Taken}
@@ -13,6 +14,8 @@ use Rattle.like_requests.specs.declared.request.Taken.TheVariants as taken
 use Rattle.like_requests.specs.declared.setup.Setup.{Setup}
 use Rattle.like_core.specs.Post.{PostView, pages_of}
 use Rattle.like_tables.specs.Share.{dealt}
+use Rattle.like_limits.specs.Limits.{max_requests}
+use Rattle.like_promises.specs.WorkloadOf.{lists_of}
 use Rattle.like_promises.specs.declared.log.Took.{Took}
 use Rattle.like_roles.specs.declared.turn.Turn.{Turn}
 use Rattle.like_roles.specs.declared.turn.Turn.TheVariants as turn
@@ -136,45 +139,90 @@ gave plan next then v new submitter taken.End p tries given took =
     subst (λ k. IsAt plan k new) (sym given) at
 gave plan next then v new submitter taken.Nothing p tries given took = absurd given
 
--- the settings and the plan are within the limits of a worker
-pub within_limits : (s : Setup) (plan : List Request) (n : ℕ)
-    → FitsRun s (plan ∷ [])
-    → n ≡ length plan
-    → IsWithin s (n ∷ [])
-within_limits s plan n w many = subst (λ k. IsWithin s (k ∷ [])) (sym many) w.numbers
+-- a worker past the submitters is dealt none
+dealt_none : (workers worker : ℕ) (sizes : List ℕ) → length sizes ≤ worker → dealt workers worker sizes ≡ []
+dealt_none workers worker [] few = refl
+dealt_none workers zero (x ∷ sizes) few = absurd (omega arith)
+dealt_none workers (suc worker) (x ∷ sizes) few = dealt_none workers worker sizes (omega arith)
 
--- the one submitter is the first worker's
-own_one : (size workers worker : ℕ) (own : List ℕ)
+-- with no more submitters than workers, each worker is dealt one at most: the one with its number
+dealt_one : (workers worker : ℕ) (sizes : List ℕ)
     → 1 ≤ workers
-    → own ≡ dealt workers worker (size ∷ [])
-    → (length own ≤ 1) × (1 ≤ length own → get_or own 0 0 ≡ size)
-own_one size workers zero own some is = (rw is (omega arith), λ here. rw is refl)
-own_one size workers (suc worker) own some is =
-    (rw is (omega arith), λ here. absurd (let none : length own ≡ 0 = ap length is in omega (arith, none, here)))
+    → length sizes ≤ workers
+    → (length (dealt workers worker sizes) ≤ 1)
+    × (1 ≤ length (dealt workers worker sizes) → get_or (dealt workers worker sizes) 0 0 ≡ get_or sizes worker 0)
+dealt_one workers worker [] some few = (omega arith, λ here. absurd (omega arith))
+dealt_one workers zero (x ∷ sizes) some few =
+    let none : dealt workers (workers - 1) sizes ≡ [] = dealt_none workers (workers - 1) sizes (omega arith) in
+    (rw none (omega arith), λ here. refl)
+dealt_one workers (suc worker) (x ∷ sizes) some few = dealt_one workers worker sizes some (omega arith)
+
+-- how many requests a submitter has, or none if there is no such submitter
+size_at : (plans : List (List Request)) (submitter : ℕ)
+    → get_or (map length plans) submitter 0 ≡ length (get_or plans submitter [])
+size_at [] submitter = refl
+size_at (plan ∷ plans) zero = refl
+size_at (plan ∷ plans) (suc submitter) = size_at plans submitter
+
+-- a list of requests that is one of these, or empty, is within the limits
+plan_at : (pages : List Page) (plans : List (List Request)) (submitter : ℕ)
+    → All (IsPlan pages) plans
+    → IsPlan pages (get_or plans submitter [])
+plan_at pages [] submitter all = record { few = omega arith; there = λ k d below. absurd (omega arith) }
+plan_at pages (plan ∷ plans) zero all = all 0 [] (omega arith)
+plan_at pages (plan ∷ plans) (suc submitter) all =
+    plan_at pages plans submitter (λ k d below. all (suc k) d (omega arith))
 
 -- a new worker may be played with
-pub plays_new : (s : Setup) (plan : List Request) (n worker : ℕ) (post : PostView) (notes : Bool) (v : WorkerView)
-    → FitsRun s (plan ∷ [])
-    → n ≡ length plan
+pub plays_new : (s : Setup) (plans : List (List Request)) (sizes : List ℕ) (worker : ℕ) (post : PostView) (notes : Bool)
+    (plan : List Request) (v : WorkerView)
+    → FitsRun s plans
+    → sizes ≡ map length plans
+    → length sizes ≤ s.workers
+    → plan ≡ get_or plans worker []
     → IsPostOf worker s.pages post
-    → IsNew s (n ∷ []) worker post notes v
+    → IsNew s sizes worker post notes v
     → IsPlaying plan 0 v
-plays_new s plan n worker post notes v w many his new =
-    let own = own_one n s.workers worker v.left w.numbers.workers.0 new.left in
-    let lists = plans-within s (plan ∷ []) w 0 plan (omega arith) in
+plays_new s plans sizes worker post notes plan v w sized few is his new =
+    let own = dealt_one s.workers worker sizes w.numbers.workers.0 few in
+    let lists = plan_at s.pages plans worker (plans-within s plans w) in
     let ended : length v.ended ≡ length v.left = ap length new.ended ∙ length-replicate (length v.left) false in
+    let left_is : length v.left ≡ length (dealt s.workers worker sizes) = ap length new.left in
+    let size : get_or sizes worker 0 ≡ length plan =
+    ap (λ xs. get_or xs worker 0) sized ∙ (size_at plans worker ∙ ap length (sym is)) in
     let pages : pages_of v.post ≡ length s.pages =
     ap pages_of new.at_post ∙ (ap length his.marks ∙ length-map s.pages (λ (p : Page). p.split)) in
     record {
       settled = new.pending;
       at = record {
-        one = rw ended own.0;
+        one = (let most = own.0 in omega (arith, ended, left_is, most));
         taken = rw new.taken refl;
-        left = λ some. (let left = own.1 (omega (arith, ended, some)) in omega arith);
-        few = lists.few;
-        there = λ k d below. subst (λ many. IsThere many (get_or plan k d).page) (sym pages) (lists.there k d below);
+        left = λ some. (
+            let first = own.1 (omega (arith, ended, left_is, some)) in
+            let at : get_or v.left 0 0 ≡ get_or (dealt s.workers worker sizes) 0 0 = ap (λ xs. get_or xs 0 0) new.left in
+            let all : get_or v.left 0 0 ≡ length plan = at ∙ (first ∙ size) in
+            omega (arith, all));
+        few = rw is lists.few;
+        there = λ k d below. subst (λ many. IsThere many (get_or plan k d).page) (sym pages)
+            (subst (All (λ (r : Request). IsThere (length s.pages) r.page)) (sym is) lists.there k d below);
       };
     }
+
+-- the lengths of the requests of plans, in one step
+pub sizes_twice : (plans : List (Vec Request Global))
+    → map (λ (plan : Vec Request Global). length plan.items) plans ≡ map length (lists_of plans)
+sizes_twice [] = refl
+sizes_twice (plan ∷ plans) = ap (λ ys. length plan.items ∷ ys) (sizes_twice plans)
+
+-- a plan of which all lengths are small
+pub small_at : (plans : List (Vec Request Global)) (k : ℕ) (d : Vec Request Global)
+    → All (λ size. size ≤ max_requests) (map length (lists_of plans))
+    → k < length plans
+    → length (get_or plans k d).items ≤ max_requests
+small_at [] k d all below = absurd (omega arith)
+small_at (plan ∷ plans) zero d all below = all 0 0 (omega arith)
+small_at (plan ∷ plans) (suc k) d all below =
+    small_at plans k d (λ j e within. all (suc j) e (omega arith)) (omega arith)
 
 -- each page's count is small
 pub counts_small : (pages : List Page)

@@ -1,4 +1,4 @@
--- What the tests know of a worker that they play with, in a run with one submitter.
+-- What the tests know of a worker that they play with, which has one submitter at most.
 use Rattle.std.specs.Prelude.{◌≡◌, ℕ, ◌+◌, ◌≤◌, ◌==◌, List, length, count_by, All, slice_get, slice_index, Some, None}
 use Rattle.like_requests.specs.declared.request.Request.{Request}
 use Rattle.like_requests.specs.declared.request.Taken.{Taken}

@@ -1,9 +1,10 @@
-ghost use Rattle.std.specs.Prelude.{◌≡◌, ◌≤◌, [], ◌∷◌, IfOk, length};
+ghost use Rattle.std.specs.Prelude.{◌≡◌, ◌≤◌, IfOk, length, map};
 ghost use Rattle.like_limits.specs.Limits.{max_workers};
 ghost use Rattle.like_requests.specs.Setup.{FitsRun};
 ghost use Rattle.like_core.specs.OpeningLimits.{run_limits};
 ghost use Rattle.like_board.specs.Seats.{board_id, coord_board, coord_view};
 ghost use Rattle.like_requests.specs.Pages.{counts_of};
+ghost use Rattle.like_promises.specs.WorkloadOf.{lists_of};
 ghost use Rattle.like_roles.specs.worker.New.{AreNewSeats};
 
 use super::gates::Expecting;
@@ -12,7 +13,7 @@ use crate::asserts::assert_call_at;
 use like_board::{Board, BoardPost, CoordSeat, WorkerSeat};
 use like_core::Post;
 use like_requests::{Request, Setup};
-use like_roles::{CoordTurn, Coordinator, Turn, WorkerLog};
+use like_roles::{Chosen, CoordTurn, Coordinator, Turn, WorkerLog};
 use std::alloc::{AllocError, Global};
 use std::process::Abort;
 use std::test::Fail;
@@ -54,42 +55,57 @@ pub fn board_of(
     Board::new(alloc, setup.workers, counts.as_slice(), marks.as_slice())
 }
 
-// Seats the workers of a run with one submitter, the last first, which note their additions or do not.
+// Seats the workers of a run, the last first, which note their additions or do not.
 fn seat_players<'a>(
     alloc: Global,
     setup: &Setup,
-    plan: &'a [Request],
+    plans: &'a [Vec<Request>],
+    sizes: &[u32],
     board: &'a Board,
     seats: &mut Vec<WorkerSeat>,
     notes: bool,
     players: &mut Vec<Player<'a, BoardPost<'a>>>,
 ) -> Result<(), Fail>
-    requires within { FitsRun setup.now (plan.now ∷ []) }
+    requires within { FitsRun setup.now (lists_of plans.now) }
+    requires sizes { sizes.now ≡ map length (lists_of plans.now) }
+    requires few { length sizes.now ≤ setup.now.workers }
     requires seats { AreNewSeats (board_id board.now) setup.now.pages seats.old.items }
     requires len { length seats.old.items ≤ setup.now.workers }
 {
     while let Some(seat) = seats.pop() {
         let number = seats.len() as u32;
-        players.push(Player::new(alloc, setup, plan, number, seat.at(board), notes)?)?;
+        players.push(Player::new(alloc, setup, plans, sizes, number, seat.at(board), notes)?)?;
     }
     Ok(())
 }
 
-// The workers of a run with one submitter, in order.
+// The workers of a run, in order.
 fn players_of<'a>(
     alloc: Global,
     setup: &Setup,
-    plan: &'a [Request],
+    plans: &'a [Vec<Request>],
+    sizes: &[u32],
     board: &'a Board,
     mut seats: Vec<WorkerSeat>,
     notes: bool,
 ) -> Result<Vec<Player<'a, BoardPost<'a>>>, Fail>
-    requires within { FitsRun setup.now (plan.now ∷ []) }
+    requires within { FitsRun setup.now (lists_of plans.now) }
+    requires sizes { sizes.now ≡ map length (lists_of plans.now) }
+    requires few { length sizes.now ≤ setup.now.workers }
     requires seats { AreNewSeats (board_id board.now) setup.now.pages seats.items }
     requires len { length seats.items ≤ setup.now.workers }
 {
     let mut players = Vec::new(alloc);
-    seat_players(alloc, setup, plan, board, &mut seats, notes, &mut players)?;
+    seat_players(
+        alloc,
+        setup,
+        plans,
+        sizes,
+        board,
+        &mut seats,
+        notes,
+        &mut players,
+    )?;
     players.reverse();
     Ok(players)
 }
@@ -108,17 +124,20 @@ fn coordinator_of(alloc: Global, setup: &Setup, coord: CoordSeat) -> Result<Coor
 }
 
 impl<'a> Play<'a, BoardPost<'a>> {
-    /// The start of a run with one submitter, whose workers note their additions or do not.
+    /// The start of a run with one submitter for each worker at most. The workers note their additions or do not.
     pub fn new(
         alloc: Global,
         setup: &Setup,
-        plan: &'a [Request],
+        plans: &'a [Vec<Request>],
+        sizes: &[u32],
         board: &'a Board,
         coord: CoordSeat,
         seats: Vec<WorkerSeat>,
         notes: bool,
     ) -> Result<Play<'a, BoardPost<'a>>, Fail>
-        requires within { FitsRun setup.now (plan.now ∷ []) }
+        requires within { FitsRun setup.now (lists_of plans.now) }
+        requires sizes { sizes.now ≡ map length (lists_of plans.now) }
+        requires few { length sizes.now ≤ setup.now.workers }
         requires coord { coord_board coord ≡ board_id board.now }
         requires opened { (coord_view coord).opening.counts ≡ counts_of setup.now.pages }
         requires run { (coord_view coord).opening.limits ≡ run_limits }
@@ -128,7 +147,7 @@ impl<'a> Play<'a, BoardPost<'a>> {
         Ok(Play {
             board,
             coordinator: coordinator_of(alloc, setup, coord)?,
-            players: players_of(alloc, setup, plan, board, seats, notes)?,
+            players: players_of(alloc, setup, plans, sizes, board, seats, notes)?,
         })
     }
 }
@@ -152,17 +171,34 @@ impl<P: Post + Drop> Play<'_, P> {
         }
     }
 
-    /// The phase that the coordinator saw last, and what the first worker has done, which is gone.
-    pub fn finish(self, rt: &impl Abort, gate: &Expecting) -> (u32, WorkerLog) {
+    /// The phase that the coordinator saw last, its choices, and what the workers have done, who are gone.
+    pub fn finish(
+        self,
+        rt: &impl Abort,
+        alloc: Global,
+        gate: &Expecting,
+    ) -> (u32, Vec<Chosen>, Vec<WorkerLog>) {
         let Play {
             coordinator,
-            mut players,
+            players,
             ..
         } = self;
         let phase = coordinator.phase();
-        let _seat = coordinator.finish();
-        players.truncate(1);
-        let first = players.pop().expect(rt, "a worker is there");
-        (phase, first.finish(rt, gate))
+        let (_seat, chosen) = coordinator.finish();
+        (phase, chosen, logs_of(rt, alloc, players, gate))
     }
+}
+
+// What workers have done, who are gone.
+fn logs_of<P: Post + Drop>(
+    rt: &impl Abort,
+    alloc: Global,
+    players: Vec<Player<'_, P>>,
+    gate: &Expecting,
+) -> Vec<WorkerLog> {
+    let mut logs = Vec::new(alloc);
+    for player in players {
+        logs.push(player.finish(rt, gate)).expect(rt, "memory");
+    }
+    logs
 }

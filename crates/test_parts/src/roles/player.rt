@@ -1,6 +1,7 @@
-ghost use Rattle.std.specs.Prelude.{◌≡◌, ◌<◌, ◌≤◌, [], ◌∷◌, IfOk, length};
+ghost use Rattle.std.specs.Prelude.{◌≡◌, ◌<◌, ◌≤◌, [], IfOk, length, map, slice_index_or};
 ghost use Rattle.like_limits.specs.Limits.{max_requests};
 ghost use Rattle.like_requests.specs.Setup.{FitsRun, IsWithin};
+ghost use Rattle.like_promises.specs.WorkloadOf.{lists_of};
 ghost use Rattle.like_roles.specs.worker.New.{IsNew, IsPostOf};
 ghost use Rattle.test_parts.specs.Playing.{IsNextGiven};
 
@@ -14,7 +15,8 @@ use std::marker::Model;
 use std::process::Abort;
 use std::test::Fail;
 
-/// A worker of a run with one submitter. It is given the next request of the plan each time, and then the end mark.
+/// A worker of a run that has one submitter at most. It is given the next request of the plan each time, and then the end
+/// mark.
 #[derive(Drop)]
 pub struct Player<'a, P: Post> {
     worker: Worker<P>,
@@ -49,24 +51,34 @@ fn next_of(plan: &[Request], next: &mut usize) -> Taken
     })
 }
 
-// The worker with this number in a run with one submitter, of this many requests.
+// The requests of the worker's submitter: none if it has none.
+fn own_plan(plans: &[Vec<Request>], number: u32) -> &[Request]
+    ensures { result.now ≡ slice_index_or (lists_of plans.now) number [] }
+{
+    match plans.get(number as usize) {
+        Some(plan) => plan.as_slice(),
+        None => &[],
+    }
+}
+
+// The worker with this number in a run of submitters with this many requests.
 fn worker_of<P: Post>(
     alloc: Global,
     setup: &Setup,
-    size: u32,
+    sizes: &[u32],
     number: u32,
     post: P,
     notes: bool,
 ) -> Result<Worker<P>, NoWorker<P>>
-    requires within { IsWithin setup.now (size ∷ []) }
+    requires within { IsWithin setup.now sizes.now }
     requires is_worker { number < setup.now.workers }
     requires post { IsPostOf number setup.now.pages (P.view post) }
-    ensures { IfOk result (IsNew setup.now (size ∷ []) number (P.view post) notes) }
+    ensures { IfOk result (IsNew setup.now sizes.now number (P.view post) notes) }
 {
     if notes {
-        return Worker::new(alloc, setup, &[size], number, post);
+        return Worker::new(alloc, setup, sizes, number, post);
     }
-    Worker::noting(alloc, setup, &[size], number, post, notes)
+    Worker::noting(alloc, setup, sizes, number, post, notes)
 }
 
 impl<'a, P: Post + Drop> Player<'a, P> {
@@ -74,16 +86,20 @@ impl<'a, P: Post + Drop> Player<'a, P> {
     pub fn new(
         alloc: Global,
         setup: &Setup,
-        plan: &'a [Request],
+        plans: &'a [Vec<Request>],
+        sizes: &[u32],
         number: u32,
         post: P,
         notes: bool,
     ) -> Result<Player<'a, P>, Fail>
-        requires within { FitsRun setup.now (plan.now ∷ []) }
+        requires within { FitsRun setup.now (lists_of plans.now) }
+        requires sizes { sizes.now ≡ map length (lists_of plans.now) }
+        requires few { length sizes.now ≤ setup.now.workers }
         requires is_worker { number < setup.now.workers }
         requires post { IsPostOf number setup.now.pages (P.view post) }
     {
-        match worker_of(alloc, setup, plan.len() as u32, number, post, notes) {
+        let plan = own_plan(plans, number);
+        match worker_of(alloc, setup, sizes, number, post, notes) {
             Ok(worker) => Ok(Player {
                 worker,
                 plan,
