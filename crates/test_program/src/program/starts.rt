@@ -9,6 +9,8 @@
 ///   phases.
 /// - `runs-files`: three submitters, each with the likes of its own user: in another order, they would be refused. And
 ///   `plain-likes`, which is done in phase 0 long before the coordinator has counted a million turns.
+/// - `runs-with-places`, `runs-no-requests`, `runs-verdicts`, `runs-quoted-names`, `runs-from-a-high-count`: the worked
+///   examples that one worker runs in phase 0, on threads.
 /// - `runs-on-80-threads`: 16 workers and 64 submitters, whose file is one without requests.
 /// - `writes-a-summary`: each number but the seconds. And `tells-refused-requests`: those files without a summary.
 /// - `tells-no-progress`: of work that takes less than two seconds, nothing is told.
@@ -48,6 +50,34 @@ plain-p.csv>name,count,split\na,10,no\n&plain-r.csv>op,user,page\nlike,0,a\nlike
 run --workers 1 --users 2 --turns 1000000 plain-p.csv plain-r.csv|0|\
 row,id,number,phase,answer,page,count\nreply,0,1,0,liked,,\nreply,0,2,0,liked,,\nreply,0,3,0,liked,,\n\
 page,0,,,,a,13\nuser,0,,,,a,\nuser,1,,,,a,\n|;\
+runs-with-places|\
+plain-p.csv>name,count,split\na,10,no\n&plain-r.csv>op,user,page\nlike,0,a\nlike,1,a\nlike,0,a\n&|\
+run --workers 1 --users 2 --turns 1000000 --places plain-p.csv plain-r.csv|0|\
+row,id,number,phase,answer,page,count\nreply,0,1,0,liked,,\nreply,0,2,0,liked,,\nreply,0,3,0,liked,,\n\
+page,0,,,,a,13\nuser,0,,,,a,\nuser,1,,,,a,\n\
+place,0,0,0,10,a,1\nplace,0,0,0,11,a,1\nplace,0,0,0,12,a,1\n|;\
+runs-no-requests|\
+none-p.csv>name,count,split\na,10,no\n&none-r.csv>op,user,page\n&|\
+run --workers 1 --users 2 none-p.csv none-r.csv|0|\
+row,id,number,phase,answer,page,count\npage,0,,,,a,10\n|;\
+runs-verdicts|\
+verdicts-p.csv>name,count,split\na,10,no\n&\
+verdicts-0.csv>op,user,page\nlike,2,a\nlook,1,a\nlike,0,zz\nlike,3,zz\n&verdicts-1.csv>op,user,page\n&|\
+run --workers 1 --users 2 --turns 1000000 verdicts-p.csv verdicts-0.csv verdicts-1.csv|0|\
+row,id,number,phase,answer,page,count\nreply,0,1,0,unknown-user,,\nreply,0,2,0,other-home,,\n\
+reply,0,3,0,unknown-page,,\nreply,0,4,0,unknown-user,,\npage,0,,,,a,10\n|\
+likes: refused 4 of 4 requests: 2 unknown-user, 1 other-home, 1 unknown-page\n;\
+runs-quoted-names|\
+quoted-p.csv>name,count,split\r\n\"x,\"\"y\"\"\",0,no\r\n&\
+quoted-r.csv>op,user,page\r\nlike,0,\"x,\"\"y\"\"\"\r\n&|\
+run --workers 1 --users 1 --turns 1000000 quoted-p.csv quoted-r.csv|0|\
+row,id,number,phase,answer,page,count\nreply,0,1,0,liked,,\npage,0,,,,\"x,\"\"y\"\"\",1\n\
+user,0,,,,\"x,\"\"y\"\"\",\n|;\
+runs-from-a-high-count|\
+high-p.csv>name,count,split\na,1000000000000000000,no\n&high-r.csv>op,user,page\nlike,0,a\nlike,0,a\nlook,0,a\n&|\
+run --workers 1 --users 1 --turns 1000000 high-p.csv high-r.csv|0|\
+row,id,number,phase,answer,page,count\nreply,0,1,0,liked,,\nreply,0,2,0,liked,,\n\
+reply,0,3,0,seen,a,1000000000000000002\npage,0,,,,a,1000000000000000002\nuser,0,,,,a,\n|;\
 runs-on-80-threads|\
 many.csv>name,count,split\na,10,no\n&r>op,user,page\n&|\
 run --workers 16 many.csv r r r r r r r r r r r r r r r r r r r r r r r r r r r r r r r r \
