@@ -5,24 +5,30 @@ use like_command::{OUT_OF_MEMORY, Options, ParseFault};
 use like_files::{DriverFault, WRITE_FAILED};
 use std::alloc::{AllocError, AllocFailed};
 use std::io::Write;
+use thiserror::Error;
 
 // The line for standard input as more than one file.
 const INPUTS: &str = "likes: only one file can be -, which is standard input\n";
 
-/// Why the program has not done what its words ask for.
-#[derive(Drop)]
+/// Why the program has not done what its words ask for. The text doesn't name the file at fault; `line` does.
+#[derive(Debug, Drop, Error)]
 pub enum ProgramFault {
+    #[error("{0}")]
     Words(ParseFault),
     /// A fault of a run or a replay with these options.
+    #[error("{fault}")]
     Files {
         options: Options,
         fault: DriverFault,
     },
     /// Help could not be written.
+    #[error("write failed")]
     Output,
     /// Standard input was named for more than one file.
+    #[error("only one file can be -, which is standard input")]
     Inputs,
     /// There was no memory for the example.
+    #[error("out of memory")]
     Memory,
 }
 
