@@ -1,5 +1,5 @@
 //! Which pages get slots: what is proposed, and what is found by samples. No contract says which pages are popular.
-use crate::asserts::assert_named;
+use crate::asserts::{assert_named, assert_same};
 use like_choice::{Choice, Kind, NoProposal, Proposal, Proposed, Sampler, Samples, Slots};
 use std::alloc::AllocError;
 
@@ -300,5 +300,43 @@ fn pages_that_are_alike_are_not_popular(rt: HostRuntime) -> Result<(), AllocErro
     let mut seat = Sampled::new(samples.sampler(0)?);
     let is_none = proposes_none(&mut samples, &mut seat);
     assert_named(&rt, is_none, "pages that are alike");
+    Ok(())
+}
+
+// In 40 choices four samples of each of 2,500 pages, more than are remembered. Ten choices later none is popular.
+fn samples_many(samples: &mut Samples, sampler: &mut Sampler, slots: &Slots) {
+    let mut proposal = Proposal::new();
+    for sample in 0..10_000u32 {
+        sampler.note(1_000 + sample / 4, Kind::Like);
+        if sample % 250 == 249 {
+            samples.propose(slots, &mut proposal);
+        }
+    }
+    for _ in 0..10 {
+        samples.propose(slots, &mut proposal);
+    }
+}
+
+// The proposal after 12 samples of each of the pages 0 to 19.
+fn proposed_then(samples: &mut Samples, sampler: &mut Sampler, slots: &Slots) -> Proposal {
+    let mut proposal = Proposal::new();
+    for sample in 0..240u32 {
+        sampler.note(sample % 20, Kind::Like);
+    }
+    samples.propose(slots, &mut proposal);
+    proposal
+}
+
+// Pages that are no longer popular make room for others that get popular.
+#[test]
+fn new_pages_find_room(rt: HostRuntime) -> Result<(), AllocError> {
+    let mut samples = Samples::new(rt.alloc(), 1, 512)?;
+    let mut sampler = samples.sampler(0)?;
+    let slots = Slots::new(1 << 22, PAGES, &[]);
+    samples_many(&mut samples, &mut sampler, &slots);
+    let proposal = proposed_then(&mut samples, &mut sampler, &slots);
+    assert_same(&rt, "pages found", proposal.pages().len(), 20);
+    let are_popular = proposal.pages().iter().all(|page| *page < 20);
+    assert_named(&rt, are_popular, "the pages with 12 samples");
     Ok(())
 }

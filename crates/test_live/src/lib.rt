@@ -20,7 +20,7 @@ mod memory;
 #[cfg(test)]
 mod play;
 #[cfg(test)]
-mod rings;
+mod popular;
 #[cfg(test)]
 mod scenes;
 #[cfg(test)]

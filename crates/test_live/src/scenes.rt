@@ -569,26 +569,6 @@ static CHANGES: Calls = Calls {
     parts: &[GOES_ON_TWICE, CHANGE],
 };
 
-static RUNS: Calls = Calls {
-    name: "a phase that goes on",
-    parts: &[&[drive!(IfItServes, Running)]],
-};
-
-static SPLITS_500: Calls = Calls {
-    name: "live_hot",
-    parts: &[CHANGE, &[splits!(500)]],
-};
-
-static NEXT_PHASE: Calls = Calls {
-    name: "a change to the next phase",
-    parts: &[CHANGE],
-};
-
-static SPLITS_999: Calls = Calls {
-    name: "none_gets_hot",
-    parts: &[CHANGE, &[splits!(999)]],
-};
-
 static ENDS_OF_THREE: Calls = Calls {
     name: "live_again",
     parts: &[&[
@@ -666,26 +646,6 @@ pub fn asks_when_due() -> &'static Calls {
 /// A phase ends, and the next is released.
 pub fn changes() -> &'static Calls {
     &CHANGES
-}
-
-/// A phase goes on.
-pub fn runs() -> &'static Calls {
-    &RUNS
-}
-
-/// Page 500 is split in the next phase.
-pub fn splits_500() -> &'static Calls {
-    &SPLITS_500
-}
-
-/// The next phase begins.
-pub fn next_phase() -> &'static Calls {
-    &NEXT_PHASE
-}
-
-/// Page 999 is split in the next phase.
-pub fn splits_999() -> &'static Calls {
-    &SPLITS_999
 }
 
 /// Likes of users 2 and 0, and the end of a service of three users whose counts begin at 10 and 20. Each of its seats

@@ -1,16 +1,11 @@
-//! Which pages are split: a marked one among a million, two that a choice moves through a slot, those that a host
-//! proposes beside a marked one, and one that gets hot by itself.
+//! Which pages are split: a marked one among a million, two that a choice moves through a slot, and those that a host
+//! proposes beside a marked one.
 use crate::asserts::assert_named;
-use crate::play::{is_answer_of, plays};
-use crate::scenes::{
-    Calls, OnSeat, asks_when_due, changes, live_moves_calls, live_slots_calls, next_phase, runs,
-    splits_500, splits_999,
-};
+use crate::play::plays;
+use crate::scenes::{asks_when_due, changes, live_moves_calls, live_slots_calls};
 use crate::services::open;
-use like_board::SharedPost;
 use like_choice::{Choice, Guided, NoProposal, Proposal, Slots};
-use like_live::{Driver, LikeAnswer, LiveSeat, LookAnswer, Opening, Service};
-use like_seat::Seen;
+use like_live::{Driver, Opening, Service};
 use std::alloc::{AllocError, Global};
 use std::process::Abort;
 use std::test::Fail;
@@ -148,127 +143,4 @@ fn marks_beside_proposals(rt: HostRuntime) -> Result<(), Fail> {
     proposes_beside_a_mark(&rt, &mut service);
     drop(service);
     Ok(())
-}
-
-// A service of 1,000 pages in which pages get hot by themselves, or none does.
-fn opened_hot(alloc: Global, hot: Option<u32>) -> Result<Service<Guided>, Fail> {
-    let mut opening = opening_of(alloc, 1_000, &[])?;
-    opening.room = 4_096;
-    opening.hot = hot;
-    open(alloc, &opening)
-}
-
-// What is done with such a service.
-#[derive(Clone, Copy)]
-enum Part {
-    // So many likes of page 500 by user 0 of seat 0, or by user 1 of seat 1.
-    Likes(u32, u32),
-    // Two likes of each page by user 0 of seat 0.
-    LikesEach,
-    // 4,000 looks at page 500 by user 0 of seat 0, each with this answer.
-    Looks(LookAnswer),
-    // The host proposes page 999.
-    Proposes,
-    Plays(&'static Calls),
-}
-
-// The same call of a seat, this many times.
-fn repeats(
-    rt: &impl Abort,
-    seats: &mut [LiveSeat<SharedPost>],
-    seat: usize,
-    call: OnSeat,
-    times: u32,
-) {
-    for _ in 0..times {
-        assert_named(rt, is_answer_of(seats, seat, call), "a call of page 500");
-    }
-}
-
-// Two likes of each page by user 0 of seat 0.
-fn likes_each(rt: &impl Abort, seats: &mut [LiveSeat<SharedPost>]) {
-    for like in 0..2_000u32 {
-        let call = OnSeat::Like(0, like % 1_000, LikeAnswer::Liked);
-        assert_named(rt, is_answer_of(seats, 0, call), "a like of each page");
-    }
-}
-
-fn plays_part(rt: &impl Abort, service: &mut Service<Guided>, part: Part) {
-    match part {
-        Part::Likes(user, times) => {
-            let call = OnSeat::Like(user, 500, LikeAnswer::Liked);
-            repeats(rt, &mut service.seats, user as usize, call, times);
-        }
-        Part::LikesEach => likes_each(rt, &mut service.seats),
-        Part::Looks(answer) => {
-            let call = OnSeat::Look(0, 500, 0, answer);
-            repeats(rt, &mut service.seats, 0, call, 4_000);
-        }
-        Part::Proposes => service.driver.propose(&[999]),
-        Part::Plays(calls) => plays(rt, service, calls),
-    }
-}
-
-// Opens such a service, and does all this with it.
-fn plays_hot(rt: &impl Abort, alloc: Global, hot: Option<u32>, parts: &[Part]) -> Result<(), Fail> {
-    let mut service = opened_hot(alloc, hot)?;
-    for part in parts {
-        plays_part(rt, &mut service, *part);
-    }
-    drop(service);
-    Ok(())
-}
-
-// Likes of each page by seat 0 make none hot. Those of page 500 by seat 1 do, though it has fewer samples by then.
-#[test]
-fn live_hot(rt: HostRuntime) -> Result<(), Fail> {
-    let parts = [
-        Part::LikesEach,
-        Part::Plays(runs()),
-        Part::Likes(1, 2_000),
-        Part::Plays(splits_500()),
-    ];
-    plays_hot(&rt, rt.alloc(), Some(1), &parts)
-}
-
-// Likes make no page hot. A host can have pages split all the same.
-#[test]
-fn none_gets_hot(rt: HostRuntime) -> Result<(), Fail> {
-    let parts = [
-        Part::Likes(0, 2_000),
-        Part::Plays(runs()),
-        Part::Proposes,
-        Part::Plays(splits_999()),
-    ];
-    plays_hot(&rt, rt.alloc(), None, &parts)
-}
-
-// 380 likes are too few: 1 to 511 for `hot` act as 512. Of 1,000 likes and 4,000 looks, the looks are more.
-#[test]
-fn few_likes_make_none_hot(rt: HostRuntime) -> Result<(), Fail> {
-    let seen = Seen {
-        last: Some(500),
-        count: 1_000,
-    };
-    let parts = [
-        Part::Likes(0, 380),
-        Part::Plays(runs()),
-        Part::Likes(0, 620),
-        Part::Looks(LookAnswer::Seen(seen)),
-        Part::Plays(runs()),
-    ];
-    plays_hot(&rt, rt.alloc(), Some(1), &parts)
-}
-
-// Page 500 gets hot by 1,000 likes, and then 4,000 looks at it wait.
-#[test]
-fn looks_that_wait_cost_a_slot(rt: HostRuntime) -> Result<(), Fail> {
-    let parts = [
-        Part::Likes(0, 1_000),
-        Part::Plays(splits_500()),
-        Part::Looks(LookAnswer::Waits),
-        Part::Plays(next_phase()),
-        Part::Plays(runs()),
-    ];
-    plays_hot(&rt, rt.alloc(), Some(1), &parts)
 }
