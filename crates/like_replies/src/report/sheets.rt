@@ -63,7 +63,7 @@ pub fn write_rows<W: Output>(
     flush(out)
 }
 
-/// The same by these sheets, as many sections in parallel as there are sheets.
+/// Writes sections by these sheets, as many in parallel as there are sheets.
 pub fn write_rows_in_parallel<T: Threads + Sync, W: Output>(
     rt: &T,
     names: &Names,

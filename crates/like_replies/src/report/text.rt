@@ -77,7 +77,7 @@ impl<'a> Text<'a> {
         write_rows(&self.names, &self.places, &mut sheet, out)
     }
 
-    /// The same, with sections made in parallel. A thread that can't be started is no fault: the caller's own does its
+    /// Writes it, with sections made in parallel. A thread that can't be started is no fault: the caller's own does its
     /// work.
     pub fn write_in_parallel<T: Threads + Sync, W: Output>(
         &self,
