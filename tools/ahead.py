@@ -13,9 +13,9 @@ from command import Fault
 # How many bytes the length of a batch has, and how many the pipe holds.
 LENGTH, ROOM = 8, 1 << 20
 
-# Requests: the line, the number of what each is, and the user; op and page of each number that is new; the name of the
-# log that they are in, and how much of it was read, in words; and which process read them, whose numbers they have.
-Batch = collections.namedtuple("Batch", "lines numbers users new name read reader")
+# Requests as a log has them in a batch; op and page of each number that is new; the name of the log that they are in,
+# and how much of it was read, in words; and which process read them, whose numbers they have.
+Batch = collections.namedtuple("Batch", "lines numbers users times periods end least place new name read reader")
 
 
 class Numbers(dict):
@@ -30,10 +30,10 @@ class Numbers(dict):
 def batches(log):
     """The requests of a log."""
     numbers = Numbers()
-    for lines, found, users in log.batches():
+    for lines, found, *others in log.batches():
         numbers.new = []
         found = list(map(numbers.__getitem__, found))
-        yield lines, found, users, list(map(log.whats.__getitem__, numbers.new)), log.name, log.read()
+        yield lines, found, *others, list(map(log.whats.__getitem__, numbers.new)), log.name, log.read()
 
 
 def send(log, out):

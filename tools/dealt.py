@@ -8,6 +8,7 @@ import os
 import re
 
 import ahead
+import merge
 import rows
 from command import Fault, shown, write
 
@@ -53,15 +54,21 @@ class Page:
 
 
 class Part:
-    """A part of a log, which is one run: its pages, and the requests for each file."""
+    """A part of a log: its pages, and the requests for each file. It is one run for each million of users."""
 
     def __init__(self, number, folder, files):
-        self.number, self.pages = number, []
+        self.number, self.folder, self.pages = number, folder, []
         self.pages_file = f"{folder}/pages.csv"
-        self.files = [f"{folder}/requests-{place:02}.csv" for place in range(files)]
-        self.texts = [[f"{rows.REQUESTS}\n"] for _ in range(files)]
-        self.counts = [-1] * files
+        self.files, self.texts, self.counts = [], [], []
         os.makedirs(folder, exist_ok=True)
+        self.add_files(files)
+
+    def add_files(self, files):
+        """Adds files, of more users."""
+        for place in range(len(self.files), len(self.files) + files):
+            self.files.append(f"{self.folder}/requests-{place:02}.csv")
+            self.texts.append([f"{rows.REQUESTS}\n"])
+            self.counts.append(-1)
 
     def add(self, page):
         page.part, page.texts = self.number, self.texts
@@ -97,7 +104,7 @@ class Users(dict):
 
 class Dealt:
     """A log dealt into a folder: to one part, or to as many as its pages need (`has_parts`). Where the parts are joined
-    afterwards (`are_joined`), requests too have as many as they need."""
+    afterwards (`are_joined`), requests and users too have as many as they need."""
 
     def __init__(self, log, folder, files, has_parts=False, are_joined=False):
         self.log, self.folder, self.files = log, folder, files
@@ -108,9 +115,14 @@ class Dealt:
         self.kept = self.rest = None  # with --rest: the pages that keep their names, and the page of all others
         self.others = 0
         self.users = Users()
-        self.last_part = array.array("H", bytes(2 * USERS))  # by the user's number: the part, from 1, or 0
+        self.crowds = 0  # how many millions of users there are files for
+        self.last_part = array.array("H")  # by the user's number: the part, from 1, or 0
+        self.likes_by = collections.Counter()  # by day or hour, and page
+        self.is_mixed = False  # whether the times of logs overlap
         self.read = ""  # how much of the log was read, as text, once it is dealt
+        self.count = 0  # how many requests aren't written yet
         self.open = self.new_part()  # the part that new pages go to
+        self.add_crowd()
 
     def how_far(self):
         """How far it is, as text."""
@@ -119,9 +131,17 @@ class Dealt:
     def new_part(self):
         number = len(self.parts)
         is_one = not (self.has_parts or self.are_joined)
-        part = Part(number, self.folder if is_one else f"{self.folder}/part-{number:02}", self.files)
+        folder = self.folder if is_one else f"{self.folder}/part-{number:02}"
+        part = Part(number, folder, self.files * self.crowds)
         self.parts.append(part)
         return part
+
+    def add_crowd(self):
+        """Adds files for a million of users more."""
+        self.crowds += 1
+        self.last_part.frombytes(bytes(2 * USERS))
+        for part in self.parts:
+            part.add_files(self.files)
 
     def keep(self, earlier, rest):
         """Takes the pages of a run before, by name, and the name for all pages without room."""
@@ -169,25 +189,51 @@ class Dealt:
     def deal(self):
         """Gives each request to the file of its user, and writes it."""
         gc.disable()  # there are no cycles here
-        users, last_part, files = self.users, self.last_part, self.files
-        whats_of, count = collections.defaultdict(list), 0  # by the process that read them: op and page, by number
+        merged = merge.Merge() if self.log.is_merged() else None
+        whats_of = collections.defaultdict(list)  # by the process that read them: op and page, by number
         with ahead.reading(self.log) as batches:
             for batch in batches:
                 self.read, whats = batch.read, whats_of[batch.reader]
                 whats += self.new_of(batch, len(whats))
-                numbers = list(map(users.__getitem__, batch.users))
-                if len(users) > USERS:
-                    raise self.log.fault(self.line_past(batch), f"more than {USERS} users")
-                for (op, page), user in zip(map(whats.__getitem__, batch.numbers), numbers):
-                    page.texts[user % files].append(f"{op},{user},{page.text}\n")
-                    if op == "like":
-                        page.likes += 1
-                        last_part[user] = page.part + 1
-                count += len(numbers)
-                if count >= WRITTEN:
-                    self.write_requests()
-                    count = 0
+                columns = [list(map(whats.__getitem__, batch.numbers)), self.numbers_of(batch)]
+                columns += [batch.periods] if batch.periods else []
+                self.take(merged.add(batch, columns) if merged else columns)
+        if merged:
+            self.take(merged.ready())
+            self.is_mixed = merged.are_mixed
         self.write_requests()
+
+    def numbers_of(self, batch):
+        """The numbers of a batch's users."""
+        numbers = list(map(self.users.__getitem__, batch.users))
+        while len(self.users) > self.crowds * USERS:
+            if not self.are_joined:
+                why = f"more than {USERS} users: take tools/log, which makes several runs"
+                raise self.log.fault(self.line_past(batch), why)
+            self.add_crowd()
+        return numbers
+
+    def take(self, columns):
+        """Takes requests in their order: op and page, the user's number, and if they are counted by it the period."""
+        for begin in range(0, len(columns[0]), WRITTEN):
+            self.take_some(*(column[begin : begin + WRITTEN] for column in columns))
+            if self.count >= WRITTEN:
+                self.write_requests()
+
+    def take_some(self, whats, users, periods=()):
+        files, last_part = self.files, self.last_part
+        if self.crowds > 1:
+            homes = [user // USERS * files + user % USERS % files for user in users]
+            numbers = [user % USERS for user in users]
+        else:
+            homes, numbers = [user % files for user in users], users
+        for (op, page), user, home, number in zip(whats, users, homes, numbers):
+            page.texts[home].append(f"{op},{number},{page.text}\n")
+            if op == "like":
+                page.likes += 1
+                last_part[user] = page.part + 1
+        self.count += len(users)
+        self.likes_by.update((period, page) for (op, page), period in zip(whats, periods) if op == "like")
 
     def new_of(self, batch, first):
         """Op and page of what is new in a batch, whose numbers begin with the first."""
@@ -200,6 +246,7 @@ class Dealt:
         return next(line for line, user in zip(batch.lines, batch.users) if self.users[user] >= USERS)
 
     def write_requests(self):
+        self.count = 0
         for part in self.parts:  # and those that follow, which may get no more requests, but have files
             part.write()
             most = max(part.counts)
@@ -262,13 +309,19 @@ class Dealt:
         more = f" and {self.others} more under one name" if self.others else ""
         more += f" in {len(self.parts)} part{'s' * (len(self.parts) > 1)}" if self.has_parts else ""
         yield f"likes {likes}, looks {self.requests() - likes}, pages {len(pages)}{more}, users {len(self.users)}"
+        if self.is_mixed:
+            yield f"the times of {self.log} overlap: their requests are merged by time"
         yield from self.log.told()
+        paths = self.log.paths
+        alike = len(self.pages) - len({paths.get(page, page) for page in self.pages})
+        if alike:
+            yield f"{alike} of {len(self.pages)} pages differ from others by their query alone: --no-query takes it off"
 
 
 def kept_names(log, earlier, rest):
     """The new pages of a log that keep their names, while the others are named `rest`: all, or else the most liked."""
     counts, likes = collections.Counter(), collections.Counter()
-    for _, numbers, _ in log.batches():
+    for _, numbers, *_ in log.batches():
         counts.update(numbers)
     log.judge()
     for number, count in counts.items():

@@ -2,21 +2,27 @@
 
 import contextlib
 import csv
-import gzip
+import importlib
 import io
 import os
 import re
+import shutil
+import subprocess
 import sys
 import tempfile
 import zlib
 
-from command import Fault, shown
+from command import Fault, shown, write
 
 PAGES = "name,count,split"
 REQUESTS = "op,user,page"
 REPORT = "row,id,number,phase,answer,page,count"
 USERS = "number,user"
 NAMES = "name,page"
+OPTIONS = "option,value"
+
+# What the name of the file with a run's options has behind that of its report.
+BESIDE = ".options"
 
 # The most digits in a number, and the largest number.
 DIGITS, MOST = 19, 2**63 - 1
@@ -30,15 +36,36 @@ BLOCK = 1 << 18
 # The csv module's messages for a misplaced quote, and ours.
 QUOTES = {
     "unexpected end of data": "a quote is not closed",
-    "',' expected after '\"'": "text after a closing quote: is an earlier quote not closed?",
     f"field larger than field limit ({LONGEST})": f"more than {LONGEST} characters in a field: is a quote not closed?",
 }
 
 # A field with one of these must be in quotes.
 MARKS = re.compile('[",\r\n]')
 
-# How a gzipped file begins.
-GZIP = b"\x1f\x8b"
+BEHIND = "text after a closing quote: is an earlier quote not closed?"
+
+# How packed files begin, the programs that unpack them, and Python's modules in their place.
+PACKED = {b"\x1f\x8b": "gzip", b"\xfd7zXZ\0": "xz", b"\x28\xb5\x2f\xfd": "zstd"}
+PACKERS = {"gzip": "gzip", "xz": "lzma", "zstd": "compression.zstd"}
+
+# How files begin that are no text, and what they are.
+BINARY = {
+    b"PK\x03\x04": "a zip archive: unpack it first",
+    b"7z\xbc\xaf": "a 7z archive: unpack it first",
+    b"BZh": "packed by bzip2: unpack it first",
+    b"\xff\xfe": "text in UTF-16: convert it by iconv -f UTF-16 -t UTF-8",
+    b"\xfe\xff": "text in UTF-16: convert it by iconv -f UTF-16 -t UTF-8",
+    b"LPKSHHRH": "a journal: print it by journalctl",
+    b"SQLite format 3": "a database of SQLite",
+    b"PAR1": "a Parquet file",
+    b"\x7fELF": "a program",
+    b"%PDF": "a PDF file",
+    b"\x89PNG": "a picture",
+}
+
+# How many bytes of a file are judged, what text doesn't have, and how many of it make a file binary. NULs are skipped:
+# a log has them where it was cut off while a server wrote it.
+JUDGED, CONTROLS, FEW = 4096, re.compile(rb"[\x01-\x08\x0e-\x1a\x1c-\x1f\x7f]"), 0.05
 
 
 def called(name):
@@ -46,18 +73,79 @@ def called(name):
     return "standard input" if name == "-" else name
 
 
+def escaped(data):
+    """Bytes as they are escaped in addresses, such as %FF."""
+    return "".join(map("%{:02X}".format, data))
+
+
 @contextlib.contextmanager
 def opened(name):
-    """The bytes of a file, or of standard input if its name is -, unzipped if need be; and the file below them, whose
+    """The bytes of a file, or of standard input if its name is -, unpacked if need be; and the file below them, whose
     position tells how much of it was read."""
     try:
         with open(0, "rb", closefd=False) if name == "-" else open(name, "rb") as file:
-            is_packed = file.peek(2)[:2] == GZIP
-            yield gzip.open(file) if is_packed else file, file.raw
-    except (EOFError, zlib.error, gzip.BadGzipFile):
-        raise Fault(f"{called(name)}: the gzip data is damaged or incomplete") from None
+            front = file.peek(JUDGED)[:JUDGED]
+            packer = next((PACKED[magic] for magic in PACKED if front.startswith(magic)), None)
+            if packer is None:
+                judge_text(name, front)
+                yield file, file.raw
+            else:
+                with unpacked(name, file, packer) as data:
+                    yield data, file.raw
     except OSError as error:
         raise Fault(f"{called(name)}: {error.strerror}") from None
+
+
+def judge_text(name, front):
+    """Stops at a file that is no text, by its first bytes."""
+    what = next((BINARY[magic] for magic in BINARY if front.startswith(magic)), None)
+    if what is None and len(CONTROLS.findall(front)) > FEW * len(front.replace(b"\0", b"")):
+        what = "binary data, not text"
+    if what is not None:
+        raise Fault(f"{called(name)}: this is {what}")
+
+
+@contextlib.contextmanager
+def unpacked(name, file, packer):
+    """The bytes of a packed file, unpacked by Python's module, or else by the system's program."""
+    try:
+        module = importlib.import_module(PACKERS[packer])
+    except ImportError:
+        with unpacked_by(name, file, packer) as data:
+            yield data
+        return
+    damaged = [getattr(module, error, EOFError) for error in ("BadGzipFile", "LZMAError", "ZstdError")]
+    try:
+        with module.open(file) as data:
+            yield data
+    except (EOFError, zlib.error, *damaged):
+        raise damage(name, packer) from None
+
+
+@contextlib.contextmanager
+def unpacked_by(name, file, packer):
+    """The bytes of a packed file, unpacked by a program."""
+    if not shutil.which(packer):
+        raise Fault(f"{called(name)}: packed by {packer}, which isn't installed: install {packer}, or unpack it first")
+    if not file.seekable():
+        raise Fault(f"{called(name)}: packed by {packer}: name a file, or unpack it by {packer} -dc")
+    os.lseek(file.fileno(), 0, os.SEEK_SET)
+    with subprocess.Popen([packer, "-dcq"], stdin=file, stdout=subprocess.PIPE, stderr=subprocess.DEVNULL) as process:
+        try:
+            yield process.stdout
+            if process.wait() != 0:
+                raise damage(name, packer)
+        finally:
+            process.kill()
+
+
+def damage(name, packer):
+    return Fault(f"{called(name)}: the {packer} data is damaged or incomplete")
+
+
+def is_plain(file, raw):
+    """Whether an opened file isn't packed."""
+    return getattr(file, "raw", None) is raw
 
 
 @contextlib.contextmanager
@@ -90,28 +178,42 @@ def share(file):
     return ""
 
 
-def records_in(file, name, strict=False):
-    """The records of an open CSV file, each with the line on which it begins, read as the program reads them.
+def records_of(lines, name, strict, delimiter=","):
+    """The records of CSV in lines, each with the line on which it begins, read as the program reads them.
 
     With `strict`, an unclosed quote, and text after a closing quote, are faults."""
     csv.field_size_limit(LONGEST if strict else sys.maxsize)
     line = 1
     try:
-        reader = csv.reader(
-            io.TextIOWrapper(file, newline="", encoding="utf-8-sig", errors="surrogateescape"), strict=strict
-        )
+        reader = csv.reader(lines, strict=strict, delimiter=delimiter)
         for record in reader:
             if record:
                 yield line, record
             line = reader.line_num + 1
     except csv.Error as error:
-        raise fault(name, line, QUOTES.get(str(error), error)) from None
+        why = BEHIND if "expected after" in str(error) else QUOTES.get(str(error), error)
+        raise fault(name, line, why) from None
 
 
-def records(name, strict=False):
+def records_in(file, name):
+    """The records of an open CSV file, each with the line on which it begins."""
+    return records_of(io.TextIOWrapper(file, newline="", encoding="utf-8-sig", errors="surrogateescape"), name, False)
+
+
+def plain_in(file, name):
+    """The records of an open CSV file, without their lines."""
+    csv.field_size_limit(sys.maxsize)
+    reader = csv.reader(io.TextIOWrapper(file, newline="", encoding="utf-8-sig", errors="surrogateescape"))
+    try:
+        yield from filter(None, reader)
+    except csv.Error as error:
+        raise fault(name, reader.line_num, error) from None
+
+
+def records(name):
     """The records of a CSV file, each with the line on which it begins."""
     with opened(name) as (file, _):
-        yield from records_in(file, name, strict)
+        yield from records_in(file, name)
 
 
 def fault(name, line, why):
@@ -163,3 +265,24 @@ def number(text, what, name, line):
 def field(text):
     """A field of a CSV file, in quotes if it must be."""
     return '"' + text.replace('"', '""') + '"' if MARKS.search(text) else text
+
+
+def write_options(report, options, pages, *requests):
+    """Writes what a run was given into a file beside its report."""
+    names = [("pages", pages), *(("requests", name) for name in requests)]
+    with write(report + BESIDE) as file:
+        file.write(f"{OPTIONS}\n")
+        file.writelines(f"{option},{number}\n" for option, number in options.items())
+        file.writelines(f"{option},{field(os.path.basename(name))}\n" for option, name in names)
+
+
+def options_of(report):
+    """What a run was given, by the file beside its report if there is one: numbers by option, and files."""
+    options, names = {}, []
+    if os.path.isfile(report + BESIDE):
+        for line, (option, value) in lines_of(report + BESIDE, OPTIONS):
+            if option in ("pages", "requests"):
+                names.append(os.path.join(os.path.dirname(report), value))
+            else:
+                options[option] = number(value, option, report + BESIDE, line)
+    return options, names

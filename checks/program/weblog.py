@@ -1,7 +1,13 @@
-"""A web server's log in the combined format, drawn with a fixed seed, and the right counts of it."""
+"""Logs of web servers, and of a spreadsheet, drawn with a fixed seed, and the right counts of them.
+
+usage: weblog.py LINES writes one in the combined format to standard output
+"""
 
 import collections
 import itertools
+import json
+import random
+import sys
 import urllib.parse
 
 WORDS = 'news sport weather café čaj чай καφές קפה شاي चाय 天気 お茶 커피 😀 tea,milk say"no" 100% c++é a\\b'.split()
@@ -10,6 +16,7 @@ AGENTS = [
     "Mozilla/5.0 (iPhone; CPU iPhone OS 17_1 like Mac OS X) AppleWebKit/605.1.15 Version/17.1 Mobile/15E148",
     'curl/8.4.0 \\"quoted\\"',
 ]
+BOT = "Mozilla/5.0 (compatible; Googlebot/2.1; +http://www.google.com/bot.html)"
 
 # What is no like and no look: requests that no pattern matches, and lines of another format.
 OTHERS = ["GET /style.css HTTP/1.1", "HEAD /articles/1 HTTP/1.1", "-", "", r"\x16\x03\x01", r'GET /\"quoted\" HTTP/1.1']
@@ -23,19 +30,25 @@ TORN = [
     '192.0.2.1 - ann [27/Nov/2026:09:00:01 +0000] "POST /like/articles/1 HTTP/1.1" 20',
 ]
 
-# The statuses of answers that accept a request, and of those that refuse it.
-ACCEPTED, REFUSED = [200, 201, 204, 302, 304], [400, 403, 404, 429, 500, 503]
+# What stands before the time in lines that name no address and user.
+FRONTS = ["web-1 10.0.0.1 - ann ", "10.0.0.1 ident ann ", "10.0.0.1 ann ", "web-1 - 10.0.0.1 - - "]
+FRONTS += ["\0" * 300 + "10.0.0.1 - ann "]
 
-# The kinds of lines, each with how many there are in a thousand.
-KINDS = {
-    "like": 790,
-    "look": 198,
-    "status of 400 or more": 4,
-    "no pattern matches": 5,
-    "not of the combined format": 2,
-    "a log line that can't be read": 1,
-}
+# The most bytes in a line.
+LONGEST = 1 << 20
 
+# The statuses of answers that accept a request, and of others.
+ACCEPTED, REFUSED = [200, 201, 204, 206], [301, 302, 304, 400, 403, 404, 429, 500, 503]
+
+# Why lines are left out, and how many in a thousand of each kind there are.
+NOBODY, NO_FRONT = "no user and no address", "no address, dash and user before the time"
+STATUS, NO_PATTERN, AGENT = "status is not 2xx", "no pattern matches", "the agent matches --agent-not"
+NO_FORMAT, CUT = "not of the combined format", "a log line that can't be read"
+LONG = f"a line of more than {LONGEST} bytes"
+KINDS = {"like": 780, "look": 198, STATUS: 8, NO_PATTERN: 5, NOBODY: 2, NO_FRONT: 2, NO_FORMAT: 2, CUT: 1}
+
+# How many lines there are for one that is too long.
+RARE = 400000
 
 # How hexed writes a space.
 SPACE = "\\x20"
@@ -48,7 +61,7 @@ def hexed(text):
 
 
 def draw_pages(draw, count):
-    """So many pages, each with the ways in which requests write it: in many scripts, long ones, and some bytes."""
+    """So many pages, each with the ways in which requests write it: in many scripts, long ones, some bytes, queries."""
     pages = {}
     for number in range(count):
         page = f"/articles/{number}"
@@ -58,11 +71,14 @@ def draw_pages(draw, count):
             page += "/long" * 20
         if number % 500 == 250:
             page += "\udcff"
-        pages[page] = [urllib.parse.quote(page, errors="surrogateescape")]
+        ways = [urllib.parse.quote(page, errors="surrogateescape")]
         if "%" not in page:
-            pages[page].append(hexed(page))
+            ways.append(hexed(page))
         if "+" in page:
-            pages[page].append(urllib.parse.quote(page, safe="/+", errors="surrogateescape"))
+            ways.append(urllib.parse.quote(page, safe="/+", errors="surrogateescape"))
+        if number % 3 == 0:
+            ways.append(f"{ways[0]}?utm_source=mail&n={number}")
+        pages[page.replace("\udcff", "%FF")] = ways
     return pages
 
 
@@ -78,8 +94,8 @@ def named(number):
 
 
 def draw_users(count):
-    """So many users, each with the front of its lines: those with a name, and those that an address tells apart. Some
-    are at a server that logs its own name too."""
+    """So many users, each with the host, address and name in its lines: those with a name, and those that an address
+    tells apart. Some are at a server that logs its own name too, and the requests of some were forwarded."""
     users = {}
     for number in range(count):
         address = f"10.{number >> 16}.{number >> 8 & 255}.{number & 255}"
@@ -87,16 +103,88 @@ def draw_users(count):
             address = f"2001:db8::{number:x}"
         name = "-" if number % 4 > 1 else named(number)
         host = "example.org:443 " if number % 50 > 47 else ""
-        users[address if name == "-" else name] = f"{host}{address} - {hexed(name).replace(SPACE, ' ')} "
+        others = ", 198.51.100.7, 10.0.0.1" if number % 40 == 7 else ""
+        users[address if name == "-" else name] = host, address + others, name
     return users
+
+
+class Combined:
+    """Lines in the combined format."""
+
+    name, begin = "combined", ""
+    words = "--combined --like 'POST /like(/articles/[^? ]*)' --look 'GET (/articles/[^? ]*)'"
+
+    def line(self, user, time, request, status, agent):
+        host, address, name = user
+        front = f"{host}{address} - {hexed(name).replace(SPACE, ' ')} "
+        return f'{front}[{time}] "{request}" {status} 512 "https://example.org/" "{agent}"'
+
+    def wrong(self, kind, number):
+        """A line that isn't read, of a kind."""
+        if kind == LONG:
+            return "\0" * (LONGEST + number % 1000) + TORN[1]
+        if kind == NO_FRONT:
+            request = '[27/Nov/2026:09:00:01 +0000] "POST /like/articles/1 HTTP/1.1" 200 2 "-" "-"'
+            return FRONTS[number % len(FRONTS)] + request
+        lines = JUNK if kind == NO_FORMAT else TORN
+        return lines[number % len(lines)]
+
+
+class Syslog(Combined):
+    """Lines in the combined format behind what syslog puts before them."""
+
+    name = "syslog"
+
+    def line(self, *line):
+        return f"Nov 27 09:00:{len(line[2]) % 60:02} web-1 nginx[{len(line[4])}]: {super().line(*line)}"
+
+    def wrong(self, kind, number):
+        return super().wrong(kind if kind == LONG else NO_FORMAT, number)
+
+
+class Json(Combined):
+    """A JSON object in each line."""
+
+    name = "json"
+    words = Combined.words.replace("--combined", "--from-json")
+
+    def line(self, user, time, request, status, agent):
+        _, address, name = user
+        request = request if "\\x" not in request else "GET /other HTTP/1.1"
+        found = {"time_local": time, "remote_addr": address.split(",")[0], "remote_user": "" if name == "-" else name}
+        return json.dumps({**found, "request": request, "status": status, "http_user_agent": agent}, ensure_ascii=False)
+
+    def wrong(self, kind, number):
+        lines = ["", "not JSON", '{"time_local": "27/Nov', '{"status": 200']
+        return "x" * (LONGEST + 1) if kind == LONG else lines[number % len(lines)]
+
+
+class Csv(Combined):
+    """CSV of a spreadsheet: semicolons, a byte order mark, and words of its language."""
+
+    name, begin = "csv", "\ufeffZeit;Aktion;Wer;Seite\n"
+    words = "--columns Aktion,Wer,Seite --like 'gefällt mir' --look angesehen"
+
+    def line(self, user, time, request, status, agent):
+        _, address, name = user
+        method, path = [*request.split(" "), ""][:2]
+        page = urllib.parse.unquote(path.removeprefix("/like").split("?")[0])
+        is_known = status in ACCEPTED and page.startswith("/articles") and not set(page) & {"\ufffd", "\\"}
+        action = {"POST": "gefällt mir", "GET": "angesehen"}.get(method, "geteilt") if is_known else "geteilt"
+        fields = [time, action, address.split(",")[0] if name == "-" else name, page]
+        return ";".join('"' + field.replace('"', '""') + '"' if set(field) & set(';"') else field for field in fields)
+
+    def wrong(self, kind, number):
+        lines = ["", "a;b", "a;like;c;d;e", "27.11.2026;gefällt mir;ann;"]
+        return "x" * (LONGEST + 1) if kind == LONG else lines[number % len(lines)]
 
 
 class Log:
     """What is right to say of a drawn log."""
 
-    def __init__(self, draw, lines=3000000, users=200000, pages=16437):
-        self.draw, self.lines = draw, lines
-        self.pages, self.fronts = draw_pages(draw, pages), draw_users(users)
+    def __init__(self, draw, lines=3000000, users=200000, pages=16437, form=Combined, has_bots=False):
+        self.draw, self.lines, self.form, self.has_bots = draw, lines, form(), has_bots
+        self.pages, self.all_users = draw_pages(draw, pages), draw_users(users)
         self.users = {}  # in the order in which they appear
         self.likes, self.last = collections.Counter(), {}
         self.looks = 0
@@ -104,7 +192,7 @@ class Log:
 
     def drawn(self):
         """The kind, user and page of each line. Each page is there, and the popular ones often."""
-        users, pages = list(self.fronts), list(self.pages)
+        users, pages = list(self.all_users), list(self.pages)
         self.draw.shuffle(pages)
         weights = list(itertools.accumulate(1 / rank for rank in range(1, len(pages) + 1)))
         yield from (("like", self.draw.choice(users), page) for page in pages)
@@ -119,29 +207,28 @@ class Log:
     def write(self, file):
         """Writes the log, and counts."""
         spelled = {page: [f"{spelling} HTTP/1.1" for spelling in ways] for page, ways in self.pages.items()}
+        file.write(self.form.begin)
         for number, (kind, user, page) in enumerate(self.drawn(), 1):
+            kind = LONG if number % RARE == RARE // 2 else kind
             way = spelled[page][number % len(spelled[page])]
-            request, status = f"GET {way}" if kind == "look" else f"POST /like{way}", ACCEPTED[number % 5]
+            request, status = f"GET {way}" if kind == "look" else f"POST /like{way}", ACCEPTED[number % len(ACCEPTED)]
+            if kind == NO_PATTERN:
+                request = OTHERS[number % len(OTHERS)]
+            if kind == STATUS:
+                status = REFUSED[number % len(REFUSED)]
+            if kind in (LONG, NO_FRONT, NO_FORMAT, CUT):
+                request = self.form.wrong(kind, number)
+                file.write(f"{request}\n")
+            else:
+                seconds = number // 40
+                time = f"27/Nov/2026:{seconds // 3600:02}:{seconds // 60 % 60:02}:{seconds % 60:02} +0000"
+                whose = ("", "-", "-") if kind == NOBODY else self.all_users[user]
+                agent = BOT if self.has_bots and number % 50 == 0 else AGENTS[number % 3]
+                file.write(f"{self.form.line(whose, time, request, status, agent)}\n")
             if kind in ("like", "look"):
                 self.count(kind, user, page)
             else:
-                request, status, whole = self.odd_line(kind, number, request)
                 self.left_out.setdefault(kind, [0, number, request])[0] += 1
-                if whole:
-                    file.write(f"{request}\n")
-                    continue
-            time = f"[27/Nov/2026:{number // 3600 % 24:02}:{number // 60 % 60:02}:{number % 60:02} +0000]"
-            rest = f'{number % 5000} "https://example.org/" "{AGENTS[number % 3]}"'
-            file.write(f'{self.fronts[user]}{time} "{request}" {status} {rest}\n')
-
-    def odd_line(self, kind, number, request):
-        """The request and the status of a line that is left out, and whether the request is all of the line."""
-        if kind == "status of 400 or more":
-            return request, REFUSED[number % len(REFUSED)], False
-        if kind == "no pattern matches":
-            return OTHERS[number % len(OTHERS)], 200, False
-        lines = JUNK if kind == "not of the combined format" else TORN
-        return lines[number % len(lines)], None, True
 
     def count(self, kind, user, page):
         self.users.setdefault(user)
@@ -151,3 +238,8 @@ class Log:
         else:
             self.looks += 1
             self.likes[page] += 0
+
+
+if __name__ == "__main__":
+    sys.stdout.reconfigure(encoding="utf-8", errors="surrogateescape")
+    Log(random.Random(1), int(sys.argv[1])).write(sys.stdout)

@@ -1,0 +1,308 @@
+"""Small logs with what real ones have, and what `tools/log` has to say of each."""
+
+import collections
+import csv
+import gzip
+import lzma
+import random
+import shutil
+import subprocess
+
+import pages
+
+WEB = "--combined --like 'POST /like(/[^? ]*)'"
+JSON = WEB.replace("--combined", "--from-json")
+REQUEST = '"POST /like/{} HTTP/1.1" 200 2 "-" "{}"'
+
+
+def line(front, page="a", second=0, agent="Mozilla", status=200):
+    """A line in the combined format."""
+    time = f"[27/Nov/2026:{9 + second // 3600:02}:{second // 60 % 60:02}:{second % 60:02} +0000]"
+    return f"{front} {time} {REQUEST.format(page, agent)}\n".replace(" 200 ", f" {status} ")
+
+
+SYSLOG = "Nov 27 15:00:{:02} web-1 nginx[812]: "
+RFC = "<190>1 2026-11-27T15:00:{:02}.123Z web-1 nginx - - - "
+NO_FRONT, LONG = "no address, dash and user before the time", "a line of more than 1048576 bytes"
+NULS = r"'\x00\x00\x00\x00"
+
+# Logs by their names, the options, likes by page, last likes by user, and lines that are told.
+CASES = {
+    "syslog": (
+        {
+            "a.log": "".join(SYSLOG.format(n) + line("192.0.2.1 - -") for n in range(3))
+            + "".join(RFC.format(n) + line("192.0.2.2 - bob", "b") for n in range(3))
+        },
+        WEB,
+        {"/a": 3, "/b": 3},
+        {"192.0.2.1": "/a", "bob": "/b"},
+        ["refused 0 of 6 requests"],
+    ),
+    "forwarded": (
+        {"a.log": line("10.0.0.1, 203.0.113.7 - bob") + line("10.0.0.1, 203.0.113.7 - -", "b")},
+        WEB,
+        {"/a": 1, "/b": 1},
+        {"bob": "/a", "10.0.0.1": "/b"},
+        [],
+    ),
+    "forwarded last": (
+        {"a.log": line("10.0.0.1,203.0.113.7 - -", "b")},
+        f"{WEB} --forwarded last",
+        {"/b": 1},
+        {"203.0.113.7": "/b"},
+        [],
+    ),
+    "nobody": (
+        {"a.log": "".join(map(line, ["- - -", "unix: - -", "1.1.1.1 frank bob", "x 1.1.1.1 - bob", "1.1.1.1 - -"]))},
+        WEB,
+        {"/a": 1},
+        {"1.1.1.1": "/a"},
+        ["left out 2, no user and no address: the first is line 1, ", f"left out 2, {NO_FRONT}: the first is line 3, "],
+    ),
+    "the newest first": (
+        {
+            "access.log": line("x - ann", "new", 7200),
+            "access.log.1": line("x - ann", "old", 3600),
+            "access.log.2": line("x - ann", "oldest"),
+        },
+        WEB,
+        {"/new": 1, "/old": 1, "/oldest": 1},
+        {"ann": "/new"},
+        ["taken in the order of their first times: access.log.2, access.log.1, access.log\n"],
+    ),
+    "two servers": (
+        {
+            "a.log": line("x - ann", "1") + line("x - bob", "2", 3) + line("x - ann", "3", 2) + line("x - ann", "5", 9),
+            "b.log": line("x - ann", "4", 4) + line("x - bob", "6", 1),
+        },
+        WEB,
+        {f"/{number}": 1 for number in range(1, 7)},
+        {"ann": "/5", "bob": "/6"},
+        ["the times of a.log and 1 more overlap: their requests are merged by time\n"],
+    ),
+    "CSV by time": (
+        {
+            "a.csv": "op;user;page;t\nlike;ann;new;2026-11-28 10:00\n",
+            "b.csv": "op,user,page,t\nlike,ann,old,2026-11-28T09:00:00Z\n",
+        },
+        "--time t",
+        {"new": 1, "old": 1},
+        {"ann": "new"},
+        ["taken in the order of their first times: b.csv, a.csv\n"],
+    ),
+    "CSV as named": (
+        {"a.csv": "op,user,page\nlike,ann,new\n", "b.csv": "op,user,page\nlike,ann,old\n"},
+        "",
+        {"new": 1, "old": 1},
+        {"ann": "old"},
+        ["taken in the order in which the logs are named: --time COLUMN sorts them by time\n"],
+    ),
+    "long lines": (
+        {
+            "a.log": "\0" * 2000000 + line("x - ann") + line("x - ann", "b") + "\0" * 500 + line("x - ann", "c"),
+            "b.log": "q" * 1048577,
+        },
+        WEB,
+        {"/b": 1},
+        {"ann": "/b"},
+        [f"left out 2, {LONG}: the first is line 1 of b.log, 'q", f"1, {NO_FRONT}: the first is line 3 of a.log, "],
+    ),
+    "long rows": (
+        {"a.csv": "op,user,page\nlike,ann,a\n" + "\0" * 2000000 + "\nlike,ann,b\nlike,ann\n"},
+        "",
+        {"a": 1, "b": 1},
+        {"ann": "b"},
+        [f"left out 1, {LONG}: the first is line 3, {NULS}", "fewer fields than the header: the first is line 5, "],
+    ),
+    "bytes": (
+        {"a.log": line("x - ann", "%ff%C3%A4") + line("x - b\udcfe", "\udcff") + line("x - ann", "\\xff")},
+        WEB,
+        {"/%FFä": 1, "/%FF": 2},
+        {"ann": "/%FF", "b%FE": "/%FF"},
+        [],
+    ),
+    "bytes in CSV": ({"a.csv": "op,user,page\nlike,m\udcfcller,\udcff\n"}, "", {"%FF": 1}, {"m%FCller": "%FF"}, []),
+    "queries": (
+        {"a.log": "".join(line("x - ann", page) for n in range(4) for page in (f"a?mail={n % 2}", f"b{n}?x", "a"))},
+        WEB.replace("[^? ]*", r"\S*"),
+        {"/a?mail=0": 2, "/a?mail=1": 2, "/a": 4, **{f"/b{n}?x": 1 for n in range(4)}},
+        {"ann": "/a"},
+        ["2 of 7 pages differ from others by their query alone: --no-query takes it off\n"],
+    ),
+    "no queries": (
+        {"a.log": line("x - ann", "a?utm_source=1") + line("x - ann", "a%3Fb") + line("x - ann")},
+        WEB.replace("[^? ]*", r"\S*") + " --no-query",
+        {"/a": 2, "/a?b": 1},
+        {"ann": "/a"},
+        [],
+    ),
+    "a spreadsheet": (
+        {"a.csv": "\ufeffZeit;Was;Wer;Seite\n1;gefällt;ann;/a,b\n2;gesehen;bob;/c\n3;geteilt;ann;/c\n"},
+        "--columns Was,Wer,Seite --like gefällt --look gesehen",
+        {"/a,b": 1, "/c": 0},
+        {"ann": "/a,b"},
+        ["left out 1, Was is not gefällt or gesehen: the first is line 4, '3;geteilt;ann;/c'\n"],
+    ),
+    "tabs": ({"a.tsv": "1\tlike\tann\t/a\n2\tlook\n"}, "--columns 2,3,4", {"/a": 1}, {"ann": "/a"}, []),
+    "a delimiter": ({"a.csv": "op:user:page\nlike:ann:a,b\n"}, "--delimiter :", {"a,b": 1}, {"ann": "a,b"}, []),
+    "JSON": (
+        {
+            "a.log": '{"time_local": "27/Nov/2026:09:00:01 +0000", "remote_addr": "1.1.1.1", "remote_user": "", '
+            '"request": "POST /like/a HTTP/1.1", "status": "200"}\n'
+            '{"ts": 1795770001.2, "request": {"remote_ip": "2.2.2.2", "method": "POST", "uri": "/like/caf\\u00e9?x"}, '
+            '"user_id": "ann", "status": 200}\n'
+            '{"ClientHost": "3.3.3.3", "ClientUsername": "-", "RequestMethod": "POST", "RequestPath": "/like/%ff", '
+            '"DownstreamStatus": 200}\n'
+            '{"status": 200}\n{"status":\nlog\n'
+        },
+        JSON,
+        {"/a": 1, "/café": 1, "/%FF": 1},
+        {"1.1.1.1": "/a", "ann": "/café", "3.3.3.3": "/%FF"},
+        [
+            "no request or no status by these names of fields (--fields): the first is line 4",
+            "a log line that can't be read: the first is line 5",
+            "not a JSON object: the first is line 6",
+        ],
+    ),
+    "JSON with other fields": (
+        {"a.log": '{"who": {"name": "ann"}, "line": "POST /like/a", "code": 201}\n'},
+        f"{JSON} --fields user=who.name,request=line,status=code",
+        {"/a": 1},
+        {"ann": "/a"},
+        [],
+    ),
+    "statuses": (
+        {"a.log": line("x - ann", status=302) + line("x - ann", "b", status=201) + line("x - ann", "c", status=404)},
+        WEB,
+        {"/b": 1},
+        {"ann": "/b"},
+        ["left out 2, status is not 2xx: the first is line 1, 'POST /like/a HTTP/1.1'\n"],
+    ),
+    "other statuses": (
+        {"a.log": line("x - ann", status=304) + line("x - ann", "b", status=201) + line("x - ann", "c", status=404)},
+        f"{WEB} --status 2xx,304",
+        {"/a": 1, "/b": 1},
+        {"ann": "/b"},
+        ["left out 1, status is not 2xx,304: "],
+    ),
+    "bots": (
+        {
+            "a.log": line("x - ann", agent="Googlebot/2.1") + line("x - ann", "b")
+            + line("x - ann", "c").split(' "-"')[0] + "\n"
+        },
+        f"{WEB} --agent-not '(?i)bot|crawl'",
+        {"/b": 1, "/c": 1},
+        {"ann": "/c"},
+        ["left out 1, the agent matches --agent-not: the first is line 1, 'Googlebot/2.1'\n"],
+    ),
+    "since and until": (
+        {
+            "a.log": line("x - ann", "a") + line("x - ann", "b", 60) + line("x - ann", "c", 120)
+            + line("x - ann").replace("Nov", "Nix")
+        },
+        f"{WEB} --since 2026-11-27T09:01 --until 2026-11-27T09:02",
+        {"/b": 1},
+        {"ann": "/b"},
+        ["left out 1, before --since: ", "left out 1, at --until or later: ", "left out 1, no time that can be read: "],
+    ),
+}
+
+# The likes of two hours, and how they are printed.
+HOURS = "".join(line("x - ann", page, second) for page, second in zip("abbab", (0, 9, 9, 3600, 3601)))
+BY_HOUR = "hour,rank,page,likes\n2026-11-27T09,1,/b,2\n2026-11-27T10,1,/a,1\nlikes 5, "
+BY_DAY = """[{"day": "2026-11-27", "rank": 1, "page": "/b", "likes": 3},
+ {"day": "2026-11-27", "rank": 2, "page": "/a", "likes": 2}]
+"""
+
+
+def read(name):
+    with open(name, newline="", encoding="utf-8", errors="surrogateescape") as file:
+        return list(csv.reader(file))[1:]
+
+
+def found(folder, name):
+    """The likes by page, and last likes by user, of an answer."""
+    likes = {page: int(count) for _, page, count in read(f"{folder}/{name}/pages.csv")}
+    return likes, dict(read(f"{folder}/{name}/users.csv"))
+
+
+def asked(folder, logs, words):
+    """How `tools/log` ends on logs of these names and texts."""
+    shutil.rmtree(f"{folder}/small", ignore_errors=True)
+    for name, text in logs.items():
+        with open(f"{folder}/{name}", "w", newline="", encoding="utf-8", errors="surrogateescape") as file:
+            file.write(text)
+    return pages.shell(f"tools/log {' '.join(logs)} {words} --into small", folder)
+
+
+def try_cases(folder):
+    for what, (logs, words, likes, last, told) in CASES.items():
+        ended = asked(folder, logs, words)
+        said = ended.out.decode(errors="replace")
+        if ended.status != 0 or found(folder, "small") != (likes, last):
+            yield f"{what}: {said[-800:]!r} and {found(folder, 'small') if ended.status == 0 else None}"
+        for wanted in told:
+            if wanted not in said:
+                yield f"{what}: {wanted!r} is not told, but {said[-800:]!r}"
+
+
+def try_periods(folder):
+    for words, wanted in (("--by hour --top 1", BY_HOUR), ("--by day --json", BY_DAY)):
+        ended = asked(folder, {"a.log": HOURS}, f"{WEB} {words}")
+        said = ended.out.decode()
+        if ended.status != 0 or not said.startswith(wanted):
+            yield f"{words}: {said!r}, not {wanted!r}"
+
+
+def try_packed(folder):
+    """What is wrong with packed logs of three servers whose times overlap, and of one that is read from a pipe."""
+    draw, rows, logs = random.Random(2), [], [[], [], []]
+    for second in range(30000):
+        row = f"user {draw.randrange(200)}", f"/{draw.randrange(30)}"
+        rows.append(row)
+        draw.choice(logs).append(line(f"x - {row[0]}", row[1][1:], second // 2))
+    with gzip.open(f"{folder}/s0.log.gz", "wt") as first, lzma.open(f"{folder}/s1.log.xz", "wt") as second:
+        first.writelines(logs[0])
+        second.writelines(logs[1])
+    with open(f"{folder}/s2.log", "w", encoding="utf-8") as file:
+        file.writelines(logs[2])
+    names = ["s1.log.xz", "s0.log.gz", "s2.log"]
+    if shutil.which("zstd"):
+        subprocess.run(["zstd", "-q", f"{folder}/s2.log"], check=True)
+        names[2] = "s2.log.zst"
+    ended = pages.shell(f"tools/log {' '.join(names)} {WEB} --into packed", folder)
+    ended_2 = pages.shell(f"cat s1.log.xz | tools/log s0.log.gz - s2.log {WEB} --into piped", folder)
+    likes = collections.Counter(page for _, page in rows)
+    for name, said in (("packed", ended), ("piped", ended_2)):
+        if said.status != 0 or found(folder, name) != (likes, dict(rows)):
+            yield f"{name} logs: {said.out[-500:]!r}"
+
+
+def try_many_users(folder):
+    """What is wrong with a log of more than a million users, of whom some come again."""
+    users = [f"user {number}" for number in range(1_100_000)]
+    rows = [(user, f"page {number % 7}") for number, user in enumerate(users)]
+    rows += [(users[number], "last") for number in range(0, len(users), 9)]
+    with open(f"{folder}/users.csv", "w", encoding="utf-8") as file:
+        file.write("op,user,page\n")
+        file.writelines(f"like,{user},{page}\n" for user, page in rows)
+    ended = pages.shell("tools/log users.csv --into many-users --top 0", folder)
+    likes = collections.Counter(page for _, page in rows)
+    if ended.status != 0 or found(folder, "many-users") != (likes, dict(rows)):
+        yield f"many users: {ended.out[-500:]!r}"
+
+
+def try_reports(folder):
+    """What is wrong with the reports of an answer and their audit, which reads each run's options."""
+    text = "op,user,page\n" + "".join(f"like,user {n % 3000},page {n % 1500}\n" for n in range(9000))
+    ended = asked(folder, {"a.csv": text}, "--reports --top 0")
+    audits = pages.shell("for report in small/parts/*/report*.csv; do tools/audit $report; done", folder)
+    said = audits.out.decode().splitlines()
+    if ended.status != 0 or len(said) != 2 or not all(row.startswith("all right: replies ") for row in said):
+        yield f"reports: {ended.out[-300:]!r} and {audits.out[-500:]!r}"
+
+
+def try_all(folder):
+    """What is wrong with all of these."""
+    tries = (try_cases, try_periods, try_packed, try_many_users, try_reports)
+    return [wrong for attempt in tries for wrong in attempt(folder)]

@@ -1,0 +1,398 @@
+"""The requests of web servers' logs: in the combined format and its kin, or as JSON."""
+
+import argparse
+import itertools
+import json
+import math
+import operator
+import os
+import re
+import shlex
+from urllib.parse import unquote, unquote_plus
+
+import reading
+from command import Fault, shown
+
+# What syslog puts before a line: a time, the host, and the program or what RFC 5424 has in its place.
+SYSLOG = (
+    r"(?:<[0-9]{1,3}>)?(?:1 )?(?:[A-Z][a-z]{2} [ 0-9][0-9] (?:[0-9]{4} )?[0-9:]{8}|[0-9]{2}:[0-9]{2}:[0-9]{2}"
+    r"|[0-9]{4}-[0-9]{2}-[0-9]{2}[T ][0-9:.,]{8,18}(?:Z|[+-][0-9:]{4,5})?) "
+    r"[^ \n]+ (?:[^ \n]+: |[^ \n]+ [^ \n]+ [^ \n]+ (?:-|\[[^\n]*?\]) )"
+)
+
+# How a line of vhost_combined begins: the server's name and port, which an address never follows with a dash.
+HOST = r"(?:[^ :\n]+|\[[^] \n]+\]):[0-9]{1,5} (?!- )"
+
+# An address, or the list of those that forwarded the request.
+ADDRESSES = r"([^ ,\n\0]+(?:, ?[^ ,\n\0]+)*)"
+
+# A line of the combined or the common format from the time to the status: a request, and how it was answered. And what
+# follows up to the agent, if there is one.
+ASKED = r'\[([^][\n]{0,99})\] "([^"\\\n]*(?:\\.[^"\\\n]*)*)" ([0-9]{3}) '
+AGENT = r'(?:[^ \n]+ "(?:[^"\\\n]|\\.)*" "((?:[^"\\\n]|\\.)*)")?'
+
+# A time in a piece of a log. A line that is right from its time on, and one that looks like that.
+TIME = re.compile(rb"\[([0-9]{2}/[A-Z][a-z]{2}/[^][\n]{0,99})\]")
+BEHIND = re.compile(rf"[^\n]*? {ASKED}")
+LIKE_ONE = re.compile(r'[^ \n]+ [^\n]*\[[^][\n]{0,99}\] "')
+
+# How a server escapes characters.
+ESCAPE = re.compile(rb"\\(?:x([0-9a-fA-F]{2})|(.))", re.S)
+LETTERS = {b"b": b"\b", b"n": b"\n", b"r": b"\r", b"t": b"\t", b"v": b"\v"}
+
+# What a server logs in place of an address or a name that it doesn't have.
+NOBODY = ("-", "", "unix:")
+
+# How many requests are cached with their meaning, before a batch adds its own.
+KEPT = 1 << 17
+
+# The names of fields in a JSON log of nginx, Caddy and Traefik, each in the objects that are before its dots.
+FIELDS = {
+    "time": "time_iso8601 time_local msec time ts StartUTC timestamp @timestamp",
+    "address": "remote_addr request.client_ip request.remote_ip ClientHost",
+    "user": "remote_user user_id ClientUsername",
+    "request": "request",
+    "method": "request_method request.method RequestMethod",
+    "uri": "request_uri request.uri RequestPath",
+    "status": "status DownstreamStatus",
+    "agent": "http_user_agent request.headers.User-Agent request_User-Agent",
+}
+
+# Why lines are left out.
+JUNK, TORN = "not of the combined format", "a log line that can't be read"
+NO_FRONT = "no address, dash and user before the time"
+NO_OBJECT, NO_FIELD = "not a JSON object", "no request or no status by these names of fields (--fields)"
+OTHER, EMPTY = "no pattern matches", "the page is empty"
+BOT, NO_USER = "the agent matches --agent-not", "no user and no address"
+
+# What a pattern has to match.
+FRONT = "a pattern begins at the front of the request"
+
+
+def without_escapes(text):
+    """A text as it was sent, from what a server logged."""
+    letters = ESCAPE.sub(
+        lambda found: bytes.fromhex(found[1].decode()) if found[1] else LETTERS.get(found[2], found[2]), text.encode()
+    )
+    return letters.decode(errors=reading.ESCAPED)
+
+
+class Meanings(dict):
+    """What a web server's requests mean, by their text: the number of op and page, or 0; the users that they name; and
+    the requests that match a pattern and have no page."""
+
+    def __init__(self, log):
+        super().__init__()
+        self.patterns, self.form, self.number_of = log.patterns, log.form, log.number_of
+        self.has_escapes, self.has_queries, self.paths = log.has_escapes, log.has_queries, log.paths
+        self.users, self.empty = {}, set()
+        self.matched = set()  # the ops whose patterns match a request
+        self.first = None  # the first request
+
+    def make_room(self):
+        """Empties a full cache, between batches: at its end a batch asks for the users that its requests name."""
+        if len(self) >= KEPT:
+            for kept in (self, self.users, self.empty):
+                kept.clear()
+
+    def __missing__(self, request):
+        text = without_escapes(request) if self.has_escapes and "\\" in request else request
+        matches = ((op, pattern.match(text)) for op, pattern in self.patterns.items())
+        op, match = next(filter(operator.itemgetter(1), matches), ("", None))
+        self.first = self.first or request
+        self[request] = 0
+        if match:
+            self.matched.add(op)
+            if page := self.page_of(match):
+                self[request] = self.number_of((op, page))
+            else:
+                self.empty.add(request)
+            if "user" in match.re.groupindex and (user := self.decoded(text, *match.span("user"))):
+                self.users[request] = user
+        return self[request]
+
+    def why_none(self, request):
+        """Why a request means nothing."""
+        return EMPTY if request in self.empty else OTHER
+
+    def page_of(self, match):
+        """The page that a request names. Its query is taken off, or else what the page is without it is noted."""
+        begin, end = match.span("page" if "page" in match.re.groupindex else 1)
+        asked = match.string.find("?", begin + 1, end)
+        if asked < 0:
+            return self.decoded(match.string, begin, end)
+        path = self.decoded(match.string, begin, asked)
+        if not self.has_queries:
+            return path
+        page = self.decoded(match.string, begin, end)
+        self.paths[page] = path
+        return page
+
+    def decoded(self, text, begin, end):
+        """A part of a request, decoded: as forms are behind the question mark, and before it as paths."""
+        form = {"path": end, "query": begin}.get(self.form, text.find("?") + 1 or end)
+        form = min(max(form, begin), end)
+        path, query = text[begin:form], text[form:end]
+        if "%" in path:
+            path = unquote(path, errors=reading.ESCAPED)
+        return path + unquote_plus(query, errors=reading.ESCAPED)
+
+
+class Agents(dict):
+    """Whether a pattern is in an agent, by its text."""
+
+    def __init__(self, pattern):
+        super().__init__()
+        self.pattern = pattern
+
+    def make_room(self):
+        if len(self) >= KEPT:
+            self.clear()
+
+    def __missing__(self, agent):
+        self[agent] = bool(self.pattern.search(agent))
+        return self[agent]
+
+
+def places(values, value):
+    """Where a value is in a list."""
+    at = -1
+    for _ in range(values.count(value)):
+        at = values.index(value, at + 1)
+        yield at
+
+
+class Web(reading.Log):
+    """The requests of a web server's reading."""
+
+    has_times = True
+    has_escapes = False
+
+    def __init__(self, words, patterns):
+        super().__init__(words)
+        self.patterns, self.form = patterns, words.decode
+        self.is_last = words.forwarded == "last"
+        self.status = words.status or "2xx"
+        self.accepted = {str(status) for status in range(100, 600) if fits(str(status), self.status)}
+        self.agents = Agents(words.agent_not) if words.agent_not else None
+        self.meanings = None
+
+    def begin(self):
+        super().begin()
+        self.meanings = Meanings(self)
+
+    def readers(self):
+        if not all(name != "-" and os.path.isfile(name) for name in self.names):
+            return 1
+        self.sizes = {name: os.path.getsize(name) for name in self.names}
+        return max(1, min(reading.MOST, len(os.sched_getaffinity(0)) - 1))
+
+    def found(self):
+        return {**super().found(), "matched": self.meanings.matched, "first": self.meanings.first}
+
+    def join(self, found):
+        super().join(found)
+        self.meanings.matched.update(*(part["matched"] for part in found))
+        self.meanings.first = next(filter(None, (part["first"] for part in found)), None)
+
+    def pieces_in(self, file):
+        return self.blocks(file)
+
+    def requests_in(self, first, block):
+        """The requests of a piece of the log, whose lines begin with the first."""
+        meanings = self.meanings
+        addresses, users, times, requests, statuses, agents, _ = columns = self.columns_of(
+            block.decode(errors=reading.ESCAPED)
+        )
+        for at in places(statuses, ""):
+            self.read_apart(columns, at, first + at)
+        meanings.make_room()
+        numbers = list(map(meanings.__getitem__, requests))
+        for at in places(numbers, 0):
+            if statuses[at]:
+                self.leave_out(meanings.why_none(requests[at]), first + at, requests[at])
+        lines = range(first, first + len(numbers))
+        accepted = map(self.accepted.__contains__, statuses)
+        self.drop(f"status is not {self.status}", accepted, numbers, lines, requests)
+        if self.agents is not None:
+            self.agents.make_room()
+            self.drop(BOT, map(operator.not_, map(self.agents.__getitem__, agents)), numbers, lines, agents)
+        users = self.users_of(addresses, users, requests, meanings.users)
+        if any(nobody in users for nobody in NOBODY):
+            self.drop(NO_USER, [user not in NOBODY for user in users], numbers, lines, requests)
+        return lines, numbers, users, times, requests
+
+    def columns_of(self, text):
+        """The lines of a text: addresses, users, times, requests, statuses, agents, and lines that are none of these.
+        All else is then empty."""
+        raise NotImplementedError
+
+    def read_apart(self, columns, at, line):
+        """Reads a line that is none of these, or leaves it out."""
+        raise NotImplementedError
+
+    def users_of(self, addresses, users, requests, named):
+        """The users: those that requests name, those that the server logged, or else the addresses."""
+        if self.has_escapes and "\\" in "".join(users):
+            users = [without_escapes(user) if "\\" in user else user for user in users]
+        if "," in "".join(addresses):
+            addresses = [re.split(", ?", several)[-1 if self.is_last else 0] for several in addresses]
+        if "-" in users or "" in users:
+            users = [address if user in ("-", "") else user for address, user in zip(addresses, users)]
+        return [named.get(request) or user for request, user in zip(requests, users)] if named else users
+
+    def judge(self):
+        """Stops if no request is left, or none matches the pattern of likes."""
+        matched, first = self.meanings.matched, self.meanings.first
+        idle = [f"--{op} {shlex.quote(found.pattern)}" for op, found in self.patterns.items() if op not in matched]
+        if "like" not in matched and first:
+            raise Fault(f"{self}: no request matches {' or '.join(idle)}: {FRONT}, such as {shown(first)}")
+        self.idle = [f"no request matches {option}: {FRONT}" for option in idle] if matched else []
+        if not self.has_requests and not self.left_out:
+            raise Fault(f"{self}: no request: the log is empty")
+        super().judge()
+
+
+class Combined(Web):
+    """The requests of a web server's logs in the combined format, or one of its kin."""
+
+    has_escapes = True
+
+    def __init__(self, words, patterns):
+        super().__init__(words, patterns)
+        agent = AGENT if self.agents is not None else "()"
+        # Lines whose users have no space in their names, by what is before the address in a piece's first line. Any
+        # other line is the last group, and all else is empty.
+        self.lines = {
+            (has_syslog, has_host): re.compile(
+                rf"(?:{SYSLOG * has_syslog}{HOST * has_host}{ADDRESSES} - ([^ \n]+) {ASKED}{agent}[^\n]*|([^\n]*))\n"
+            )
+            for has_syslog, has_host in itertools.product((False, True), repeat=2)
+        }
+        # Any line of these formats.
+        self.line = re.compile(rf'(?:{SYSLOG})?(?:{HOST})?{ADDRESSES} - ((?:[^"\\\n]|\\.)+?) {ASKED}{agent}')
+
+    def columns_of(self, text):
+        front = re.match(rf"({SYSLOG})?({HOST})?", text)
+        return list(map(list, zip(*self.lines[bool(front[1]), bool(front[2])].findall(text))))
+
+    def read_apart(self, columns, at, line):
+        text = columns[-1][at]
+        match = self.line.match(text)
+        if match and (match[2] == "-" or " - " not in f" {match[2]} "):
+            for column, value in zip(columns, match.groups("")):
+                column[at] = value
+        elif BEHIND.match(text):
+            self.leave_out(NO_FRONT, line, text)
+        else:
+            self.leave_out(TORN if LIKE_ONE.match(text) else JUNK, line, text)
+
+    def time_of(self, block):
+        found = TIME.search(block)
+        return self.stamps[found[1].decode(errors=reading.ESCAPED)][0] if found else -math.inf
+
+
+class Json(Web):
+    """The requests of a web server's logs that have a JSON object in each line."""
+
+    def __init__(self, words, patterns):
+        super().__init__(words, patterns)
+        found = {name: text.split() for name, text in FIELDS.items()} | (words.fields or {})
+        self.fields = {name: [path.split(".") for path in paths] for name, paths in found.items()}
+
+    def columns_of(self, text):
+        return list(map(list, zip(*map(self.row_of, text.split("\n")[:-1]))))
+
+    def row_of(self, line):
+        """What columns have of a line."""
+        try:
+            found = json.loads(line)
+        except (ValueError, RecursionError):
+            found = None
+        if isinstance(found, dict):
+            request = self.field(found, "request") or " ".join(self.field(found, name) for name in ("method", "uri"))
+            status = self.field(found, "status")
+            if len(status) == 3 and request != " ":
+                address, user, time, agent = (self.field(found, name) for name in ("address", "user", "time", "agent"))
+                return address, user, time, request, status, agent, ""
+        return "", "", "", "", "", "", line
+
+    def field(self, found, name):
+        """A field of an object, as text, by the first of its names that the object has."""
+        for names in self.fields[name]:
+            value = found
+            for part in names:
+                value = value.get(part) if isinstance(value, dict) else None
+            value = value[0] if isinstance(value, list) and value else value
+            if isinstance(value, (str, int, float)):
+                text = str(value)
+                return text if text.isascii() else text.encode(errors="surrogatepass").decode(errors=reading.ESCAPED)
+        return ""
+
+    def read_apart(self, columns, at, line):
+        text = columns[-1][at]
+        is_whole = text.startswith("{") and text.rstrip().endswith("}")
+        self.leave_out(NO_FIELD if is_whole else TORN if text.startswith("{") else NO_OBJECT, line, text)
+
+    def time_of(self, block):
+        lines = block[: reading.BLOCK >> 4].decode(errors=reading.ESCAPED).split("\n")
+        times = (self.row_of(line)[2] for line in lines)
+        return next((at for at in (self.stamps[time][0] for time in times if time) if at > -math.inf), -math.inf)
+
+
+def fits(status, forms):
+    """Whether a status is one of several, in which x is any digit."""
+    return any(all(one in (digit, "x") for one, digit in zip(form, status)) for form in forms.split(","))
+
+
+def statuses(text):
+    """A type for argparse: statuses, in which x is any digit."""
+    if not re.fullmatch(r"[1-5][0-9x]{2}(,[1-5][0-9x]{2})*", text):
+        raise argparse.ArgumentTypeError(f"{shown(text)} is not a list of statuses such as 2xx,304")
+    return text
+
+
+def fields(text):
+    """A type for argparse: names of fields in a JSON log."""
+    found = dict(part.partition("=")[::2] for part in text.split(","))
+    if not all(name in FIELDS and value for name, value in found.items()):
+        raise argparse.ArgumentTypeError(f"{shown(text)} is not NAME=FIELD,.. with names of {', '.join(FIELDS)}")
+    return {name: [value] for name, value in found.items()}
+
+
+def expression(text):
+    """A type for argparse: a regular expression."""
+    try:
+        return re.compile(text)
+    except re.error as error:
+        raise argparse.ArgumentTypeError(f"{shown(text)} is not a regular expression: {error}") from None
+
+
+def pattern(text):
+    """A regular expression with a group for the page."""
+    found = expression(text)
+    if not found.groups:
+        raise argparse.ArgumentTypeError(f"{shown(text)} has no group for the page, as in 'POST /like(/\\S*)'")
+    return found
+
+
+def add_options(parser):
+    """Adds the options for web servers' reading."""
+    combined = """LOG is a web server's log in the combined, the common or the vhost_combined format, with what syslog
+        puts before a line or without"""
+    parser.add_argument("--combined", action="store_true", help=combined)
+    from_json = "LOG has a JSON object in each line, as nginx, Caddy and Traefik write them"
+    parser.add_argument("--from-json", action="store_true", help=from_json)
+    names = f"""with --from-json, the names of fields, such as address=client.ip,user=login: of {", ".join(FIELDS)}.
+        A dot leads into an object (default the names that these servers give them)"""
+    parser.add_argument("--fields", metavar="NAME=FIELD,..", type=fields, help=names)
+    status = """of a web server's log, which statuses count, such as 2xx,304 (default 2xx: a redirect to a login page is
+        no like)"""
+    parser.add_argument("--status", metavar="STATUSES", type=statuses, help=status)
+    agent = "leave out requests whose agent has this regular expression, such as '(?i)bot|crawl|spider'"
+    parser.add_argument("--agent-not", metavar="PATTERN", type=expression, help=agent)
+    forwarded = "which of several addresses in a line is the user: first or last (default first)"
+    parser.add_argument("--forwarded", metavar="WHICH", choices=("first", "last"), help=forwarded)
+    form = """path or query: of a web server's log, how groups are decoded. In a query, + is a space (default query for
+        what stands behind the first question mark, and path for what stands before it)"""
+    parser.add_argument("--decode", metavar="FORM", choices=("path", "query"), help=form)
