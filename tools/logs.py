@@ -70,6 +70,8 @@ def log_of(words, parser):
     columns = (words.columns or rows.REQUESTS).split(",")
     if len(columns) != 3:
         parser.error(f"--columns takes three names, not {shown(words.columns)}")
+    if all(name.isdigit() for name in columns) and "0" in columns:
+        parser.error("--columns are numbered from 1")
     if (words.like or "like") == (words.look or "look"):
         parser.error("--like and --look are the same word")
     if not words.time and any((words.by, words.since is not None, words.until is not None)):

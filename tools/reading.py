@@ -28,6 +28,9 @@ codecs.register_error(ESCAPED, lambda error: (rows.escaped(error.object[error.st
 LONG = f"a line of more than {LONGEST} bytes"
 NO_TIME, EARLY, LATE = "no time that can be read", "before --since", "at --until or later"
 
+# What is told of lines without a time where only the order of logs needs it.
+TIMELESS = f"{NO_TIME}, so at the time before"
+
 
 def shown_of(line):
     """The beginning of a line that is too long, as text."""
@@ -94,7 +97,8 @@ class Log:
         found = self.left_out.items()
         for why, (count, name, line, text) in sorted(found, key=lambda entry: self.place(entry[1][1:])):
             place = f"line {line}" + (f" of {rows.called(name)}" if len(self.names) > 1 else "")
-            yield f"left out {count}, {why}: the first is {place}, {shown(text)}"
+            done = "kept" if why == TIMELESS else "left out"
+            yield f"{done} {count}, {why}: the first is {place}, {shown(text)}"
         yield from self.idle
 
     def read(self):
@@ -204,7 +208,10 @@ class Log:
             found = list(map(self.stamps.__getitem__, times))
             self.drop_times(found, numbers, lines, texts)
             if self.is_merged():
-                latest = list(itertools.accumulate(map(operator.itemgetter(0), found), max))
+                times = list(map(operator.itemgetter(0), found))
+                for at in [at for at, time in enumerate(times) if time == -math.inf and numbers[at]]:
+                    self.leave_out(TIMELESS, lines[at], texts[at])
+                latest = list(itertools.accumulate(times, max))
                 end = latest[-1]
                 latest = list(itertools.compress(latest, numbers))
             periods = [period for (*_, period), number in zip(found, numbers) if number] if self.by else None

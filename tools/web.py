@@ -29,11 +29,11 @@ ADDRESSES = r"([^ ,\n\0]+(?:, ?[^ ,\n\0]+)*)"
 # A line of the combined or the common format from the time to the status: a request, and how it was answered. And what
 # follows up to the agent, if there is one.
 ASKED = r'\[([^][\n]{0,99})\] "([^"\\\n]*(?:\\.[^"\\\n]*)*)" ([0-9]{3}) '
-AGENT = r'(?:[^ \n]+ "(?:[^"\\\n]|\\.)*" "((?:[^"\\\n]|\\.)*)")?'
+AGENT = r'(?:[^ \n]+ "[^"\\\n]*(?:\\.[^"\\\n]*)*" "([^"\\\n]*(?:\\.[^"\\\n]*)*)")?'
 
 # A time in a piece of a log. A line that is right from its time on, and one that looks like that.
 TIME = re.compile(rb"\[([0-9]{2}/[A-Z][a-z]{2}/[^][\n]{0,99})\]")
-BEHIND = re.compile(rf"[^\n]*? {ASKED}")
+BEHIND = re.compile(rf'[^"\n]*? {ASKED}')
 LIKE_ONE = re.compile(r'[^ \n]+ [^\n]*\[[^][\n]{0,99}\] "')
 
 # How a server escapes characters.

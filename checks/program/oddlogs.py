@@ -90,6 +90,13 @@ CASES = {
         {"ann": "new"},
         ["taken in the order of their first times: b.csv, a.csv\n"],
     ),
+    "CSV by a time that can't be read": (
+        {"a.csv": "op,user,page,t\nlike,ann,new,28.11.26\n", "b.csv": "op,user,page,t\nlike,ann,old,27.11.26\n"},
+        "--time t",
+        {"new": 1, "old": 1},
+        {"ann": "old"},
+        ["kept 2, no time that can be read, so at the time before: the first is line 2 of a.csv, 'like,ann,new,28.11"],
+    ),
     "CSV as named": (
         {"a.csv": "op,user,page\nlike,ann,new\n", "b.csv": "op,user,page\nlike,ann,old\n"},
         "",
