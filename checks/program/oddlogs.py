@@ -61,14 +61,14 @@ CASES = {
     ),
     "the newest first": (
         {
-            "access.log": line("x - ann", "new", 7200),
-            "access.log.1": line("x - ann", "old", 3600),
-            "access.log.2": line("x - ann", "oldest"),
+            "web.log": line("x - ann", "new", 7200),
+            "web.log.1": line("x - ann", "old", 3600),
+            "web.log.2": line("x - ann", "oldest"),
         },
         WEB,
         {"/new": 1, "/old": 1, "/oldest": 1},
         {"ann": "/new"},
-        ["taken in the order of their first times: access.log.2, access.log.1, access.log\n"],
+        ["taken in the order of their first times: web.log.2, web.log.1, web.log\n"],
     ),
     "two servers": (
         {
