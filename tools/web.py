@@ -163,7 +163,7 @@ def places(values, value):
 
 
 class Web(reading.Log):
-    """The requests of a web server's reading."""
+    """The requests of a web server's logs."""
 
     has_times = True
     has_escapes = False
@@ -377,7 +377,7 @@ def pattern(text):
 
 
 def add_options(parser):
-    """Adds the options for web servers' reading."""
+    """Adds the options for web servers' logs."""
     combined = """LOG is a web server's log in the combined, the common or the vhost_combined format, with what syslog
         puts before a line or without"""
     parser.add_argument("--combined", action="store_true", help=combined)
