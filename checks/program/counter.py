@@ -47,6 +47,7 @@ def requests(kind, name):
     """The likes and looks: user, page, whether it is a like."""
     if kind == "csv":
         with open(name, newline="", encoding="utf-8-sig") as log:
+            csv.field_size_limit(1 << 30)
             words = {"gefällt mir": True, "angesehen": False}
             rows = (row for row in csv.reader(log, delimiter=";") if len(row) == 4)
             yield from ((user, page, words[op]) for _, op, user, page in rows if page and op in words)
