@@ -6,7 +6,7 @@
 #   LINES   how many lines the log has (1000000)
 #
 # Each is run three times, in turns, and the least counts. On other work's processors only the processors' seconds say
-# much. It needs GNU time. With the default it takes a minute.
+# much. It needs GNU time. With the default it takes two minutes, and beside other work four.
 
 "$root/likes" >/dev/null || exit
 cd -- "$work" || exit 3
