@@ -9,8 +9,9 @@ use Rattle.own_table.specs.Standing.{state}
 use Rattle.like_core.specs.declared.opening.Opening.{Opening}
 use Rattle.like_core.specs.declared.view.CoordSeatView.{CoordSeatView}
 use Rattle.like_core.specs.declared.view.View.TheVariants.{Coord, Worker}
-use Rattle.like_core.specs.views.Views.{fresh, fresh_coord}
+use Rattle.like_core.specs.views.Views.{fresh_coord}
 use Rattle.like_core.specs.views.Shows.{ShowsSome}
+use Rattle.like_core.specs.Post.{fresh}
 use Rattle.like_board.specs.declared.key.Key.{Key}
 use Rattle.like_board.specs.NewViews.{new_workers}
 use Rattle.like_board.specs.Rule.{first_view, first_word, opening_of}

@@ -22,16 +22,15 @@ use Rattle.like_core.specs.OpeningLimits.{has_slots}
 use Rattle.like_core.specs.core.Moves.{LetsReturn, Move, comes_back, glances as glances_at, makes}
 use Rattle.like_core.specs.Slots.{IsChoice}
 use Rattle.like_core.specs.word.Forms.{WordForm, form_of}
-use Rattle.like_core.specs.Post.{IsFresh, MayAdd, MayRead, MayGlance}
+use Rattle.like_core.specs.Post.{IsFresh, MayAdd, MayRead, MayGlance, MayReadSlot, MayReadSlots, fresh, looked_at, answered, retired, returned, added, has_read, has_glanced, with_mask, with_slot, slots_read}
 use Rattle.like_core.specs.PageSteps.{page_step}
 use Rattle.like_core.specs.WorkerState.{RunsJoined, RunsSplit, SawEnding, phase_of, running_sight}
-use Rattle.like_core.specs.views.Views.{MayAnnounce, MayCount, MayPublish, MayPut, MayPublishSlots, MayReadSlot, MayReadSlots, MayRelease, fresh, looked_view, answered_view, retired_view, returned_view, added_view, read_view, glanced_view, masked_view, slotted_view, slots_read, post_of, likes_merged, adding, looked_coord, announced_coord, counted_coord, published_coord, slotted_coord, slots_put, mask_released, released_coord, made_coord, gathered_coord}
+use Rattle.like_core.specs.views.Views.{MayAnnounce, MayCount, MayPublish, MayPut, MayPublishSlots, MayRelease, likes_merged, adding, looked_coord, announced_coord, counted_coord, published_coord, slotted_coord, slots_put, mask_released, released_coord, made_coord, gathered_coord}
 use Rattle.like_core.specs.views.Actions.{Acknowledges, Reports, Retires, Reads, Glances, Announces, Releases}
 use Rattle.like_core.specs.views.Layout.{mask_place, slot_place, word_of}
 use Rattle.like_core.specs.views.Shows.{ShowsSome, FitsWorker, FitsCoord, IsKnown, IsMove, IsPageStep, IsStep}
 use Rattle.like_core.proofs.views.KeptOrder.{new_seat_keeps_order}
 use Rattle.like_core.proofs.views.Apart.{word_of-injective}
-use Rattle.like_core.proofs.views.Posts.{post_fresh}
 use Rattle.like_board.specs.declared.key.Key.{Key}
 use Rattle.like_board.specs.Known.{worker_view_of, coord_view_of}
 use Rattle.like_board.specs.Rule.{opening_of, IsShowing}
@@ -84,7 +83,7 @@ looking {S} key slots id me is there = λ st shows _ at _.
     let same = worker_opening z st.words st.views id v shows here in
     let r = looks z st.words st.views id v shows here there in
     let found : ℕ = get_or st.words 0 0 in
-    let w : View = Worker (looked_view v (sight_at z found v.state)) in (
+    let w : View = Worker (looked_at v (sight_at z found v.state)) in (
       w,
       keeps,
       tt,
@@ -92,7 +91,7 @@ looking {S} key slots id me is there = λ st shows _ at _.
       (
         record {
           looked = subst (λ (y : Opening). Looked y found v) (sym same) r.0;
-          view = ap (λ (y : Opening). Worker (looked_view v (sight_at y found v.state))) (sym same);
+          view = ap (λ (y : Opening). Worker (looked_at v (sight_at y found v.state))) (sym same);
         },
         ap (λ (m : Me S View). m.1) is,
       ),
@@ -114,7 +113,7 @@ pub acknowledging : {S : Type 0} (key : Key) (slots id : ℕ) (me : Me S View) (
     → RunsJoined (worker_view_of me.0).state
     → SawEnding (worker_view_of me.0).last
     → Allows (IsShowing key) slots id me 0 (λ n. (form_of form).put n more)
-    (λ found after. TellsWorker Acknowledges answered_view me.0 after.0 × (after.1 ≡ []))
+    (λ found after. TellsWorker Acknowledges answered me.0 after.0 × (after.1 ≡ []))
 acknowledging {S} key slots id me form more form_is more_is is joined saw = λ st shows _ at _.
     let z = opening_of key in
     let v : WorkerSeatView = worker_view_of me.0 in
@@ -122,18 +121,18 @@ acknowledging {S} key slots id me form more form_is more_is is joined saw = λ s
     let same = worker_opening z st.words st.views id v shows here in
     let formed : form ≡ z.limits.form = form_is ∙ ap (λ (y : Opening). y.limits.form) same in
     let r = acknowledges z st.words st.views id v shows here joined saw in (
-      Worker (answered_view v),
+      Worker (answered v),
       keeps,
       tt,
       subst (λ (n : ℕ). ShowsSome z (slice_set st.words 0 n)
-          (slice_set st.views id (Worker (answered_view v))))
+          (slice_set st.views id (Worker (answered v))))
           (sym (put_is form z.limits.form (get_or st.words 0 0) more (λ f. f.answer v.worker) formed more_is)) r.1,
       (
         record {
           view =
               refl;
           step = subst (λ (y : Opening). IsStep y (Acknowledge v.worker) Done (Worker v)
-              (Worker (answered_view v))) (sym same) r.0;
+              (Worker (answered v))) (sym same) r.0;
         },
         ap (λ (m : Me S View). m.1) is,
       ),
@@ -146,7 +145,7 @@ pub reporting : {S : Type 0} (key : Key) (slots id : ℕ) (me : Me S View) (form
     → RunsSplit (worker_view_of me.0).state
     → SawEnding (worker_view_of me.0).last
     → Allows (IsShowing key) slots id me 0 (λ n. (form_of form).put n more)
-    (λ found after. TellsWorker Reports answered_view me.0 after.0 × (after.1 ≡ []))
+    (λ found after. TellsWorker Reports answered me.0 after.0 × (after.1 ≡ []))
 reporting {S} key slots id me form more form_is more_is is split saw = λ st shows _ at _.
     let z = opening_of key in
     let v : WorkerSeatView = worker_view_of me.0 in
@@ -154,17 +153,17 @@ reporting {S} key slots id me form more form_is more_is is split saw = λ st sho
     let same = worker_opening z st.words st.views id v shows here in
     let formed : form ≡ z.limits.form = form_is ∙ ap (λ (y : Opening). y.limits.form) same in
     let r = reports z st.words st.views id v shows here split saw in (
-      Worker (answered_view v),
+      Worker (answered v),
       keeps,
       tt,
       subst (λ (n : ℕ). ShowsSome z (slice_set st.words 0 n)
-          (slice_set st.views id (Worker (answered_view v))))
+          (slice_set st.views id (Worker (answered v))))
           (sym (put_is form z.limits.form (get_or st.words 0 0) more (λ f. f.answer v.worker) formed more_is)) r.1,
       (
         record {
           view =
               refl;
-          step = subst (λ (y : Opening). IsStep y (Report v.worker) Done (Worker v) (Worker (answered_view v)))
+          step = subst (λ (y : Opening). IsStep y (Report v.worker) Done (Worker v) (Worker (answered v)))
               (sym same) r.0;
         },
         ap (λ (m : Me S View). m.1) is,
@@ -177,7 +176,7 @@ pub retiring : {S : Type 0} (key : Key) (slots id : ℕ) (me : Me S View) (form 
     → me ≡ (Worker (worker_view_of me.0), [])
     → RunsJoined (worker_view_of me.0).state
     → Allows (IsShowing key) slots id me 0 (λ n. (form_of form).put n more)
-    (λ found after. TellsWorker Retires retired_view me.0 after.0 × (after.1 ≡ []))
+    (λ found after. TellsWorker Retires retired me.0 after.0 × (after.1 ≡ []))
 retiring {S} key slots id me form more form_is more_is is joined = λ st shows _ at _.
     let z = opening_of key in
     let v : WorkerSeatView = worker_view_of me.0 in
@@ -185,17 +184,17 @@ retiring {S} key slots id me form more form_is more_is is joined = λ st shows _
     let same = worker_opening z st.words st.views id v shows here in
     let formed : form ≡ z.limits.form = form_is ∙ ap (λ (y : Opening). y.limits.form) same in
     let r = retires z st.words st.views id v shows here joined in (
-      Worker (retired_view v),
+      Worker (retired v),
       keeps,
       tt,
       subst (λ (n : ℕ). ShowsSome z (slice_set st.words 0 n)
-          (slice_set st.views id (Worker (retired_view v))))
+          (slice_set st.views id (Worker (retired v))))
           (sym (put_is form z.limits.form (get_or st.words 0 0) more (λ f. f.retirement v.worker) formed more_is)) r.1,
       (
         record {
           view =
               refl;
-          step = subst (λ (y : Opening). IsStep y (Retire v.worker) Done (Worker v) (Worker (retired_view v)))
+          step = subst (λ (y : Opening). IsStep y (Retire v.worker) Done (Worker v) (Worker (retired v)))
               (sym same) r.0;
         },
         ap (λ (m : Me S View). m.1) is,
@@ -225,7 +224,7 @@ returning {S} key slots id me expected new is gone lets even new_is = λ st show
           (subst (λ (y : Opening). new + (form_of y.limits.form).retirement v.worker ≡ expected) same new_is ∙ sym hit)
           in
           let phase : ℕ = phase_at z found in
-          let w : View = Worker (returned_view v phase) in
+          let w : View = Worker (returned v phase) in
           let came : CameBack phase me.0 w =
           record {
             within = subst (λ (y : Opening). phase ≤ y.limits.last_phase) (sym same) r.within;
@@ -476,14 +475,14 @@ making {S} key id v is room = λ st shows at.
 
 adding_page : {S : Type 0} (key : Key) (slots id : ℕ) (me : Me S View) (page n : ℕ)
     → me ≡ (Worker (worker_view_of me.0), [])
-    → MayAdd (post_of (worker_view_of me.0)) page n
+    → MayAdd (worker_view_of me.0) page n
     → Allows (IsShowing key) slots id me (word_of page) (λ k. (k + n) % 2 ^ 64)
     (λ found after. OfWord word_of (λ p. TellsAdd p n) (word_of page) me.0 found after.0 × (after.1 ≡ []))
 adding_page {S} key slots id me page n is may = λ st shows _ at _.
     let z = opening_of key in
     let v : WorkerSeatView = worker_view_of me.0 in
     let found : ℕ = get_or st.words (word_of page) 0 in
-    let w : WorkerSeatView = added_view v page found n in
+    let w : WorkerSeatView = added v page found n in
     let here : get_elem? st.views id ≡ some (Worker v) = at ∙ ap (λ (m : Me S View). some m.0) is in
     let same = worker_opening z st.words st.views id v shows here in
     let r = adds z st.words st.views id v page n shows here may in
@@ -508,7 +507,7 @@ adding_page {S} key slots id me page n is may = λ st shows _ at _.
 pub adding_to : {S : Type 0} (key : Key) (slots id : ℕ) (me : Me S View) (page word n : ℕ)
     → word ≡ word_of page
     → me ≡ (Worker (worker_view_of me.0), [])
-    → MayAdd (post_of (worker_view_of me.0)) page n
+    → MayAdd (worker_view_of me.0) page n
     → Allows (IsShowing key) slots id me word (λ k. (k + n) % 2 ^ 64)
     (λ found after. OfWord word_of (λ p. TellsAdd p n) word me.0 found after.0 × (after.1 ≡ []))
 adding_to {S} key slots id me page word n word_is is may =
@@ -562,25 +561,25 @@ finding_page {S} key slots id me page move call next is reads does act = λ st s
 pub reading : {S : Type 0} (key : Key) (slots id : ℕ) (me : Me S View) (page word : ℕ)
     → word ≡ word_of page
     → me ≡ (Worker (worker_view_of me.0), [])
-    → MayRead (post_of (worker_view_of me.0)) page
+    → MayRead (worker_view_of me.0) page
     → Allows (IsShowing key) slots id me word (λ k. k)
-    (λ found after. OfWord word_of (TellsRead Reads read_view) word me.0 found after.0 × (after.1 ≡ []))
+    (λ found after. OfWord word_of (TellsRead Reads has_read) word me.0 found after.0 × (after.1 ≡ []))
 reading {S} key slots id me page word word_is is may =
     subst (λ (i : ℕ). Allows (IsShowing key) slots id me i (λ k. k)
-    (λ found after. OfWord word_of (TellsRead Reads read_view) i me.0 found after.0 × (after.1 ≡ []))) (sym word_is)
-    (finding_page key slots id me page (makes (Read (worker_view_of me.0).worker page)) ReadCall read_view is
+    (λ found after. OfWord word_of (TellsRead Reads has_read) i me.0 found after.0 × (after.1 ≡ []))) (sym word_is)
+    (finding_page key slots id me page (makes (Read (worker_view_of me.0).worker page)) ReadCall has_read is
     (λ z words views. reads z words views id (worker_view_of me.0) page may) Reads (λ count w step. step))
 
 pub glancing : {S : Type 0} (key : Key) (slots id : ℕ) (me : Me S View) (page word : ℕ)
     → word ≡ word_of page
     → me ≡ (Worker (worker_view_of me.0), [])
-    → MayGlance (post_of (worker_view_of me.0)) page
+    → MayGlance (worker_view_of me.0) page
     → Allows (IsShowing key) slots id me word (λ k. k)
-    (λ found after. OfWord word_of (TellsRead Glances glanced_view) word me.0 found after.0 × (after.1 ≡ []))
+    (λ found after. OfWord word_of (TellsRead Glances has_glanced) word me.0 found after.0 × (after.1 ≡ []))
 glancing {S} key slots id me page word word_is is may =
     subst (λ (i : ℕ). Allows (IsShowing key) slots id me i (λ k. k)
-    (λ found after. OfWord word_of (TellsRead Glances glanced_view) i me.0 found after.0 × (after.1 ≡ []))) (sym word_is)
-    (finding_page key slots id me page (glances_at (worker_view_of me.0).worker page) GlanceCall glanced_view is
+    (λ found after. OfWord word_of (TellsRead Glances has_glanced) i me.0 found after.0 × (after.1 ≡ []))) (sym word_is)
+    (finding_page key slots id me page (glances_at (worker_view_of me.0).worker page) GlanceCall has_glanced is
     (λ z words views. glances z words views id (worker_view_of me.0) page may) Glances (λ count w step. step))
 
 pub reading_mask : {S : Type 0} (key : Key) (slots id : ℕ) (me : Me S View)
@@ -597,7 +596,7 @@ reading_mask {S} key slots id me is split plain = λ st shows _ at _.
     let r = reads_mask z st.words st.views id v shows here split
     (ap (λ (y : Opening). has_slots y.limits) (sym same) ∙ plain) in
     let found : ℕ = get_or st.words mask_place 0 in
-    let w : WorkerSeatView = masked_view v found in (
+    let w : WorkerSeatView = with_mask v found in (
       Worker w,
       keeps,
       tt,
@@ -624,7 +623,7 @@ reading_from {S} key slots id me slot is may = λ st shows _ at _.
     let here : get_elem? st.views id ≡ some (Worker v) = at ∙ ap (λ (m : Me S View). some m.0) is in
     let r = reads_slot z st.words st.views id v slot shows here may in
     let found : ℕ = get_or st.words (slot_place slot) 0 in
-    let w : View = Worker (slotted_view v slot found) in
+    let w : View = Worker (with_slot v slot found) in
     let told : TellsSlot slot me.0 found w = record { view = refl; fits = r.0 } in (
       w,
       keeps,
@@ -662,7 +661,7 @@ reading_slots {S} key slots id me is may = λ st shows _ at _.
     let r = reads_slots z st.words st.views id v shows here may.split
     (ap (λ (y : Opening). has_slots y.limits) (sym same) ∙ may.slotted) may.all in
     let found : ℕ = get_or st.words mask_place 0 in
-    let w : WorkerSeatView = masked_view v (slots_read v found) in (
+    let w : WorkerSeatView = with_mask v (slots_read v found) in (
       Worker w,
       keeps,
       tt,
@@ -687,14 +686,6 @@ gathering {S} key id other v w is_coord is_worker = λ st shows at apart mine.
     gathers (opening_of key) st.words st.views id other (coord_view_of v) (worker_view_of w) shows
     (at ∙ ap some is_coord) apart
     (mine ∙ ap some is_worker)
-
--- a new seat means a fresh post
-pub fresh_seat : {S : Type 0} (z : Opening) (i : ℕ) (me : Me S View)
-    → me ≡ (Worker (fresh z i), [])
-    → IsFresh (post_of (worker_view_of me.0))
-fresh_seat {S} z i me is =
-    subst (λ (v : WorkerSeatView). IsFresh (post_of v)) (sym (ap (λ (m : Me S View). worker_view_of m.0) is))
-    (post_fresh z i)
 
 -- a read of a word changes nothing, and tells what is known where all seats were given back
 pub closing : {S : Type 0} (key : Key) (slots id : ℕ) (me : Me S View) (word : ℕ)

@@ -17,12 +17,11 @@ use Rattle.like_core.specs.PageSteps.{additions_among, steps_by}
 use Rattle.like_core.specs.views.Views.{gathered_coord, seats_of}
 use Rattle.like_core.specs.views.Reads.{IsCounted}
 use Rattle.like_core.specs.views.Posts.{posts_before, posts_of}
-use Rattle.like_core.specs.Post.{PostView}
 use Rattle.like_core.specs.views.Order.{HasDone}
 use Rattle.like_core.specs.views.PostOrder.{IsOrderOf}
 use Rattle.like_core.specs.views.Tallies.{left_to, room}
 use Rattle.like_core.proofs.views.ViewSums.{added_posts, before_in, before_posts, paged}
-use Rattle.like_core.proofs.views.Ordered.{applied_now}
+use Rattle.like_core.proofs.views.Ordered.{all_at, applied_now}
 use Rattle.like_core.specs.views.Layout.{word_of}
 use Rattle.like_core.specs.views.Shows.{Shows, ShowsSome, Fits, FitsWorker, FitsCoord}
 use Rattle.like_core.proofs.views.ViewLists.{within, sum_two, sum_lone, sum_gathered, sum_part}
@@ -224,19 +223,15 @@ pub last_order : (z : Opening) (words : List ℕ) (views : List View) (place : �
     → (shows : ShowsSome z words views)
     → get_elem? views place ≡ some (Coord c)
     → ((i : ℕ) → i < c.made → seats_of i (Coord c) ≡ 1)
-    → (posts : List PostView)
-    → ((k : ℕ) (d : PostView) → k < length posts → HasDone shows.steps (get_or posts k d))
-    → ((i : ℕ) → count_by (λ v. v.worker == i) posts ≡ seats_of i (Coord c))
-    → IsOrderOf (slice_index z.counts) shows.state.phase posts shows.steps
-last_order z words views place c some_state at all posts done same = record {
+    → IsOrderOf (slice_index z.counts) shows.state.phase c.joined shows.steps
+last_order z words views place c some_state at all = record {
   in_turn = some_state.order.in_turn;
-  each = λ k d below. done k d below;
+  each = all_at (HasDone some_state.steps) c.joined (some_state.order.each place (Coord c) at);
   once = λ i.
       let sh = some_state.shows in
-      let here = same i in
       let part = sum_part (seats_of i) views place (Coord c) at in
       let all_seats = sh.seats.once i in
       let most = once_at_most (nat_lt i sh.coord.made) in
       omega arith;
-  others = λ i none. last_others z words views place c some_state at all i (sym (same i) ∙ none);
+  others = last_others z words views place c some_state at all;
 }

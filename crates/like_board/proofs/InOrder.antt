@@ -4,7 +4,7 @@ use Rattle.std.proofs.lemmas.Bool.{cond-true, cond-false, ne_eqb}
 use mathlib.Core.Option.{some, some-injective, some-ne-none}
 use lib.ListN.{get_elem?}
 use Rattle.like_board.specs.declared.worker_seat.WorkerSeat.{WorkerSeat}
-use Rattle.like_board.specs.Seats.{seat_meaning, AreAll}
+use Rattle.like_board.specs.Seats.{seat_view, AreAll}
 use Rattle.like_core.proofs.views.ViewLists.{sum_lone}
 
 module _ {A : Type 0} where
@@ -22,16 +22,16 @@ module _ {A : Type 0} where
 
 pub all_in_order : (seats : List WorkerSeat) (workers : ℕ)
     → length seats ≡ workers
-    → ((k : ℕ) (seat : WorkerSeat) → slice_get seats k ≡ Some seat → (seat_meaning seat).worker ≡ k)
+    → ((k : ℕ) (seat : WorkerSeat) → slice_get seats k ≡ Some seat → (seat_view seat).worker ≡ k)
     → AreAll workers seats
 all_in_order seats workers sized each i below =
     let here = element seats i (omega arith) in
-    let f : WorkerSeat → ℕ = λ seat. cond ((seat_meaning seat).worker == i) 1 0 in
-    let own : (seat_meaning here.0).worker ≡ i = each i here.0 (std_element seats i here.0 here.1) in
+    let f : WorkerSeat → ℕ = λ seat. cond ((seat_view seat).worker == i) 1 0 in
+    let own : (seat_view here.0).worker ≡ i = each i here.0 (std_element seats i here.0 here.1) in
     let one : f here.0 ≡ 1 =
-    cond-true ((seat_meaning here.0).worker == i) 1 0 (eq-eqb (seat_meaning here.0).worker i own) in
+    cond-true ((seat_view here.0).worker == i) 1 0 (eq-eqb (seat_view here.0).worker i own) in
     sum_lone f seats i here.0 here.1
     (λ j seat other at.
-    cond-false ((seat_meaning seat).worker == i) 1 0
-    (ne_eqb (seat_meaning seat).worker i (λ same. other (sym (each j seat (std_element seats j seat at)) ∙ same)))) ∙
+    cond-false ((seat_view seat).worker == i) 1 0
+    (ne_eqb (seat_view seat).worker i (λ same. other (sym (each j seat (std_element seats j seat at)) ∙ same)))) ∙
     one

@@ -3,7 +3,6 @@ use Rattle.std.proofs.Common.{◌≡◌, ℕ, zero, suc, ◌+◌, ◌^◌, ◌<�
 use Rattle.std.specs.List.{sum_by}
 use Rattle.std.proofs.lemmas.List.{append-nil, length-append}
 use Rattle.std.proofs.lemmas.List.Sums.{sum_by-cons}
-use Rattle.std.proofs.lemmas.List.Elements.{All-map}
 use mathlib.Core.Option.{some}
 use lib.ListN.{get_elem?}
 use Rattle.like_core.specs.declared.sight.Sight.{Sight}
@@ -14,22 +13,21 @@ use Rattle.like_core.specs.declared.view.View.{View}
 use Rattle.like_core.specs.declared.view.View.TheVariants.{Coord}
 use Rattle.like_core.specs.Additions.{added_to, added_before}
 use Rattle.like_core.specs.PageSteps.{additions_among}
-use Rattle.like_core.specs.views.Views.{post_of, seats_of}
+use Rattle.like_core.specs.views.Views.{seats_of}
 use Rattle.like_core.specs.views.Reads.{IsCounted}
 use Rattle.like_core.proofs.views.ViewSums.{before_in}
 use Rattle.like_core.specs.PhaseMasks.{mask_of, AreMasksOf}
 use Rattle.like_core.specs.views.Layout.{word_of}
 use Rattle.like_core.specs.views.Shows.{ShowsSome, FitsWorker, FitsCoord}
-use Rattle.like_core.specs.Post.{PostView, additions_of}
+use Rattle.like_core.specs.Post.{additions_of}
 use Rattle.like_core.specs.views.Order.{HasDone}
 use Rattle.like_core.specs.WorkerState.{SawNoLater}
 use Rattle.like_core.specs.views.PostOrder.{IsOrderOf}
 use Rattle.like_core.specs.views.Posts.{posts_before}
-use Rattle.like_core.proofs.views.KeptCounts.{counted_on}
-use Rattle.like_core.proofs.views.Ordered.{order_gives_bounds, order_gives_places}
+use Rattle.like_core.proofs.views.Ordered.{all_at, order_gives_bounds, order_gives_places}
 use Rattle.like_board.specs.declared.worker_seat.WorkerSeat.{WorkerSeat}
 use Rattle.like_board.specs.Known.{coord_view_of}
-use Rattle.like_board.specs.Seats.{seat_view, seat_meaning}
+use Rattle.like_board.specs.Seats.{seat_view}
 use Rattle.like_board.specs.Closed.{HasAllBack, IsClosed, count_with}
 use Rattle.like_board.proofs.worker.Moves.{if_some}
 use Rattle.like_board.proofs.Gathering.{last_counted, last_order, last_word}
@@ -42,12 +40,6 @@ module _ {A B : Type 0} (g : A → B) where
       let rest = sum_by-map f xs in
       omega (arith, sum_by-cons f (g x) (map g xs), sum_by-cons (λ y. f (g y)) x xs)
 
-  -- the image at a place
-  at_mapped : (xs : List A) (k : ℕ) (d : A) → k < length xs → get_elem? (map g xs) k ≡ some (g (get_or xs k d))
-  at_mapped [] k d below = absurd (omega arith)
-  at_mapped (x ∷ xs) zero d below = refl
-  at_mapped (x ∷ xs) (suc k) d below = at_mapped xs k d (omega arith)
-
 -- where all seats were given back, a page's word is its count at the start and what they mean to have added
 closed_word : (z : Opening) (words : List ℕ) (views : List View) (place : ℕ) (c : CoordSeatView)
     → ShowsSome z words views
@@ -57,7 +49,7 @@ closed_word : (z : Opening) (words : List ℕ) (views : List View) (place : ℕ)
     → (page : ℕ)
     → page < length c.opening.counts
     → get_or words (word_of page) 0
-    ≡ get_or c.opening.counts page 0 + sum_by (λ w. additions_of (post_of w) page) c.joined
+    ≡ get_or c.opening.counts page 0 + sum_by (λ w. additions_of w page) c.joined
 closed_word z words views place c some_state at made all page on =
     let old : FitsCoord z some_state.state c = some_state.shows.seats.each place (Coord c) at in
     let same : c.opening ≡ z = old.seats.opening in
@@ -85,19 +77,16 @@ closed_phase z words views place c some_state at k w found =
     fits.number
 
 -- each count that the coordinator read is the one at the start and what all those workers have added up to its phase
-closed_counted : (z : Opening) (words : List ℕ) (views : List View) (place : ℕ) (c : CoordSeatView) (before : ℕ → ℕ → ℕ)
+closed_counted : (z : Opening) (words : List ℕ) (views : List View) (place : ℕ) (c : CoordSeatView)
     → ShowsSome z words views
     → get_elem? views place ≡ some (Coord c)
     → c.made ≡ c.opening.workers
     → ((i : ℕ) → i < c.opening.workers → seats_of i (Coord c) ≡ 1)
-    → ((k p : ℕ) → before_in k p (Coord c) ≡ before k p)
-    → All (IsCounted c.opening.counts before) c.counted
-closed_counted z words views place c before some_state at made all same =
+    → All (IsCounted c.opening.counts (posts_before c.joined)) c.counted
+closed_counted z words views place c some_state at made all =
     let old : FitsCoord z some_state.state c = some_state.shows.seats.each place (Coord c) at in
-    subst (λ (y : Opening). All (IsCounted y.counts before) c.counted) (sym old.seats.opening)
-    (counted_on z.counts (λ k p. before_in k p (Coord c)) before c.counted
-    (λ i r inside. sym (same ((get_or c.counted i r).phase + 1) (get_or c.counted i r).page))
-    (last_counted z words views place c some_state at (λ i below. all i (omega arith))))
+    subst (λ (y : Opening). All (IsCounted y.counts (posts_before c.joined)) c.counted) (sym old.seats.opening)
+    (last_counted z words views place c some_state at (λ i below. all i (omega arith)))
 
 -- each mask that a worker whose seat was given back read is the one with which its phase was released
 closed_masks : (z : Opening) (words : List ℕ) (views : List View) (place : ℕ) (c : CoordSeatView)
@@ -117,7 +106,7 @@ pub closes : (z : Opening) (words : List ℕ) (views : List View) (place : ℕ) 
     → ShowsSome z words views
     → get_elem? views place ≡ some v
     → HasAllBack v c seats
-    → IsClosed c (map seat_meaning seats)
+    → IsClosed c (map seat_view seats)
     × ((page : ℕ) → page < length c.opening.counts → get_or words (word_of page) 0 ≡ count_with c seats page)
 closes z words views place v c seats shows at_view back =
     let joined : map seat_view seats ++ c.joined ≡ map seat_view seats =
@@ -129,13 +118,8 @@ closes z words views place v c seats shows at_view back =
     let each : (i : ℕ) → i < c.opening.workers → seats_of i (Coord d) ≡ 1 =
     λ i below. sum_by-map seat_view (λ (w : WorkerSeatView). cond (w.worker == i) 1 0) seats ∙ back.all i below
     in
-    let posts : List PostView = map seat_meaning seats in
+    let posts : List WorkerSeatView = map seat_view seats in
     let first : ℕ → ℕ = slice_index c.opening.counts in
-    let added : (phase page : ℕ) → before_in phase page (Coord d) ≡ posts_before posts phase page =
-    λ phase page.
-    sum_by-map seat_view (λ (w : WorkerSeatView). added_before phase page (additions_among w.did)) seats
-    ∙ sym (sum_by-map seat_meaning (λ (w : PostView). added_before phase page (additions_among w.did)) seats)
-    in
     let old : FitsCoord z shows.state d = shows.shows.seats.each place (Coord d) at in
     let few : length z.counts < 2 ^ 32 =
     (let within = shows.shows.opening.few_pages in
@@ -146,30 +130,21 @@ closes z words views place v c seats shows at_view back =
     subst (λ (y : Opening). IsOrderOf (slice_index y.counts) c.phase posts shows.steps) (sym old.seats.opening)
     (subst (λ (k : ℕ). IsOrderOf (slice_index z.counts) k posts shows.steps) (sym old.phase.present)
     (last_order z words views place d shows at
-    (λ i below. (let made = back.made in each i (omega arith))) posts
-    (All-map (HasDone shows.steps) seat_meaning seats (λ k seat below.
-    shows.order.each place (Coord d) at k (seat_view (get_or seats k seat)) (at_mapped seat_view seats k seat below)))
-    (λ i. sum_by-map seat_meaning (λ (w : PostView). cond {A = ℕ} (w.worker == i) 1 0) seats
-    ∙ sym (sum_by-map seat_view (λ (w : WorkerSeatView). cond {A = ℕ} (w.worker == i) 1 0) seats)))) in (
+    (λ i below. (let made = back.made in each i (omega arith))))) in (
       record {
         few_pages = subst (λ (y : Opening). length y.counts < 2 ^ 32) (sym old.seats.opening) few;
-        phases = All-map (λ (w : PostView). SawNoLater c.phase w.last) seat_meaning seats (λ k seat below.
-            closed_phase z words views place d shows at k (seat_view (get_or seats k seat))
-            (at_mapped seat_view seats k seat below));
+        phases = all_at (λ (w : WorkerSeatView). SawNoLater c.phase w.last) posts
+            (closed_phase z words views place d shows at);
         between = order_gives_bounds c.opening.counts c.phase posts shows.steps order;
-        counted = closed_counted z words views place d (posts_before posts) shows at back.made each added;
-        masks = All-map (λ (w : PostView). AreMasksOf (mask_of c.masks) w.masks) seat_meaning seats (λ k seat below.
-            closed_masks z words views place d shows at k (seat_view (get_or seats k seat))
-            (at_mapped seat_view seats k seat below));
+        counted = closed_counted z words views place d shows at back.made each;
+        masks = all_at (λ (w : WorkerSeatView). AreMasksOf (mask_of c.masks) w.masks) posts
+            (closed_masks z words views place d shows at);
         places = order_gives_places first c.phase posts shows.steps order;
         steps = shows.steps;
         order = order;
       },
       λ page on.
-          closed_word z words views place d shows at back.made each page on ∙
-          ap (λ (k : ℕ). get_or c.opening.counts page 0 + k)
-          (sum_by-map seat_view (λ (w : WorkerSeatView). additions_of (post_of w) page) seats
-          ∙ sym (sum_by-map seat_meaning (λ (w : PostView). added_to page (additions_among w.did)) seats)),
+          closed_word z words views place d shows at back.made each page on,
     )
 
 -- a view that is some coordinator's is the coordinator's that it is read as

@@ -12,7 +12,7 @@ use Rattle.like_board.specs.declared.own_board.worker_seat.OwnWorkerSeat.{OwnWor
 use Rattle.like_board.specs.Known.{worker_view_of}
 use Rattle.like_board.specs.Lent.{HasLooked, ShowsBy, lent_board}
 use Rattle.like_board.specs.Own.{Knows, Steps, own_place, own_view, own_views}
-use Rattle.like_board.specs.OwnPosts.{CameBack, lent_meaning}
+use Rattle.like_board.specs.OwnPosts.{CameBack, lent_numbers}
 use Rattle.like_board.proofs.Lending.{board_after, first_after, known_after, lent_tells, looked_more, looked_same}
 
 -- a worker's seat isn't the first
@@ -54,7 +54,7 @@ module _ (p : OwnPost) (board : OwnBoard) (seat : OwnWorkerSeat) (same : own_pla
 
 -- what was lent comes back
 pub comes_back : (p : OwnPost) (views : List View) (place : ℕ) (v : WorkerSeatView)
-    → (lent_meaning p).board ≡ lent_board views place (Worker v)
+    → lent_numbers p ≡ lent_board views place (Worker v)
     → CameBack views place v p.board p.seat
 comes_back p views place v lent =
     let told = lent_tells views (own_views p.board) place (own_place p.seat) (Worker v) p.before.me.0

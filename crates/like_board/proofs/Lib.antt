@@ -5,7 +5,7 @@ pub mod Gathering
 pub mod LastCounts
 pub mod InOrder
 pub mod Pushing
-pub mod Meanings
+pub mod BoardNumbers
 pub mod Written
 pub mod Opens
 pub mod Allowed

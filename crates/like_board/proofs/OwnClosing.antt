@@ -15,7 +15,7 @@ use Rattle.like_board.specs.declared.own_board.worker_seat.OwnWorkerSeat.{OwnWor
 use Rattle.like_board.specs.Closed.{IsClosed, count_with}
 use Rattle.like_board.specs.Own.{own_view}
 use Rattle.like_board.specs.OwnClosed.{all_views, as_shared}
-use Rattle.like_board.specs.Seats.{AreAll, seat_meaning, seat_view}
+use Rattle.like_board.specs.Seats.{AreAll, seat_view}
 use Rattle.like_board.proofs.Gathering.{gathered, gathers}
 use Rattle.like_board.proofs.LastCounts.{closes}
 use Rattle.like_board.proofs.Lending.{inside}
@@ -76,7 +76,7 @@ pub closes_own : (z : Opening) (words : List ℕ) (views : List View) (c : Coord
     → c.joined ≡ []
     → c.made ≡ c.opening.workers
     → AreAll c.opening.workers (map as_shared seats)
-    → IsClosed c (map seat_meaning (map as_shared seats))
+    → IsClosed c (map seat_view (map as_shared seats))
     × ((page : ℕ) → page < length c.opening.counts
     → get_or words (word_of page) 0 ≡ count_with c (map as_shared seats) page)
 closes_own z words views c seats shows are none made all =

@@ -10,9 +10,10 @@ use Rattle.like_core.specs.declared.view.CoordSeatView.{CoordSeatView}
 use Rattle.like_core.specs.declared.view.View.{View}
 use Rattle.like_core.specs.declared.view.View.TheVariants.{Coord, Worker}
 use Rattle.like_core.specs.core.State.{CoreState, Label}
-use Rattle.like_core.specs.views.Views.{fresh, made_coord}
+use Rattle.like_core.specs.views.Views.{made_coord}
 use Rattle.like_core.specs.views.Tallies.{Tallied, room}
 use Rattle.like_core.proofs.views.ViewLists.{sum_set, sum_swap}
+use Rattle.like_core.specs.Post.{fresh}
 
 -- after a step that applies no like, with a new view that has the same additions
 pub tallied_on : (l : Limits) (s t : CoreState) (views : List View) (place : ℕ) (a b : View)

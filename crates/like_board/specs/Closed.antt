@@ -5,7 +5,6 @@ use Rattle.like_core.specs.declared.view.CoordSeatView.{CoordSeatView}
 use Rattle.like_core.specs.declared.view.View.{View}
 use Rattle.like_core.specs.declared.view.View.TheVariants.{Coord}
 use Rattle.like_core.specs.PhaseMasks.{mask_of, AreMasksOf}
-use Rattle.like_core.specs.Post.{PostView}
 use Rattle.like_core.specs.WorkerState.{SawNoLater}
 use Rattle.like_core.specs.views.Views.{gathered_all}
 use Rattle.like_core.specs.views.Layout.{word_of}
@@ -13,7 +12,8 @@ use Rattle.like_core.specs.views.PostOrder.{HavePlaces, IsOrderOf}
 use Rattle.like_core.specs.views.Posts.{last_count, posts_before}
 use Rattle.like_core.specs.views.Reads.{HaveBetween, IsCounted}
 use Rattle.like_board.specs.declared.worker_seat.WorkerSeat.{WorkerSeat}
-use Rattle.like_board.specs.Seats.{seat_view, seat_meaning, AreAll}
+use Rattle.like_board.specs.Seats.{seat_view, AreAll}
+use Rattle.like_core.specs.declared.view.WorkerSeatView.{WorkerSeatView}
 
 -- the coordinator's view, after each worker's seat was given back to it
 pub record HasAllBack (v : View) (c : CoordSeatView) (seats : List WorkerSeat) : Type 0 where
@@ -22,9 +22,9 @@ pub record HasAllBack (v : View) (c : CoordSeatView) (seats : List WorkerSeat) :
   pub made : c.made ≡ c.opening.workers
   pub all : AreAll c.opening.workers seats
 
--- what is known of a closed board: how many pages it has, and how the steps of all seats, which mean these posts, fit
+-- what is known of a closed board: how many pages it has, and how the steps of all seats, which know this, fit
 -- together
-pub record IsClosed (c : CoordSeatView) (posts : List PostView) : Type 0 where
+pub record IsClosed (c : CoordSeatView) (posts : List WorkerSeatView) : Type 0 where
   pub few_pages : length c.opening.counts < 2 ^ 32
   -- no worker saw a greater number than the coordinator's phase
   pub phases : All (λ v. SawNoLater c.phase v.last) posts
@@ -43,7 +43,7 @@ pub record IsClosed (c : CoordSeatView) (posts : List PostView) : Type 0 where
 
 -- a page's last count, where these seats were given back to the coordinator's
 abbrev pub count_with : CoordSeatView → List WorkerSeat → ℕ → ℕ
-count_with c seats page = last_count (slice_index c.opening.counts) (map seat_meaning seats) page
+count_with c seats page = last_count (slice_index c.opening.counts) (map seat_view seats) page
 
 -- a board was closed with these seats: its last counts, and what is known of the seats' steps
 pub record IsClosedBoard (c : CoordSeatView) (seats : List WorkerSeat) (counts : List ℕ) : Type 0 where
@@ -51,10 +51,10 @@ pub record IsClosedBoard (c : CoordSeatView) (seats : List WorkerSeat) (counts :
   pub len : length counts ≡ length c.opening.counts
   -- the page's count at the start and all that was added to it
   pub totals : (page : ℕ) → page < length counts → slice_index counts page ≡ count_with c seats page
-  pub closed : IsClosed c (map seat_meaning seats)
+  pub closed : IsClosed c (map seat_view seats)
 
 -- what a read of a word tells once all seats are back: what is known of a closed board, and a page's last count
 pub record TellsLast (word : ℕ) (v : View) (found : ℕ) : Type 0 where
-  pub closed : (c : CoordSeatView) (seats : List WorkerSeat) → HasAllBack v c seats → IsClosed c (map seat_meaning seats)
+  pub closed : (c : CoordSeatView) (seats : List WorkerSeat) → HasAllBack v c seats → IsClosed c (map seat_view seats)
   pub count : (c : CoordSeatView) (seats : List WorkerSeat) → HasAllBack v c seats
       → (page : ℕ) → word ≡ word_of page → page < length c.opening.counts → found ≡ count_with c seats page

@@ -7,7 +7,8 @@ use Rattle.like_core.specs.declared.view.View.{View}
 use Rattle.like_core.specs.declared.view.View.TheVariants.{Coord, Worker, Spent}
 use Rattle.like_limits.specs.Buckets.{run_factor}
 use Rattle.like_core.specs.OpeningLimits.{run_limits}
-use Rattle.like_core.specs.views.Views.{fresh, fresh_coord}
+use Rattle.like_core.specs.views.Views.{fresh_coord}
+use Rattle.like_core.specs.Post.{fresh}
 
 -- the opening of a view that is of no board
 abbrev pub nowhere : Opening

@@ -3,7 +3,7 @@ use Rattle.std.specs.Prelude.{ℕ, zero, suc, List, [], ◌∷◌, ◌++◌}
 use Rattle.like_core.specs.declared.opening.Opening.{Opening}
 use Rattle.like_core.specs.declared.view.View.{View}
 use Rattle.like_core.specs.declared.view.View.TheVariants.{Coord, Worker}
-use Rattle.like_core.specs.views.Views.{fresh}
+use Rattle.like_core.specs.Post.{fresh}
 use Rattle.like_board.specs.Rule.{opened_coord}
 
 -- those of this many workers, in order

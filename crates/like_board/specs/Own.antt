@@ -11,10 +11,9 @@ use Rattle.like_core.specs.declared.view.WorkerSeatView.{WorkerSeatView}
 use Rattle.like_core.specs.declared.view.CoordSeatView.{CoordSeatView}
 use Rattle.like_core.specs.declared.view.View.{View}
 use Rattle.like_core.specs.declared.view.View.TheVariants.{Coord, Worker}
-use Rattle.like_core.specs.Post.{IsFresh, PostView}
+use Rattle.like_core.specs.Post.{fresh}
 use Rattle.like_core.specs.WorkerState.{IsIn}
 use Rattle.like_core.specs.views.Places.{count_after}
-use Rattle.like_core.specs.views.Views.{fresh, post_of}
 use Rattle.like_board.specs.declared.own_board.OwnBoard.{OwnBoard}
 use Rattle.like_board.specs.declared.own_board.coord_seat.OwnCoordSeat.{OwnCoordSeat}
 use Rattle.like_board.specs.declared.own_board.worker_seat.OwnWorkerSeat.{OwnWorkerSeat}
@@ -35,10 +34,6 @@ own_view seat = worker_view_of seat.access.me.0
 
 abbrev pub own_place : OwnWorkerSeat → ℕ
 own_place seat = seat.access.id
-
--- what a worker's seat means as a post, its board aside
-abbrev pub own_meaning : OwnWorkerSeat → PostView
-own_meaning seat = post_of (own_view seat)
 
 -- what the coordinator's seat knows
 abbrev pub own_coord : OwnCoordSeat → CoordSeatView
@@ -74,4 +69,4 @@ IsPresentCount board page count = count ≡ count_after (own_opening board).coun
 abbrev pub AreNewOwn : OwnBoard → List OwnWorkerSeat → Type 0
 AreNewOwn board seats =
     (i : ℕ) (seat : OwnWorkerSeat) → slice_get seats i ≡ Some seat
-    → (own_place seat ≡ i + 1) × (own_view seat ≡ fresh (own_opening board) i) × IsFresh (own_meaning seat)
+    → (own_place seat ≡ i + 1) × (own_view seat ≡ fresh (own_opening board) i)

@@ -17,11 +17,12 @@ use Rattle.like_core.specs.views.Sights.{sight_in, coord_sight_in}
 use Rattle.like_core.specs.WorkerState.{IsSightOf, SeesEndingStill, phase_of, seen, turn_of}
 use Rattle.like_core.specs.Additions.{added_to}
 use Rattle.like_core.specs.Slots.{IsChoice}
-use Rattle.like_core.specs.views.Views.{looked_view, returned_view, added_view, masked_view, slotted_view, slots_read, looked_coord, counted_coord, slotted_coord}
+use Rattle.like_core.specs.views.Views.{looked_coord, counted_coord, slotted_coord}
 use Rattle.like_core.specs.views.Layout.{slot_place}
 use Rattle.like_core.specs.views.Shows.{IsKnown, IsStep}
 use Rattle.like_core.specs.views.Actions.{Adds, ComesBack, ReadsMask, Counts}
 use Rattle.like_core.specs.PageSteps.{additions_among}
+use Rattle.like_core.specs.Post.{looked_at, returned, added, with_mask, with_slot, slots_read}
 use Rattle.like_board.specs.Known.{worker_view_of, coord_view_of}
 
 -- what a worker in this state sees in a phase word of this opening
@@ -42,7 +43,7 @@ pub record Looked (z : Opening) (found : ℕ) (v : WorkerSeatView) : Type 0 wher
   pub within : phase_of (seen v.state (sight_at z found v.state)) ≤ z.limits.last_phase
   pub ending : SeesEndingStill v.state v.last (sight_at z found v.state)
   pub step : let sight = sight_at z found v.state in
-      IsStep z (Look v.worker) (Seen sight) (Worker v) (Worker (looked_view v sight))
+      IsStep z (Look v.worker) (Seen sight) (Worker v) (Worker (looked_at v sight))
 
 -- what the coordinator's look at this word shows
 pub record Surveyed (z : Opening) (found : ℕ) (c : CoordSeatView) : Type 0 where
@@ -57,7 +58,7 @@ pub record Surveyed (z : Opening) (found : ℕ) (c : CoordSeatView) : Type 0 whe
 -- what a worker's look tells: of the view before, the word found and the view after
 pub record TellsLook (v : View) (found : ℕ) (w : View) : Type 0 where
   pub looked : Looked (worker_view_of v).opening found (worker_view_of v)
-  pub view : let me = worker_view_of v in w ≡ Worker (looked_view me (sight_at me.opening found me.state))
+  pub view : let me = worker_view_of v in w ≡ Worker (looked_at me (sight_at me.opening found me.state))
 
 -- what the coordinator's look tells
 pub record TellsSurvey (v : View) (found : ℕ) (w : View) : Type 0 where
@@ -80,8 +81,8 @@ pub record TellsCoord (does : CoordSeatView → CoordSeatView → Type 0) (next 
 -- a worker came back into this phase: the view after says so, and it is the action
 pub record CameBack (phase : ℕ) (v w : View) : Type 0 where
   pub within : phase ≤ (worker_view_of v).opening.limits.last_phase
-  pub view : w ≡ Worker (returned_view (worker_view_of v) phase)
-  pub step : let me = worker_view_of v in ComesBack me (returned_view me phase)
+  pub view : w ≡ Worker (returned (worker_view_of v) phase)
+  pub step : let me = worker_view_of v in ComesBack me (returned me phase)
 
 -- what the exchange by which a worker comes back tells, where it expected this word and found that one: if they are the
 -- same, it came back into the phase that they tell; otherwise nothing changed
@@ -96,9 +97,9 @@ OfWord word_for Tells word v found w = (i : ℕ) → word ≡ word_for i → Tel
 -- what an addition of n to a page tells: the view after has it, with the count that it found; the worker's own
 -- additions are in that; and it is the action
 pub record TellsAdd (page n : ℕ) (v : View) (found : ℕ) (w : View) : Type 0 where
-  pub view : w ≡ Worker (added_view (worker_view_of v) page found n)
+  pub view : w ≡ Worker (added (worker_view_of v) page found n)
   pub own : added_to page (additions_among (worker_view_of v).did) ≤ found
-  pub step : let me = worker_view_of v in Adds me page n found (added_view me page found n)
+  pub step : let me = worker_view_of v in Adds me page n found (added me page found n)
 
 -- what a read of a page or a glance tells: the view after has it, with the count that it found; the worker's own
 -- additions are in that, and it is within the bound of all counts; and it is the action
@@ -111,21 +112,21 @@ pub record TellsRead (does : WorkerSeatView → ℕ → ℕ → WorkerSeatView �
 
 -- what a read of the mask word tells: the view after has the mask that it found, and it is the action
 pub record TellsMask (v : View) (found : ℕ) (w : View) : Type 0 where
-  pub view : w ≡ Worker (masked_view (worker_view_of v) found)
-  pub step : let me = worker_view_of v in ReadsMask me found (masked_view me found)
+  pub view : w ≡ Worker (with_mask (worker_view_of v) found)
+  pub step : let me = worker_view_of v in ReadsMask me found (with_mask me found)
 
 -- what a read of a slot's word tells: the view after has the page that it found there, a number of 32 bits
 pub record TellsSlot (slot : ℕ) (v : View) (found : ℕ) (w : View) : Type 0 where
-  pub view : w ≡ Worker (slotted_view (worker_view_of v) slot found)
+  pub view : w ≡ Worker (with_slot (worker_view_of v) slot found)
   pub fits : found < 2 ^ 32
 
 -- what a read of the mask word tells a worker that has read the slots: the view after has the mask of the pages in
 -- those that are in use, which are a lawful choice; and it is the action
 pub record TellsSlots (v : View) (found : ℕ) (w : View) : Type 0 where
-  pub view : let me = worker_view_of v in w ≡ Worker (masked_view me (slots_read me found))
+  pub view : let me = worker_view_of v in w ≡ Worker (with_mask me (slots_read me found))
   pub choice : let me = worker_view_of v in
       IsChoice me.opening.factor (length me.opening.marks) (slice_index me.slots) found
-  pub step : let me = worker_view_of v in ReadsMask me (slots_read me found) (masked_view me (slots_read me found))
+  pub step : let me = worker_view_of v in ReadsMask me (slots_read me found) (with_mask me (slots_read me found))
 
 -- what a page that is put into the slot of a word tells: the view after has it there
 abbrev pub TellsPutAt : ℕ → ℕ → View → View → Type 0

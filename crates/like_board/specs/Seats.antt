@@ -8,8 +8,7 @@ use Rattle.like_board.specs.declared.board.Board.{Board}
 use Rattle.like_board.specs.declared.coord_seat.CoordSeat.{CoordSeat}
 use Rattle.like_board.specs.declared.worker_seat.WorkerSeat.{WorkerSeat}
 use Rattle.like_board.specs.declared.post.PostAt.{PostAt}
-use Rattle.like_core.specs.Post.{PostView, IsFresh}
-use Rattle.like_core.specs.views.Views.{fresh, post_of}
+use Rattle.like_core.specs.Post.{fresh}
 use Rattle.like_board.specs.Known.{worker_view_of, coord_view_of}
 
 -- what tells a board from others
@@ -49,21 +48,17 @@ abbrev pub board_numbers : TableId → List ℕ
 board_numbers id =
     id.words ∷ id.slots ∷ id.views_name ∷ id.atom ∷ id.block ∷ id.offset ∷ id.slot_names
 
--- what a worker's seat means as a post
-abbrev pub seat_meaning : WorkerSeat → PostView
-seat_meaning seat = record (post_of (seat_view seat)) { board = board_numbers (seat_board seat) }
-
--- what a post means
-abbrev pub post_meaning : {B : Type 0} {held : _} → PostAt B held → PostView
-post_meaning post = seat_meaning post.seat
+-- those of a post's board
+abbrev pub post_numbers : {B : Type 0} {held : _} → PostAt B held → List ℕ
+post_numbers post = board_numbers (post_board post)
 
 -- the seats of a board's workers, in order; none has made a step yet
 abbrev pub AreFresh : TableId → Opening → List WorkerSeat → Type 0
 AreFresh board z seats =
     (i : ℕ) (seat : WorkerSeat) → slice_get seats i ≡ Some seat
-    → (seat_board seat ≡ board) × (seat_view seat ≡ fresh z i) × IsFresh (seat_meaning seat)
+    → (seat_board seat ≡ board) × (seat_view seat ≡ fresh z i)
 
 -- each worker's seat is in the list once
 abbrev pub AreAll : ℕ → List WorkerSeat → Type 0
 AreAll workers seats =
-    (i : ℕ) → i < workers → count_by (λ seat. (seat_meaning seat).worker == i) seats ≡ 1
+    (i : ℕ) → i < workers → count_by (λ seat. (seat_view seat).worker == i) seats ≡ 1

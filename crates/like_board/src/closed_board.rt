@@ -7,7 +7,7 @@ ghost use Rattle.like_core.specs.views.Layout.{word_of};
 ghost use Rattle.like_core.specs.views.Views.{gathered_all};
 ghost use Rattle.like_board.specs.declared.worker_seat.WorkerSeat.{WorkerSeat};
 ghost use Rattle.like_board.specs.Known.{coord_view_of};
-ghost use Rattle.like_board.specs.Seats.{board_id, coord_board, coord_view, seat_board, seat_view, seat_meaning, AreAll};
+ghost use Rattle.like_board.specs.Seats.{board_id, coord_board, coord_view, seat_board, seat_view, AreAll};
 ghost use Rattle.like_board.specs.Closed.{IsClosedBoard, HasAllBack, count_with};
 
 use crate::board::Board;
@@ -73,7 +73,7 @@ impl Board {
         requires coord_here { coord_board coord ≡ board_id self }
         requires seats_here { All (λ seat. seat_board seat ≡ board_id self) seats.items }
         requires all { AreAll (coord_view coord).opening.workers seats.items }
-        requires gone { All (λ seat. (seat_meaning seat).state ≡ Gone) seats.items }
+        requires gone { All (λ seat. (seat_view seat).state ≡ Gone) seats.items }
         requires places { length counts.old ≡ length (coord_view coord).opening.counts }
         ensures { IsClosedBoard (coord_view coord) seats.items counts.new }
     {

@@ -2,11 +2,11 @@
 ghost use Rattle.std.specs.Prelude.{◌≡◌, ◌<◌, ◌≤◌, [], length, IfOk, OnOk};
 ghost use Rattle.like_core.specs.declared.view.View.TheVariants.{Coord};
 ghost use Rattle.like_core.specs.OpeningLimits.{most_seats};
-ghost use Rattle.like_core.specs.Post.{IsFresh};
+ghost use Rattle.like_core.specs.Post.{fresh};
 ghost use Rattle.like_core.specs.views.Layout.{word_of};
-ghost use Rattle.like_core.specs.views.Views.{fresh, made_coord};
+ghost use Rattle.like_core.specs.views.Views.{made_coord};
 ghost use Rattle.like_board.specs.Known.{coord_view_of};
-ghost use Rattle.like_board.specs.Seats.{board_id, seat_board, seat_view, seat_meaning, AreFresh};
+ghost use Rattle.like_board.specs.Seats.{board_id, seat_board, seat_view, AreFresh};
 
 use crate::board::Board;
 use crate::plays::MakesWorker;
@@ -29,7 +29,6 @@ fn make_seat(board: &Board, coord: &mut Seat<(), View>, number: u32, form: Form)
     ensures coord { coord.new.me ≡ (Coord (made_coord (coord_view_of coord.old.me.0)), []) }
     ensures seat_board { seat_board result ≡ coord.old.table_id }
     ensures seat_view { seat_view result ≡ fresh (coord_view_of coord.old.me.0).opening number }
-    ensures fresh { IsFresh (seat_meaning result) }
 {
     let access = board.table.shared.split_seat::<MakesWorker>(coord);
     WorkerSeat {

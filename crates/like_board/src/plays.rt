@@ -1,9 +1,10 @@
 //! What each kind of step tells the seat that makes it, and how a worker's seat is made and given back.
 ghost use Rattle.std.specs.Prelude.{◌≡◌, []};
 ghost use Rattle.like_core.specs.declared.view.View.TheVariants.{Coord, Worker, Spent};
-ghost use Rattle.like_core.specs.views.Views.{fresh, answered_view, retired_view, read_view, glanced_view, announced_coord, released_coord, published_coord, slots_put, made_coord, gathered_coord};
+ghost use Rattle.like_core.specs.views.Views.{announced_coord, released_coord, published_coord, slots_put, made_coord, gathered_coord};
 ghost use Rattle.like_core.specs.views.Layout.{slot_place, word_of};
 ghost use Rattle.like_core.specs.views.Actions.{Acknowledges, Reports, Retires, Reads, Glances, Announces, Releases};
+ghost use Rattle.like_core.specs.Post.{fresh, answered, retired, has_read, has_glanced};
 ghost use Rattle.like_board.specs.Known.{coord_view_of, worker_view_of};
 ghost use Rattle.like_board.specs.Plays.{TellsLook, TellsSurvey, TellsWorker, TellsReturn, TellsCoord, TellsAdd, TellsRead, TellsMask, TellsSlot, TellsSlots, TellsCount, TellsPutAt, OfWord};
 ghost use Rattle.like_board.specs.Closed.{TellsLast};
@@ -22,21 +23,21 @@ impl Play<(), View> for Looking {
 pub struct Acknowledging;
 
 impl Play<(), View> for Acknowledging {
-    ghost then = { λ _ me _ after. TellsWorker Acknowledges answered_view me.0 after.0 × (after.1 ≡ []) };
+    ghost then = { λ _ me _ after. TellsWorker Acknowledges answered me.0 after.0 × (after.1 ≡ []) };
 }
 
 /// A report.
 pub struct Reporting;
 
 impl Play<(), View> for Reporting {
-    ghost then = { λ _ me _ after. TellsWorker Reports answered_view me.0 after.0 × (after.1 ≡ []) };
+    ghost then = { λ _ me _ after. TellsWorker Reports answered me.0 after.0 × (after.1 ≡ []) };
 }
 
 /// A retirement.
 pub struct Retiring;
 
 impl Play<(), View> for Retiring {
-    ghost then = { λ _ me _ after. TellsWorker Retires retired_view me.0 after.0 × (after.1 ≡ []) };
+    ghost then = { λ _ me _ after. TellsWorker Retires retired me.0 after.0 × (after.1 ≡ []) };
 }
 
 /// A try to come back.
@@ -59,7 +60,7 @@ pub struct Reading;
 
 impl Play<(), View> for Reading {
     ghost then = { λ step me found after.
-        OfWord word_of (TellsRead Reads read_view) step.word me.0 found after.0 × (after.1 ≡ []) };
+        OfWord word_of (TellsRead Reads has_read) step.word me.0 found after.0 × (after.1 ≡ []) };
 }
 
 /// A glance at such a count.
@@ -67,7 +68,7 @@ pub struct Glancing;
 
 impl Play<(), View> for Glancing {
     ghost then = { λ step me found after.
-        OfWord word_of (TellsRead Glances glanced_view) step.word me.0 found after.0 × (after.1 ≡ []) };
+        OfWord word_of (TellsRead Glances has_glanced) step.word me.0 found after.0 × (after.1 ≡ []) };
 }
 
 /// A worker's read of the mask word.

@@ -48,19 +48,17 @@ pub struct WorkerSeat {
 impl WorkerSeat {
     ghost use Rattle.like_core.specs.declared.worker_state.WorkerState.TheVariants.{Gone};
     ghost use Rattle.like_core.specs.WorkerState.{IsSightOf, RunsJoined, RunsSplit, SawEnding, SeesEndingStill, phase_of, seen};
-    ghost use Rattle.like_core.specs.Post.{MayAdd, MayRead, MayGlance};
+    ghost use Rattle.like_core.specs.Post.{MayAdd, MayRead, MayGlance, looked_at, answered, retired, returned, added, has_read, has_glanced, with_mask, with_slot, slots_read, MayReadSlot, MayReadSlots};
     ghost use Rattle.like_core.specs.Additions.{added_to};
     ghost use Rattle.like_core.specs.core.Moves.{LetsReturn};
-    ghost use Rattle.like_core.specs.views.Views.{looked_view, answered_view, retired_view, returned_view, added_view, read_view, glanced_view, masked_view, slotted_view, slots_read, MayReadSlot, MayReadSlots};
     ghost use Rattle.like_core.specs.views.Actions.{Looks, Acknowledges, Reports, Retires, ComesBack, Adds, Reads, Glances, ReadsMask};
-    ghost use Rattle.like_board.specs.Seats.{board_id, seat_board, seat_view, seat_meaning, post_board, post_view, post_meaning};
+    ghost use Rattle.like_board.specs.Seats.{board_id, seat_board, seat_view, post_board, post_view};
 
     /// Takes the seat to its board.
     pub fn at(self, board: &Board) -> BoardPost<'_>
         requires { seat_board self ≡ board_id board.now }
         ensures board { post_board result ≡ seat_board self }
         ensures view { post_view result ≡ seat_view self }
-        ensures meaning { post_meaning result ≡ seat_meaning self }
     {
         PostAt { board, seat: self }
     }
@@ -70,7 +68,6 @@ impl WorkerSeat {
         requires { seat_board self ≡ board_id (arc_value board) }
         ensures board { post_board result ≡ seat_board self }
         ensures view { post_view result ≡ seat_view self }
-        ensures meaning { post_meaning result ≡ seat_meaning self }
     {
         for_any_thread(PostAt { board, seat: self })
     }
@@ -80,7 +77,7 @@ impl WorkerSeat {
         requires here { seat_board self.old ≡ board_id board.now }
         requires there { (seat_view self.old).state ≢ Gone }
         ensures board { seat_board self.new ≡ seat_board self.old }
-        ensures view { seat_view self.new ≡ looked_view (seat_view self.old) result }
+        ensures view { seat_view self.new ≡ looked_at (seat_view self.old) result }
         ensures sight { IsSightOf (seat_view self.old).state result }
         ensures within { let v = seat_view self.old in
             phase_of (seen v.state result) ≤ v.opening.limits.last_phase }
@@ -100,7 +97,7 @@ impl WorkerSeat {
         requires runs { RunsJoined (seat_view self.old).state }
         requires ending { SawEnding (seat_view self.old).last }
         ensures board { seat_board self.new ≡ seat_board self.old }
-        ensures view { seat_view self.new ≡ answered_view (seat_view self.old) }
+        ensures view { seat_view self.new ≡ answered (seat_view self.old) }
         ensures event { Acknowledges (seat_view self.old) (seat_view self.new) }
     {
         let answer = self.form.answer(self.number);
@@ -113,7 +110,7 @@ impl WorkerSeat {
         requires runs { RunsSplit (seat_view self.old).state }
         requires ending { SawEnding (seat_view self.old).last }
         ensures board { seat_board self.new ≡ seat_board self.old }
-        ensures view { seat_view self.new ≡ answered_view (seat_view self.old) }
+        ensures view { seat_view self.new ≡ answered (seat_view self.old) }
         ensures event { Reports (seat_view self.old) (seat_view self.new) }
     {
         let answer = self.form.answer(self.number);
@@ -125,7 +122,7 @@ impl WorkerSeat {
         requires here { seat_board self.old ≡ board_id board.now }
         requires runs { RunsJoined (seat_view self.old).state }
         ensures board { seat_board self.new ≡ seat_board self.old }
-        ensures view { seat_view self.new ≡ retired_view (seat_view self.old) }
+        ensures view { seat_view self.new ≡ retired (seat_view self.old) }
         ensures event { Retires (seat_view self.old) (seat_view self.new) }
     {
         let retirement = self.form.retirement(self.number);
@@ -140,7 +137,7 @@ impl WorkerSeat {
         requires lets { LetsReturn (seat_view self.old).opening.limits }
         ensures board { seat_board self.new ≡ seat_board self.old }
         ensures view { IfSome result
-            (λ phase. seat_view self.new ≡ returned_view (seat_view self.old) phase) }
+            (λ phase. seat_view self.new ≡ returned (seat_view self.old) phase) }
         ensures within { IfSome result
             (λ phase. phase ≤ (seat_view self.old).opening.limits.last_phase) }
         ensures event { IfSome result (λ _. ComesBack (seat_view self.old) (seat_view self.new)) }
@@ -165,9 +162,9 @@ impl WorkerSeat {
     #[inline(always)]
     pub(crate) fn add(&mut self, board: &Board, page: u32, n: u64) -> u64
         requires here { seat_board self.old ≡ board_id board.now }
-        requires may { MayAdd (seat_meaning self.old) page n }
+        requires may { MayAdd (seat_view self.old) page n }
         ensures board { seat_board self.new ≡ seat_board self.old }
-        ensures view { seat_view self.new ≡ added_view (seat_view self.old) page result n }
+        ensures view { seat_view self.new ≡ added (seat_view self.old) page result n }
         ensures own { added_to page (additions_among (seat_view self.old).did) ≤ result }
         ensures event { Adds (seat_view self.old) page n result (seat_view self.new) }
     {
@@ -181,9 +178,9 @@ impl WorkerSeat {
     #[inline(always)]
     pub(crate) fn read(&mut self, board: &Board, page: u32) -> u64
         requires here { seat_board self.old ≡ board_id board.now }
-        requires may { MayRead (seat_meaning self.old) page }
+        requires may { MayRead (seat_view self.old) page }
         ensures board { seat_board self.new ≡ seat_board self.old }
-        ensures view { seat_view self.new ≡ read_view (seat_view self.old) page result }
+        ensures view { seat_view self.new ≡ has_read (seat_view self.old) page result }
         ensures own { added_to page (additions_among (seat_view self.old).did) ≤ result }
         ensures event { Reads (seat_view self.old) page result (seat_view self.new) }
     {
@@ -194,9 +191,9 @@ impl WorkerSeat {
     #[inline(always)]
     pub(crate) fn glance(&mut self, board: &Board, page: u32) -> u64
         requires here { seat_board self.old ≡ board_id board.now }
-        requires may { MayGlance (seat_meaning self.old) page }
+        requires may { MayGlance (seat_view self.old) page }
         ensures board { seat_board self.new ≡ seat_board self.old }
-        ensures view { seat_view self.new ≡ glanced_view (seat_view self.old) page result }
+        ensures view { seat_view self.new ≡ has_glanced (seat_view self.old) page result }
         ensures own { added_to page (additions_among (seat_view self.old).did) ≤ result }
         ensures bounded { result < total_bound }
         ensures event { Glances (seat_view self.old) page result (seat_view self.new) }
@@ -210,7 +207,7 @@ impl WorkerSeat {
         requires runs { RunsSplit (seat_view self.old).state }
         requires plain { has_slots (seat_view self.old).opening.limits ≡ false }
         ensures board { seat_board self.new ≡ seat_board self.old }
-        ensures view { seat_view self.new ≡ masked_view (seat_view self.old) result }
+        ensures view { seat_view self.new ≡ with_mask (seat_view self.old) result }
         ensures event { ReadsMask (seat_view self.old) result (seat_view self.new) }
     {
         board
@@ -224,7 +221,7 @@ impl WorkerSeat {
         requires here { seat_board self.old ≡ board_id board.now }
         requires may { MayReadSlot (seat_view self.old) slot }
         ensures board { seat_board self.new ≡ seat_board self.old }
-        ensures view { seat_view self.new ≡ slotted_view (seat_view self.old) slot result }
+        ensures view { seat_view self.new ≡ with_slot (seat_view self.old) slot result }
     {
         let word = slot_place(slot);
         board
@@ -254,7 +251,7 @@ impl WorkerSeat {
         requires may { MayReadSlots (seat_view self.old) }
         ensures board { seat_board self.new ≡ seat_board self.old }
         ensures view { let v = seat_view self.old in
-            seat_view self.new ≡ masked_view v (slots_read v result) }
+            seat_view self.new ≡ with_mask v (slots_read v result) }
         ensures choice { let v = seat_view self.old in
             IsChoice v.opening.factor (length v.opening.marks) (slice_index v.slots) result }
         ensures event { let v = seat_view self.old in

@@ -1,5 +1,4 @@
 -- The views of all seats: as a list, as posts, and what each step keeps of them. Where the words stand.
-pub mod Posts
 pub mod ViewLists
 pub mod ViewSums
 pub mod KeptCounts

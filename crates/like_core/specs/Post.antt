@@ -1,115 +1,116 @@
--- A post, as contracts see it: its view, and what each of its calls makes of that.
-use Rattle.std.specs.Prelude.{◌≡◌, ℕ, ◌+◌, ◌<◌, ◌≤◌, Bool, true, false, List, [], ◌∷◌, ◌++◌, length, Option, Some, None}
+-- A post, as contracts see it: what its worker's seat knows, and what each of its calls makes of that.
+use Rattle.std.specs.Prelude.{◌≡◌, ℕ, ◌+◌, ◌<◌, ◌≤◌, Bool, true, false, List, [], ◌∷◌, ◌++◌, length, take, slice_index, Option, Some, None}
 use Rattle.like_core.specs.declared.worker_state.WorkerState.{WorkerState}
 use Rattle.like_core.specs.declared.worker_state.WorkerState.TheVariants.{Runs, Answered, Gone}
 use Rattle.like_core.specs.declared.sight.Sight.{Sight}
-use Rattle.like_core.specs.declared.limits.Limits.{Limits}
+use Rattle.like_core.specs.declared.opening.Opening.{Opening}
 use Rattle.like_core.specs.declared.page_step.PageCall.{PageCall}
 use Rattle.like_core.specs.declared.page_step.PageCall.TheVariants.{Add, Read, Glance}
 use Rattle.like_core.specs.declared.page_step.PageStep.{PageStep}
-use Rattle.like_core.specs.declared.view.Look.{Look}
-use Rattle.like_core.specs.declared.view.PhaseMask.{PhaseMask}
+use Rattle.like_core.specs.declared.view.WorkerSeatView.{WorkerSeatView}
 use Rattle.like_core.specs.Additions.{all_added, added_to, added_in}
 use Rattle.like_core.specs.PageSteps.{additions_among, look_after, page_step}
 use Rattle.like_core.specs.Phase.{IsSplit, is_marked, split_by}
+use Rattle.like_limits.specs.Limits.{hot_pages}
+use Rattle.like_core.specs.OpeningLimits.{has_slots}
+use Rattle.like_core.specs.Slots.{mask_of_slots}
 use Rattle.like_core.specs.PhaseMasks.{mask_of, HasMask}
-use Rattle.like_core.specs.WorkerState.{IsRunning, SawEnding, phase_of, running_sight, seen}
+use Rattle.like_core.specs.WorkerState.{IsRunning, RunsSplit, SawEnding, phase_of, running_sight, seen}
 
--- a post: its board and worker, its worker's state, and all that it has seen, added, read and glanced at
-pub record PostView : Type 0 where
-  -- the numbers that tell its board from others
-  pub board : List ℕ
-  pub worker : ℕ
-  -- whether each page of the board is marked as split
-  pub marks : List Bool
-  pub limits : Limits
-  -- the factor of the buckets of its pages
-  pub factor : ℕ
-  -- the worker's state
-  pub state : WorkerState
-  -- its last sight, if it looked, and all its looks, in order, each with how much it had done before
-  pub last : Option Sight
-  pub looks : List Look
-  -- all that it did at pages, the latest step first
-  pub did : List PageStep
-  -- the masks of hot pages that it read, the latest first
-  pub masks : List PhaseMask
+-- a worker's view before its seat made a step: it runs phase 0, and did nothing yet
+abbrev pub fresh : Opening → ℕ → WorkerSeatView
+fresh z worker = record {
+  opening = z;
+  worker = worker;
+  state = Runs 0;
+  last = None;
+  looks = [];
+  did = [];
+  masks = [];
+  slots = [];
+}
+
+-- no call was made on the post yet
+abbrev pub IsFresh : WorkerSeatView → Type 0
+IsFresh v = v ≡ fresh v.opening v.worker
 
 -- how many pages there are
-abbrev pub pages_of : PostView → ℕ
-pages_of v = length v.marks
+abbrev pub pages_of : WorkerSeatView → ℕ
+pages_of v = length v.opening.marks
 
 -- how much was added to a page
-abbrev pub additions_of : PostView → ℕ → ℕ
+abbrev pub additions_of : WorkerSeatView → ℕ → ℕ
 additions_of v page = added_to page (additions_among v.did)
 
 -- how much of it in one phase
-abbrev pub additions_in : PostView → ℕ → ℕ → ℕ
+abbrev pub additions_in : WorkerSeatView → ℕ → ℕ → ℕ
 additions_in v phase page = added_in phase page (additions_among v.did)
 
--- no call was made on the post yet
-pub record IsFresh (v : PostView) : Type 0 where
-  pub runs : v.state ≡ Runs 0
-  pub never_looked : v.last ≡ None
-  pub no_looks : v.looks ≡ []
-  pub did_nothing : v.did ≡ []
-  pub no_masks : v.masks ≡ []
-
 -- whether the page is sliced in the post's phase
-abbrev pub slices : PostView → ℕ → Bool
-slices v page = split_by v.limits.hot (is_marked v.marks) (mask_of v.masks) (phase_of v.state) page
+abbrev pub slices : WorkerSeatView → ℕ → Bool
+slices v page = split_by v.opening.limits.hot (is_marked v.opening.marks) (mask_of v.masks) (phase_of v.state) page
 
 -- the post knows whether the page is sliced: an unmarked page that may be hot may be so in a split phase, so there the
 -- post has read the phase's mask
-abbrev pub KnowsSlices : PostView → ℕ → Type 0
+abbrev pub KnowsSlices : WorkerSeatView → ℕ → Type 0
 KnowsSlices v page =
-    IsSplit (phase_of v.state) → is_marked v.marks page ≡ false → page < v.limits.hot
+    IsSplit (phase_of v.state) → is_marked v.opening.marks page ≡ false → page < v.opening.limits.hot
     → HasMask (phase_of v.state) v.masks
 
--- the post after a look
-abbrev pub looked_at : PostView → Sight → PostView
+-- the post after a look. Like each step on the phase word, it forgets the slots that were read
+abbrev pub looked_at : WorkerSeatView → Sight → WorkerSeatView
 looked_at v sight = record v {
   state = seen v.state sight;
   last = Some sight;
   looks = v.looks ++ look_after sight v.did ∷ [];
+  slots = [];
 }
 
 -- the post after an acknowledgement or a report
-abbrev pub answered : PostView → PostView
-answered v = record v { state = Answered (phase_of v.state) }
+abbrev pub answered : WorkerSeatView → WorkerSeatView
+answered v = record v { state = Answered (phase_of v.state); slots = [] }
 
 -- the post after it retired
-abbrev pub retired : PostView → PostView
-retired v = record v { state = Gone }
+abbrev pub retired : WorkerSeatView → WorkerSeatView
+retired v = record v { state = Gone; slots = [] }
 
 -- the post after it came back, into this phase, which it saw running
-abbrev pub returned : PostView → ℕ → PostView
+abbrev pub returned : WorkerSeatView → ℕ → WorkerSeatView
 returned v phase = record v {
   state = Runs phase;
   last = Some (running_sight phase);
   looks = v.looks ++ look_after (running_sight phase) v.did ∷ [];
+  slots = [];
 }
 
 -- the post after it did this at a page, whose count was `found` before
-abbrev pub stepped : PostView → ℕ → ℕ → PageCall → PostView
+abbrev pub stepped : WorkerSeatView → ℕ → ℕ → PageCall → WorkerSeatView
 stepped v page found call = record v { did = page_step v.worker (phase_of v.state) page found call ∷ v.did }
 
 -- after it added n to the count, read it, or glanced at it
-abbrev pub added : PostView → ℕ → ℕ → ℕ → PostView
+abbrev pub added : WorkerSeatView → ℕ → ℕ → ℕ → WorkerSeatView
 added v page old n = stepped v page old (Add n)
 
-abbrev pub has_read : PostView → ℕ → ℕ → PostView
+abbrev pub has_read : WorkerSeatView → ℕ → ℕ → WorkerSeatView
 has_read v page count = stepped v page count Read
 
-abbrev pub has_glanced : PostView → ℕ → ℕ → PostView
+abbrev pub has_glanced : WorkerSeatView → ℕ → ℕ → WorkerSeatView
 has_glanced v page count = stepped v page count Glance
 
--- the post after it read the mask of its phase's hot pages, which was this
-abbrev pub with_mask : PostView → ℕ → PostView
-with_mask v mask = record v { masks = record { phase = phase_of v.state; mask = mask } ∷ v.masks }
+-- the post after it read the mask of its phase's hot pages, which was this. The slots have told what they had to tell
+abbrev pub with_mask : WorkerSeatView → ℕ → WorkerSeatView
+with_mask v mask = record v { masks = record { phase = phase_of v.state; mask = mask } ∷ v.masks; slots = [] }
+
+-- the post after it read a slot, which holds this page: it begins anew with slot 0
+abbrev pub with_slot : WorkerSeatView → ℕ → ℕ → WorkerSeatView
+with_slot v slot page = record v { slots = take slot v.slots ++ page ∷ [] }
+
+-- the mask of the pages in the slots that it read, where this word says which are in use
+abbrev pub slots_read : WorkerSeatView → ℕ → ℕ
+slots_read v bits = mask_of_slots (slice_index v.slots) bits hot_pages
 
 -- n likes may be added to the page: 1 if it isn't sliced; if it is, some, once the end of the phase was seen
-pub record MayAdd (v : PostView) (page n : ℕ) : Type 0 where
+pub record MayAdd (v : WorkerSeatView) (page n : ℕ) : Type 0 where
   pub runs : IsRunning v.state
   pub there : page < pages_of v
   pub known : KnowsSlices v page
@@ -118,18 +119,31 @@ pub record MayAdd (v : PostView) (page n : ℕ) : Type 0 where
   -- a slice has likes, and is merged once the end of the phase was seen
   pub merge : slices v page ≡ true → (1 ≤ n) × SawEnding v.last
   -- all additions of the post together stay within the likes of a worker
-  pub few : all_added (additions_among v.did) + n ≤ v.limits.likes
+  pub few : all_added (additions_among v.did) + n ≤ v.opening.limits.likes
 
 -- the page may be read: it is not sliced
-pub record MayRead (v : PostView) (page : ℕ) : Type 0 where
+pub record MayRead (v : WorkerSeatView) (page : ℕ) : Type 0 where
   pub runs : IsRunning v.state
   pub there : page < pages_of v
   pub known : KnowsSlices v page
   pub plain : slices v page ≡ false
 
 -- the page may be glanced at: it is sliced
-pub record MayGlance (v : PostView) (page : ℕ) : Type 0 where
+pub record MayGlance (v : WorkerSeatView) (page : ℕ) : Type 0 where
   pub runs : IsRunning v.state
   pub there : page < pages_of v
   pub known : KnowsSlices v page
   pub sliced : slices v page ≡ true
+
+-- a slot may be read: the post runs a split phase of a service, and has read those before it
+pub record MayReadSlot (v : WorkerSeatView) (slot : ℕ) : Type 0 where
+  pub split : RunsSplit v.state
+  pub slotted : has_slots v.opening.limits ≡ true
+  pub there : slot < hot_pages
+  pub next : slot ≤ length v.slots
+
+-- it may be read which of them are in use: all were read
+pub record MayReadSlots (v : WorkerSeatView) : Type 0 where
+  pub split : RunsSplit v.state
+  pub slotted : has_slots v.opening.limits ≡ true
+  pub all : length v.slots ≡ hot_pages

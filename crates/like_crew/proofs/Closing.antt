@@ -6,12 +6,12 @@ use Rattle.like_requests.specs.declared.request.Request.{Request}
 use Rattle.like_requests.specs.declared.setup.Setup.{Setup}
 use Rattle.like_core.specs.declared.opening.Opening.{Opening}
 use Rattle.like_core.specs.declared.worker_state.WorkerState.TheVariants.{Gone}
-use Rattle.like_core.specs.Post.{PostView}
 use Rattle.like_board.specs.declared.worker_seat.WorkerSeat.{WorkerSeat}
 use Rattle.like_board.specs.Closed.{IsClosedBoard}
-use Rattle.like_board.specs.Seats.{AreAll, board_id, board_numbers, coord_view, seat_board, seat_meaning}
+use Rattle.like_board.specs.Seats.{AreAll, board_id, board_numbers, coord_view, seat_board, seat_view}
 use Rattle.like_board.proofs.InOrder.{all_in_order}
-use Rattle.like_board.proofs.Meanings.{same_board}
+use Rattle.like_board.proofs.BoardNumbers.{same_board}
+use Rattle.like_core.specs.declared.view.WorkerSeatView.{WorkerSeatView}
 use Rattle.like_promises.specs.WorkloadOf.{workload_of}
 use Rattle.like_promises.specs.declared.chosen.Chosen.{Chosen}
 use Rattle.like_promises.specs.declared.log.WorkerLog.{WorkerLog}
@@ -58,17 +58,17 @@ left-of setup plans site e h = record {
   here k seat at =
       let s = seat-at k seat at in
       same_board (seat_board seat) (board_id site.board)
-      (ap (λ (p : PostView). p.board) s.1.1 ∙ (is k s.0 s.1.0).board_is)
+      (s.1.1.board ∙ (is k s.0 s.1.0).board_is)
 
-  whose : (k : ℕ) (seat : WorkerSeat) → slice_get e.seats.items k ≡ Some seat → (seat_meaning seat).worker ≡ k
+  whose : (k : ℕ) (seat : WorkerSeat) → slice_get e.seats.items k ≡ Some seat → (seat_view seat).worker ≡ k
   whose k seat at =
       let s = seat-at k seat at in
-      ap (λ (p : PostView). p.worker) s.1.1 ∙ (is k s.0 s.1.0).whose
+      ap (λ (p : WorkerSeatView). p.worker) s.1.1.view ∙ (is k s.0 s.1.0).whose
 
-  gone : (k : ℕ) (seat : WorkerSeat) → slice_get e.seats.items k ≡ Some seat → (seat_meaning seat).state ≡ Gone
+  gone : (k : ℕ) (seat : WorkerSeat) → slice_get e.seats.items k ≡ Some seat → (seat_view seat).state ≡ Gone
   gone k seat at =
       let s = seat-at k seat at in
-      ap (λ (p : PostView). p.state) s.1.1
+      ap (λ (p : WorkerSeatView). p.state) s.1.1.view
       ∙ subst (λ (x : ServerView). x.worker.post.state ≡ Gone) (get_or_from_slice_get h.servers k s.0 s.0 s.1.0)
       (h.gone k s.0 (slice_get_within h.servers k s.0 s.1.0))
 
@@ -86,7 +86,7 @@ outcome-of setup plans site e o h logs counts phases chosen = record {
   logs = subst (λ (xs : Vec WorkerLog Global). AllZip IsLogOf h.servers xs.items) (sym logs) h.logs;
   seats = e.seats.items;
   seats_are = pairs-weaker IsSeatOf IsSeatLike h.servers e.seats.items
-      (λ s seat is. ap (λ (p : PostView). record p { board = [] }) is) h.seats;
+      (λ s seat is. is.view) h.seats;
   coord = coord_view e.coord;
   opening = h.opening;
   counts = counts;

@@ -9,7 +9,7 @@ use Rattle.like_limits.specs.Limits.{max_requests}
 use Rattle.like_requests.specs.Setup.{FitsRun, IsPlan}
 use Rattle.like_requests.specs.declared.request.Request.{Request}
 use Rattle.like_requests.specs.declared.setup.Setup.{Setup}
-use Rattle.like_core.specs.Post.{PostView}
+use Rattle.like_core.specs.declared.view.WorkerSeatView.{WorkerSeatView}
 use Rattle.like_queue.specs.Inbox.{InboxView}
 use Rattle.like_tables.specs.Share.{dealt, share_of}
 use Rattle.like_roles.specs.worker.Follows.{IsWorkloadOf}
@@ -72,12 +72,12 @@ inboxes-for setup sizes worker inboxes own some sized none good is = record {
 }
 
 -- a server that was made for a worker
-pub is-server : (setup : Setup) (sizes : List ℕ) (worker : ℕ) (inboxes own : List InboxView) (post : PostView)
+pub is-server : (setup : Setup) (sizes : List ℕ) (worker : ℕ) (inboxes own : List InboxView) (post : WorkerSeatView)
     (board : List ℕ) (notes : Bool) (s : ServerView)
     → sizes ≡ map length (plans_of inboxes)
     → own ≡ dealt setup.workers worker inboxes
     → IsPostOf worker setup.pages post
-    → post.board ≡ board
+    → s.worker.board ≡ board
     → s.worker.last.share ≡ share_of setup.users (length sizes) setup.workers worker
     → s.worker.post ≡ post → s.worker.notes ≡ notes
     → ((workload : Workload) → IsWorkloadOf setup sizes workload → AreOwnPlans workload setup.workers worker own
@@ -87,8 +87,8 @@ is-server setup sizes worker inboxes own post board notes s sized is fresh here 
   share = share
       ∙ ap (λ n. share_of setup.users n setup.workers worker)
       (ap (λ (xs : List ℕ). length xs) sized ∙ length-map (plans_of inboxes) length);
-  whose = ap (λ (p : PostView). p.worker) at ∙ fresh.is_his;
-  board_is = ap (λ (p : PostView). p.board) at ∙ here;
+  whose = ap (λ (p : WorkerSeatView). p.worker) at ∙ fresh.is_his;
+  board_is = here;
   notes_are = noting;
   works = λ hot. works (record (workload_of setup (plans_of inboxes)) { hot = hot })
       (record { users_are = refl; pages_are = refl; stash_is = refl; sizes_are = sym sized })

@@ -12,12 +12,12 @@ use Rattle.like_core.specs.declared.page_step.PageStep.{PageStep}
 use Rattle.like_core.specs.declared.view.Addition.{Addition}
 use Rattle.like_core.specs.Additions.{added_in}
 use Rattle.like_core.specs.PageSteps.{AreInTurn, additions_among, adds_to, and_addition, earliest_first, likes_in, likes_of, steps_by}
-use Rattle.like_core.specs.Post.{PostView}
 use Rattle.like_core.specs.views.Order.{HasDone}
 use Rattle.like_core.specs.views.PostOrder.{IsOrderOf}
 use Rattle.like_core.proofs.core.Labels.{added_in-push}
 use Rattle.like_board.specs.declared.worker_seat.WorkerSeat.{WorkerSeat}
-use Rattle.like_board.specs.Seats.{seat_meaning}
+use Rattle.like_board.specs.Seats.{seat_view}
+use Rattle.like_core.specs.declared.view.WorkerSeatView.{WorkerSeatView}
 use Rattle.like_promises.specs.declared.log.Ran.{Ran}
 use Rattle.like_promises.specs.declared.log.WorkerLog.{WorkerLog}
 use Rattle.like_promises.specs.EndToEnd.{runs_of}
@@ -107,13 +107,13 @@ module _ (setup : Setup) (plans : List (List Request)) (notes : Bool) (e : Outco
 
   -- no seat is of a worker that is not there
   none-seated : (worker : ℕ) → length e.logs.items ≤ worker
-      → count_by (λ seat. (seat_meaning seat).worker == worker) h.seats ≡ 0
+      → count_by (λ seat. (seat_view seat).worker == worker) h.seats ≡ 0
   none-seated worker past =
-      count-none (λ (seat : WorkerSeat). (seat_meaning seat).worker == worker) h.seats
+      count-none (λ (seat : WorkerSeat). (seat_view seat).worker == worker) h.seats
       (λ k d within.
       let own = seat-worker setup plans notes e h k (get_or h.seats k d)
       (slice_get-get_or h.seats k d within) in
-      ne_eqb (seat_meaning (get_or h.seats k d)).worker worker
+      ne_eqb (seat_view (get_or h.seats k d)).worker worker
       (λ same. absurd
       (omega (arith, own, same, within, past, seats-size setup plans notes e h, logs-size setup plans notes e h))))
 
@@ -128,7 +128,7 @@ module _ (setup : Setup) (plans : List (List Request)) (notes : Bool) (e : Outco
     | inr past ↦
         subst (λ did. FitsRunList (known setup plans notes e h) (earliest_first did) (run_of (runs_of e.logs.items) worker))
         (sym (order.others worker
-        (sum-of-map (λ (p : PostView). cond {A = ℕ} (p.worker == worker) 1 0) seat_meaning h.seats
+        (sum-of-map (λ (p : WorkerSeatView). cond {A = ℕ} (p.worker == worker) 1 0) seat_view h.seats
         ∙ none-seated worker past)))
         (subst (FitsRunList (known setup plans notes e h) [])
         (sym (no_run (runs_of e.logs.items) worker

@@ -54,7 +54,7 @@ new-start setup plans c new =
           ∙ sym (ap (λ (v : CoordinatorView). v.turns) new.coordinator);
       runs = all-map progress_of (λ (w : WorkerProgress). w.state ≡ Runs 0) c.servers
           (seconds R (λ (s : ServerView). s.worker.post.state ≡ Runs 0) (range_with_len 0 setup.workers) c.servers
-          (λ k s is. is.post.fresh.runs) new.servers);
+          (λ k s is. ap (λ v. v.state) is.post.fresh) new.servers);
       none = all-map progress_of (λ (w : WorkerProgress). w.looks ≡ 0) c.servers
           (seconds R (λ (s : ServerView). length s.worker.held.held ≡ 0) (range_with_len 0 setup.workers) c.servers
           (λ k s is. ap (λ (w : Waiting Held). length w.held) is.new.held) new.servers);

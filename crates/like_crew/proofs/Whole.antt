@@ -18,13 +18,13 @@ use Rattle.like_core.specs.declared.opening.Opening.{Opening}
 use Rattle.like_core.specs.declared.view.PageCount.{PageCount}
 use Rattle.like_core.specs.Additions.{added_before}
 use Rattle.like_core.specs.PhaseMasks.{mask_of, AreMasksOf}
-use Rattle.like_core.specs.Post.{PostView, additions_of}
+use Rattle.like_core.specs.Post.{additions_of}
 use Rattle.like_core.specs.WorkerState.{SawNoLater}
 use Rattle.like_core.specs.views.Posts.{posts_added, posts_before}
 use Rattle.like_core.specs.views.Reads.{IsCounted}
 use Rattle.like_board.specs.declared.worker_seat.WorkerSeat.{WorkerSeat}
 use Rattle.like_board.specs.Closed.{count_with}
-use Rattle.like_board.specs.Seats.{seat_meaning}
+use Rattle.like_board.specs.Seats.{seat_view}
 use Rattle.like_core.specs.PageSteps.{additions_among}
 use Rattle.like_tables.specs.Share.{Share, share_of, worker_of}
 use Rattle.like_tables.specs.UserTable.{last_of}
@@ -41,6 +41,7 @@ use Rattle.like_roles.specs.coordinator.Choice.{AreTotals, likes_counted}
 use Rattle.like_promises.specs.HotPages.{chosen_below, hot_by, likes_lately}
 use Rattle.like_promises.specs.Workload.{Workload, submitters}
 use Rattle.like_collection.specs.Entries.{IsRequest}
+use Rattle.like_core.specs.declared.view.WorkerSeatView.{WorkerSeatView}
 use Rattle.like_promises.specs.Collected.{entries_in, entries_of}
 use Rattle.like_crew.specs.declared.outcome.Outcome.{Outcome}
 use Rattle.like_promises.specs.EndToEnd.{AreCounts, AreLastLikes, AreLogs, runs_of}
@@ -135,23 +136,22 @@ module _ (setup : Setup) (plans : List (List Request)) (notes : Bool) (e : Outco
   pub seats-size : length h.seats ≡ setup.workers
   seats-size = sym (pairs-length IsSeatLike h.servers h.seats h.seats_are) ∙ servers-size
 
-  -- what the seats that were left mean as posts
-  abbrev pub posts : List PostView
-  posts = map seat_meaning h.seats
+  -- what the seats that were left know
+  abbrev pub posts : List WorkerSeatView
+  posts = map seat_view h.seats
 
   -- what is true of all of them is true of a server's
-  pub at-post : (P : PostView → Type 0) → All (λ p. P (record p { board = [] })) posts → (worker : ℕ) (s : ServerView)
-      → slice_get h.servers worker ≡ Some s → P (record s.worker.post { board = [] })
+  pub at-post : (P : WorkerSeatView → Type 0) → All P posts → (worker : ℕ) (s : ServerView)
+      → slice_get h.servers worker ≡ Some s → P s.worker.post
   at-post P all worker s at =
       let seat = right-at IsSeatLike h.servers h.seats worker s h.seats_are at in
       subst P seat.1.1
-      (subst (λ (x : WorkerSeat). P (record (seat_meaning x) { board = [] }))
-      (get_or_from_slice_get h.seats worker seat.0 seat.0 seat.1.0)
-      (all-back seat_meaning (λ p. P (record p { board = [] })) h.seats all worker seat.0 (slice_get_within h.seats worker seat.0 seat.1.0)))
+      (subst (λ (x : WorkerSeat). P (seat_view x)) (get_or_from_slice_get h.seats worker seat.0 seat.0 seat.1.0)
+      (all-back seat_view P h.seats all worker seat.0 (slice_get_within h.seats worker seat.0 seat.1.0)))
 
   -- the masks that the workers read are those
   abbrev pub HaveMasks : Type 0
-  HaveMasks = All (λ (p : PostView). AreMasksOf hot_known p.masks) posts
+  HaveMasks = All (λ (p : WorkerSeatView). AreMasksOf hot_known p.masks) posts
 
   -- the counts that the coordinator read have all that was added by then
   abbrev pub HasCounted : Type 0
@@ -159,11 +159,11 @@ module _ (setup : Setup) (plans : List (List Request)) (notes : Bool) (e : Outco
 
   -- no worker saw a later phase than the coordinator's
   abbrev pub SawNoneLater : Type 0
-  SawNoneLater = All (λ (p : PostView). SawNoLater h.coord.phase p.last) posts
+  SawNoneLater = All (λ (p : WorkerSeatView). SawNoLater h.coord.phase p.last) posts
 
   pub right-at-server : HaveMasks → (worker : ℕ) (s : ServerView) → slice_get h.servers worker ≡ Some s
       → ReadMasksOf known s
-  right-at-server masks worker s at = at-post (λ (p : PostView). AreMasksOf hot_known p.masks) masks worker s at
+  right-at-server masks worker s at = at-post (λ (p : WorkerSeatView). AreMasksOf hot_known p.masks) masks worker s at
 
   pub log-at : HaveMasks → (worker : ℕ) (log : WorkerLog) → slice_get e.logs.items worker ≡ Some log
       → IsLog known setup.workers worker log
@@ -195,10 +195,10 @@ module _ (setup : Setup) (plans : List (List Request)) (notes : Bool) (e : Outco
   -- the additions of all seats are the accepted likes of all logs
   pub all-likes : HaveMasks → (page : ℕ) → posts_added posts page ≡ likes known page (runs_of e.logs.items)
   all-likes masks page =
-      sum-of-map (λ (p : PostView). additions_of p page) seat_meaning h.seats
+      sum-of-map (λ (p : WorkerSeatView). additions_of p page) seat_view h.seats
       ∙ sym (pairs-sum IsSeatLike (λ (s : ServerView). additions_of s.worker.post page)
-      (λ (seat : WorkerSeat). additions_of (seat_meaning seat) page) h.servers h.seats
-      (λ s seat m. ap (λ (p : PostView). additions_of p page) (sym m)) h.seats_are)
+      (λ (seat : WorkerSeat). additions_of (seat_view seat) page) h.servers h.seats
+      (λ s seat m. ap (λ (p : WorkerSeatView). additions_of p page) (sym m)) h.seats_are)
       ∙ pairs-sum (λ (s : ServerView)
       (log : WorkerLog). ((page : ℕ) → likes_among known page log.ran.items ≡ additions_of s.worker.post page))
       (λ (s : ServerView). additions_of s.worker.post page)
@@ -228,10 +228,10 @@ module _ (setup : Setup) (plans : List (List Request)) (notes : Bool) (e : Outco
       → (s : ServerView) × ((slice_get h.servers k ≡ Some s) × IsSeatLike s seat)
   seat-at k seat at = left-at IsSeatLike h.servers h.seats k seat h.seats_are at
 
-  pub seat-worker : (k : ℕ) (seat : WorkerSeat) → slice_get h.seats k ≡ Some seat → (seat_meaning seat).worker ≡ k
+  pub seat-worker : (k : ℕ) (seat : WorkerSeat) → slice_get h.seats k ≡ Some seat → (seat_view seat).worker ≡ k
   seat-worker k seat at =
       let s = seat-at k seat at in
-      ap (λ (p : PostView). p.worker) s.1.1 ∙ (server-at k s.0 s.1.0).whose
+      ap (λ (p : WorkerSeatView). p.worker) s.1.1 ∙ (server-at k s.0 s.1.0).whose
 
   -- the final counts
   pub counts-are : HaveMasks → (counts : List ℕ)
@@ -253,10 +253,10 @@ module _ (setup : Setup) (plans : List (List Request)) (notes : Bool) (e : Outco
   pub all-before : HaveMasks → (phase page : ℕ)
       → posts_before posts phase page ≡ likes_below known page (runs_of e.logs.items) phase
   all-before masks phase page =
-      sum-of-map (λ (p : PostView). added_before phase page (additions_among p.did)) seat_meaning h.seats
+      sum-of-map (λ (p : WorkerSeatView). added_before phase page (additions_among p.did)) seat_view h.seats
       ∙ sym (pairs-sum IsSeatLike (λ (s : ServerView). added_before phase page (additions_among s.worker.post.did))
-      (λ (seat : WorkerSeat). added_before phase page (additions_among (seat_meaning seat).did)) h.servers h.seats
-      (λ s seat m. ap (λ (p : PostView). added_before phase page (additions_among p.did)) (sym m)) h.seats_are)
+      (λ (seat : WorkerSeat). added_before phase page (additions_among (seat_view seat).did)) h.servers h.seats
+      (λ s seat m. ap (λ (p : WorkerSeatView). added_before phase page (additions_among p.did)) (sym m)) h.seats_are)
       ∙ pairs-sum (λ (s : ServerView) (log : WorkerLog). HasWorkedFor known s × IsLogOf s log)
       (λ (s : ServerView). added_before phase page (additions_among s.worker.post.did))
       (λ (log : WorkerLog). likes_among known page (filter (λ x. nat_lt x.phase phase) log.ran.items)) h.servers
@@ -315,7 +315,7 @@ module _ (setup : Setup) (plans : List (List Request)) (notes : Bool) (e : Outco
       let s = left-at IsLogOf h.servers e.logs.items worker log h.logs at in
       let saw : IfSome s.0.worker.post.last (λ sight. sight.number ≤ e.phases) =
       subst (λ n. IfSome s.0.worker.post.last (λ sight. sight.number ≤ n)) (sym h.phases)
-      (at-post (λ (p : PostView). SawNoLater h.coord.phase p.last) phases worker s.0 s.1.0) in
+      (at-post (λ (p : WorkerSeatView). SawNoLater h.coord.phase p.last) phases worker s.0 s.1.0) in
       let within = below s.0.worker.post.last log.taken.items e.phases s.1.1.above saw in
       let it = log-at masks worker log at in (
         record {

@@ -5,7 +5,7 @@ use Rattle.like_core.specs.Phase.{IsJoined}
 use Rattle.like_core.specs.declared.worker_state.WorkerState.TheVariants.{Gone}
 use Rattle.like_board.specs.declared.coord_seat.CoordSeat.{CoordSeat}
 use Rattle.like_board.specs.declared.worker_seat.WorkerSeat.{WorkerSeat}
-use Rattle.like_board.specs.Seats.{AreAll, BoardId, board_id, board_numbers, coord_board, coord_view, seat_board, seat_meaning}
+use Rattle.like_board.specs.Seats.{AreAll, BoardId, board_id, board_numbers, coord_board, coord_view, seat_board, seat_view}
 use Rattle.like_roles.specs.coordinator.CoordTurns.{ChoseByCounts, CoordinatorView, HasEndedJoined}
 use Rattle.like_promises.specs.declared.log.WorkerLog.{WorkerLog}
 use Rattle.like_requests.specs.declared.request.Request.{Request}
@@ -19,9 +19,10 @@ use Rattle.like_crew.specs.Crew.{AreGone, CoordinatorGoesOn, CrewView}
 use Rattle.like_crew.specs.Server.{IsLogOf, ServerGoesOn, ServerView}
 use Rattle.like_crew.specs.Servers.{AreServers}
 
--- the seat that a server leaves
-abbrev pub IsSeatOf : ServerView → WorkerSeat → Type 0
-IsSeatOf s seat = seat_meaning seat ≡ s.worker.post
+-- the seat that a server leaves: at its board, it knows what the server's post does
+pub record IsSeatOf (s : ServerView) (seat : WorkerSeat) : Type 0 where
+  pub board : board_numbers (seat_board seat) ≡ s.worker.board
+  pub view : seat_view seat ≡ s.worker.post
 
 -- a server went on from this one until its worker was gone, and left this log and this seat
 pub record HasLeft (first : ServerView) (log : WorkerLog) (seat : WorkerSeat) : Type 0 where
@@ -44,7 +45,7 @@ pub record AreLeft (board : BoardId) (coord : CoordSeat) (seats : List WorkerSea
   pub coord_here : coord_board coord ≡ board
   pub seats_here : All (λ seat. seat_board seat ≡ board) seats
   pub all : AreAll (coord_view coord).opening.workers seats
-  pub gone : All (λ seat. (seat_meaning seat).state ≡ Gone) seats
+  pub gone : All (λ seat. (seat_view seat).state ≡ Gone) seats
 
 -- the coordinator found the run ended, in a joined phase, and chose by the counts that it read; and it left this phase,
 -- this seat and its choices

@@ -1,12 +1,12 @@
 -- What a run has left once its board is closed.
-use Rattle.std.specs.Prelude.{◌≡◌, ℕ, Bool, List, []}
+use Rattle.std.specs.Prelude.{◌≡◌, ℕ, Bool, List}
 use Rattle.std.specs.List.{AllZip}
 use Rattle.like_requests.specs.declared.request.Request.{Request}
 use Rattle.like_requests.specs.declared.setup.Setup.{Setup}
 use Rattle.like_core.specs.Phase.{IsJoined}
 use Rattle.like_core.specs.declared.view.CoordSeatView.{CoordSeatView}
 use Rattle.like_board.specs.Closed.{IsClosedBoard}
-use Rattle.like_board.specs.Seats.{seat_meaning}
+use Rattle.like_board.specs.Seats.{seat_view}
 use Rattle.like_board.specs.declared.worker_seat.WorkerSeat.{WorkerSeat}
 use Rattle.like_promises.specs.WorkloadOf.{workload_of}
 use Rattle.like_roles.specs.coordinator.Choice.{AreTotals, ChoiceView, HasChosen}
@@ -15,9 +15,9 @@ use Rattle.like_crew.specs.Server.{IsLogOf, ServerView}
 use Rattle.like_crew.specs.Servers.{AreServers}
 use Rattle.like_crew.specs.Site.{opening_of}
 
--- the seat means what the server's post does, whatever the boards are
+-- the seat knows what the server's post does, whatever the boards are
 abbrev pub IsSeatLike : ServerView → WorkerSeat → Type 0
-IsSeatLike s seat = record (seat_meaning seat) { board = [] } ≡ record s.worker.post { board = [] }
+IsSeatLike s seat = seat_view seat ≡ s.worker.post
 
 -- the outcome of a run of these plans: its servers left these logs and seats, with which its board was closed; it ended
 -- in a joined phase, which is the last one that the coordinator's seat knows; and the coordinator chose by its counts

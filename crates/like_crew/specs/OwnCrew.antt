@@ -4,11 +4,10 @@ use Rattle.std.specs.List.{AllZip}
 use Rattle.like_core.specs.declared.view.CoordSeatView.{CoordSeatView}
 use Rattle.like_core.specs.declared.view.View.{View}
 use Rattle.like_core.specs.declared.view.View.TheVariants.{Coord, Worker}
-use Rattle.like_core.specs.views.Views.{post_of}
 use Rattle.like_board.specs.declared.own_board.OwnBoard.{OwnBoard}
 use Rattle.like_board.specs.declared.own_board.worker_seat.OwnWorkerSeat.{OwnWorkerSeat}
 use Rattle.like_board.specs.Closed.{IsClosedBoard}
-use Rattle.like_board.specs.Own.{own_meaning, own_place, own_views}
+use Rattle.like_board.specs.Own.{own_place, own_view, own_views}
 use Rattle.like_board.specs.OwnClosed.{all_views}
 use Rattle.like_board.specs.declared.worker_seat.WorkerSeat.{WorkerSeat}
 use Rattle.like_roles.specs.coordinator.CoordTurns.{ChoseByCounts}
@@ -35,7 +34,7 @@ servers_in slots = map (λ s. s.as_server) (those_in slots)
 -- a server is the one of this worker: its seat is at the worker's place, and its post means what its seat knows
 pub record IsSeated (worker : ℕ) (s : OwnServerView) : Type 0 where
   pub place : s.place ≡ worker + 1
-  pub post : s.as_server.worker.post ≡ post_of s.seat
+  pub post : s.as_server.worker.post ≡ s.seat
 
 -- each server is in its slot, and the seats of a board with these views are the coordinator's, which knows this, and
 -- those of the servers
@@ -46,7 +45,7 @@ pub record AreSeated (views : List View) (c : CoordSeatView) (slots : List (Opti
 
 -- the seat that a server leaves
 abbrev pub IsOwnSeatOf : ServerView → OwnWorkerSeat → Type 0
-IsOwnSeatOf s seat = own_meaning seat ≡ s.worker.post
+IsOwnSeatOf s seat = own_view seat ≡ s.worker.post
 
 -- the workers' seats were left in order at this board, whose coordinator knows this
 pub record AreLeftAt (c : CoordSeatView) (board : OwnBoard) (seats : List OwnWorkerSeat) : Type 0 where

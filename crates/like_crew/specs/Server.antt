@@ -107,7 +107,7 @@ pub record ServerGoesOn (s t : ServerView) : Type 0 where
   pub share : t.worker.last.share ≡ s.worker.last.share
   pub notes : t.worker.notes ≡ s.worker.notes
   pub whose : t.worker.post.worker ≡ s.worker.post.worker
-  pub board : t.worker.post.board ≡ s.worker.post.board
+  pub board : t.worker.board ≡ s.worker.board
   pub inboxes : length t.inboxes ≡ length s.inboxes
   pub works : (workload : Workload) → WorksFor workload s → WorksFor workload t
 

@@ -6,24 +6,14 @@ use Rattle.std.proofs.lemmas.List.Elements.{All-map, All-tail}
 use Rattle.std.proofs.lemmas.List.Sums.{sum_by-cons}
 use Rattle.like_board.specs.declared.worker_seat.WorkerSeat.{WorkerSeat}
 use Rattle.like_board.specs.Closed.{count_with}
-use Rattle.like_board.specs.Seats.{AreAll, BoardId, board_numbers, seat_board, seat_meaning}
-use Rattle.like_core.specs.Post.{PostView, additions_of}
+use Rattle.like_board.specs.Seats.{AreAll, BoardId, board_numbers, seat_board, seat_view}
+use Rattle.like_core.specs.Post.{additions_of}
+use Rattle.like_core.specs.declared.view.WorkerSeatView.{WorkerSeatView}
 use Rattle.like_core.specs.views.Posts.{last_count}
+use Rattle.like_board.proofs.BoardNumbers.{same_board}
 use Rattle.like_live.specs.Driver.{DriverView}
 use Rattle.like_live.specs.LiveView.{LiveView, tally}
 use Rattle.like_live.specs.Service.{AreBackFrom, AreGone, AreItsSeats, HasMergedOnceGone}
-
--- the numbers of a board tell it from others
-pub same-board : (a b : BoardId) → board_numbers a ≡ board_numbers b → a ≡ b
-same-board a b e = λ i. record {
-  words = get_or (e i) 0 0;
-  slots = get_or (e i) 1 0;
-  views_name = get_or (e i) 2 0;
-  atom = get_or (e i) 3 0;
-  block = get_or (e i) 4 0;
-  offset = get_or (e i) 5 0;
-  slot_names = drop 6 (e i);
-}
 
 -- a sum over what a list stands for
 pub sum-of-map : {A B : Type 0} (f : B → ℕ) (g : A → B) (xs : List A) → sum_by f (map g xs) ≡ sum_by (λ x. f (g x)) xs
@@ -56,7 +46,7 @@ pub all-alike : {A B C : Type 0} (P : C → Type 0) (p : A → C) (q : B → C) 
     → All (λ x. P (p x)) xs
 all-alike P p q xs ys same all = all-of-map P p xs (subst (All P) (sym same) (All-map P q ys all))
 
-abbrev pub post_at : LiveView → PostView
+abbrev pub post_at : LiveView → WorkerSeatView
 post_at s = s.station.post
 
 -- the seats that were given back are those of the driver's board
@@ -65,9 +55,9 @@ pub back-here : (v : DriverView) (seats : List LiveView) (back : List WorkerSeat
     → AreItsSeats v seats
     → All (λ seat. seat_board seat ≡ v.lead.board) back
 back-here v seats back same its = λ k d below.
-    same-board _ _
-    (all-alike (λ (post : PostView). post.board ≡ board_numbers v.lead.board) seat_meaning post_at back seats same
-    its.here k d below)
+    same_board _ _
+    (all-alike (λ (numbers : List ℕ). numbers ≡ board_numbers v.lead.board) (λ seat. board_numbers (seat_board seat))
+    (λ s. s.station.board) back seats same.boards its.here k d below)
 
 -- each of them once
 pub back-all : (v : DriverView) (seats : List LiveView) (back : List WorkerSeat)
@@ -75,8 +65,8 @@ pub back-all : (v : DriverView) (seats : List LiveView) (back : List WorkerSeat)
     → AreItsSeats v seats
     → AreAll v.lead.seat.opening.workers back
 back-all v seats back same its i there =
-    let one : PostView → ℕ = λ post. cond (post.worker == i) 1 0 in
-    sum-alike one seat_meaning post_at back seats same ∙ its.all i there
+    let one : WorkerSeatView → ℕ = λ post. cond (post.worker == i) 1 0 in
+    sum-alike one seat_view post_at back seats same.views ∙ its.all i there
 
 -- of seats that are gone, each page's last count is its first count and the tallies
 pub last-total : (v : DriverView) (seats : List LiveView) (back : List WorkerSeat) (page : ℕ)
@@ -85,8 +75,8 @@ pub last-total : (v : DriverView) (seats : List LiveView) (back : List WorkerSea
     → AreGone seats
     → count_with v.lead.seat back page ≡ slice_index v.lead.seat.opening.counts page + sum_by (λ s. tally s page) seats
 last-total v seats back page same merged gone =
-    ap (λ (posts : List PostView). last_count (slice_index v.lead.seat.opening.counts) posts page) same
+    ap (λ (posts : List WorkerSeatView). last_count (slice_index v.lead.seat.opening.counts) posts page) same.views
     ∙ ap (λ n. slice_index v.lead.seat.opening.counts page + n)
-    (sum-of-map (λ (post : PostView). additions_of post page) post_at seats
+    (sum-of-map (λ (post : WorkerSeatView). additions_of post page) post_at seats
     ∙ sym (sum-equal (λ s. tally s page) (λ (s : LiveView). additions_of s.station.post page) seats
     (λ k d below. merged k d below (gone k d below) page)))

@@ -10,13 +10,14 @@ use Rattle.like_core.specs.Additions.{added_to}
 use Rattle.like_core.specs.PageSteps.{additions_among, page_step, then_steps}
 use Rattle.like_core.specs.declared.worker_state.WorkerState.{WorkerState}
 use Rattle.like_core.specs.declared.worker_state.WorkerState.TheVariants as state
-use Rattle.like_core.specs.Post.{PostView, has_read, slices}
+use Rattle.like_core.specs.Post.{has_read, slices}
 use Rattle.like_core.specs.Phase.{IsJoined, is_hot_by, is_marked}
 use Rattle.like_core.specs.PhaseMasks.{mask_of}
 use Rattle.like_core.specs.WorkerState.{IsRunning, RunsJoined, RunsSplit, phase_of}
 use Rattle.like_tables.specs.Share.{owns}
 use Rattle.like_tables.specs.UserTable.{UserTable, last_of}
 use Rattle.like_core.proofs.Steps.{then-push}
+use Rattle.like_core.specs.declared.view.WorkerSeatView.{WorkerSeatView}
 use Rattle.like_seat.specs.declared.seen.Seen.{Seen}
 use Rattle.like_seat.specs.StationView.{StationView, phase_at}
 use Rattle.like_seat.specs.Steps.{Reads, without_first}
@@ -62,10 +63,10 @@ joined_phase (state.Answered k) h = absurd h
 joined_phase state.Gone h = absurd h
 
 -- no page is split in a joined phase
-pub plain : (post : PostView) (page : ℕ) → RunsJoined post.state → slices post page ≡ false
+pub plain : (post : WorkerSeatView) (page : ℕ) → RunsJoined post.state → slices post page ≡ false
 plain post page joined =
     let even = joined_phase post.state joined in
-    and_left _ (is_marked post.marks page || is_hot_by post.limits.hot (mask_of post.masks (phase_of post.state)) page)
+    and_left _ (is_marked post.opening.marks page || is_hot_by post.opening.limits.hot (mask_of post.masks (phase_of post.state)) page)
     (ne_eqb _ 1 (λ odd. absurd (omega arith)))
 
 -- what is true of all that waited is true of what each found look was
@@ -171,7 +172,7 @@ Finding-more v now next a f d first is shown post capacity slice sliced last fou
   post =
       post
       ∙ ap
-      (λ (p : PostView). record p { did = step_for v.station.post.worker f ∷ p.did }) d.post
+      (λ (p : WorkerSeatView). record p { did = step_for v.station.post.worker f ∷ p.did }) d.post
       ∙ (λ m. record v.station.post { did = did m });
   capacity = capacity ∙ d.capacity;
   slice = slice ∙ d.slice;
@@ -204,7 +205,7 @@ Finding-room v now f =
 pub Finding-joined : (v now : LiveView) (s : StationView Asked) → Finding v now
     → RunsJoined v.station.post.state → s ≡ without_first now.station → RunsJoined s.post.state
 Finding-joined v now s f joined is =
-    subst (λ (p : PostView). RunsJoined p.state) (sym (ap (λ (t : StationView Asked). t.post) is ∙ f.post)) joined
+    subst (λ (p : WorkerSeatView). RunsJoined p.state) (sym (ap (λ (t : StationView Asked). t.post) is ∙ f.post)) joined
 
 -- the first that waits still is the seat's, once it is taken out
 pub Finding-first : (v now : LiveView) (s : StationView Asked) (a : Asked) → Finding v now → All (IsOwn v.station) (waiting v)
@@ -213,8 +214,8 @@ Finding-first v now s a d own first is =
     let mine : IsOwn v.station a =
     All-head (IsOwn v.station) a (drop 1 (waiting now))
     (subst (All (IsOwn v.station)) (first_of (waiting now) a first) (Finding-own v now d own)) in
-    let marks : s.post.marks ≡ v.station.post.marks =
-    ap (λ (t : StationView Asked). t.post.marks) is ∙ ap (λ (p : PostView). p.marks) d.post in
+    let marks : s.post.opening.marks ≡ v.station.post.opening.marks =
+    ap (λ (t : StationView Asked). t.post.opening.marks) is ∙ ap (λ (p : WorkerSeatView). p.opening.marks) d.post in
     let last : s.last ≡ v.station.last = ap (λ (t : StationView Asked). t.last) is ∙ d.last in
     record {
       there = subst (λ (m : List Bool). a.page < length m) (sym marks) mine.there;
@@ -235,10 +236,10 @@ Finding-next v now s after found a seen phase d first is reads phase_is found_is
     let last : s.last ≡ v.station.last = ap (λ (t : StationView Asked). t.last) is ∙ d.last in
     let post : s.post ≡ now.station.post = ap (λ (t : StationView Asked). t.post) is in
     let additions : additions_among s.post.did ≡ additions_among v.station.post.did =
-    ap (λ (p : PostView). additions_among p.did) (post ∙ d.post)
+    ap (λ (p : WorkerSeatView). additions_among p.did) (post ∙ d.post)
     ∙ found-additions v.station.post.worker v.station.post.did d.found in
-    let state : phase_of now.station.post.state ≡ phase = ap (λ (p : PostView). phase_of p.state) d.post ∙ sym phase_is in
-    let worker : now.station.post.worker ≡ v.station.post.worker = ap (λ (p : PostView). p.worker) d.post in
+    let state : phase_of now.station.post.state ≡ phase = ap (λ (p : WorkerSeatView). phase_of p.state) d.post ∙ sym phase_is in
+    let worker : now.station.post.worker ≡ v.station.post.worker = ap (λ (p : WorkerSeatView). p.worker) d.post in
     let e : after ≡ record (without_first now.station) { post = has_read now.station.post a.page seen.count } =
     reads.read ∙ ap (λ (t : StationView Asked). record t { post = has_read t.post a.page seen.count }) is in
     let f : Found = record { asked = a; last = seen.last; count = seen.count; phase = phase } in

@@ -6,8 +6,9 @@ use Rattle.std.proofs.lemmas.List.FromFn.{length-map-range_with_len}
 use Rattle.std.proofs.lemmas.List.Sums.{sum_by-cons}
 use Rattle.like_core.specs.declared.worker_state.WorkerState.TheVariants as state
 use Rattle.like_core.specs.Additions.{added_to}
-use Rattle.like_core.specs.Post.{PostView, slices}
+use Rattle.like_core.specs.Post.{slices}
 use Rattle.like_core.specs.PageSteps.{additions_among}
+use Rattle.like_core.specs.declared.view.WorkerSeatView.{WorkerSeatView}
 use Rattle.like_seat.specs.StationView.{phase_at}
 use Rattle.like_seat.proofs.MergedLikes.{same_everywhere}
 use Rattle.like_tables.specs.Share.{owns}
@@ -99,7 +100,7 @@ told-look v after user page tag answer whole (calls.waits accepted split room a 
     }))
   where
     -- no page is split for one that is gone
-    gone-plain : (post : PostView) (page : ℕ) → post.state ≡ state.Gone → slices post page ≡ true → ⊥
+    gone-plain : (post : WorkerSeatView) (page : ℕ) → post.state ≡ state.Gone → slices post page ≡ true → ⊥
     gone-plain post page gone split =
         let e : slices post page ≡ false = ap (λ s. slices (record post { state = s }) page) gone in
         absurd (cc (sym e ∙ split))
@@ -241,7 +242,7 @@ whole_at_first v unused =
     let new = unused.new in
     record {
       sized = ap length new.slice ∙ length-replicate {A = ℕ} _ 0
-          ∙ ap (λ (p : PostView). length p.marks) (sym new.at_post);
+          ∙ ap (λ (p : WorkerSeatView). length p.opening.marks) (sym new.at_post);
       table = ap (λ (t : UserTable). length t.last) new.last
           ∙ length-map-range_with_len (λ user. cond (owns unused.share user) (last_in unused.lasts user) None) 0 unused.share.users
           ∙ ap (λ (t : UserTable). t.share.users) (sym new.last);
@@ -260,8 +261,8 @@ histories_are_counted v after told unused done =
     record {
       tallies = λ page.
           let added : added_to page (additions_among v.station.post.did) ≡ 0 =
-          ap (λ (p : PostView). added_to page (additions_among p.did)) new.at_post
-          ∙ ap (λ ds. added_to page (additions_among ds)) unused.fresh.did_nothing in
+          ap (λ (p : WorkerSeatView). added_to page (additions_among p.did)) new.at_post
+          ∙ ap (λ (p : WorkerSeatView). added_to page (additions_among p.did)) unused.fresh in
           let slice : get_or v.station.slice page 0 ≡ 0 =
           ap (λ (xs : List ℕ). get_or xs page 0) new.slice ∙ same_everywhere _ page 0 in
           let all = t.tallies page in

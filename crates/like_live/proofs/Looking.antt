@@ -7,8 +7,9 @@ use Rattle.like_core.specs.declared.sight.Sight.{Sight}
 use Rattle.like_core.specs.declared.worker_state.WorkerState.{WorkerState}
 use Rattle.like_core.specs.declared.worker_state.WorkerState.TheVariants as state
 use Rattle.like_core.specs.Phase.{IsJoined, IsSplit}
-use Rattle.like_core.specs.Post.{PostView, answered}
+use Rattle.like_core.specs.Post.{answered}
 use Rattle.like_core.specs.WorkerState.{IsRunning, IsSightOf, phase_of, seen}
+use Rattle.like_core.specs.declared.view.WorkerSeatView.{WorkerSeatView}
 use Rattle.like_seat.specs.Merge.{MergesAndReports, merged}
 use Rattle.like_seat.specs.StationView.{IsStation, StationView, phase_at}
 use Rattle.like_seat.specs.Steps.{ComesBack, LooksAndEnters}
@@ -163,7 +164,7 @@ found-live s t found now looked finds next kept =
     let asked : Found → Asked = λ f. f.asked in
     record {
       station = kept;
-      limits = ap (λ (v : LiveView). v.station.post.limits) is ∙ looked.limits;
+      limits = ap (λ (v : LiveView). v.station.post.opening.limits) is ∙ looked.limits;
       home = subst (λ (x : Share). x.submitters ≡ x.workers) (sym (ap (λ (v : LiveView). v.station.last.share) is)) looked.home;
       split = λ joined. none;
       own = all-none (IsOwn t) t.held.held none;
@@ -183,10 +184,10 @@ found-live s t found now looked finds next kept =
     }
 
 -- and it stays live in another state of its post
-pub stopped-live : (v : LiveView) (post : PostView)
+pub stopped-live : (v : LiveView) (post : WorkerSeatView)
     → IsLive v
     → waiting v ≡ []
-    → post.limits ≡ v.station.post.limits
+    → post.opening.limits ≡ v.station.post.opening.limits
     → IsStation (record v.station { post = post })
     → IsLive (with_station v (record v.station { post = post }))
 stopped-live v post live none same kept =

@@ -8,6 +8,7 @@ use lib.ListN.{get_elem?}
 use Rattle.like_board.specs.Seats.{BoardId, board_numbers}
 use Rattle.like_core.specs.declared.opening.Opening.{Opening as CoreOpening}
 use Rattle.like_core.proofs.views.ViewLists.{sum_lone}
+use Rattle.like_core.specs.declared.view.WorkerSeatView.{WorkerSeatView}
 use Rattle.like_live.specs.Driver.{DriverView}
 use Rattle.like_live.specs.declared.opening.Opening.{Opening}
 use Rattle.like_live.specs.LiveView.{IsSameSeat, LiveView}
@@ -51,9 +52,10 @@ opened-whole o driver seats is =
     ap (λ (d : DriverView). d.lead.seat.opening.workers) is.new in
     record {
       len = is.fresh.len ∙ sym workers;
-      here = λ k d below. (is.fresh.each k (get_or seats k d) (slice_get-get_or seats k d below)).here;
+      here = λ k d below. (is.fresh.each k (get_or seats k d) (slice_get-get_or seats k d below)).at_board;
       all = λ i below.
-          once-in-order seats o.seats is.fresh.len (λ k v at. (is.fresh.each k v at).worker) i
+          once-in-order seats o.seats is.fresh.len
+          (λ k v at. ap (λ (p : WorkerSeatView). p.worker) (is.fresh.each k v at).at_post) i
           (subst (λ n. i < n) workers below);
     }
 
@@ -76,11 +78,11 @@ zip-length R (x ∷ xs) (y ∷ ys) all = ap (λ n. suc n) (zip-length R xs ys al
 -- the seats stay the driver's, whatever calls are made of them
 pub calls-keep-whole : CallsKeepSeats
 calls-keep-whole v w seats after its driver same =
-    let board_at : LiveView → List ℕ = λ s. s.station.post.board in
+    let board_at : LiveView → List ℕ = λ s. s.station.board in
     let worker_at : LiveView → ℕ = λ s. s.station.post.worker in
     record {
       len = zip-length IsSameSeat seats after same ∙ its.len ∙ sym (ap (λ (z : CoreOpening). z.workers) driver.opening);
-      here = subst (λ (b : BoardId). All (λ s. s.station.post.board ≡ board_numbers b) after) (sym driver.board)
+      here = subst (λ (b : BoardId). All (λ s. s.station.board ≡ board_numbers b) after) (sym driver.board)
           (all-alike (λ (b : List ℕ). b ≡ board_numbers v.lead.board) board_at board_at after seats
           (zip-map IsSameSeat board_at seats after (λ x y s. s.board) same) its.here);
       all = λ i below.

@@ -10,21 +10,22 @@ use Rattle.std.proofs.lemmas.List.Elements.{All-head, All-tail, filter-append}
 use Rattle.std.proofs.lemmas.List.FromFn.{get_or-map-range_with_len}
 use Rattle.std.proofs.lemmas.List.Sums.{sum_by-cons}
 use Rattle.std.proofs.lemmas.Option.{slice_get-get_or}
-use Rattle.like_board.specs.Seats.{BoardId}
+use Rattle.like_board.specs.Seats.{BoardId, board_numbers}
 use Rattle.like_core.specs.declared.opening.Opening.{Opening as CoreOpening}
 use Rattle.like_core.specs.declared.page_step.PageCall.TheVariants.{Add}
 use Rattle.like_core.specs.declared.page_step.PageStep.{PageStep}
 use Rattle.like_core.specs.declared.worker_state.WorkerState.TheVariants.{Gone}
+use Rattle.like_core.specs.Post.{fresh}
 use Rattle.like_core.specs.OpeningLimits.{service_limits}
 use Rattle.like_core.specs.Additions.{added_before}
 use Rattle.like_core.specs.PageSteps.{AddsSome, AreInTurn, additions_among, adds_to, earliest_first, steps_by}
 use Rattle.like_core.specs.Phase.{is_marked, split_by}
 use Rattle.like_core.specs.PhaseMasks.{AreMasksOf, mask_of}
-use Rattle.like_core.specs.Post.{PostView}
 use Rattle.like_core.specs.WorkerState.{RunsSplit}
 use Rattle.like_core.specs.views.Posts.{posts_before}
 use Rattle.like_requests.specs.Verdict.{home}
 use Rattle.like_core.proofs.Steps.{by-earliest, earliest-reverse}
+use Rattle.like_core.specs.declared.view.WorkerSeatView.{WorkerSeatView}
 use Rattle.like_seat.specs.StationView.{phase_at}
 use Rattle.like_seat.proofs.MergedLikes.{same_everywhere}
 use Rattle.like_serial.specs.StepsTold.{step_told}
@@ -196,12 +197,13 @@ module _ (o : Opening) (factor : ℕ) (board : BoardId) (hs : List SeatHistory) 
 
     unused : IsUnused h.first
     unused = record {
-      post = h.first.station.post;
+      board = board_numbers board;
+      post = fresh (board_opening o factor) i;
       share = share_of o.users o.seats o.seats i;
       lasts = o.lasts.items;
       room = o.room;
-      fresh = seat.fresh;
-      new = seat.new;
+      fresh = refl;
+      new = seat;
     }
 
     stands : Stands h.first h.last
@@ -209,7 +211,7 @@ module _ (o : Opening) (factor : ℕ) (board : BoardId) (hs : List SeatHistory) 
         stands_by_calls h.first (λ w. Unit {0}) (AreHis h.first) (his_kept h.first) h.told h.last h.done unused
 
     worker_is : h.last.station.post.worker ≡ i
-    worker_is = stands.worker ∙ seat.worker
+    worker_is = stands.worker ∙ ap (λ (p : WorkerSeatView). p.worker) seat.at_post
 
     is_gone : h.last.station.post.state ≡ Gone
     is_gone = at_all (λ (s : LiveView). s.station.post.state ≡ Gone) (λ (g : SeatHistory). g.last) hs i h gone at
@@ -239,10 +241,10 @@ module _ (o : Opening) (factor : ℕ) (board : BoardId) (hs : List SeatHistory) 
 
     -- its masks, marks and limits are those of all
     split_is : split_in h.first masks ≡ split
-    split_is = λ m phase page. split_by (seat.limits m).hot (is_marked (seat.marks m)) masks phase page
+    split_is = λ m phase page. split_by (seat.at_post m).opening.limits.hot (is_marked (seat.at_post m).opening.marks) masks phase page
 
     nothing_done : earliest_first h.first.station.post.did ≡ []
-    nothing_done = ap earliest_first seat.fresh.did_nothing
+    nothing_done = ap (λ (p : WorkerSeatView). earliest_first p.did) seat.at_post
 
     has_steps : filter_map (step_of split) (deeds_in h) ≡ map step_told (filter (is_plain split) (own_steps i steps))
     has_steps =
@@ -274,7 +276,7 @@ module _ (o : Opening) (factor : ℕ) (board : BoardId) (hs : List SeatHistory) 
           at_first k p =
               ap (λ n. weigh (step_in k p) (earliest_first h.first.station.post.did) + n)
               (ap (only (phase_at h.first.station == k))
-              (ap (λ (xs : List ℕ). get_or xs p 0) seat.new.slice ∙ same_everywhere _ p 0)
+              (ap (λ (xs : List ℕ). get_or xs p 0) seat.slice ∙ same_everywhere _ p 0)
               ∙ only-none (phase_at h.first.station == k) ∙ sym (only-none (0 == k)))
 
     -- what it added before a phase is what its deeds count
@@ -296,7 +298,7 @@ module _ (o : Opening) (factor : ℕ) (board : BoardId) (hs : List SeatHistory) 
         (record { rises = tt; within = λ k past. tt })).rises
 
     share_is : h.first.station.last.share ≡ share_of o.users o.seats o.seats i
-    share_is = ap (λ (t : UserTable). t.share) seat.new.last
+    share_is = ap (λ (t : UserTable). t.share) seat.last
 
     has_owners : AllByRecursion (λ d. (d.user < o.users) × (home o.seats d.user ≡ i)) (deeds_in h)
     has_owners =
@@ -309,7 +311,7 @@ module _ (o : Opening) (factor : ℕ) (board : BoardId) (hs : List SeatHistory) 
     opened_last : (user : ℕ) → user < o.users → home o.seats user ≡ i → last_of h.first.station.last user ≡ last_in o.lasts.items user
     opened_last user there mine =
         let s = share_of o.users o.seats o.seats i in
-        ap (λ (t : UserTable). last_of t user) seat.new.last
+        ap (λ (t : UserTable). last_of t user) seat.last
         ∙ get_or-map-range_with_len (λ u. cond (owns s u) (last_in o.lasts.items u) None) 0 o.users user user None there
         (omega arith)
         ∙ ap (λ b. cond b (last_in o.lasts.items user) None) owned where
@@ -522,7 +524,7 @@ module _ (o : Opening) (driver now : DriverView) (hs : List SeatHistory) (counts
   masks_are : All (λ (s : LiveView). AreMasksOf (mask_of now.lead.seat.masks) s.station.post.masks)
       (map (λ (h : SeatHistory). h.last) hs)
   masks_are =
-      all-of-map (λ (p : PostView). AreMasksOf (mask_of now.lead.seat.masks) p.masks) post_at
+      all-of-map (λ (p : WorkerSeatView). AreMasksOf (mask_of now.lead.seat.masks) p.masks) post_at
       (map (λ (h : SeatHistory). h.last) hs) service.closed.masks
 
   in_order : AreInOrder (λ page. get_or o.counts.items page 0) now.lead.seat.phase (map (λ (h : SeatHistory). h.last) hs)
@@ -531,11 +533,11 @@ module _ (o : Opening) (driver now : DriverView) (hs : List SeatHistory) (counts
     in_turn =
         subst (λ (z : CoreOpening). AreInTurn (λ page. get_or z.counts page 0) now.lead.seat.phase service.closed.steps)
         opening_is service.closed.order.in_turn;
-    each = all-of-map (λ (p : PostView). steps_by p.worker service.closed.steps ≡ p.did) post_at
+    each = all-of-map (λ (p : WorkerSeatView). steps_by p.worker service.closed.steps ≡ p.did) post_at
         (map (λ (h : SeatHistory). h.last) hs) service.closed.order.each;
     others = λ i none.
         service.closed.order.others i
-        (sum-of-map (λ (p : PostView). cond {A = ℕ} (p.worker == i) 1 0) post_at (map (λ (h : SeatHistory). h.last) hs)
+        (sum-of-map (λ (p : WorkerSeatView). cond {A = ℕ} (p.worker == i) 1 0) post_at (map (λ (h : SeatHistory). h.last) hs)
         ∙ none);
   }
 
@@ -553,7 +555,7 @@ services_are_serial o driver now hs counts opened same service gone =
           ∙ ap (λ (z : CoreOpening). get_or z.counts r.page 0 + posts_before (posts_at ends) (r.phase + 1) r.page)
           (opening_is o driver now hs counts opened same service)
           ∙ ap (λ n. get_or o.counts.items r.page 0 + n)
-          (sum-of-map (λ (p : PostView). added_before (r.phase + 1) r.page (additions_among p.did)) post_at ends
+          (sum-of-map (λ (p : WorkerSeatView). added_before (r.phase + 1) r.page (additions_among p.did)) post_at ends
           ∙ one.1.1 (r.phase + 1) r.page),
     )
 

@@ -29,7 +29,7 @@ use Rattle.like_live.specs.Moves.{step_for}
 
 -- whether a page is split in a phase of a service, where these are the masks of all phases, by its seats' marks and limits
 abbrev pub split_in : LiveView → (ℕ → ℕ) → ℕ → ℕ → Bool
-split_in v masks phase page = split_by v.station.post.limits.hot (is_marked v.station.post.marks) masks phase page
+split_in v masks phase page = split_by v.station.post.opening.limits.hot (is_marked v.station.post.opening.marks) masks phase page
 
 -- each addition of the seat is of some likes; it read the right masks; phases never fall along its steps; and while it
 -- has likes in its slice, none is later than its phase
@@ -187,7 +187,7 @@ module _ (first : LiveView) (masks : ℕ → ℕ) where
   pub slices_split : (v : LiveView) (page : ℕ) → Stands first v → IsOrdered masks v → IsRunning v.station.post.state
       → slices v.station.post page ≡ split_in first masks (phase_at v.station) page
   slices_split v page k o runs =
-      sym (split-known v.station.post.limits.hot (is_marked v.station.post.marks) masks v.station.post.masks (phase_at v.station) page
+      sym (split-known v.station.post.opening.limits.hot (is_marked v.station.post.opening.marks) masks v.station.post.masks (phase_at v.station) page
       o.right (λ odd plain hot. k.masked (runs_odd v.station.post.state runs odd)))
       ∙ (λ m. split_by (k.limits m).hot (is_marked (k.marks m)) masks (phase_at v.station) page) where
         runs_odd : (s : WorkerState) → IsRunning s → IsSplit (phase_of s) → RunsSplit s

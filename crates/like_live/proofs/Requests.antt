@@ -58,29 +58,29 @@ owned_since s user rest alike is =
 -- a seat that has not counted all its likes may count one more
 pub not-full : (s : StationView Asked)
     → IsStation s
-    → s.post.limits ≡ service_limits
+    → s.post.opening.limits ≡ service_limits
     → likes_of s < 2 ^ 56
-    → likes_of s < s.post.limits.likes
+    → likes_of s < s.post.opening.limits.likes
 not-full s kept limits some =
-    let most : s.post.limits.likes ≡ 2 ^ 56 = ap (λ l. l.likes) limits in
+    let most : s.post.opening.limits.likes ≡ 2 ^ 56 = ap (λ l. l.likes) limits in
     let few = kept.few in
     omega arith
 
 -- one that has counted 2^56 may count no more
 pub is-full : (s : StationView Asked)
     → IsStation s
-    → s.post.limits ≡ service_limits
+    → s.post.opening.limits ≡ service_limits
     → 2 ^ 56 ≤ likes_of s
-    → likes_of s ≡ s.post.limits.likes
+    → likes_of s ≡ s.post.opening.limits.likes
 is-full s kept limits all =
-    let most : s.post.limits.likes ≡ 2 ^ 56 = ap (λ l. l.likes) limits in
+    let most : s.post.opening.limits.likes ≡ 2 ^ 56 = ap (λ l. l.likes) limits in
     let few = kept.few in
     omega arith
 
 -- a service lets its seats count 2^56 likes
-pub likes-most : (s : StationView Asked) → s.post.limits ≡ service_limits → 2 ^ 56 ≤ s.post.limits.likes
+pub likes-most : (s : StationView Asked) → s.post.opening.limits ≡ service_limits → 2 ^ 56 ≤ s.post.opening.limits.likes
 likes-most s limits =
-    let most : s.post.limits.likes ≡ 2 ^ 56 = ap (λ l. l.likes) limits in
+    let most : s.post.opening.limits.likes ≡ 2 ^ 56 = ap (λ l. l.likes) limits in
     omega arith
 
 -- a request that a live seat accepts is accepted at its worker's seat, as one of the user with the place

@@ -9,9 +9,10 @@ use Rattle.like_core.specs.declared.worker_state.WorkerState.{WorkerState}
 use Rattle.like_core.specs.declared.worker_state.WorkerState.TheVariants as state
 use Rattle.like_core.specs.Additions.{added_in}
 use Rattle.like_core.specs.Phase.{IsSplit}
-use Rattle.like_core.specs.Post.{PostView, slices}
+use Rattle.like_core.specs.Post.{slices}
 use Rattle.like_core.specs.WorkerState.{IsRunning, RunsSplit, phase_of}
 use Rattle.like_core.specs.PageSteps.{additions_among}
+use Rattle.like_core.specs.declared.view.WorkerSeatView.{WorkerSeatView}
 use Rattle.like_seat.specs.StationView.{phase_at}
 use Rattle.like_live.specs.declared.answer.GlanceAnswer.{GlanceAnswer}
 use Rattle.like_live.specs.declared.answer.GlanceAnswer.TheVariants as glanced
@@ -72,7 +73,7 @@ runs_this (state.Answered k) h = absurd h
 runs_this state.Gone h = absurd h
 
 -- a page is split in a split phase alone
-pub split_phase : (post : PostView) (page : ℕ) → slices post page ≡ true → IsSplit (phase_of post.state)
+pub split_phase : (post : WorkerSeatView) (page : ℕ) → slices post page ≡ true → IsSplit (phase_of post.state)
 split_phase post page split = eqb-true _ _ ((and_parts _ _ split).0)
 
 -- right after a glance at a split page: what it was told is a count on the board and the slice, which is held

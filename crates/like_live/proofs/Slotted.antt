@@ -14,10 +14,9 @@ use Rattle.like_core.specs.Functions.{has_bit}
 use Rattle.like_core.specs.OpeningLimits.{service_limits}
 use Rattle.like_core.specs.Phase.{IsSplit, is_marked, split_by}
 use Rattle.like_core.specs.PhaseMasks.{mask_of}
-use Rattle.like_core.specs.Post.{KnowsSlices, PostView, slices}
+use Rattle.like_core.specs.Post.{KnowsSlices, slices}
 use Rattle.like_core.specs.WorkerState.{IsRunning, RunsSplit}
 use Rattle.like_core.specs.views.Shows.{FitsCoord, Moment}
-use Rattle.like_core.specs.views.Views.{post_of}
 use Rattle.like_core.proofs.Slots.{slots_tell}
 use Rattle.like_core.proofs.core.Moved.{reached_is_exclusive}
 use Rattle.like_core.proofs.views.SplitPages.{slices_are_split}
@@ -25,6 +24,7 @@ use Rattle.like_seat.specs.StationView.{HasPhaseMask}
 use Rattle.like_seat.proofs.Moments.{state_at}
 use Rattle.like_limits.specs.Limits.{hot_pages}
 use Rattle.like_choice.specs.Slots.{SlotsView}
+use Rattle.like_core.specs.declared.view.WorkerSeatView.{WorkerSeatView}
 use Rattle.like_live.specs.Driver.{DriverView, IsService}
 use Rattle.like_live.specs.Moments.{MarkedKeepSlots, SlicesAreSlots}
 use Rattle.like_live.specs.Splits.{slots_mask}
@@ -79,14 +79,10 @@ slices_are_slots z m v s driver service at station split page there =
     subst (λ (o : Opening). length o.counts ≤ service_limits.pages) opening service.few_pages in
     let p = (reached_is_exclusive z m.shown.state m.shown.reachable).1 in
     let is = state_at z m s.station.post at in
-    let odd : IsSplit m.shown.state.phase = split-now z m.shown.state at.view.worker _ p is split in
-    let seat : PostView = post_of at.view in
-    let runs : RunsSplit seat.state = subst (λ (q : PostView). RunsSplit q.state) at.post split in
-    let masked : HasPhaseMask seat = subst HasPhaseMask at.post station.masked in
-    let knows : KnowsSlices seat page = λ _ _ _. masked runs in
+    let odd : IsSplit m.shown.state.phase = split-now z m.shown.state s.station.post.worker _ p is split in
+    let knows : KnowsSlices s.station.post page = λ _ _ _. station.masked split in
     let same : slices s.station.post page ≡ has_bit (slots_mask v.splits.slots) page =
-    ap (λ (q : PostView). slices q page) at.post
-    ∙ slices_are_split z m at.place at.view page at.there (running seat.state runs) knows
+    slices_are_split z m at.place s.station.post page at.there (running s.station.post.state split) knows
     ∙ ap (λ (marks : List Bool). split_by z.limits.hot (is_marked marks) m.shown.state.hot m.shown.state.phase page) plain
     ∙ plain-split z.limits m.shown.state.phase page (length z.counts) m.shown.state.hot limits odd there few
     ∙ ap (λ n. has_bit n page) (mask-slots z m v driver service odd) in

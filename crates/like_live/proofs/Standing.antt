@@ -9,8 +9,9 @@ use Rattle.like_core.specs.declared.worker_state.WorkerState.{WorkerState}
 use Rattle.like_core.specs.declared.worker_state.WorkerState.TheVariants.{Runs, Answered, Gone}
 use Rattle.like_core.specs.Phase.{IsSplit, is_hot_by, is_marked}
 use Rattle.like_core.specs.PhaseMasks.{HasMask, mask_of}
-use Rattle.like_core.specs.Post.{PostView, pages_of, slices}
+use Rattle.like_core.specs.Post.{pages_of, slices}
 use Rattle.like_core.specs.WorkerState.{IsRunning, RunsJoined, RunsSplit, phase_of}
+use Rattle.like_core.specs.declared.view.WorkerSeatView.{WorkerSeatView}
 use Rattle.like_requests.specs.declared.verdict.Verdict.TheVariants.{Accepted}
 use Rattle.like_requests.specs.Verdict.{home}
 use Rattle.like_seat.specs.StationView.{HasPhaseMask, IsSliceInSplit}
@@ -40,8 +41,8 @@ IsHis v user =
 -- then; and that the looks that wait are of its users
 pub record Stands (first v : LiveView) : Type 0 where
   pub worker : v.station.post.worker ≡ first.station.post.worker
-  pub marks : v.station.post.marks ≡ first.station.post.marks
-  pub limits : v.station.post.limits ≡ first.station.post.limits
+  pub marks : v.station.post.opening.marks ≡ first.station.post.opening.marks
+  pub limits : v.station.post.opening.limits ≡ first.station.post.opening.limits
   pub share : v.station.last.share ≡ first.station.last.share
   pub sized : length v.station.slice ≡ pages_of v.station.post
   pub table : length v.station.last.last ≡ v.station.last.share.users
@@ -67,12 +68,12 @@ split_odd : (a b : Bool) → (a && b) ≡ true → a ≡ true
 split_odd true b e = refl
 split_odd false b e = cc
 
-pub runs_split : (post : PostView) (page : ℕ) → IsRunning post.state → slices post page ≡ true → RunsSplit post.state
+pub runs_split : (post : WorkerSeatView) (page : ℕ) → IsRunning post.state → slices post page ≡ true → RunsSplit post.state
 runs_split post page runs is =
     by_state post.state runs
     (eqb-true (phase_of post.state % 2) 1
     (split_odd (phase_of post.state % 2 == 1)
-    (is_marked post.marks page || is_hot_by post.limits.hot (mask_of post.masks (phase_of post.state)) page) is))
+    (is_marked post.opening.marks page || is_hot_by post.opening.limits.hot (mask_of post.masks (phase_of post.state)) page) is))
   where
     by_state : (s : WorkerState) → IsRunning s → IsSplit (phase_of s) → RunsSplit s
     by_state (Runs k) runs odd = odd
@@ -87,7 +88,7 @@ entered_mask masks phase mask odd =
     (ap (λ (b : Bool). b || list_any (λ (m : PhaseMask). m.phase == phase) masks) (eq-eqb phase phase refl))
 
 -- one like more of a page that is split
-one_more : (post : PostView) (slice : List ℕ) (page n : ℕ) → IsSliceInSplit post slice → RunsSplit post.state
+one_more : (post : WorkerSeatView) (slice : List ℕ) (page n : ℕ) → IsSliceInSplit post slice → RunsSplit post.state
     → slices post page ≡ true → IsSliceInSplit post (set slice page n)
 one_more post slice page n kept runs split other some = elim (cases_eq page other) [
   | inl same ↦ (runs, ap (slices post) (sym same) ∙ split)
@@ -238,12 +239,12 @@ stands_at_first v unused =
       limits = refl;
       share = refl;
       sized = ap length new.slice ∙ length-replicate {A = ℕ} _ 0
-          ∙ ap (λ (p : PostView). length p.marks) (sym new.at_post);
+          ∙ ap (λ (p : WorkerSeatView). length p.opening.marks) (sym new.at_post);
       table = ap (λ (t : UserTable). length t.last) new.last
           ∙ length-map-range_with_len (λ user. cond (owns unused.share user) (last_in unused.lasts user) None) 0 unused.share.users
           ∙ ap (λ (t : UserTable). t.share.users) (sym new.last);
       masked = λ split. absurd (joined_first v.station.post.state
-          (ap (λ (p : PostView). p.state) new.at_post ∙ unused.fresh.runs) split);
+          (ap (λ (p : WorkerSeatView). p.state) (new.at_post ∙ unused.fresh)) split);
       split = λ page some. absurd (some (ap (λ (xs : List ℕ). get_or xs page 0) new.slice ∙ same_everywhere _ page 0));
       own = subst (AllByRecursion (λ a. IsHis v a.user))
           (sym (ap (λ (w : Waiting Asked). w.held) new.held)) tt;

@@ -72,7 +72,7 @@ pub data Step (v : LiveView) : Type 0 where
       → All (IsFoundAt v.station) found → Step v
   acknowledges : RunsJoined v.station.post.state → Step v
   reports : (adds : List Addition) → RunsSplit v.station.post.state
-      → MergesAll v.station.post.factor (phase_at v.station) v.station.slice adds → Step v
+      → MergesAll v.station.post.opening.factor (phase_at v.station) v.station.slice adds → Step v
   retires : RunsJoined v.station.post.state → Step v
   returns : (phase mask : ℕ) → v.station.post.state ≡ Gone → Step v
   takes : Step v

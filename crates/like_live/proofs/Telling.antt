@@ -260,7 +260,7 @@ pub record IsCounted (s after : StationView Asked) (user page : ℕ) : Type 0 wh
   pub held : after.held ≡ s.held
   pub last : after.last ≡ with_last s.last user page
   pub is_in : after.post.state ≡ s.post.state
-  pub marks : after.post.marks ≡ s.post.marks
+  pub marks : after.post.opening.marks ≡ s.post.opening.marks
   pub sized : length after.slice ≡ length s.slice
 
 pub is_counted : (s after : StationView Asked) (user page : ℕ) (old : Option ℕ)
@@ -270,13 +270,13 @@ is_counted s after user page None c = record {
   held = ap (λ (t : StationView Asked). t.held) c.1;
   last = ap (λ (t : StationView Asked). t.last) c.1;
   is_in = ap (λ (t : StationView Asked). t.post.state) c.1;
-  marks = ap (λ (t : StationView Asked). t.post.marks) c.1;
+  marks = ap (λ (t : StationView Asked). t.post.opening.marks) c.1;
   sized = ap (λ (t : StationView Asked). length t.slice) c.1 ∙ length-set s.slice page _;
 }
 is_counted s after user page (Some count) c = record {
   held = ap (λ (t : StationView Asked). t.held) c.1;
   last = ap (λ (t : StationView Asked). t.last) c.1;
   is_in = ap (λ (t : StationView Asked). t.post.state) c.1;
-  marks = ap (λ (t : StationView Asked). t.post.marks) c.1;
+  marks = ap (λ (t : StationView Asked). t.post.opening.marks) c.1;
   sized = ap (λ (t : StationView Asked). length t.slice) c.1;
 }

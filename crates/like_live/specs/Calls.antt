@@ -46,10 +46,10 @@ pub record IsAccepted (s : StationView Asked) (user page : ℕ) (placed : Placed
 pub data LikesNow (v : LiveView) (user page : ℕ) (answer : LikeAnswer) (after : LiveView) : Type 0 where
   refused : verdict_at v.station user page ≢ Accepted
       → answer ≡ like.Refused (verdict_at v.station user page) → after ≡ v → LikesNow v user page answer after
-  full : verdict_at v.station user page ≡ Accepted → likes_of v.station ≡ v.station.post.limits.likes
+  full : verdict_at v.station user page ≡ Accepted → likes_of v.station ≡ v.station.post.opening.limits.likes
       → answer ≡ like.Full → after ≡ v → LikesNow v user page answer after
   liked : (old : Option ℕ) (s : StationView Asked)
-      → verdict_at v.station user page ≡ Accepted → likes_of v.station < v.station.post.limits.likes
+      → verdict_at v.station user page ≡ Accepted → likes_of v.station < v.station.post.opening.limits.likes
       → answer ≡ like.Liked → CountsLike v.station user page old s → after ≡ with_station v s
       → LikesNow v user page answer after
 

@@ -2,7 +2,8 @@
 use Rattle.std.specs.Prelude.{◌≡◌, ℕ, ◌==◌, if◌then◌else◌, List, [], ◌∷◌, ◌++◌, map, Option, Some, flat_map, sum_by}
 use Rattle.std.specs.List.{last_or}
 use Rattle.like_core.specs.declared.worker_state.WorkerState.TheVariants.{Gone}
-use Rattle.like_core.specs.Post.{IsFresh, PostView}
+use Rattle.like_core.specs.Post.{IsFresh}
+use Rattle.like_core.specs.declared.view.WorkerSeatView.{WorkerSeatView}
 use Rattle.like_tables.specs.Share.{Share}
 use Rattle.like_tables.specs.UserTable.{last_of, table_with_lasts}
 use Rattle.like_live.specs.declared.answer.GlanceAnswer.{GlanceAnswer}
@@ -98,12 +99,13 @@ asks_left v = map ask_of v.found ++ map ask_waiting (waiting v)
 
 -- a seat that has done nothing yet, whose users have the last likes of an opening
 pub record IsUnused (v : LiveView) : Type 0 where
-  pub post : PostView
+  pub board : List ℕ
+  pub post : WorkerSeatView
   pub share : Share
   pub lasts : List ℕ
   pub room : ℕ
   pub fresh : IsFresh post
-  pub new : IsNewLive post room (table_with_lasts share lasts) v
+  pub new : IsNewLive board post room (table_with_lasts share lasts) v
 
 -- the seat after these calls has counted them: a page's tally is the number of its likes that were told `Liked`; a
 -- user's last like is the page of the user's last one, or that with which the seat began; and the looks that were told

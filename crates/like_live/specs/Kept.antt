@@ -30,7 +30,7 @@ pub record AreLiveSeatParts (s : StationView Asked) (found : Waiting Found) (hom
 pub record HasLooked (s : StationView Asked) (found : Waiting Found) : Type 0 where
   pub station : IsStation s
   pub runs : IsRunning s.post.state
-  pub limits : s.post.limits ≡ service_limits
+  pub limits : s.post.opening.limits ≡ service_limits
   pub home : s.last.share.submitters ≡ s.last.share.workers
   pub own : All (IsOwn s) s.held.held
   pub asked : IsSplit (phase_at s) → All (λ a. a.phase ≡ phase_at s) s.held.held

@@ -2,7 +2,8 @@
 use Rattle.std.specs.Prelude.{◌≡◌, ℕ, ◌+◌, ◌<◌, ◌≤◌, IsTrue, List, [], length, replicate, All}
 use Rattle.like_core.specs.OpeningLimits.{service_limits}
 use Rattle.like_core.specs.Phase.{IsJoined}
-use Rattle.like_core.specs.Post.{PostView, pages_of}
+use Rattle.like_core.specs.Post.{pages_of}
+use Rattle.like_core.specs.declared.view.WorkerSeatView.{WorkerSeatView}
 use Rattle.like_seat.specs.StationView.{IsStation, StationView, phase_at, tally_of}
 use Rattle.like_tables.specs.Share.{owns}
 use Rattle.like_tables.specs.UserTable.{UserTable}
@@ -41,9 +42,9 @@ KeepsTallies v after = (page : ℕ) → tally after page ≡ tally v page
 
 -- it is the same seat: of the same board, the same worker, with the same users
 pub record IsSameSeat (v after : LiveView) : Type 0 where
-  pub board : after.station.post.board ≡ v.station.post.board
+  pub board : after.station.board ≡ v.station.board
   pub worker : after.station.post.worker ≡ v.station.post.worker
-  pub marks : after.station.post.marks ≡ v.station.post.marks
+  pub marks : after.station.post.opening.marks ≡ v.station.post.opening.marks
   pub share : after.station.last.share ≡ v.station.last.share
 
 -- the look is one that the seat can answer: its page exists, and its user is the seat's
@@ -60,7 +61,7 @@ RanNext f = f.phase ≡ f.asked.phase + 1
 -- what was found ran in the next phase; and no more looks wait or were found than there is room for
 pub record IsLive (v : LiveView) : Type 0 where
   pub station : IsStation v.station
-  pub limits : v.station.post.limits ≡ service_limits
+  pub limits : v.station.post.opening.limits ≡ service_limits
   pub home : v.station.last.share.submitters ≡ v.station.last.share.workers
   pub split : IsJoined (phase_at v.station) → waiting v ≡ []
   pub own : All (IsOwn v.station) (waiting v)
@@ -69,7 +70,8 @@ pub record IsLive (v : LiveView) : Type 0 where
   pub room : length (waiting v) + length v.found ≤ room_of v
 
 -- a live seat that has done nothing yet
-pub record IsNewLive (post : PostView) (room : ℕ) (users : UserTable) (v : LiveView) : Type 0 where
+pub record IsNewLive (board : List ℕ) (post : WorkerSeatView) (room : ℕ) (users : UserTable) (v : LiveView) : Type 0 where
+  pub at_board : v.station.board ≡ board
   pub at_post : v.station.post ≡ post
   pub held : v.station.held ≡ record { held = []; capacity = room }
   pub slice : v.station.slice ≡ replicate (pages_of post) 0

@@ -1,5 +1,5 @@
 -- The seats of a service at a moment of its board, which is between any two steps: what the board's rule says of them.
-use Rattle.std.specs.Prelude.{◌≡◌, ℕ, ◌+◌, ◌<◌, ◌↔◌, true, All, List, [], Contains, length, map, slice_index, sum_by}
+use Rattle.std.specs.Prelude.{◌≡◌, ℕ, ◌+◌, ◌<◌, ◌↔◌, true, All, List, Contains, length, slice_index, sum_by}
 use mathlib.Core.Option.{some}
 use lib.ListN.{get_elem?}
 use Rattle.like_board.specs.Seats.{BoardId}
@@ -7,7 +7,7 @@ use Rattle.like_core.specs.declared.opening.Opening.{Opening}
 use Rattle.like_core.specs.declared.view.View.TheVariants.{Coord}
 use Rattle.like_core.specs.core.Numbers.{AllGone}
 use Rattle.like_core.specs.core.State.{numbers}
-use Rattle.like_core.specs.Post.{PostView, slices}
+use Rattle.like_core.specs.Post.{slices}
 use Rattle.like_core.specs.WorkerState.{RunsJoined, RunsSplit}
 use Rattle.like_core.specs.views.Places.{count_after}
 use Rattle.like_core.specs.views.Posts.{posts_of}
@@ -17,11 +17,8 @@ use Rattle.like_seat.specs.StationView.{IsStation}
 use Rattle.like_live.specs.declared.opening.Opening.{Opening as Asked}
 use Rattle.like_live.specs.Driver.{DriverView, IsSameDriver, IsService, new_driver}
 use Rattle.like_live.specs.LiveView.{LiveView, tally}
+use Rattle.like_live.specs.Service.{posts_at}
 use Rattle.like_live.specs.Splits.{IsSlotted}
-
--- a seat's post, the board aside
-abbrev pub post_in : LiveView → PostView
-post_in s = record s.station.post { board = [] }
 
 -- a seat at a moment: its post is there
 abbrev pub IsSeatAt : (z : Opening) → Moment z → LiveView → Type 0
@@ -35,9 +32,9 @@ SeatsAreExclusive =
     → RunsJoined a.station.post.state
     → ¬ RunsSplit b.station.post.state × ((page : ℕ) → slice_index b.station.slice page ≡ 0)
 
--- all seats at a moment: their posts are what the views of the workers' seats mean, those that were given back included
+-- all seats at a moment: their posts are those of the workers' seats there, those that were given back included
 abbrev pub AreSeatsAt : (z : Opening) → Moment z → List LiveView → Type 0
-AreSeatsAt z m seats = map post_in seats ≡ posts_of m.views
+AreSeatsAt z m seats = posts_at seats ≡ posts_of m.views
 
 -- last counts are tallies: at a moment at which all seats are gone, each page's count is its first count and the
 -- tallies of all seats

@@ -2,10 +2,10 @@
 use Rattle.std.specs.Prelude.{◌≡◌, ℕ, ◌+◌, ◌<◌, ◌==◌, All, List, length, map, slice_get, slice_index, Some, count_by}
 use Rattle.std.specs.List.{AllZip, sum_by}
 use Rattle.like_board.specs.Closed.{IsClosed}
-use Rattle.like_board.specs.Seats.{BoardId, board_numbers, seat_meaning}
+use Rattle.like_board.specs.Seats.{BoardId, board_numbers, seat_board, seat_view}
 use Rattle.like_board.specs.declared.worker_seat.WorkerSeat.{WorkerSeat}
-use Rattle.like_core.specs.Post.{IsFresh, PostView, additions_of}
-use Rattle.like_core.specs.OpeningLimits.{service_limits}
+use Rattle.like_core.specs.Post.{additions_of, fresh}
+use Rattle.like_core.specs.declared.view.WorkerSeatView.{WorkerSeatView}
 use Rattle.like_core.specs.declared.worker_state.WorkerState.TheVariants.{Gone}
 use Rattle.like_tables.specs.Factors.{IsFirstApart}
 use Rattle.like_tables.specs.Share.{share_of}
@@ -17,14 +17,10 @@ use Rattle.like_live.specs.Opening.{IsWithinLimits, board_opening}
 
 -- a seat of an opened service, by its number: it is new, at this board; its users are those with this number modulo the
 -- number of seats; and they have the opening's last likes
-pub record IsOpenedSeat (o : Opening) (factor : ℕ) (board : BoardId) (number : ℕ) (s : LiveView) : Type 0 where
-  pub here : s.station.post.board ≡ board_numbers board
-  pub worker : s.station.post.worker ≡ number
-  pub fresh : IsFresh s.station.post
-  pub marks : s.station.post.marks ≡ (board_opening o factor).marks
-  pub factor_is : s.station.post.factor ≡ factor
-  pub limits : s.station.post.limits ≡ service_limits
-  pub new : IsNewLive s.station.post o.room (table_with_lasts (share_of o.users o.seats o.seats number) o.lasts.items) s
+abbrev pub IsOpenedSeat : Opening → ℕ → BoardId → ℕ → LiveView → Type 0
+IsOpenedSeat o factor board number s =
+    IsNewLive (board_numbers board) (fresh (board_opening o factor) number) o.room
+    (table_with_lasts (share_of o.users o.seats o.seats number) o.lasts.items) s
 
 -- the seats of an opened service, in order
 pub record AreOpenedSeats (o : Opening) (factor : ℕ) (board : BoardId) (seats : List LiveView) : Type 0 where
@@ -42,7 +38,7 @@ pub record AreOpened (o : Opening) (driver : DriverView) (seats : List LiveView)
 -- the seats are those of the driver's board, each of them once
 pub record AreItsSeats (v : DriverView) (seats : List LiveView) : Type 0 where
   pub len : length seats ≡ v.lead.seat.opening.workers
-  pub here : All (λ s. s.station.post.board ≡ board_numbers v.lead.board) seats
+  pub here : All (λ s. s.station.board ≡ board_numbers v.lead.board) seats
   pub all : (i : ℕ) → i < v.lead.seat.opening.workers → count_by (λ s. s.station.post.worker == i) seats ≡ 1
 
 -- calls of the driver and of its seats keep them so
@@ -59,13 +55,14 @@ AreGone seats = All (λ s. s.station.post.state ≡ Gone) seats
 abbrev pub HasMergedOnceGone : LiveView → Type 0
 HasMergedOnceGone s = s.station.post.state ≡ Gone → (page : ℕ) → tally s page ≡ additions_of s.station.post page
 
--- what seats mean as posts
-abbrev pub posts_at : List LiveView → List PostView
+-- what seats know as posts
+abbrev pub posts_at : List LiveView → List WorkerSeatView
 posts_at seats = map (λ s. s.station.post) seats
 
--- the workers' seats that were given back by these seats
-abbrev pub AreBackFrom : List LiveView → List WorkerSeat → Type 0
-AreBackFrom seats back = map seat_meaning back ≡ posts_at seats
+-- the workers' seats that were given back by these seats: of the same boards, and they know the same
+pub record AreBackFrom (seats : List LiveView) (back : List WorkerSeat) : Type 0 where
+  pub boards : map (λ seat. board_numbers (seat_board seat)) back ≡ map (λ s. s.station.board) seats
+  pub views : map seat_view back ≡ posts_at seats
 
 -- what is known of a closed service: each page's last count is its first one and the tallies of all seats; and what is
 -- known of a closed board, where the driver has the coordinator's seat

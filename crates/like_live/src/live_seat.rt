@@ -69,16 +69,16 @@ impl<P: Post + Drop> LiveSeat<P> {
         signals: Signals,
     ) -> Result<LiveSeat<P>, AllocError>
         requires fresh { IsFresh (P.view post) }
-        requires limits { (P.view post).limits ≡ service_limits }
-        requires marks { (P.view post).marks ≡ replicate pages false }
-        requires factor { (P.view post).factor ≡ factor }
+        requires limits { (P.view post).opening.limits ≡ service_limits }
+        requires marks { (P.view post).opening.marks ≡ replicate pages false }
+        requires factor { (P.view post).opening.factor ≡ factor }
         requires least { 2 ^ 22 ≤ factor }
         requires few_pages { pages ≤ service_limits.pages }
         requires some { 1 ≤ room }
         requires few { room ≤ max_stash }
         requires home { last.share.submitters ≡ last.share.workers }
         requires there { last.share.worker < last.share.workers }
-        ensures new { IfOk result (IsNewLive (P.view post) room last) }
+        ensures new { IfOk result (IsNewLive (P.board post) (P.view post) room last) }
         ensures live { IfOk result (λ seat. IsLive seat) }
     {
         let found = Stash::new(alloc, room)?;
@@ -220,6 +220,7 @@ impl<P: SlotPost> LiveSeat<P> {
 
     /// Gives its post back, whatever is left to do. A seat that is gone leaves nothing in its slice.
     pub fn leave(self) -> P
+        ensures board { P.board result ≡ self.station.board }
         ensures post { P.view result ≡ self.station.post }
         ensures live { IsLive self }
         ensures slice { self.station.post.state ≡ Gone → (page : ℕ)

@@ -56,11 +56,11 @@ liked-slice s t d user page is room seat there c =
     let more : sum now.slice ≡ sum s.slice + 1 =
     omega (arith, sum_by-set (λ x. x) s.slice page (get_or s.slice page 0 + 1) 0 inside) in
     let before = is.sound.room in (
-      settled-after s t d d is seat (ap (λ (x : StationView Held). x.post.limits) c.1)
+      settled-after s t d d is seat (ap (λ (x : StationView Held). x.post.opening.limits) c.1)
           (ap (λ (x : StationView Held). x.post.last) c.1) (ap (λ (x : StationView Held). x.last.share) c.1)
           (subst (λ xs. All (IsOwn t) xs) (sym (ap (λ (x : StationView Held). x.held.held) c.1))
           (AreOwn-moved s t s.held.held (ap (λ (x : StationView Held). x.last.share) c.1)
-          (ap (λ (x : StationView Held). x.post.marks) c.1) is.sound.held))
+          (ap (λ (x : StationView Held). x.post.opening.marks) c.1) is.sound.held))
           (subst (λ x. HasRoom x d) (sym c.1)
           (record {
             taken =
@@ -102,11 +102,11 @@ liked-board s t d e user page phase count is room seat c phase_is h =
     let noted : view_of now e ≡ serve.noting (view_of now d) page count 1 =
     noting-view now d e phase page count 1 h phase_is in
     let all : IsSettled now e → IsSettled t e = subst (λ x. IsSettled x e) (sym c.1) in (
-      settled-after s t d e is seat (ap (λ (x : StationView Held). x.post.limits) c.1)
+      settled-after s t d e is seat (ap (λ (x : StationView Held). x.post.opening.limits) c.1)
           (ap (λ (x : StationView Held). x.post.last) c.1) (ap (λ (x : StationView Held). x.last.share) c.1)
           (subst (λ xs. All (IsOwn t) xs) (sym (ap (λ (x : StationView Held). x.held.held) c.1))
           (AreOwn-moved s t s.held.held (ap (λ (x : StationView Held). x.last.share) c.1)
-          (ap (λ (x : StationView Held). x.post.marks) c.1) is.sound.held))
+          (ap (λ (x : StationView Held). x.post.opening.marks) c.1) is.sound.held))
           (subst (λ x. HasRoom x e) (sym c.1) (subst (λ x. HasRoom now x) (sym h.rest) (record {
             taken = before.taken;
             ran = before.ran;
@@ -133,11 +133,11 @@ pub read-settled : (s t : StationView Held) (d : Desk) (page count : ℕ)
     → IsSettled t d
 read-settled s t d page count is seat e =
     let before = is.sound.room in
-    settled-after s t d d is seat (ap (λ (x : StationView Held). x.post.limits) e)
+    settled-after s t d d is seat (ap (λ (x : StationView Held). x.post.opening.limits) e)
     (ap (λ (x : StationView Held). x.post.last) e) (ap (λ (x : StationView Held). x.last.share) e)
     (subst (λ xs. All (IsOwn t) xs) (sym (ap (λ (x : StationView Held). x.held.held) e))
     (AreOwn-moved s t s.held.held (ap (λ (x : StationView Held). x.last.share) e)
-    (ap (λ (x : StationView Held). x.post.marks) e) is.sound.held))
+    (ap (λ (x : StationView Held). x.post.opening.marks) e) is.sound.held))
     (subst (λ x. HasRoom x d) (sym e)
     (record {
       taken =
@@ -166,11 +166,11 @@ merged-settled s t d e from phase m is seat merges h =
     omega (arith, sum_by-set (λ x. x) s.slice page 0 0 merges.next.there) in
     let same = merged_page-likes s page m.old merges.next.there in
     let before = is.sound.room in
-    settled-after s t d e is seat (ap (λ (x : StationView Held). x.post.limits) merges.merged)
+    settled-after s t d e is seat (ap (λ (x : StationView Held). x.post.opening.limits) merges.merged)
     (ap (λ (x : StationView Held). x.post.last) merges.merged) (ap (λ (x : StationView Held). x.last.share) merges.merged)
     (subst (λ xs. All (IsOwn t) xs) (sym (ap (λ (x : StationView Held). x.held.held) merges.merged))
     (AreOwn-moved s t s.held.held (ap (λ (x : StationView Held). x.last.share) merges.merged)
-    (ap (λ (x : StationView Held). x.post.marks) merges.merged) is.sound.held))
+    (ap (λ (x : StationView Held). x.post.opening.marks) merges.merged) is.sound.held))
     (subst (λ x. HasRoom x e) (sym merges.merged) (subst (λ x. HasRoom now x) (sym h.rest) (record {
       taken = before.taken;
       ran = before.ran;

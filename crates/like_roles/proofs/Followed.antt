@@ -66,7 +66,7 @@ follows-running : (workload : Workload) (v : WorkerView)
     → All (IsAsked workload) v.held.held
     → FitsStash workload v.taken
     → IsInOrder workload v
-    → HasNothingLater v (phase_at v)
+    → HasNothingLater v.taken v.ran (phase_at v)
     → ((place : ℕ) → v.pending ≡ Some place → RunsJoined v.post.state → v.held.held ≡ [])
     → Follows workload v
 follows-running workload v run served sized t noted unmerged held fits in_order within trying = record {
@@ -91,8 +91,8 @@ slices-alike : (workload : Workload) (v : WorkerView)
     → is_split_in workload (phase_at v) page ≡ slices v.post page
 slices-alike workload v s run has page =
     ap (λ xs. split (λ p. get_or xs p false) workload.hot (phase_at v) page) s.marks_alike
-    ∙ ap (λ (l : Limits). split_by l.hot (λ p. get_or v.post.marks p false) workload.hot (phase_at v) page) (sym s.run)
-    ∙ split-known v.post.limits.hot (λ p. get_or v.post.marks p false) workload.hot v.post.masks (phase_at v) page s.hot_alike
+    ∙ ap (λ (l : Limits). split_by l.hot (λ p. get_or v.post.opening.marks p false) workload.hot (phase_at v) page) (sym s.run)
+    ∙ split-known v.post.opening.limits.hot (λ p. get_or v.post.opening.marks p false) workload.hot v.post.masks (phase_at v) page s.hot_alike
     (λ odd _ _. has (runs-split v.post.state run odd))
 
 -- what a run does to a worker that follows the plans, where the order after it is known
@@ -112,7 +112,7 @@ follows-run : (workload : Workload) (v after : WorkerView) (h : Held) (stashed :
     → page_looked_at h.ask.request.op h.ask.request.page ≡ Some page → slices v.post page ≡ false)
     → All (IsAsked workload) v.held.held
     → FitsStash workload v.taken
-    → HasNothingLater v (phase_at v)
+    → HasNothingLater v.taken v.ran (phase_at v)
     → ((e : HasRunOne v h stashed after) → IsInOrder workload (record v { ran = after.ran }))
     → Follows workload after
 follows-run workload v after h stashed run here none served sized t was un has asked kept plain held fits within
@@ -133,18 +133,8 @@ follows-run workload v after h stashed run here none served sized t was un has a
     × (v.notes ≡ true
     → IsNoted workload x.post.did x.adds x.ran
     × IsUnmerged workload x.adds (state.Runs (phase_at v)))) (sym run.noted) (
-      record {
-        users =
-            done.0.users;
-        submitters_alike =
-            done.0.submitters_alike;
-        marks_alike =
-            done.0.marks_alike;
-        hot_alike = done.0.hot_alike;
-        stash_alike = done.0.stash_alike;
-        run = done.0.run;
-      },
-      record { slice = done.1.slice; users = done.1.users },
+      done.0,
+      done.1,
       done.2,
       marked,
     ) in
@@ -154,7 +144,7 @@ follows-run workload v after h stashed run here none served sized t was un has a
     ap (λ k. map entry_of after.ran ++ map (entry_held (k + k % 2)) after.held.held) (sym phase)
     ∙ ap (λ w. map entry_of after.ran ++ map (entry_held (next_joined v)) w.held) e.held
     ∙ ordered e ∙ ap (order workload) (sym e.taken) in
-    let now_within : HasNothingLater after (phase_at v) = (
+    let now_within : HasNothingLater after.taken after.ran (phase_at v) = (
       subst (λ xs. All (λ t. t.phase ≤ phase_at v) xs) (sym e.taken) within.0,
       subst (λ xs. All (λ x. x.phase ≤ phase_at v) xs) (sym e.ran)
           (All-push (λ (x : Ran). x.phase ≤ phase_at v) v.ran (ran_now v h stashed e.reply) within.1 (omega arith)),
@@ -163,7 +153,7 @@ follows-run workload v after h stashed run here none served sized t was un has a
     (λ notes. running-unmerged workload after.adds (λ _. Unit {0}) after.post.state runs
     (subst (λ (k : ℕ). IsUnmerged workload after.adds (state.Runs k)) phase (all.3 (sym stays ∙ notes)).1))
     (subst (λ w. All (IsAsked workload) w.held) (sym e.held) held) (subst (FitsStash workload) (sym e.taken) fits)
-    in_order (subst (HasNothingLater after) phase now_within) (λ place p. absurd (cc (e.pending, none, p)))
+    in_order (subst (HasNothingLater after.taken after.ran) phase now_within) (λ place p. absurd (cc (e.pending, none, p)))
 
 -- the worker after a look, where its post has then read these masks
 abbrev looking : WorkerView → Sight → List PhaseMask → WorkerView
@@ -256,7 +246,7 @@ follows-saw workload v sight masks right f kept here none = record {
     stash_alike = f.served.stash_alike;
     run = f.served.run;
   };
-  sized = record { slice = f.sized.slice; users = f.sized.users };
+  sized = f.sized;
   tallied = record {
     likes =
         f.tallied.likes;
@@ -282,7 +272,7 @@ follows-saw workload v sight masks right f kept here none = record {
 unsliced-joined : (v : WorkerView) (page : ℕ) → IsJoined (phase_at v) → slices v.post page ≡ false
 unsliced-joined v page even =
     ap (λ (n : ℕ). (n == 1)
-    && (is_marked v.post.marks page || is_hot_by v.post.limits.hot (mask_of v.post.masks (phase_at v)) page)) even
+    && (is_marked v.post.opening.marks page || is_hot_by v.post.opening.limits.hot (mask_of v.post.masks (phase_at v)) page)) even
 
 -- the first of what is held runs in a joined phase
 follows-held : (workload : Workload) (v : WorkerView) (first : Held) (rest : List Held) (after : WorkerView)
@@ -299,28 +289,9 @@ follows-held workload v first rest after none f kept j e run =
     let same : next_joined v ≡ k = omega arith in
     follows-run workload (without_first v rest) after first true run
     (runs-weaker IsJoined (λ _. Unit {0}) v.post.state (λ _ _. tt) j) none
-    (record {
-      users =
-          f.served.users;
-      submitters_alike =
-          f.served.submitters_alike;
-      marks_alike =
-          f.served.marks_alike;
-      hot_alike = f.served.hot_alike;
-      stash_alike = f.served.stash_alike;
-      run = f.served.run;
-    })
-    (record { slice = f.sized.slice; users = f.sized.users })
-    (record {
-      likes =
-          f.tallied.likes;
-      by_phase =
-          f.tallied.by_phase;
-      steps = f.tallied.steps;
-      reads = f.tallied.reads;
-      replies = f.tallied.replies;
-      last = f.tallied.last;
-    })
+    (f.served)
+    (f.sized)
+    (f.tallied)
     f.noted f.unmerged (λ odd. absurd (not-split v.post.state j odd))
     (All-head (IsAsked workload) first rest all)
     kept
@@ -343,28 +314,9 @@ follows-trying : (workload : Workload) (v : WorkerView) (place : ℕ)
     → Follows workload (trying v place)
 follows-trying workload v place f run empty =
     follows-running workload (trying v place) run
-    (record {
-      users =
-          f.served.users;
-      submitters_alike =
-          f.served.submitters_alike;
-      marks_alike =
-          f.served.marks_alike;
-      hot_alike = f.served.hot_alike;
-      stash_alike = f.served.stash_alike;
-      run = f.served.run;
-    })
-    (record { slice = f.sized.slice; users = f.sized.users })
-    (record {
-      likes =
-          f.tallied.likes;
-      by_phase =
-          f.tallied.by_phase;
-      steps = f.tallied.steps;
-      reads = f.tallied.reads;
-      replies = f.tallied.replies;
-      last = f.tallied.last;
-    })
+    (f.served)
+    (f.sized)
+    (f.tallied)
     f.noted f.unmerged f.held f.fits f.in_order (within-of_running v (λ _. Unit {0}) v.post.state run f.stands)
     (λ _ _. empty)
 
@@ -377,28 +329,9 @@ follows-answered : (workload : Workload) (v : WorkerView) (P : ℕ → Type 0)
     → Follows workload (record v { post = answered v.post })
 follows-answered workload v P f run none empty =
     record {
-      served = record {
-        users =
-            f.served.users;
-        submitters_alike =
-            f.served.submitters_alike;
-        marks_alike =
-            f.served.marks_alike;
-        hot_alike = f.served.hot_alike;
-        stash_alike = f.served.stash_alike;
-        run = f.served.run;
-      };
-      sized = record { slice = f.sized.slice; users = f.sized.users };
-      tallied = record {
-        likes =
-            f.tallied.likes;
-        by_phase =
-            f.tallied.by_phase;
-        steps = f.tallied.steps;
-        reads = f.tallied.reads;
-        replies = f.tallied.replies;
-        last = f.tallied.last;
-      };
+      served = f.served;
+      sized = f.sized;
+      tallied = f.tallied;
       noted = f.noted;
       unmerged = λ notes. (unmerged-running workload v.adds P v.post.state run (f.unmerged notes)).0;
       in_order = f.in_order;
@@ -427,17 +360,7 @@ follows-reported workload v adds merges f run none kept has =
     (within-of_running v IsSplit v.post.state run f.stands).1 kept alike
     in
     record {
-      served = record {
-        users =
-            f.served.users;
-        submitters_alike =
-            f.served.submitters_alike;
-        marks_alike =
-            f.served.marks_alike;
-        hot_alike = f.served.hot_alike;
-        stash_alike = f.served.stash_alike;
-        run = f.served.run;
-      };
+      served = f.served;
       sized = record { slice = length-replicate (pages_of v.post) 0; users = f.sized.users };
       tallied = record {
         likes = λ page. f.tallied.likes page ∙ sym (merge.merged-tally (seat_of v) adds merges f.sized.slice page);
@@ -482,18 +405,8 @@ follows-works workload v ending answer after none f kept has (turns.retires j e 
     λ phase page. zero_at (phase_at v == phase) page ∙ sym (zero_at (0 == phase) page)
     in
     subst (Follows workload) (sym x) (record {
-      served = record {
-        users =
-            f.served.users;
-        submitters_alike =
-            f.served.submitters_alike;
-        marks_alike =
-            f.served.marks_alike;
-        hot_alike = f.served.hot_alike;
-        stash_alike = f.served.stash_alike;
-        run = f.served.run;
-      };
-      sized = record { slice = f.sized.slice; users = f.sized.users };
+      served = f.served;
+      sized = f.sized;
       tallied = record {
         likes =
             f.tallied.likes;
@@ -559,28 +472,9 @@ runs-joined state.Gone r j = absurd r
 -- nothing is tried any more
 follows-settled : (workload : Workload) (v : WorkerView) → Follows workload v → Follows workload (settled v)
 follows-settled workload v f = record {
-  served = record {
-    users =
-        f.served.users;
-    submitters_alike =
-        f.served.submitters_alike;
-    marks_alike =
-        f.served.marks_alike;
-    hot_alike = f.served.hot_alike;
-    stash_alike = f.served.stash_alike;
-    run = f.served.run;
-  };
-  sized = record { slice = f.sized.slice; users = f.sized.users };
-  tallied = record {
-    likes =
-        f.tallied.likes;
-    by_phase =
-        f.tallied.by_phase;
-    steps = f.tallied.steps;
-    reads = f.tallied.reads;
-    replies = f.tallied.replies;
-    last = f.tallied.last;
-  };
+  served = f.served;
+  sized = f.sized;
+  tallied = f.tallied;
   noted = f.noted;
   unmerged = f.unmerged;
   in_order = f.in_order;
@@ -621,9 +515,9 @@ waits-alike workload v submitter number r asked s run has =
     ∙ ap (λ xs. is_look_at_sliced v.last.share.users v.last.share.submitters
     (λ page. split (λ p. get_or xs p false) workload.hot (phase_at v) page) submitter r) s.marks_alike
     ∙ ap (λ (l : Limits). is_look_at_sliced v.last.share.users v.last.share.submitters
-    (λ page. split_by l.hot (λ p. get_or v.post.marks p false) workload.hot (phase_at v) page) submitter r) (sym s.run)
+    (λ page. split_by l.hot (λ p. get_or v.post.opening.marks p false) workload.hot (phase_at v) page) submitter r) (sym s.run)
     ∙ (λ m. is_look_at_sliced v.last.share.users v.last.share.submitters
-    (λ page. split-known v.post.limits.hot (λ p. get_or v.post.marks p false) workload.hot v.post.masks (phase_at v) page s.hot_alike
+    (λ page. split-known v.post.opening.limits.hot (λ p. get_or v.post.opening.marks p false) workload.hot v.post.masks (phase_at v) page s.hot_alike
     (λ odd _ _. has (runs-split v.post.state run odd)) m) submitter r)
 
 -- the page of a look that need not wait is not sliced
@@ -691,28 +585,9 @@ follows-takes workload v place ask answer after none f kept has run empty asked 
     let enough : length (v.held.held ++ h ∷ []) ≤ v.held.capacity =
     subst (λ (w : WorkerView). length w.held.held ≤ w.held.capacity) x room in
     subst (Follows workload) (sym x) (follows-running workload (with_stashed (with_taken v place ask) h) run
-    (record {
-      users =
-          f.served.users;
-      submitters_alike =
-          f.served.submitters_alike;
-      marks_alike =
-          f.served.marks_alike;
-      hot_alike = f.served.hot_alike;
-      stash_alike = f.served.stash_alike;
-      run = f.served.run;
-    })
-    (record { slice = f.sized.slice; users = f.sized.users })
-    (record {
-      likes =
-          f.tallied.likes;
-      by_phase =
-          f.tallied.by_phase;
-      steps = f.tallied.steps;
-      reads = f.tallied.reads;
-      replies = f.tallied.replies;
-      last = f.tallied.last;
-    })
+    (f.served)
+    (f.sized)
+    (f.tallied)
     f.noted f.unmerged
     (All-push (IsAsked workload) v.held.held h f.held (record { asked = asked; there = there }))
     (fits-waits workload v.taken t f.fits
@@ -741,28 +616,9 @@ follows-takes workload v place ask answer after none f kept has run empty asked 
     let both = parts workload v f.in_order within (λ j. empty (runs-joined v.post.state run j)) in
     let held_next = map (entry_held (next_joined v)) v.held.held in
     follows-run workload (with_taken v place ask) after h false r run none
-    (record {
-      users =
-          f.served.users;
-      submitters_alike =
-          f.served.submitters_alike;
-      marks_alike =
-          f.served.marks_alike;
-      hot_alike = f.served.hot_alike;
-      stash_alike = f.served.stash_alike;
-      run = f.served.run;
-    })
-    (record { slice = f.sized.slice; users = f.sized.users })
-    (record {
-      likes =
-          f.tallied.likes;
-      by_phase =
-          f.tallied.by_phase;
-      steps = f.tallied.steps;
-      reads = f.tallied.reads;
-      replies = f.tallied.replies;
-      last = f.tallied.last;
-    })
+    (f.served)
+    (f.sized)
+    (f.tallied)
     f.noted f.unmerged has
     (record { asked = asked; there = there })
     kept
@@ -793,28 +649,9 @@ follows-give workload v took answer after can asked kept has room (turns.nothing
 follows-give workload v took answer after can asked kept has room (turns.ends place p t a x) f =
     let run = (f.trying place p).0 in
     subst (Follows workload) (sym x) (follows-running workload (record (settled v) { ended = set v.ended place true }) run
-    (record {
-      users =
-          f.served.users;
-      submitters_alike =
-          f.served.submitters_alike;
-      marks_alike =
-          f.served.marks_alike;
-      hot_alike = f.served.hot_alike;
-      stash_alike = f.served.stash_alike;
-      run = f.served.run;
-    })
-    (record { slice = f.sized.slice; users = f.sized.users })
-    (record {
-      likes =
-          f.tallied.likes;
-      by_phase =
-          f.tallied.by_phase;
-      steps = f.tallied.steps;
-      reads = f.tallied.reads;
-      replies = f.tallied.replies;
-      last = f.tallied.last;
-    })
+    (f.served)
+    (f.sized)
+    (f.tallied)
     f.noted f.unmerged f.held f.fits f.in_order (within-of_running v (λ _. Unit {0}) v.post.state run f.stands)
     (λ k e. absurd (cc e)))
 follows-give workload v took answer after can asked kept has room (turns.asks place ask p t x) f =

@@ -13,10 +13,11 @@ use Rattle.like_requests.specs.declared.request.Request.{Request}
 use Rattle.like_requests.specs.Setup.{IsThere}
 use Rattle.like_core.specs.Phase.{IsJoined, IsSplit, is_marked}
 use Rattle.like_core.specs.PhaseMasks.{mask_of}
-use Rattle.like_core.specs.Post.{PostView, pages_of, slices}
+use Rattle.like_core.specs.Post.{pages_of, slices}
 use Rattle.like_core.specs.WorkerState.{IsRunning, RunsJoined, RunsSplit, phase_of}
 use Rattle.like_core.specs.declared.worker_state.WorkerState.{WorkerState}
 use Rattle.like_core.proofs.core.InPhase.{split-IsSplit}
+use Rattle.like_core.specs.declared.view.WorkerSeatView.{WorkerSeatView}
 use Rattle.like_tables.specs.Share.{submitter_of}
 use Rattle.like_tables.specs.declared.held.Held.{Held}
 use Rattle.like_seat.specs.StationView.{IsStation, StationView}
@@ -43,7 +44,7 @@ none_first (y ∷ ys) h = cc
 -- what may be held stays so in the same share, at a board with the same marks
 pub AreOwn-moved : (s t : StationView Held) (hs : List Held)
     → t.last.share ≡ s.last.share
-    → t.post.marks ≡ s.post.marks
+    → t.post.opening.marks ≡ s.post.opening.marks
     → All (IsOwn s) hs
     → All (IsOwn t) hs
 AreOwn-moved s t hs share marks own = λ i y k. let o = own i y k in record {
@@ -56,7 +57,7 @@ AreOwn-moved s t hs share marks own = λ i y k. let o = own i y k in record {
 pub settled-after : (s t : StationView Held) (d e : Desk)
     → IsSettled s d
     → IsStation t
-    → t.post.limits ≡ s.post.limits
+    → t.post.opening.limits ≡ s.post.opening.limits
     → t.post.last ≡ s.post.last
     → t.last.share ≡ s.last.share
     → All (IsOwn t) t.held.held
@@ -84,17 +85,17 @@ settled-after s t d e is seat limits last share own room rest =
       untried = ap (λ (x : Desk). x.pending) rest ∙ is.untried;
     }
 
--- a worker stays sound where its post answers a phase or leaves, which changes the post's state alone
+-- a worker stays sound where its post answers a phase or leaves, which changes the post's state, and no more that is asked of it
 pub sound-stopped : (s t : StationView Held) (d : Desk) (w : WorkerState)
     → IsSettled s d
     → IsStation t
-    → t ≡ record s { post = record s.post { state = w } }
+    → t ≡ record s { post = record s.post { state = w; slots = [] } }
     → IsSound t d
 sound-stopped s t d w is seat e =
     let share = ap (λ (x : StationView Held). x.last.share) e in
-    let own = AreOwn-moved s t s.held.held share (ap (λ (x : StationView Held). x.post.marks) e) is.sound.held in
+    let own = AreOwn-moved s t s.held.held share (ap (λ (x : StationView Held). x.post.opening.marks) e) is.sound.held in
     let room = is.sound.room in
-    (settled-after s t d d is seat (ap (λ (x : StationView Held). x.post.limits) e)
+    (settled-after s t d d is seat (ap (λ (x : StationView Held). x.post.opening.limits) e)
     (ap (λ (x : StationView Held). x.post.last) e) share
     (subst (λ xs. All (IsOwn t) xs) (sym (ap (λ (x : StationView Held). x.held.held) e)) own)
     (subst (λ x. HasRoom x d) (sym e) (record {
@@ -249,13 +250,13 @@ settled-pop s t d first is seat e some =
     let longer : length s.held.held ≡ length (drop 1 s.held.held) + 1 = ap length list ∙ omega arith in
     let held : t.held.held ≡ drop 1 s.held.held = ap (λ (x : StationView Held). x.held.held) e in
     let share = ap (λ (x : StationView Held). x.last.share) e in
-    let marks = ap (λ (x : StationView Held). x.post.marks) e in
+    let marks = ap (λ (x : StationView Held). x.post.opening.marks) e in
     let added = ap (λ (x : StationView Held). x.post) e in
     let slice = ap (λ (x : StationView Held). x.slice) e in
     let room = is.sound.room in
     let own = AreOwn-moved s t s.held.held share marks is.sound.held in
     let first_own = subst (λ xs. All (IsOwn t) xs) list own in (
-      settled-after s t d d is seat (ap (λ (x : StationView Held). x.post.limits) e)
+      settled-after s t d d is seat (ap (λ (x : StationView Held). x.post.opening.limits) e)
           (ap (λ (x : StationView Held). x.post.last) e) share
           (subst (λ xs. All (IsOwn t) xs) (sym held) (All-drop (IsOwn t) 1 s.held.held own))
           (rw (held, added, slice) (record {
@@ -288,12 +289,12 @@ settled-push s t d h is room own seat e =
     let held : t.held.held ≡ s.held.held ++ h ∷ [] = ap (λ (x : StationView Held). x.held.held) e in
     let longer : length (s.held.held ++ h ∷ []) ≡ length s.held.held + 1 = length-append s.held.held (h ∷ []) in
     let share = ap (λ (x : StationView Held). x.last.share) e in
-    let marks = ap (λ (x : StationView Held). x.post.marks) e in
+    let marks = ap (λ (x : StationView Held). x.post.opening.marks) e in
     let added = ap (λ (x : StationView Held). x.post) e in
     let slice = ap (λ (x : StationView Held). x.slice) e in
     let all = All-append (IsOwn s) s.held.held (h ∷ []) is.sound.held
     (All-cons (IsOwn s) h [] own (λ i y k. absurd (omega arith))) in
-    settled-after s t d d is seat (ap (λ (x : StationView Held). x.post.limits) e)
+    settled-after s t d d is seat (ap (λ (x : StationView Held). x.post.opening.limits) e)
     (ap (λ (x : StationView Held). x.post.last) e) share
     (subst (λ xs. All (IsOwn t) xs) (sym held) (AreOwn-moved s t (s.held.held ++ h ∷ []) share marks all))
     (rw (held, added, slice) (record {
@@ -362,7 +363,7 @@ settled-taken s d n place is none there some left taken capacity rest =
     )
 
 -- a request that waits was taken in a split phase
-pub waits-split : (post : PostView) (users submitters submitter : ℕ) (r : Request) (waits : Bool)
+pub waits-split : (post : WorkerSeatView) (users submitters submitter : ℕ) (r : Request) (waits : Bool)
     → waits ≡ is_look_at_sliced users submitters (slices post) submitter r
     → waits ≡ true
     → IsSplit (phase_of post.state)
@@ -370,7 +371,7 @@ waits-split post users submitters submitter r waits is h =
     of_page (page_looked_at r.op r.page) (and_parts (is_accepted users submitters submitter r) _ (sym is ∙ h)).1 where
       of_page : (o : Option ℕ) → option_map_or (slices post) o false ≡ true → IsSplit (phase_of post.state)
       of_page None e = cc
-      of_page (Some page) e = split-IsSplit post.limits.hot (is_marked post.marks) (mask_of post.masks) (phase_of post.state) page e
+      of_page (Some page) e = split-IsSplit post.opening.limits.hot (is_marked post.opening.marks) (mask_of post.masks) (phase_of post.state) page e
 
 -- the submitter at a place is one of the worker's
 pub place-served : (worker workers place : ℕ) → worker < workers → (worker + workers * place) % workers ≡ worker

@@ -42,14 +42,14 @@ runs-weaker P Q state.Gone f r = absurd r
 pub within-of_running : (v : WorkerView) (P : ℕ → Type 0) (s : WorkerState)
     → RunsSome P s
     → Stands v s
-    → HasNothingLater v (phase_of s)
+    → HasNothingLater v.taken v.ran (phase_of s)
 within-of_running v P (state.Runs k) r w = w
 within-of_running v P (state.Answered k) r w = absurd r
 within-of_running v P state.Gone r w = absurd r
 
 pub running-of_within : (v : WorkerView) (P : ℕ → Type 0) (s : WorkerState)
     → RunsSome P s
-    → HasNothingLater v (phase_of s)
+    → HasNothingLater v.taken v.ran (phase_of s)
     → Stands v s
 running-of_within v P (state.Runs k) r w = w
 running-of_within v P (state.Answered k) r w = absurd r
@@ -86,7 +86,7 @@ parts-same k (x ∷ xs) ys (u ∷ us) vs low next low_too next_too same =
 -- next block
 pub parts : (workload : Workload) (v : WorkerView)
     → IsInOrder workload v
-    → HasNothingLater v (phase_at v)
+    → HasNothingLater v.taken v.ran (phase_at v)
     → (IsJoined (phase_at v) → v.held.held ≡ [])
     → (map entry_of v.ran ≡ order_below workload v.taken (phase_at v + 1))
     × (map (entry_held (next_joined v)) v.held.held ≡ block workload v.taken (phase_at v + 1))

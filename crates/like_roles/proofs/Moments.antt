@@ -16,7 +16,7 @@ use Rattle.like_core.specs.Functions.{times, update}
 use Rattle.like_core.specs.PageSteps.{additions_among}
 use Rattle.like_core.specs.OpeningLimits.{run_limits}
 use Rattle.like_core.specs.Phase.{IsSplit}
-use Rattle.like_core.specs.Post.{KnowsSlices, PostView, slices}
+use Rattle.like_core.specs.Post.{KnowsSlices, slices}
 use Rattle.like_core.specs.WorkerState.{IsRunning, RunsSplit}
 use Rattle.like_core.specs.core.Likes.{MayLike, given}
 use Rattle.like_core.specs.core.Moves.{LetsReturn}
@@ -24,15 +24,13 @@ use Rattle.like_core.specs.core.Numbers.{total}
 use Rattle.like_core.specs.core.State.{CoreState, is_split_now, numbers}
 use Rattle.like_core.specs.views.Shows.{FitsWorker, Moment}
 use Rattle.like_core.specs.views.Tallies.{left_to}
-use Rattle.like_core.specs.views.Views.{post_of}
 use Rattle.like_core.proofs.Sums.{sum_below-le}
 use Rattle.like_core.proofs.Updates.{update-same}
 use Rattle.like_core.proofs.core.GivenLikes.{likes_stay_reachable}
 use Rattle.like_core.proofs.core.Moved.{nobody_returns, reached_is_exclusive}
-use Rattle.like_core.proofs.views.Posts.{added_to-le}
+use Rattle.like_core.proofs.views.ViewSums.{added_to-le}
 use Rattle.like_core.proofs.views.SplitPages.{slices_are_split}
 use Rattle.like_core.proofs.views.ViewLists.{sum_part}
-use Rattle.like_seat.specs.StationView.{HasPhaseMask}
 use Rattle.like_seat.proofs.Moments.{phase_run, posts_are_exclusive, state_at}
 use Rattle.like_roles.specs.worker.Moments.{AreHeldAt, HoldsAt, WorkersAreExclusive}
 use Rattle.like_roles.proofs.Rooms.{of_views, room_of}
@@ -42,22 +40,19 @@ module _ (z : Opening) (m : Moment z) (i page likes : ℕ) (h : HoldsAt z m i pa
   has_some : slice_index h.of.slice page ≢ 0
   has_some none = absurd (omega (arith, none, h.slice, some))
 
-  fits : FitsWorker z m.shown.state h.at.view
-  fits = m.shown.shows.seats.each h.at.place (Worker h.at.view) h.at.there
-
-  its_view : h.at.view.worker ≡ i
-  its_view = sym (ap (λ (q : PostView). q.worker) h.at.post) ∙ h.worker
+  fits : FitsWorker z m.shown.state h.of.post
+  fits = m.shown.shows.seats.each h.at.place (Worker h.of.post) h.at.there
 
   -- it runs the present phase
   holder_runs : m.shown.state.state i ≡ Runs m.shown.state.phase
   holder_runs =
       let s : CoreState = m.shown.state in
       let odd = phase_run IsSplit h.of.post.state (h.station.split page has_some).0 in
-      let runs : s.state h.at.view.worker ≡ Runs odd.0 = state_at z m h.of.post h.at ∙ odd.1.0 in
+      let runs : s.state h.of.post.worker ≡ Runs odd.0 = state_at z m h.of.post h.at ∙ odd.1.0 in
       let present : odd.0 ≡ s.phase =
-      (reached_is_exclusive z s m.shown.reachable).1.runs h.at.view.worker odd.0 runs
+      (reached_is_exclusive z s m.shown.reachable).1.runs h.of.post.worker odd.0 runs
       in
-      ap s.state (sym its_view) ∙ runs ∙ ap Runs present
+      ap s.state (sym h.worker) ∙ runs ∙ ap Runs present
 
   within : page < length h.of.slice
   within =
@@ -70,8 +65,7 @@ module _ (z : Opening) (m : Moment z) (i page likes : ℕ) (h : HoldsAt z m i pa
   holder_there : page < length z.counts
   holder_there =
       let below = within in
-      let sized : length h.of.slice ≡ length h.of.post.marks = h.station.sized in
-      let marks = ap (λ (q : PostView). length q.marks) h.at.post in
+      let sized : length h.of.slice ≡ length h.of.post.opening.marks = h.station.sized in
       let opening = ap (λ (o : Opening). length o.marks) fits.opening in
       let one_each = m.shown.shows.opening.marks in
       omega arith
@@ -80,29 +74,23 @@ module _ (z : Opening) (m : Moment z) (i page likes : ℕ) (h : HoldsAt z m i pa
   holder_split : is_split_now z m.shown.state page ≡ true
   holder_split =
       let in_split = h.station.split page has_some in
-      let seat : PostView = post_of h.at.view in
-      let split : RunsSplit seat.state = subst (λ (q : PostView). RunsSplit q.state) h.at.post in_split.0 in
-      let odd = phase_run IsSplit seat.state split in
-      let running : IsRunning seat.state = subst IsRunning (sym odd.1.0) tt in
-      let masked : HasPhaseMask seat = subst HasPhaseMask h.at.post h.station.masked in
-      let knows : KnowsSlices seat page = λ _ _ _. masked split in
-      sym (slices_are_split z m h.at.place h.at.view page h.at.there running knows)
-      ∙ sym (ap (λ (q : PostView). slices q page) h.at.post) ∙ in_split.1
+      let odd = phase_run IsSplit h.of.post.state in_split.0 in
+      let running : IsRunning h.of.post.state = subst IsRunning (sym odd.1.0) tt in
+      let knows : KnowsSlices h.of.post page = λ _ _ _. h.station.masked in_split.0 in
+      sym (slices_are_split z m h.at.place h.of.post page h.at.there running knows) ∙ in_split.1
 
   -- there is room for what it holds
   holder_room : likes ≤ sum_by (room_of z.limits page i) m.views
   holder_room =
-      let v : WorkerSeatView = h.at.view in
+      let v : WorkerSeatView = h.of.post in
       let part = sum_part (room_of z.limits page i) m.views h.at.place (Worker v) h.at.there in
       let here : room_of z.limits page i (Worker v) ≡ left_to z.limits.likes page v =
-      ap (λ j. update (λ _. 0) j (left_to z.limits.likes page v) i) its_view
+      ap (λ j. update (λ _. 0) j (left_to z.limits.likes page v) i) h.worker
       ∙ update-same (λ _. 0) i (left_to z.limits.likes page v)
       in
       let own : slice_index h.of.slice page ≤ sum h.of.slice = get_or-le-sum_by (λ x. x) h.of.slice page 0 within in
-      let few : all_added (additions_among h.of.post.did) + sum h.of.slice ≤ h.of.post.limits.likes = h.station.few in
-      let did = ap (λ (q : PostView). all_added (additions_among q.did)) h.at.post in
+      let few : all_added (additions_among v.did) + sum h.of.slice ≤ v.opening.limits.likes = h.station.few in
       let added = added_to-le (additions_among v.did) page in
-      let its_limit : h.of.post.limits.likes ≡ v.opening.limits.likes = ap (λ (q : PostView). q.limits.likes) h.at.post in
       let limit = ap (λ (o : Opening). o.limits.likes) fits.opening in
       let likes_are = h.slice in
       omega arith

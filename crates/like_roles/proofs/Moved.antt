@@ -3,23 +3,16 @@ use Rattle.std.proofs.Common.{◌≡◌, ℕ, Bool, true, false, cond, List, ref
 use Rattle.like_requests.specs.declared.request.Numbered.{Numbered}
 use Rattle.like_requests.specs.declared.request.Request.{Request}
 use Rattle.like_requests.specs.declared.request.Taken.{Taken}
-use Rattle.like_requests.specs.Pages.{Page}
-use Rattle.like_requests.specs.declared.setup.Setup.{Setup}
-use Rattle.like_core.specs.declared.worker_state.WorkerState.{WorkerState}
-use Rattle.like_core.specs.declared.worker_state.WorkerState.TheVariants as state
-use Rattle.like_core.specs.Post.{PostView, slices}
+use Rattle.like_core.specs.Post.{slices}
 use Rattle.like_tables.specs.UserTable.{with_last}
 use Rattle.like_tables.specs.declared.held.Held.{Held}
 use Rattle.like_promises.specs.declared.reply.Reply.{Reply}
 use Rattle.like_promises.specs.Workload.{Workload}
-use Rattle.like_seat.specs.Parts.{at_board}
 use Rattle.like_seat.specs.StationView.{StationView}
-use Rattle.like_seat.proofs.Parts.{IsStation-at, seat_at}
 use Rattle.like_roles.specs.declared.turn.Turn.{Turn}
 use Rattle.like_roles.specs.declared.worker.desk.Desk.{Desk}
 use Rattle.like_roles.specs.worker.Desk.{IsSound}
-use Rattle.like_roles.specs.worker.Follows.{Follows, Stands}
-use Rattle.like_roles.specs.worker.New.{IsNew, IsPostOf}
+use Rattle.like_roles.specs.worker.Follows.{Follows}
 use Rattle.like_roles.specs.worker.Serve.{GivesReply, Runs, liked, likes, looks, refuses, sliced, with_addition}
 use Rattle.like_roles.specs.worker.Suspended.{moved}
 use Rattle.like_roles.specs.worker.Turns as turns
@@ -27,9 +20,9 @@ use Rattle.like_roles.specs.worker.Turns.{Gives, TakesAsk, Turns, Works, held_fr
 use Rattle.like_roles.specs.worker.WorkerView.{WorkerView}
 
 -- what is true between two calls
-pub IsSound-at : (s : StationView Held) (d : Desk) (board : List ℕ) → IsSound s d → IsSound (seat_at s board) d
+pub IsSound-at : (s : StationView Held) (d : Desk) (board : List ℕ) → IsSound s d → IsSound (record s { board = board }) d
 IsSound-at s d board is = record {
-  seat = IsStation-at s board is.seat;
+  seat = is.seat;
   run = is.run;
   started = is.started;
   places = is.places;
@@ -46,76 +39,20 @@ IsSound-at s d board is = record {
       record { there = tried.there; running = tried.running; joined = tried.joined; split = tried.split };
 }
 
--- a post that no call was made on
-pub IsPostOf-at : (worker : ℕ) (pages : List Page) (post : PostView) (board : List ℕ) → IsPostOf worker pages post
-    → IsPostOf worker pages (at_board post board)
-IsPostOf-at worker pages post board is = record {
-  is_his = is.is_his;
-  marks = is.marks;
-  limits = is.limits;
-  factor = is.factor;
-  fresh = record {
-    runs = is.fresh.runs;
-    never_looked = is.fresh.never_looked;
-    no_looks = is.fresh.no_looks;
-    did_nothing = is.fresh.did_nothing;
-    no_masks = is.fresh.no_masks;
-  };
-}
-
 -- what a worker has done, as the plans say it
-stands-moved : (v : WorkerView) (board : List ℕ) (s : WorkerState) → Stands v s → Stands (moved v board) s
-stands-moved v board (state.Runs phase) stands = stands
-stands-moved v board (state.Answered phase) stands = stands
-stands-moved v board state.Gone stands = stands
-
 pub Follows-moved : (workload : Workload) (v : WorkerView) (board : List ℕ) → Follows workload v
     → Follows workload (moved v board)
 Follows-moved workload v board f = record {
-  served = record {
-    users = f.served.users;
-    submitters_alike = f.served.submitters_alike;
-    marks_alike = f.served.marks_alike;
-    hot_alike = f.served.hot_alike;
-    stash_alike = f.served.stash_alike;
-    run = f.served.run;
-  };
-  sized = record { slice = f.sized.slice; users = f.sized.users };
-  tallied = record {
-    likes = f.tallied.likes;
-    by_phase = f.tallied.by_phase;
-    steps = f.tallied.steps;
-    reads = f.tallied.reads;
-    replies = f.tallied.replies;
-    last = f.tallied.last;
-  };
+  served = f.served;
+  sized = f.sized;
+  tallied = f.tallied;
   noted = f.noted;
   unmerged = f.unmerged;
   in_order = f.in_order;
   fits = f.fits;
   held = f.held;
-  stands = stands-moved v board v.post.state f.stands;
+  stands = f.stands;
   trying = f.trying;
-}
-
--- a worker that was just made
-pub IsNew-moved : (s : Setup) (sizes : List ℕ) (worker : ℕ) (post : PostView) (board : List ℕ) (notes : Bool)
-    (v : WorkerView) → IsNew s sizes worker post notes v
-    → IsNew s sizes worker (at_board post board) notes (moved v board)
-IsNew-moved s sizes worker post board notes v new = record {
-  at_post = ap (λ p. at_board p board) new.at_post;
-  held = new.held;
-  slice = new.slice;
-  sliced = new.sliced;
-  left = new.left;
-  ended = new.ended;
-  cursor = new.cursor;
-  pending = new.pending;
-  last = new.last;
-  taken = new.taken;
-  ran = new.ran;
-  notes_are = new.notes_are;
-  adds = new.adds;
 }
 
 -- a like that is counted

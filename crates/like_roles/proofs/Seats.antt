@@ -1,5 +1,5 @@
 -- Seats of a board's workers.
-use Rattle.std.proofs.Common.{◌≡◌, List, ap, ◌∙◌}
+use Rattle.std.proofs.Common.{◌≡◌, List, refl, subst, sym}
 use Rattle.like_limits.specs.Buckets.{run_factor}
 use Rattle.like_requests.specs.Pages.{Page, marks_of}
 use Rattle.like_core.specs.declared.opening.Opening.{Opening}
@@ -7,7 +7,7 @@ use Rattle.like_core.specs.declared.view.WorkerSeatView.{WorkerSeatView}
 use Rattle.like_core.specs.OpeningLimits.{run_limits}
 use Rattle.like_board.specs.declared.worker_seat.WorkerSeat.{WorkerSeat}
 use Rattle.like_board.specs.Seats.{AreFresh, BoardId}
-use Rattle.like_roles.specs.worker.New.{AreNewSeats}
+use Rattle.like_roles.specs.worker.New.{AreNewSeats, IsPostOf}
 
 -- fresh seats are new ones, of posts at a board with these pages
 pub new_seats : (board : BoardId) (z : Opening) (pages : List Page) (seats : List WorkerSeat)
@@ -19,11 +19,9 @@ pub new_seats : (board : BoardId) (z : Opening) (pages : List Page) (seats : Lis
 new_seats board z pages seats marks limits factor fresh worker seat at =
     let f = fresh worker seat at in (
       f.0,
-      record {
-        is_his = ap (λ (v : WorkerSeatView). v.worker) f.1;
-        marks = ap (λ (v : WorkerSeatView). v.opening.marks) f.1 ∙ marks;
-        limits = ap (λ (v : WorkerSeatView). v.opening.limits) f.1 ∙ limits;
-        factor = ap (λ (v : WorkerSeatView). v.opening.factor) f.1 ∙ factor;
-        fresh = f.2;
-      },
+      subst (IsPostOf worker pages) (sym f.1) (record {
+        is_his = refl;
+        opening = record { marks = marks; limits = limits; factor = factor };
+        fresh = refl;
+      }),
     )

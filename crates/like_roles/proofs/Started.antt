@@ -10,8 +10,9 @@ use Rattle.like_core.specs.declared.worker_state.WorkerState.TheVariants as stat
 use Rattle.like_core.specs.WorkerState.{RunsSplit}
 use Rattle.like_core.specs.Additions.{added_in, added_to}
 use Rattle.like_core.specs.PhaseMasks.{AreMasksOf}
-use Rattle.like_core.specs.Post.{PostView, additions_in, additions_of, pages_of}
+use Rattle.like_core.specs.Post.{additions_in, additions_of, pages_of}
 use Rattle.like_core.specs.PageSteps.{additions_among, earliest_first, likes_of}
+use Rattle.like_core.specs.declared.view.WorkerSeatView.{WorkerSeatView}
 use Rattle.like_tables.specs.UserTable.{last_of}
 use Rattle.like_roles.specs.declared.turn.Turn.{Turn}
 use Rattle.like_roles.specs.declared.turn.Turn.TheVariants as turn
@@ -30,26 +31,26 @@ use Rattle.like_seat.proofs.MergedLikes.{cond_same, same_everywhere}
 use Rattle.like_roles.proofs.notes.NotedMerge.{noted-nothing, one-of_likes}
 
 -- a new worker follows the plans
-pub follows-new : (s : Setup) (sizes : List ℕ) (worker : ℕ) (post : PostView) (notes : Bool) (v : WorkerView)
+pub follows-new : (s : Setup) (sizes : List ℕ) (worker : ℕ) (board : List ℕ) (post : WorkerSeatView) (notes : Bool) (v : WorkerView)
     (workload : Workload)
     → IsPostOf worker s.pages post
-    → IsNew s sizes worker post notes v
+    → IsNew s sizes worker board post notes v
     → IsWorkloadOf s sizes workload → Follows workload v
-follows-new s sizes worker post notes v workload p new same =
-    let marks_are : v.post.marks ≡ marks_of workload.pages =
-    ap (λ x. x.marks) new.at_post ∙ p.marks ∙ ap (map (λ q. q.split)) (sym same.pages_are) in
+follows-new s sizes worker board post notes v workload p new same =
+    let marks_are : v.post.opening.marks ≡ marks_of workload.pages =
+    ap (λ x. x.opening.marks) new.at_post ∙ p.opening.marks ∙ ap (map (λ q. q.split)) (sym same.pages_are) in
     let pages : pages_of v.post ≡ length s.pages =
-    ap length (ap (λ x. x.marks) new.at_post ∙ p.marks) ∙ length-map s.pages (λ q. q.split) in
-    let did_is : v.post.did ≡ [] = ap (λ x. x.did) new.at_post ∙ p.fresh.did_nothing in
+    ap length (ap (λ x. x.opening.marks) new.at_post ∙ p.opening.marks) ∙ length-map s.pages (λ q. q.split) in
+    let did_is : v.post.did ≡ [] = ap (λ x. x.did) new.at_post ∙ ap (λ v. v.did) p.fresh in
     let additions : additions_among v.post.did ≡ [] = ap additions_among did_is in
-    let state_is : v.post.state ≡ state.Runs 0 = ap (λ x. x.state) new.at_post ∙ p.fresh.runs in
+    let state_is : v.post.state ≡ state.Runs 0 = ap (λ x. x.state) new.at_post ∙ ap (λ v. v.state) p.fresh in
     let held : v.held.held ≡ [] = ap (λ x. x.held) new.held in
     let did : earliest_first v.post.did ≡ [] = ap earliest_first did_is in
-    let masks : v.post.masks ≡ [] = ap (λ x. x.masks) new.at_post ∙ p.fresh.no_masks in
+    let masks : v.post.masks ≡ [] = ap (λ x. x.masks) new.at_post ∙ ap (λ v. v.masks) p.fresh in
     let nothing : (page : ℕ) → additions_of v.post page ≡ 0 = λ page. ap (added_to page) additions in
     let in_slice : (page : ℕ) → get_or v.slice page 0 ≡ 0 =
     λ page. ap (λ xs. get_or xs page 0) new.slice ∙ same_everywhere (length s.pages) page 0 in
-    let within : HasNothingLater v 0 = (
+    let within : HasNothingLater v.taken v.ran 0 = (
       λ i t h. absurd (omega (arith, ap length new.taken)),
       λ i e h. absurd (omega (arith, ap length new.ran)),
     ) in
@@ -62,7 +63,7 @@ follows-new s sizes worker post notes v workload p new same =
         marks_alike = sym marks_are;
         hot_alike = subst (AreMasksOf workload.hot) (sym masks) (All-nil (λ m. m.mask ≡ workload.hot m.phase));
         stash_alike = same.stash_is ∙ sym (ap (λ x. x.capacity) new.held);
-        run = ap (λ x. x.limits) new.at_post ∙ p.limits;
+        run = ap (λ x. x.opening.limits) new.at_post ∙ p.opening.limits;
       };
       sized = record {
         slice = ap length new.slice ∙ length-replicate (length s.pages) 0 ∙ sym pages;

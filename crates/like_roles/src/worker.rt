@@ -106,7 +106,7 @@ impl<P: Post> Worker<P> {
         requires within { IsWithin setup.now sizes.now }
         requires is_worker { worker < setup.now.workers }
         requires post { IsPostOf worker setup.now.pages (P.view post) }
-        ensures new { IfOk result (IsNew setup.now sizes.now worker (P.view post) true) }
+        ensures new { IfOk result (IsNew setup.now sizes.now worker (P.board post) (P.view post) true) }
         ensures follows { IfOk result
             (λ worker. (workload : Workload)
             → IsWorkloadOf setup.now sizes.now workload
@@ -129,7 +129,7 @@ impl<P: Post> Worker<P> {
         requires within { IsWithin setup.now sizes.now }
         requires is_worker { worker < setup.now.workers }
         requires post { IsPostOf worker setup.now.pages (P.view post) }
-        ensures new { IfOk result (IsNew setup.now sizes.now worker (P.view post) notes) }
+        ensures new { IfOk result (IsNew setup.now sizes.now worker (P.board post) (P.view post) notes) }
         ensures follows { IfOk result
             (λ worker. (workload : Workload)
             → IsWorkloadOf setup.now sizes.now workload
@@ -186,7 +186,8 @@ impl<P: Post> Worker<P> {
 
     /// Gives the post back, whatever is left to do.
     pub fn leave(self) -> P
-        ensures { P.view result ≡ self.post }
+        ensures board { P.board result ≡ self.board }
+        ensures post { P.view result ≡ self.post }
     {
         self.seat.leave()
     }
@@ -198,6 +199,7 @@ impl<P: Post> Worker<P> {
         ensures ran { result.0.ran.items ≡ self.ran }
         ensures adds { result.0.adds.items ≡ self.adds }
         ensures last { result.0.last ≡ self.last }
+        ensures board { P.board result.1 ≡ self.board }
         ensures post { P.view result.1 ≡ self.post }
         ensures done { (workload : Workload) → Follows workload self → IsDone workload self }
     {

@@ -1,5 +1,5 @@
 -- A seat that enters the next phase.
-use Rattle.std.proofs.Common.{◌≡◌, ℕ, ◌+◌, ◌%◌, ◌==◌, ◌<◌, ◌≤◌, ◌⊎◌, ◌&&◌, ◌||◌, nat_lt, Bool, true, false, cond, List, ◌∷◌, length, get_or, sum, Some, inl, inr, refl, sym, ap, subst, ◌∙◌, arith}
+use Rattle.std.proofs.Common.{◌≡◌, ℕ, ◌+◌, ◌%◌, ◌==◌, ◌<◌, ◌≤◌, ◌⊎◌, ◌&&◌, ◌||◌, nat_lt, Bool, true, false, cond, List, [], ◌∷◌, length, get_or, sum, Some, inl, inr, refl, sym, ap, subst, ◌∙◌, arith}
 use Rattle.std.specs.List.{list_any}
 use Rattle.std.proofs.lemmas.Bool.{and_from, and_parts, cases_eq, cond-true, eq-eqb, lt-ltb, ltb-false, ltb-true, or_right}
 use Rattle.like_core.specs.declared.sight.Sight.{Sight}
@@ -15,9 +15,10 @@ use Rattle.like_core.specs.PhaseMasks.{HasMask, mask_of}
 use Rattle.like_core.specs.Slots.{IsChoice, mask_of_slots}
 use Rattle.like_core.proofs.Slots.{slots_tell}
 use Rattle.like_limits.specs.Limits.{hot_pages}
-use Rattle.like_core.specs.Post.{PostView, looked_at, pages_of, returned}
+use Rattle.like_core.specs.Post.{looked_at, pages_of, returned}
 use Rattle.like_core.specs.WorkerState.{IsRunning, RunsSplit, seen}
 use Rattle.like_core.specs.PageSteps.{additions_among}
+use Rattle.like_core.specs.declared.view.WorkerSeatView.{WorkerSeatView}
 use Rattle.like_tables.specs.SplitSlice.{IsSplitSlice, SplitSlice, by_page, has_split, likes_in}
 use Rattle.like_tables.proofs.ByPage.{by_page-none, length-by_page, likes_in-none, likes_in-other}
 use Rattle.like_tables.proofs.Sliced.{counts-none}
@@ -25,7 +26,7 @@ use Rattle.like_seat.specs.declared.tables.Tables.{Tables}
 use Rattle.like_seat.specs.Kept.{EntersBy, IsFilled, IsFilledBySlots, IsKept, IsOfRun, IsOfService, MayEnter, SplitsPages, is_split_by, is_split_in_run}
 use Rattle.like_seat.specs.Steps.{masks_entered}
 use Rattle.like_seat.proofs.Filling.{number-kept, same_tests}
-use Rattle.like_seat.proofs.Keeping.{in-split, of-run, of-service, splits-none}
+use Rattle.like_seat.proofs.Keeping.{in-split, splits-none}
 
 parity : (n : ℕ) → IsSplit n ⊎ IsJoined n
 parity n = elim (cases_eq (n % 2) 1) [ inl odd ↦ inl odd | inr even ↦ inr (omega arith) ]
@@ -38,50 +39,44 @@ pub idle-gone : (s : WorkerState) → s ≡ Gone → RunsSplit s → ⊥
 idle-gone s is runs = absurd (subst RunsSplit is runs)
 
 -- the post when it runs a phase, as it has looked by now
-abbrev pub ran : PostView → PostView → ℕ → PostView
-ran post looked phase = record post { state = Runs phase; last = looked.last; looks = looked.looks }
+abbrev pub ran : WorkerSeatView → WorkerSeatView → ℕ → WorkerSeatView
+ran post looked phase = record post { state = Runs phase; last = looked.last; looks = looked.looks; slots = [] }
 
 -- so it does after a look that showed the next phase, and after it came back
-pub ran-looked : (post looked : PostView) (sight : Sight) (k : ℕ) → looked ≡ looked_at post sight
+pub ran-looked : (post looked : WorkerSeatView) (sight : Sight) (k : ℕ) → looked ≡ looked_at post sight
     → post.state ≡ Answered k → sight.waits ≡ false → looked ≡ ran post looked (k + 1)
 ran-looked post looked sight k look is goes =
     let runs : seen post.state sight ≡ Runs (k + 1) =
     ap (λ s. seen s sight) is ∙ ap (λ (b : Bool). cond b (Answered k) (Runs (k + 1))) goes in
-    subst (λ (p : PostView). p ≡ ran post p (k + 1)) (sym look) (λ i. record (looked_at post sight) { state = runs i })
+    subst (λ (p : WorkerSeatView). p ≡ ran post p (k + 1)) (sym look) (λ i. record (looked_at post sight) { state = runs i })
 
-pub ran-returned : (post looked : PostView) (phase : ℕ) → looked ≡ returned post phase → looked ≡ ran post looked phase
-ran-returned post looked phase back = subst (λ (p : PostView). p ≡ ran post p phase) (sym back) refl
+pub ran-returned : (post looked : WorkerSeatView) (phase : ℕ) → looked ≡ returned post phase → looked ≡ ran post looked phase
+ran-returned post looked phase back = subst (λ (p : WorkerSeatView). p ≡ ran post p phase) (sym back) refl
 
 -- who ran no split phase may enter the phase that it runs
-pub MayEnter-kept : {W C T : Type 0} (post looked : PostView) (t : Tables W C T) (phase : ℕ) → IsKept post t
+pub MayEnter-kept : {W C T : Type 0} (post looked : WorkerSeatView) (t : Tables W C T) (phase : ℕ) → IsKept post t
     → (RunsSplit post.state → ⊥) → looked ≡ ran post looked phase → MayEnter looked t.slice phase
 MayEnter-kept post looked t phase kept idle look =
     let may : MayEnter (ran post looked phase) t.slice phase = record {
       runs = refl;
+      unread = refl;
       limits = kept.seat.limits;
       few_pages = kept.seat.few_pages;
       unsplit = record { slice = kept.slice; factor = kept.factor; none = splits-none post t.slice kept.splits idle };
       numbers = kept.numbers;
-    } in subst (λ (p : PostView). MayEnter p t.slice phase) (sym look) may
+    } in subst (λ (p : WorkerSeatView). MayEnter p t.slice phase) (sym look) may
 
-pub IsOfRun-ran : {W C T : Type 0} (post looked : PostView) (t : Tables W C T) (phase : ℕ) → IsKept post t
-    → looked ≡ ran post looked phase → has_slots post.limits ≡ false → IsOfRun looked t.marks.items
-IsOfRun-ran post looked t phase kept look plain =
-    subst (λ (p : PostView). IsOfRun p t.marks.items) (sym look)
-    (of-run post (ran post looked phase) t.marks.items t.marks.items refl refl refl refl kept.run plain)
-
-pub IsOfService-ran : {W C T : Type 0} (post looked : PostView) (t : Tables W C T) (phase : ℕ) → IsKept post t
-    → looked ≡ ran post looked phase → has_slots post.limits ≡ true → IsOfService looked
-IsOfService-ran post looked t phase kept look slotted =
-    subst (λ (p : PostView). IsOfService p) (sym look)
-    (of-service post (ran post looked phase) refl refl kept.service slotted)
+-- its board is the same
+pub opening-ran : (post looked : WorkerSeatView) (phase : ℕ) → looked ≡ ran post looked phase
+    → looked.opening ≡ post.opening
+opening-ran post looked phase look = ap (λ (p : WorkerSeatView). p.opening) look
 
 -- in a run the pages that are marked or hot are split
-pub filled-run : (post : PostView) (marks : List Bool) (mask : ℕ) (s after : SplitSlice) → IsOfRun post marks
-    → AreLimits post.limits → IsFilled s (length marks) (is_split_in_run marks mask) after
+pub filled-run : (post : WorkerSeatView) (marks : List Bool) (mask : ℕ) (s after : SplitSlice) → IsOfRun post.opening marks
+    → AreLimits post.opening.limits → IsFilled s (length marks) (is_split_in_run marks mask) after
     → IsFilled s (pages_of post) (is_split_by post mask) after
 filled-run post marks mask s after run limits f =
-    let hot : post.limits.hot ≡ hot_pages = omega (arith, ltb-false hot_pages post.limits.hot run.plain, limits.hot) in
+    let hot : post.opening.limits.hot ≡ hot_pages = omega (arith, ltb-false hot_pages post.opening.limits.hot run.plain, limits.hot) in
     record {
       slice = f.slice;
       factor = f.factor;
@@ -89,12 +84,12 @@ filled-run post marks mask s after run limits f =
       splits = λ page. f.splits page
           ∙ ap (λ (ms : List Bool). nat_lt page (length ms) && (is_marked ms page || is_hot_by hot_pages mask page))
           (sym run.marks)
-          ∙ ap (λ (h : ℕ). nat_lt page (pages_of post) && (is_marked post.marks page || is_hot_by h mask page)) (sym hot);
+          ∙ ap (λ (h : ℕ). nat_lt page (pages_of post) && (is_marked post.opening.marks page || is_hot_by h mask page)) (sym hot);
     }
 
 -- in a service those in the slots in use are
-pub filled-service : (post : PostView) (slots : ℕ → ℕ) (word : ℕ) (s after : SplitSlice) → IsOfService post
-    → AreLimits post.limits → pages_of post ≤ post.limits.pages → IsChoice post.factor (pages_of post) slots word
+pub filled-service : (post : WorkerSeatView) (slots : ℕ → ℕ) (word : ℕ) (s after : SplitSlice) → IsOfService post.opening
+    → AreLimits post.opening.limits → pages_of post ≤ post.opening.limits.pages → IsChoice post.opening.factor (pages_of post) slots word
     → IsFilledBySlots s slots word hot_pages after
     → IsFilled s (pages_of post) (is_split_by post (mask_of_slots slots word hot_pages)) after
 filled-service post slots word s after service limits few choice f = record {
@@ -104,25 +99,25 @@ filled-service post slots word s after service limits few choice f = record {
   splits = λ page.
       let mask = mask_of_slots slots word hot_pages in
       let n : ℕ = pages_of post in
-      let h : ℕ = post.limits.hot in
+      let h : ℕ = post.opening.limits.hot in
       let most = limits.slotted service.slotted in
-      same_tests (has_split after page) (nat_lt page n && (is_marked post.marks page || is_hot_by h mask page))
+      same_tests (has_split after page) (nat_lt page n && (is_marked post.opening.marks page || is_hot_by h mask page))
       (λ held.
       let i = (f.splits page).0 held in
       let there : page < n = omega (arith, choice.there i.slot i.below i.used, i.holds) in
       and_from (nat_lt page n) _ (lt-ltb page n there)
-      (or_right (is_marked post.marks page) _
+      (or_right (is_marked post.opening.marks page) _
       (and_from (nat_lt page h) (has_bit mask page) (lt-ltb page h (omega (arith, there, few, most)))
       ((slots_tell slots word hot_pages page).1 i))))
       (λ both.
-      let parts = and_parts (nat_lt page n) (is_marked post.marks page || is_hot_by h mask page) both in
+      let parts = and_parts (nat_lt page n) (is_marked post.opening.marks page || is_hot_by h mask page) both in
       let hot : is_hot_by h mask page ≡ true =
       sym (ap (λ (b : Bool). b || is_hot_by h mask page) (service.unmarked page)) ∙ parts.1 in
       (f.splits page).1 ((slots_tell slots word hot_pages page).0 (and_parts (nat_lt page h) (has_bit mask page) hot).1));
 }
 
 -- a slice with these numbers, of which no page was split, has no like
-empty : {W C T : Type 0} (post : PostView) (t : Tables W C T) (s : SplitSlice) → IsKept post t → (RunsSplit post.state → ⊥)
+empty : {W C T : Type 0} (post : WorkerSeatView) (t : Tables W C T) (s : SplitSlice) → IsKept post t → (RunsSplit post.state → ⊥)
     → s.counts ≡ t.slice.counts → by_page s (pages_of post) ≡ by_page t.slice (pages_of post)
 empty post t s kept idle same =
     let n : ℕ = pages_of post in
@@ -148,12 +143,12 @@ entered-has masks phase mask odd =
     (ap (λ (b : Bool). b || list_any (λ (m : PhaseMask). m.phase == phase) masks) (eq-eqb phase phase refl))
 
 -- the post that has entered a phase
-abbrev pub entered : PostView → PostView → ℕ → ℕ → PostView
+abbrev pub entered : WorkerSeatView → WorkerSeatView → ℕ → ℕ → WorkerSeatView
 entered post looked phase mask =
     record (ran post looked phase) { masks = masks_entered post.masks phase mask }
 
 -- the pages that are to be split are those that are sliced
-fills : (post looked : PostView) (phase mask : ℕ) (s : SplitSlice) → IsSplit phase
+fills : (post looked : WorkerSeatView) (phase mask : ℕ) (s : SplitSlice) → IsSplit phase
     → ((page : ℕ) → has_split s page ≡ (nat_lt page (pages_of post) && is_split_by post mask page))
     → SplitsPages (entered post looked phase mask) s
 fills post looked phase mask s odd splits page =
@@ -173,13 +168,13 @@ fills post looked phase mask s odd splits page =
     )
 
 -- what is true of the slice of who has entered a phase
-pub record IsEntered (post : PostView) (s s' : SplitSlice) : Type 0 where
+pub record IsEntered (post : WorkerSeatView) (s s' : SplitSlice) : Type 0 where
   pub lawful : IsSplitSlice s'
-  pub factor : s'.splits.factor ≡ post.factor
+  pub factor : s'.splits.factor ≡ post.opening.factor
   pub counts : s'.counts ≡ s.counts
   pub splits : SplitsPages post s'
 
-entered-slice : {W C T : Type 0} (post looked now : PostView) (t after : Tables W C T) (phase mask : ℕ)
+entered-slice : {W C T : Type 0} (post looked now : WorkerSeatView) (t after : Tables W C T) (phase mask : ℕ)
     → IsKept post t → (RunsSplit post.state → ⊥) → looked ≡ ran post looked phase → EntersBy looked phase mask now t after
     → IsEntered (entered post looked phase mask) t.slice after.slice
 entered-slice {W} {C} post looked now t after phase mask kept idle look e = elim (parity phase) [
@@ -190,7 +185,7 @@ entered-slice {W} {C} post looked now t after phase mask kept idle look e = elim
         factor = filled.factor ∙ kept.factor;
         counts = filled.counts;
         splits = fills post looked phase mask after.slice odd
-            (subst (λ (p : PostView). (page : ℕ)
+            (subst (λ (p : WorkerSeatView). (page : ℕ)
             → has_split after.slice page ≡ (nat_lt page (pages_of p) && is_split_by p mask page)) look filled.splits);
       }
   | inr even ↦
@@ -210,32 +205,32 @@ entered-slice {W} {C} post looked now t after phase mask kept idle look e = elim
       }
 ]
 
-module _ {W C T : Type 0} (post looked now : PostView) (t after : Tables W C T) (phase mask : ℕ)
+module _ {W C T : Type 0} (post looked now : WorkerSeatView) (t after : Tables W C T) (phase mask : ℕ)
     (kept : IsKept post t) (idle : RunsSplit post.state → ⊥)
     (look : looked ≡ ran post looked phase) (e : EntersBy looked phase mask now t after) where
   -- its post now
   pub now-entered : now ≡ entered post looked phase mask
-  now-entered = e.at_post ∙ ap (λ (p : PostView). record p { masks = masks_entered p.masks phase mask }) look
+  now-entered = e.at_post ∙ ap (λ (p : WorkerSeatView). record p { masks = masks_entered p.masks phase mask }) look
 
   -- its slice is empty, as it was
   pub empty-entered : by_page after.slice (pages_of now) ≡ by_page t.slice (pages_of post)
   empty-entered =
-      ap (λ (p : PostView). by_page after.slice (pages_of p)) now-entered
+      ap (λ (p : WorkerSeatView). by_page after.slice (pages_of p)) now-entered
       ∙ empty post t after.slice kept idle (entered-slice post looked now t after phase mask kept idle look e).counts
 
   -- its tables are those of the post
-  pub IsKept-entered : phase ≤ post.limits.last_phase → IsKept now after
+  pub IsKept-entered : phase ≤ post.opening.limits.last_phase → IsKept now after
   IsKept-entered within =
       let s = entered-slice post looked now t after phase mask kept idle look e in
       let n : ℕ = pages_of post in
       let same = empty post t after.slice kept idle s.counts in
-      let at : PostView = entered post looked phase mask in
+      let at : WorkerSeatView = entered post looked phase mask in
       let tables : Tables W C T = record t { state = Runs phase; slice = after.slice } in
       let likes : t.likes.likes ≡ all_added (additions_among post.did) + sum (by_page after.slice n) =
       kept.likes ∙ ap (λ (xs : List ℕ). all_added (additions_among post.did) + sum xs) (sym same) in
       let keeps : IsKept at tables = record {
-        run = of-run post at t.marks.items t.marks.items refl refl refl refl kept.run;
-        service = of-service post at refl refl kept.service;
+        run = kept.run;
+        service = kept.service;
         state = refl;
         slice = s.lawful;
         factor = s.factor;
@@ -257,7 +252,7 @@ module _ {W C T : Type 0} (post looked now : PostView) (t after : Tables W C T) 
           waiting = kept.seat.waiting;
         };
       } in
-      subst (λ (p : PostView). IsKept p after) (sym now-entered) (subst (λ (x : Tables W C T). IsKept at x) (sym e.rest) keeps)
+      subst (λ (p : WorkerSeatView). IsKept p after) (sym now-entered) (subst (λ (x : Tables W C T). IsKept at x) (sym e.rest) keeps)
 
 -- who has not answered stays in its phase
 pub stays : (s : WorkerState) (sight : Sight) → ((k : ℕ) → s ≡ Answered k → ⊥) → seen s sight ≡ s
@@ -266,15 +261,14 @@ stays (state.Answered k) sight runs = absurd (runs k refl)
 stays state.Gone sight runs = refl
 
 -- a look that leaves the phase
-pub IsKept-looked : {W C T : Type 0} (post now : PostView) (t : Tables W C T) (sight : Sight) → IsKept post t
+pub IsKept-looked : {W C T : Type 0} (post now : WorkerSeatView) (t : Tables W C T) (sight : Sight) → IsKept post t
     → now ≡ looked_at post sight → seen post.state sight ≡ post.state → IsKept now t
 IsKept-looked {W} {C} post now t sight k look same =
-    let at : PostView = record post { last = Some sight; looks = (looked_at post sight).looks } in
-    let is : now ≡ at =
-    look ∙ (λ i. record post { state = same i; last = Some sight; looks = (looked_at post sight).looks }) in
+    let at : WorkerSeatView = record (looked_at post sight) { state = post.state } in
+    let is : now ≡ at = look ∙ (λ i. record (looked_at post sight) { state = same i }) in
     let keeps : IsKept at t = record {
-      run = of-run post at t.marks.items t.marks.items refl refl refl refl k.run;
-      service = of-service post at refl refl k.service;
+      run = k.run;
+      service = k.service;
       state = k.state;
       slice = k.slice;
       factor = k.factor;
@@ -293,7 +287,7 @@ IsKept-looked {W} {C} post now t sight k look same =
         few = k.seat.few;
         waiting = k.seat.waiting;
       };
-    } in subst (λ (p : PostView). IsKept p t) (sym is) keeps
+    } in subst (λ (p : WorkerSeatView). IsKept p t) (sym is) keeps
 
 -- a look of who runs a phase leaves the phase
 pub running-stays : (s : WorkerState) (sight : Sight) → IsRunning s → seen s sight ≡ s

@@ -1,5 +1,5 @@
 -- The slice that a seat keeps, and what is true of it after each step.
-use Rattle.std.proofs.Common.{◌≡◌, ◌≢◌, ◌↔◌, ℕ, ◌+◌, ◌%◌, ◌==◌, ◌^◌, ◌<◌, ◌≤◌, ◌||◌, Bool, true, false, List, length, get_or, replicate, sum, inl, inr, refl, sym, ap, subst, ◌∙◌, arith}
+use Rattle.std.proofs.Common.{◌≡◌, ◌≢◌, ◌↔◌, ℕ, ◌+◌, ◌%◌, ◌==◌, ◌^◌, ◌<◌, ◌≤◌, ◌||◌, Bool, true, false, List, [], length, get_or, replicate, sum, inl, inr, refl, sym, ap, subst, ◌∙◌, arith}
 use Rattle.std.proofs.lemmas.Bool.{and_parts, cases_lt, eqb-true, false_from_ne_true}
 use Rattle.std.proofs.lemmas.List.{get_or_past}
 use Rattle.std.proofs.lemmas.List.Folds.{sum_by-replicate}
@@ -11,9 +11,10 @@ use Rattle.like_core.specs.declared.page_step.PageStep.{PageStep}
 use Rattle.like_core.specs.Additions.{all_added}
 use Rattle.like_core.specs.OpeningLimits.{AreLimits, has_slots}
 use Rattle.like_core.specs.PhaseMasks.{mask_of}
-use Rattle.like_core.specs.Post.{KnowsSlices, PostView, answered, pages_of, slices}
+use Rattle.like_core.specs.Post.{KnowsSlices, answered, pages_of, slices}
 use Rattle.like_core.specs.WorkerState.{IsRunning, RunsJoined, RunsSplit, phase_of}
 use Rattle.like_core.specs.PageSteps.{additions_among}
+use Rattle.like_core.specs.declared.view.WorkerSeatView.{WorkerSeatView}
 use Rattle.like_limits.specs.Buckets.{bucket, buckets}
 use Rattle.like_tables.specs.Liked.{AreUnliked}
 use Rattle.like_tables.specs.SplitPages.{SplitPages, is_split}
@@ -23,8 +24,8 @@ use Rattle.like_tables.proofs.ByPage.{by_page-none, by_page-with_likes, get_or-b
 use Rattle.like_tables.proofs.Sliced.{IsSplitSlice-none, has_split-none}
 use Rattle.like_tables.proofs.Tagged.{bucket-lt}
 use Rattle.like_seat.specs.declared.tables.Tables.{Tables}
-use Rattle.like_seat.specs.Kept.{IsKept, IsOfRun, IsOfService, SplitsPages, view_of}
-use Rattle.like_seat.specs.StationView.{HasPhaseMask, IsSliceInSplit, likes_of}
+use Rattle.like_seat.specs.Kept.{IsKept, IsOfRun, IsOfService, SplitsPages}
+use Rattle.like_seat.specs.StationView.{HasPhaseMask, IsSliceInSplit}
 use Rattle.like_seat.specs.Steps.{IsNext, NoneFrom}
 use Rattle.like_seat.proofs.Filling.{number-kept, same_tests}
 
@@ -35,27 +36,27 @@ runs-split (state.Answered k) runs odd = absurd runs
 runs-split state.Gone runs odd = absurd runs
 
 -- who runs a phase knows which pages are sliced in it
-pub knows-slices : (post : PostView) (page : ℕ) → IsRunning post.state → HasPhaseMask post → KnowsSlices post page
+pub knows-slices : (post : WorkerSeatView) (page : ℕ) → IsRunning post.state → HasPhaseMask post → KnowsSlices post page
 knows-slices post page runs masked = λ odd _ _. masked (runs-split post.state runs odd)
 
 -- its slice tells which pages are sliced in a phase that it runs
-pub has_split-slices : (post : PostView) (s : SplitSlice) (page : ℕ) → SplitsPages post s → IsRunning post.state
+pub has_split-slices : (post : WorkerSeatView) (s : SplitSlice) (page : ℕ) → SplitsPages post s → IsRunning post.state
     → page < pages_of post → has_split s page ≡ slices post page
 has_split-slices post s page splits runs there =
     same_tests (has_split s page) (slices post page) (λ held. ((splits page).0 held).2)
     (λ sliced.
     let odd = and_parts (phase_of post.state % 2 == 1)
-    (is_marked post.marks page || is_hot_by post.limits.hot (mask_of post.masks (phase_of post.state)) page) sliced in
+    (is_marked post.opening.marks page || is_hot_by post.opening.limits.hot (mask_of post.masks (phase_of post.state)) page) sliced in
     (splits page).1 (runs-split post.state runs (eqb-true _ 1 odd.0), there, sliced))
 
 -- who doesn't run a split phase has no page split
-pub splits-none : (post : PostView) (s : SplitSlice) → SplitsPages post s → (RunsSplit post.state → ⊥)
+pub splits-none : (post : WorkerSeatView) (s : SplitSlice) → SplitsPages post s → (RunsSplit post.state → ⊥)
     → (page : ℕ) → has_split s page ≡ false
 splits-none post s splits not_split page =
     false_from_ne_true (has_split s page) (λ held. not_split ((splits page).0 held).0)
 
 -- a page that has a like is there, and is sliced
-pub in-split : (post : PostView) (s : SplitSlice) → SplitsPages post s → IsSliceInSplit post (by_page s (pages_of post))
+pub in-split : (post : WorkerSeatView) (s : SplitSlice) → SplitsPages post s → IsSliceInSplit post (by_page s (pages_of post))
 in-split post s splits page some =
     elim (cases_lt page (pages_of post)) [
       | inl there ↦
@@ -67,7 +68,7 @@ in-split post s splits page some =
     ]
 
 -- the likes of each page, whether it is there or not
-pub likes_in-page : (post : PostView) (s : SplitSlice) (page : ℕ) → SplitsPages post s
+pub likes_in-page : (post : WorkerSeatView) (s : SplitSlice) (page : ℕ) → SplitsPages post s
     → get_or (by_page s (pages_of post)) page 0 ≡ likes_in s page
 likes_in-page post s page splits =
     elim (cases_lt page (pages_of post)) [
@@ -79,7 +80,7 @@ likes_in-page post s page splits =
     ]
 
 -- where no page of the list has a like, none has
-pub likes_in-unliked : (post : PostView) (s : SplitSlice) → SplitsPages post s
+pub likes_in-unliked : (post : WorkerSeatView) (s : SplitSlice) → SplitsPages post s
     → AreUnliked (by_page s (pages_of post)) 0 (length (by_page s (pages_of post)))
     → (page : ℕ) → likes_in s page ≡ 0
 likes_in-unliked post s splits none page =
@@ -90,7 +91,7 @@ likes_in-unliked post s splits none page =
     ]
 
 -- the next page of the slice that has a like
-pub IsNext-sliced : (post : PostView) (s : SplitSlice) (f from page : ℕ) → IsSplitSlice s → s.splits.factor ≡ f
+pub IsNext-sliced : (post : WorkerSeatView) (s : SplitSlice) (f from page : ℕ) → IsSplitSlice s → s.splits.factor ≡ f
     → SplitsPages post s → IsNextSliced s from page → IsNext f (by_page s (pages_of post)) from page
 IsNext-sliced post s f from page is factor splits next =
     let here : bucket_in s page ≡ bucket f page = ap (λ x. bucket x page) factor in
@@ -110,7 +111,7 @@ IsNext-sliced post s f from page is factor splits next =
           ];
     }
 
-pub NoneFrom-sliced : (post : PostView) (s : SplitSlice) (f from : ℕ) → s.splits.factor ≡ f → SplitsPages post s
+pub NoneFrom-sliced : (post : WorkerSeatView) (s : SplitSlice) (f from : ℕ) → s.splits.factor ≡ f → SplitsPages post s
     → AreUnsliced s from buckets → NoneFrom f (by_page s (pages_of post)) from
 NoneFrom-sliced post s f from factor splits none page after =
     let same : bucket_in s page ≡ bucket f page = ap (λ x. bucket x page) factor in
@@ -128,25 +129,6 @@ sum-written s n page likes total is split there sums is_total =
     let more = sum_by-set (λ x. x) (by_page s n) page likes 0 (omega arith) in
     omega (arith, now, here, more)
 
--- what is true of the board of a post stays so
-pub of-run : (post now : PostView) (marks marks' : List Bool) → now.limits ≡ post.limits → now.marks ≡ post.marks
-    → now.factor ≡ post.factor → marks' ≡ marks → (has_slots post.limits ≡ false → IsOfRun post marks)
-    → has_slots now.limits ≡ false → IsOfRun now marks'
-of-run post now marks marks' l m f e was plain =
-    let r = was (ap has_slots (sym l) ∙ plain) in
-    record {
-      plain = plain;
-      marks = m ∙ r.marks ∙ sym e;
-      small = subst (λ (ms : List Bool). length ms ≤ buckets) (sym m) r.small;
-      factor = f ∙ r.factor;
-    }
-
-pub of-service : (post now : PostView) → now.limits ≡ post.limits → now.marks ≡ post.marks
-    → (has_slots post.limits ≡ true → IsOfService post) → has_slots now.limits ≡ true → IsOfService now
-of-service post now l m was slotted =
-    let r = was (ap has_slots (sym l) ∙ slotted) in
-    record { slotted = slotted; unmarked = λ page. ap (λ (ms : List Bool). is_marked ms page) m ∙ r.unmarked page }
-
 -- a slice that has no split page has no like
 pub by_page-no_slice : (factor many n : ℕ) → by_page (no_slice factor many) n ≡ replicate n 0
 by_page-no_slice factor many n =
@@ -157,23 +139,23 @@ pub sum-zeros : (n : ℕ) → sum (replicate n 0) ≡ 0
 sum-zeros n = sum_by-replicate (λ x. x) n 0 ∙ omega arith
 
 -- the tables of a post that made a step in its phase, which leaves the split pages
-pub Kept-written : {W C T : Type 0} (post : PostView) (d : List PageStep)
+pub Kept-written : {W C T : Type 0} (post : WorkerSeatView) (d : List PageStep)
     (t after : Tables W C T)
     → IsKept post t
     → after.marks.items ≡ t.marks.items → after.state ≡ t.state → after.held ≡ t.held
     → after.slice.splits ≡ t.slice.splits → length after.slice.counts ≡ length t.slice.counts → IsSplitSlice after.slice
     → sum (by_page after.slice (pages_of post)) ≡ sum after.slice.counts
-    → after.likes.likes ≡ likes_of (view_of (record post { did = d }) after)
-    → after.likes.likes ≤ post.limits.likes
+    → after.likes.likes ≡ all_added (additions_among d) + sum (by_page after.slice (pages_of post))
+    → after.likes.likes ≤ post.opening.limits.likes
     → IsKept (record post { did = d }) after
 Kept-written {W} {C} post d t after k marks state_is held splits long is sums likes few =
-    let now : PostView = record post { did = d } in
+    let now : WorkerSeatView = record post { did = d } in
     let split : SplitsPages now after.slice = λ page.
     subst (λ (s : SplitPages). (is_split s page ≡ true)
     ↔ (RunsSplit post.state × (page < pages_of post) × (slices post page ≡ true))) (sym splits) (k.splits page) in
     record {
-      run = of-run post now t.marks.items after.marks.items refl refl refl marks k.run;
-      service = of-service post now refl refl k.service;
+      run = λ plain. subst (IsOfRun post.opening) (sym marks) (k.run plain);
+      service = k.service;
       state = k.state ∙ sym state_is;
       slice = is;
       factor = ap (λ (s : SplitPages). s.factor) splits ∙ k.factor;
@@ -196,17 +178,17 @@ Kept-written {W} {C} post d t after k marks state_is held splits long is sums li
     }
 
 -- the tables of a post that read or glanced
-pub Kept-read : {W C T : Type 0} (post now : PostView) (d : List PageStep) (t : Tables W C T)
+pub Kept-read : {W C T : Type 0} (post now : WorkerSeatView) (d : List PageStep) (t : Tables W C T)
     → IsKept post t → now ≡ record post { did = d } → additions_among d ≡ additions_among post.did
     → IsKept now t
 Kept-read {W} {C} post now d t k is same =
-    subst (λ (p : PostView). IsKept p t) (sym is)
+    subst (λ (p : WorkerSeatView). IsKept p t) (sym is)
     (Kept-written post d t t k refl refl refl refl refl k.slice k.sums
     (k.likes ∙ sym (ap (λ xs. all_added xs + sum (by_page t.slice (pages_of post))) same))
     (omega (arith, k.likes, k.seat.few)))
 
 -- the tables hold other requests that wait
-pub Kept-holding : {W C T : Type 0} (post : PostView) (t : Tables W C T) (held : Waiting W) → IsKept post t → IsWaiting held
+pub Kept-holding : {W C T : Type 0} (post : WorkerSeatView) (t : Tables W C T) (held : Waiting W) → IsKept post t → IsWaiting held
     → IsKept post (record t { held = held })
 Kept-holding {W} {C} post t held k waits = record {
   run = k.run;
@@ -238,16 +220,16 @@ joined-unsplit (state.Answered k) joined split = split
 joined-unsplit state.Gone joined split = split
 
 -- the tables of a post that left a joined phase: it is in this state, in which it runs none
-pub Kept-left : {W C T : Type 0} (post now : PostView) (t : Tables W C T) (s : WorkerState) → IsKept post t
-    → RunsJoined post.state → (RunsSplit s → ⊥) → phase_of s ≤ phase_of post.state → now ≡ record post { state = s }
+pub Kept-left : {W C T : Type 0} (post now : WorkerSeatView) (t : Tables W C T) (s : WorkerState) → IsKept post t
+    → RunsJoined post.state → (RunsSplit s → ⊥) → phase_of s ≤ phase_of post.state → now ≡ record post { state = s; slots = [] }
     → IsKept now (record t { state = s })
 Kept-left {W} {C} {T} post now t s k joined idle within is =
-    let at : PostView = record post { state = s } in
+    let at : WorkerSeatView = record post { state = s; slots = [] } in
     let left : Tables W C T = record t { state = s } in
     let unsplit = joined-unsplit post.state joined in
     let keeps : IsKept at left = record {
-      run = of-run post at t.marks.items t.marks.items refl refl refl refl k.run;
-      service = of-service post at refl refl k.service;
+      run = k.run;
+      service = k.service;
       state = refl;
       slice = k.slice;
       factor = k.factor;
@@ -266,25 +248,26 @@ Kept-left {W} {C} {T} post now t s k joined idle within is =
         few = k.seat.few;
         waiting = k.seat.waiting;
       };
-    } in subst (λ (p : PostView). IsKept p left) (sym is) keeps
+    } in subst (λ (p : WorkerSeatView). IsKept p left) (sym is) keeps
 
 -- and those of one that stopped at the end of it
-pub Kept-answered : {W C T : Type 0} (post now : PostView) (t : Tables W C T) (n : ℕ) → IsKept post t → RunsJoined post.state
+pub Kept-answered : {W C T : Type 0} (post now : WorkerSeatView) (t : Tables W C T) (n : ℕ) → IsKept post t → RunsJoined post.state
     → n ≡ phase_of t.state → now ≡ answered post → IsKept now (record t { state = state.Answered n })
 Kept-answered {W} {C} post now t n k joined is answer =
     let same : phase_of post.state ≡ n = ap phase_of k.state ∙ sym is in
     Kept-left post now t (state.Answered n) k joined (λ runs. runs) (omega (arith, same))
-    (answer ∙ (λ i. record post { state = state.Answered (same i) }))
+    (answer ∙ (λ i. record post { state = state.Answered (same i); slots = [] }))
 
 -- the tables of a post that never looked, or answered: no page is split
-pub Kept-unsplit : {W C T : Type 0} (post : PostView) (t : Tables W C T) (factor many : ℕ)
-    → (RunsSplit post.state → ⊥) → t.slice ≡ no_slice factor many → factor ≡ post.factor → factor < 2 ^ 32
+pub Kept-unsplit : {W C T : Type 0} (post : WorkerSeatView) (t : Tables W C T) (factor many : ℕ)
+    → (RunsSplit post.state → ⊥) → t.slice ≡ no_slice factor many → factor ≡ post.opening.factor → factor < 2 ^ 32
     → HasNumbers (no_slice factor many) (pages_of post)
-    → (has_slots post.limits ≡ false → IsOfRun post t.marks.items)
-    → (has_slots post.limits ≡ true → IsOfService post) → post.state ≡ t.state
-    → t.likes.likes ≡ likes_of (view_of post t) → t.likes.likes ≤ post.limits.likes
-    → pages_of post ≤ post.limits.pages → AreLimits post.limits
-    → phase_of post.state ≤ post.limits.last_phase → IsWaiting t.held
+    → (has_slots post.opening.limits ≡ false → IsOfRun post.opening t.marks.items)
+    → (has_slots post.opening.limits ≡ true → IsOfService post.opening) → post.state ≡ t.state
+    → t.likes.likes ≡ all_added (additions_among post.did) + sum (by_page t.slice (pages_of post))
+    → t.likes.likes ≤ post.opening.limits.likes
+    → pages_of post ≤ post.opening.limits.pages → AreLimits post.opening.limits
+    → phase_of post.state ≤ post.opening.limits.last_phase → IsWaiting t.held
     → IsKept post t
 Kept-unsplit {W} {C} post t factor many not_split slice_is factor_is below numbers run service state_is likes few few_pages limits within held =
     let splits : SplitsPages post t.slice = λ page. (

@@ -9,4 +9,3 @@ pub mod Merging
 pub mod Moments
 pub mod WholeMerge
 pub mod SliceLogs
-pub mod Parts

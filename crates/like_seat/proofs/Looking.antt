@@ -1,5 +1,5 @@
 -- What a look leaves true of a seat.
-use Rattle.std.proofs.Common.{◌≡◌, ℕ, ◌+◌, ◌%◌, ◌==◌, ◌||◌, Bool, true, false, cond, List, ◌∷◌, Some, ap, sym, ◌∙◌, subst, refl, eq-eqb, arith}
+use Rattle.std.proofs.Common.{◌≡◌, ℕ, ◌+◌, ◌%◌, ◌==◌, ◌≤◌, ◌||◌, Bool, true, false, cond, List, ◌∷◌, Some, ap, sym, ◌∙◌, subst, refl, eq-eqb, arith}
 use Rattle.std.specs.List.{list_any}
 use Rattle.std.proofs.lemmas.Bool.{cond-false, cond-true, ne_eqb}
 use Rattle.like_core.specs.declared.sight.Sight.{Sight}
@@ -8,18 +8,20 @@ use Rattle.like_core.specs.declared.worker_state.WorkerState.{WorkerState}
 use Rattle.like_core.specs.declared.worker_state.WorkerState.TheVariants as state
 use Rattle.like_core.specs.WorkerState.{IsRunning, IsSightOf, RunsSplit, SeesEndingStill, phase_of, seen}
 use Rattle.like_core.specs.PhaseMasks.{HasMask}
-use Rattle.like_core.specs.Post.{PostView, looked_at, slices}
+use Rattle.like_core.specs.Post.{looked_at, slices}
+use Rattle.like_core.specs.declared.view.WorkerSeatView.{WorkerSeatView}
 use Rattle.like_seat.specs.declared.tables.Tables.{Tables}
-use Rattle.like_seat.specs.Kept.{view_of}
-use Rattle.like_seat.specs.StationView.{HasPhaseMask, IsSliceInSplit, IsStation}
+use Rattle.like_seat.specs.Kept.{Enters, IsKept, MayEnter, view_of}
+use Rattle.like_seat.specs.StationView.{HasPhaseMask, IsSliceInSplit}
 use Rattle.like_seat.specs.Steps.{LooksAndEnters, masks_entered, masks_in, saw_at}
+use Rattle.like_seat.proofs.Entering.{IsKept-entered, IsKept-looked, MayEnter-kept, empty-entered, idle-answered, ran, ran-looked}
 
 -- who stays in a phase has read the masks that it had read
 same-masks : (masks : List PhaseMask) (from to mask : ℕ) → to ≡ from → masks_in masks from to mask ≡ masks
 same-masks masks from to mask same = cond-true (to == from) masks (masks_entered masks to mask) (eq-eqb to from same)
 
 -- a look that leaves the state leaves the masks
-saw-same : (post : PostView) (sight : Sight) (mask : ℕ)
+saw-same : (post : WorkerSeatView) (sight : Sight) (mask : ℕ)
     → seen post.state sight ≡ post.state
     → saw_at post sight mask ≡ looked_at post sight
 saw-same post sight mask same =
@@ -35,7 +37,7 @@ waiting-stays (state.Answered k) sight waits =
 waiting-stays state.Gone sight waits = refl
 
 -- and its masks stay
-pub saw-waiting : (post : PostView) (sight : Sight) (mask : ℕ)
+pub saw-waiting : (post : WorkerSeatView) (sight : Sight) (mask : ℕ)
     → sight.waits ≡ true
     → saw_at post sight mask ≡ looked_at post sight
 saw-waiting post sight mask waits = saw-same post sight mask (waiting-stays post.state sight waits)
@@ -47,24 +49,8 @@ runs-after (state.Answered k) sight sees goes =
     subst (λ (b : Bool). IsRunning (cond b (state.Answered k) (state.Runs (k + 1)))) (sym goes) tt
 runs-after state.Gone sight sees goes = absurd sees
 
--- a seat looks, and stays in its phase
-pub looks-stayed : {W C T : Type 0} (post now : PostView) (t : Tables W C T) (sight : Sight)
-    → IsSightOf post.state sight
-    → SeesEndingStill post.state post.last sight
-    → now ≡ looked_at post sight
-    → seen post.state sight ≡ post.state
-    → IsStation (view_of now t)
-    → LooksAndEnters (view_of post t) sight (view_of now t)
-looks-stayed post now t sight sees ending look same seat = record {
-  sight = sees;
-  ending = ending;
-  looks = (0, ap (λ (p : PostView). view_of p t) (look ∙ sym (saw-same post sight 0 same)));
-  runs = λ goes. subst (λ (p : PostView). IsRunning p.state) (sym look) (runs-after post.state sight sees goes);
-  seat = seat;
-}
-
 -- a look that enters the next phase
-pub saw-next : (post : PostView) (sight : Sight) (mask k : ℕ) → post.state ≡ state.Answered k → sight.waits ≡ false
+pub saw-next : (post : WorkerSeatView) (sight : Sight) (mask k : ℕ) → post.state ≡ state.Answered k → sight.waits ≡ false
     → saw_at post sight mask ≡ record (looked_at post sight) { masks = masks_entered post.masks (k + 1) mask }
 saw-next post sight mask k is goes =
     let number : phase_of (seen post.state sight) ≡ k + 1 =
@@ -80,8 +66,73 @@ saw-next post sight mask k is goes =
     ∙ ap (λ (n : ℕ). masks_entered post.masks n mask) number in
     λ m. record (looked_at post sight) { masks = masks m }
 
+module _ {W C T : Type 0} (board there : List ℕ) (post looked : WorkerSeatView) (t : Tables W C T) (sight : Sight)
+    (kept : IsKept post t) (here : there ≡ board) (sees : IsSightOf post.state sight)
+    (ending : SeesEndingStill post.state post.last sight) (look : looked ≡ looked_at post sight) where
+  -- a seat looks, and stays in its phase
+  pub looks-stayed : seen post.state sight ≡ post.state
+      → IsKept looked t × LooksAndEnters (view_of board post t) sight (view_of there looked t)
+  looks-stayed same =
+      let keeps = IsKept-looked post looked t sight kept look same in (
+        keeps,
+        record {
+          sight = sees;
+          ending = ending;
+          looks = (0, λ m. view_of (here m) ((look ∙ sym (saw-same post sight 0 same)) m) t);
+          runs = λ goes. subst (λ (p : WorkerSeatView). IsRunning p.state) (sym look)
+              (runs-after post.state sight sees goes);
+          seat = keeps.seat;
+        },
+      )
+
+  module _ (k : ℕ) (is : post.state ≡ state.Answered k) (goes : sight.waits ≡ false) where
+    -- it looks, and sees that the next phase was released
+    next : looked ≡ ran post looked (k + 1)
+    next = ran-looked post looked sight k look is goes
+
+    pub may-enter : MayEnter looked t.slice (k + 1)
+    may-enter = MayEnter-kept post looked t (k + 1) kept (idle-answered post.state k is) next
+
+    -- and enters it
+    pub looks-entered : (place : List ℕ) (now : WorkerSeatView) (after : Tables W C T)
+        → phase_of (seen post.state sight) ≤ post.opening.limits.last_phase
+        → place ≡ there → Enters looked (k + 1) now t after
+        → IsKept now after × LooksAndEnters (view_of board post t) sight (view_of place now after)
+    looks-entered place now after within same enters =
+        let mask : ℕ = enters.0 in
+        let e = enters.1 in
+        let number : phase_of (seen post.state sight) ≡ k + 1 =
+        ap (λ s. phase_of (seen s sight)) is
+        ∙ ap (λ (b : Bool). phase_of (cond b (state.Answered k) (state.Runs (k + 1)))) goes in
+        let keeps = IsKept-entered post looked now t after (k + 1) mask kept (idle-answered post.state k is) next e
+        (omega (arith, number, within)) in
+        let entered : WorkerSeatView → WorkerSeatView =
+        λ q. record q { masks = masks_entered q.masks (k + 1) mask } in
+        let enter : now ≡ entered (looked_at post sight) =
+        ◌∙◌ {b = entered looked} e.at_post (ap entered look) in
+        let is_now : now ≡ saw_at post sight mask =
+        ◌∙◌ {b = entered (looked_at post sight)} enter (sym (saw-next post sight mask k is goes)) in
+        let slice = empty-entered post looked now t after (k + 1) mask kept (idle-answered post.state k is) next e in (
+          keeps,
+          record {
+            sight = sees;
+            ending = ending;
+            looks = (mask, λ m. record (view_of board post t) {
+              board = (same ∙ here) m;
+              post = is_now m;
+              held = (e.rest m).held;
+              slice = slice m;
+              sliced = (e.rest m).sliced.likes;
+              last = (e.rest m).last;
+            });
+            runs = λ _. subst (λ (p : WorkerSeatView). IsRunning p.state) (sym is_now)
+                (runs-after post.state sight sees goes);
+            seat = keeps.seat;
+          },
+        )
+
 -- a slice is in a split phase after a look, too
-pub splits-after : (post : PostView) (slice : List ℕ) (sight : Sight) (mask : ℕ)
+pub splits-after : (post : WorkerSeatView) (slice : List ℕ) (sight : Sight) (mask : ℕ)
     → IsSliceInSplit post slice
     → IsSliceInSplit (saw_at post sight mask) slice
 splits-after post slice sight mask kept page some = by_state post.state refl (kept page some).0
@@ -90,15 +141,15 @@ splits-after post slice sight mask kept page some = by_state post.state refl (ke
         → RunsSplit (saw_at post sight mask).state × (slices (saw_at post sight mask) page ≡ true)
     by_state (state.Runs k) is odd =
         let seen_is : seen post.state sight ≡ post.state = ap (λ s. seen s sight) is ∙ sym is in
-        let saw_is : saw_at post sight mask ≡ record post { last = Some sight; looks = (looked_at post sight).looks } =
+        let saw_is : saw_at post sight mask ≡ record (looked_at post sight) { state = post.state } =
         saw-same post sight mask seen_is
-        ∙ (λ m. record post { state = seen_is m; last = Some sight; looks = (looked_at post sight).looks }) in
-        subst (λ (p : PostView). RunsSplit p.state × (slices p page ≡ true)) (sym saw_is) (kept page some)
+        ∙ (λ m. record (looked_at post sight) { state = seen_is m }) in
+        subst (λ (p : WorkerSeatView). RunsSplit p.state × (slices p page ≡ true)) (sym saw_is) (kept page some)
     by_state (state.Answered k) is odd = absurd odd
     by_state state.Gone is odd = absurd odd
 
 -- who runs a split phase after a look has read its mask, where it had read that of the one before
-pub has-after : (post : PostView) (sight : Sight) (mask : ℕ) → HasPhaseMask post → HasPhaseMask (saw_at post sight mask)
+pub has-after : (post : WorkerSeatView) (sight : Sight) (mask : ℕ) → HasPhaseMask post → HasPhaseMask (saw_at post sight mask)
 has-after post sight mask has = by_state post.state refl
   where
     entered : (k : ℕ) → post.state ≡ state.Answered k → (waits : Bool) → sight.waits ≡ waits
@@ -111,7 +162,7 @@ has-after post sight mask has = by_state post.state refl
         let s : seen post.state sight ≡ state.Runs (k + 1) =
         ap (λ s. seen s sight) is ∙ ap (λ (b : Bool). cond b (state.Answered k) (state.Runs (k + 1))) w in
         let masks : (saw_at post sight mask).masks ≡ masks_entered post.masks (k + 1) mask =
-        ap (λ (p : PostView). p.masks) (saw-next post sight mask k is w) in
+        ap (λ (p : WorkerSeatView). p.masks) (saw-next post sight mask k is w) in
         subst (λ x. RunsSplit x → HasMask (phase_of x) (saw_at post sight mask).masks) (sym s)
         (λ odd. subst (HasMask (k + 1))
         (sym (masks ∙ cond-true ((k + 1) % 2 == 1) (record { phase = k + 1; mask = mask } ∷ post.masks) post.masks
@@ -122,10 +173,10 @@ has-after post sight mask has = by_state post.state refl
     by_state : (s : WorkerState) → post.state ≡ s → HasPhaseMask (saw_at post sight mask)
     by_state (state.Runs k) is =
         let seen_is : seen post.state sight ≡ post.state = ap (λ s. seen s sight) is ∙ sym is in
-        let saw_is : saw_at post sight mask ≡ record post { last = Some sight; looks = (looked_at post sight).looks } =
+        let saw_is : saw_at post sight mask ≡ record (looked_at post sight) { state = post.state } =
         saw-same post sight mask seen_is
-        ∙ (λ m. record post { state = seen_is m; last = Some sight; looks = (looked_at post sight).looks }) in
-        subst (λ (p : PostView). HasPhaseMask p) (sym saw_is) has
+        ∙ (λ m. record (looked_at post sight) { state = seen_is m }) in
+        subst (λ (p : WorkerSeatView). HasPhaseMask p) (sym saw_is) has
     by_state (state.Answered k) is = entered k is sight.waits refl
     by_state state.Gone is =
         let s : seen post.state sight ≡ state.Gone = ap (λ s. seen s sight) is in

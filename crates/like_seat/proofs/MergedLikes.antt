@@ -64,7 +64,7 @@ added_in-phase phase page k (a ∷ adds) phases =
 
 -- a page has as many likes after a merge as before, added and in the slice
 pub merged-tally : {W : Type 0} (s : StationView W) (adds : List Addition)
-    → MergesAll s.post.factor (phase_at s) s.slice adds
+    → MergesAll s.post.opening.factor (phase_at s) s.slice adds
     → (page : ℕ)
     → tally_of (merged s adds) page ≡ tally_of s page
 merged-tally s adds merges page =

@@ -4,18 +4,19 @@ use Rattle.std.proofs.lemmas.List.{length-replicate}
 use Rattle.like_core.specs.declared.worker_state.WorkerState.{WorkerState}
 use Rattle.like_core.specs.declared.worker_state.WorkerState.TheVariants.{Answered, Gone, Runs}
 use Rattle.like_core.specs.Additions.{addition, all_added}
-use Rattle.like_core.specs.Post.{MayAdd, PostView, added, answered, pages_of}
+use Rattle.like_core.specs.Post.{MayAdd, added, answered, pages_of}
 use Rattle.like_core.specs.WorkerState.{IsRunning, RunsSplit, SawEnding, phase_of}
 use Rattle.like_core.specs.PageSteps.{additions_among}
+use Rattle.like_core.specs.declared.view.WorkerSeatView.{WorkerSeatView}
 use Rattle.like_tables.specs.SplitSlice.{IsSplitSlice, SplitSlice, bucket_in, by_page, has_split, likes_in, no_slice, with_likes}
 use Rattle.like_tables.proofs.ByPage.{by_page-none}
 use Rattle.like_seat.specs.declared.tables.Tables.{Tables}
 use Rattle.like_seat.specs.Kept.{IsKept}
-use Rattle.like_seat.proofs.Keeping.{Kept-unsplit, Kept-written, by_page-no_slice, knows-slices, of-run, of-service, sum-written}
+use Rattle.like_seat.proofs.Keeping.{Kept-unsplit, Kept-written, by_page-no_slice, knows-slices, sum-written}
 use Rattle.like_seat.proofs.MergedLikes.{all_added-push}
 
 -- a seat that has merged its slice may answer
-pub IsKept-reported : {W C T : Type 0} (post : PostView) (t : Tables W C T) (phase : ℕ)
+pub IsKept-reported : {W C T : Type 0} (post : WorkerSeatView) (t : Tables W C T) (phase : ℕ)
     → IsKept post t
     → ((page : ℕ) → likes_in t.slice page ≡ 0)
     → phase ≡ phase_of t.state
@@ -29,12 +30,12 @@ IsKept-reported post t phase k none is =
     k.likes ∙ ap (λ (xs : List ℕ). all_added (additions_among post.did) + sum xs) (sym empty) in
     Kept-unsplit (answered post) (record t { state = Answered phase; slice = no_slice f m }) f m (λ runs. absurd runs) refl
     k.factor k.slice.pages.factor
-    (λ page there. omega (arith, k.numbers page there, length-replicate {A = ℕ} m 0)) (of-run post (answered post) t.marks.items t.marks.items refl refl refl refl k.run)
-    (of-service post (answered post) refl refl k.service) (ap (λ n. Answered n) (ap phase_of k.state ∙ sym is)) likes
+    (λ page there. omega (arith, k.numbers page there, length-replicate {A = ℕ} m 0)) k.run
+    k.service (ap (λ n. Answered n) (ap phase_of k.state ∙ sym is)) likes
     (omega (arith, k.likes, k.seat.few)) k.seat.few_pages k.seat.limits k.seat.within k.seat.waiting
 
 -- a page's likes were added to its count, and taken out of the slice
-pub IsKept-merged : {W C T : Type 0} (post : PostView) (t : Tables W C T) (page old likes : ℕ) (after : SplitSlice)
+pub IsKept-merged : {W C T : Type 0} (post : WorkerSeatView) (t : Tables W C T) (page old likes : ℕ) (after : SplitSlice)
     → IsKept post t
     → has_split t.slice page ≡ true
     → likes ≡ likes_in t.slice page
@@ -60,7 +61,7 @@ split-runs (Answered k) odd = absurd odd
 split-runs Gone odd = absurd odd
 
 -- all likes of a page in the slice may be added to its count, once the end of the phase was seen
-pub may-merge : {W C T : Type 0} (post : PostView) (t : Tables W C T) (page likes : ℕ) (after : SplitSlice)
+pub may-merge : {W C T : Type 0} (post : WorkerSeatView) (t : Tables W C T) (page likes : ℕ) (after : SplitSlice)
     → IsKept post t
     → has_split t.slice page ≡ true
     → likes_in t.slice page ≢ 0

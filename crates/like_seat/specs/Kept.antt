@@ -1,23 +1,28 @@
 -- How a seat is kept: `W` is what waits, and `C` and `T` keep the likes of its slice and the numbers of their buckets.
-use Rattle.std.specs.Prelude.{◌≡◌, ◌↔◌, ℕ, ◌<◌, ◌≤◌, nat_lt, Bool, true, false, ◌&&◌, ◌||◌, List, [], length, sum}
+use Rattle.std.specs.Prelude.{◌≡◌, ◌↔◌, ℕ, ◌+◌, ◌<◌, ◌≤◌, nat_lt, Bool, true, false, ◌&&◌, ◌||◌, List, [], length, sum}
 use Rattle.like_core.specs.Functions.{has_bit}
+use Rattle.like_core.specs.declared.opening.Opening.{Opening}
+use Rattle.like_core.specs.Additions.{all_added}
+use Rattle.like_core.specs.PageSteps.{additions_among}
 use Rattle.like_core.specs.OpeningLimits.{AreLimits, has_slots}
 use Rattle.like_core.specs.Phase.{IsJoined, IsSplit, is_hot, is_hot_by, is_marked}
-use Rattle.like_core.specs.Post.{PostView, pages_of, slices}
+use Rattle.like_core.specs.Post.{pages_of, slices}
 use Rattle.like_core.specs.Slots.{IsInSlot}
 use Rattle.like_core.specs.WorkerState.{RunsSplit}
+use Rattle.like_core.specs.declared.view.WorkerSeatView.{WorkerSeatView}
 use Rattle.like_core.specs.declared.worker_state.WorkerState.TheVariants.{Runs}
 use Rattle.like_limits.specs.Buckets.{bucket, buckets, run_factor}
 use Rattle.like_limits.specs.Limits.{hot_pages}
 use Rattle.like_tables.specs.SplitSlice.{HasNumbers, IsSplitSlice, SplitSlice, bucket_in, by_page, has_split}
 use Rattle.like_tables.specs.UserTable.{UserTable}
-use Rattle.like_seat.specs.StationView.{IsStation, StationView, likes_of}
+use Rattle.like_seat.specs.StationView.{IsStationOf, StationView}
 use Rattle.like_seat.specs.Steps.{masks_entered}
 use Rattle.like_seat.specs.declared.tables.Tables.{Tables}
 
 -- the seat of a post and what is kept beside it
-abbrev pub view_of : {W C T : Type 0} → PostView → Tables W C T → StationView W
-view_of post t = record {
+abbrev pub view_of : {W C T : Type 0} → List ℕ → WorkerSeatView → Tables W C T → StationView W
+view_of board post t = record {
+  board = board;
   post = post;
   held = t.held;
   slice = by_page t.slice (pages_of post);
@@ -26,36 +31,36 @@ view_of post t = record {
 }
 
 -- its slice has just those pages split that are sliced in the split phase that it runs, and none in any other
-abbrev pub SplitsPages : PostView → SplitSlice → Type 0
+abbrev pub SplitsPages : WorkerSeatView → SplitSlice → Type 0
 SplitsPages post s =
     (page : ℕ)
     → (has_split s page ≡ true)
     ↔ (RunsSplit post.state × (page < pages_of post) × (slices post page ≡ true))
 
--- the post is at a board of a run, with these marks: there are no more pages than buckets, and page i has bucket i
-pub record IsOfRun (post : PostView) (its : List Bool) : Type 0 where
-  pub plain : has_slots post.limits ≡ false
-  pub marks : post.marks ≡ its
-  pub small : pages_of post ≤ buckets
-  pub factor : post.factor ≡ run_factor
+-- a board of a run, with these marks: there are no more pages than buckets, and page i has bucket i
+pub record IsOfRun (z : Opening) (its : List Bool) : Type 0 where
+  pub plain : has_slots z.limits ≡ false
+  pub marks : z.marks ≡ its
+  pub small : length z.marks ≤ buckets
+  pub factor : z.factor ≡ run_factor
 
--- the post is at a board of a service: no page is marked there
-pub record IsOfService (post : PostView) : Type 0 where
-  pub slotted : has_slots post.limits ≡ true
-  pub unmarked : (page : ℕ) → is_marked post.marks page ≡ false
+-- a board of a service: no page is marked there
+pub record IsOfService (z : Opening) : Type 0 where
+  pub slotted : has_slots z.limits ≡ true
+  pub unmarked : (page : ℕ) → is_marked z.marks page ≡ false
 
 -- the tables are those of this post
-pub record IsKept {W C T : Type 0} (post : PostView) (t : Tables W C T) : Type 0 where
-  pub run : has_slots post.limits ≡ false → IsOfRun post t.marks.items
-  pub service : has_slots post.limits ≡ true → IsOfService post
+pub record IsKept {W C T : Type 0} (post : WorkerSeatView) (t : Tables W C T) : Type 0 where
+  pub run : has_slots post.opening.limits ≡ false → IsOfRun post.opening t.marks.items
+  pub service : has_slots post.opening.limits ≡ true → IsOfService post.opening
   pub state : post.state ≡ t.state
   pub slice : IsSplitSlice t.slice
-  pub factor : t.slice.splits.factor ≡ post.factor
+  pub factor : t.slice.splits.factor ≡ post.opening.factor
   pub numbers : HasNumbers t.slice (pages_of post)
   pub splits : SplitsPages post t.slice
   pub sums : sum (by_page t.slice (pages_of post)) ≡ sum t.slice.counts
-  pub likes : t.likes.likes ≡ likes_of (view_of post t)
-  pub seat : IsStation (view_of post t)
+  pub likes : t.likes.likes ≡ all_added (additions_among post.did) + sum (by_page t.slice (pages_of post))
+  pub seat : IsStationOf post t.held (by_page t.slice (pages_of post))
 
 -- the tables of a seat that has done nothing yet, with this slice, which is empty
 pub record AreNew {W C T : Type 0} (empty : SplitSlice) (room : ℕ) (users : UserTable) (t : Tables W C T) : Type 0 where
@@ -84,8 +89,8 @@ abbrev pub is_split_in_run : List Bool → ℕ → ℕ → Bool
 is_split_in_run marks mask page = is_marked marks page || is_hot mask page
 
 -- a page is marked, or hot by this mask
-abbrev pub is_split_by : PostView → ℕ → ℕ → Bool
-is_split_by post mask page = is_marked post.marks page || is_hot_by post.limits.hot mask page
+abbrev pub is_split_by : WorkerSeatView → ℕ → ℕ → Bool
+is_split_by post mask page = is_marked post.opening.marks page || is_hot_by post.opening.limits.hot mask page
 
 -- no two slots in use have pages of one bucket
 abbrev pub AreSlotsApart : ℕ → (ℕ → ℕ) → ℕ → Type 0
@@ -105,20 +110,22 @@ pub record IsFilledBySlots (s : SplitSlice) (slots : ℕ → ℕ) (word n : ℕ)
   pub counts : after.counts ≡ s.counts
   pub splits : (page : ℕ) → (has_split after page ≡ true) ↔ IsInSlot slots word n page
 
--- the post runs the phase, and its slice may get split pages; of its limits the pages that may be hot are known
-pub record MayEnter (post : PostView) (s : SplitSlice) (phase : ℕ) : Type 0 where
+-- the post runs the phase, and its slice may get split pages; of its limits the pages that may be hot are known. It has
+-- read no slots of the phase
+pub record MayEnter (post : WorkerSeatView) (s : SplitSlice) (phase : ℕ) : Type 0 where
   pub runs : post.state ≡ Runs phase
-  pub limits : AreLimits post.limits
-  pub few_pages : pages_of post ≤ post.limits.pages
-  pub unsplit : IsUnsplit s post.factor
+  pub unread : post.slots ≡ []
+  pub limits : AreLimits post.opening.limits
+  pub few_pages : pages_of post ≤ post.opening.limits.pages
+  pub unsplit : IsUnsplit s post.opening.factor
   pub numbers : HasNumbers s (pages_of post)
 
 -- it runs the phase that its post runs. Of a split one the mask was read, which is this, and its slice is filled
-pub record EntersBy {W C T : Type 0} (post : PostView) (phase mask : ℕ) (now : PostView) (t after : Tables W C T) : Type 0 where
+pub record EntersBy {W C T : Type 0} (post : WorkerSeatView) (phase mask : ℕ) (now : WorkerSeatView) (t after : Tables W C T) : Type 0 where
   pub at_post : now ≡ record post { masks = masks_entered post.masks phase mask }
   pub rest : after ≡ record t { state = Runs phase; slice = after.slice }
   pub split : IsSplit phase → IsFilled t.slice (pages_of post) (is_split_by post mask) after.slice
   pub joined : IsJoined phase → after.slice ≡ t.slice
 
-abbrev pub Enters : {W C T : Type 0} → PostView → ℕ → PostView → Tables W C T → Tables W C T → Type 0
+abbrev pub Enters : {W C T : Type 0} → WorkerSeatView → ℕ → WorkerSeatView → Tables W C T → Tables W C T → Type 0
 Enters post phase now t after = (mask : ℕ) × EntersBy post phase mask now t after

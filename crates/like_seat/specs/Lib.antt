@@ -3,7 +3,6 @@ pub mod Lead
 pub mod LikeCount
 pub mod Merge
 pub mod Moments
-pub mod Parts
 pub mod StationView
 pub mod SlicedLike
 pub mod Steps

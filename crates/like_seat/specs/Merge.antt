@@ -29,7 +29,7 @@ merged s adds = record s {
 abbrev pub IsMerged : {W : Type 0} → StationView W → StationView W → Type 0
 IsMerged s after =
     (adds : List Addition)
-    × (MergesAll s.post.factor (phase_at s) s.slice adds × (after ≡ merged s adds))
+    × (MergesAll s.post.opening.factor (phase_at s) s.slice adds × (after ≡ merged s adds))
 
 -- the slice is merged, and then its phase answered
 abbrev pub MergesAndReports : {W : Type 0} → StationView W → StationView W → Type 0

@@ -5,23 +5,19 @@ use lib.ListN.{get_elem?}
 use Rattle.like_core.specs.declared.opening.Opening.{Opening}
 use Rattle.like_core.specs.declared.view.View.TheVariants.{Worker}
 use Rattle.like_core.specs.declared.view.WorkerSeatView.{WorkerSeatView}
-use Rattle.like_core.specs.Post.{PostView}
 use Rattle.like_core.specs.WorkerState.{RunsJoined, RunsSplit}
 use Rattle.like_core.specs.views.Shows.{Moment}
-use Rattle.like_core.specs.views.Views.{post_of}
 use Rattle.like_seat.specs.StationView.{IsSliceInSplit}
 
--- a post at a moment: it is what the view of a worker's seat means there
-pub record IsPostAt (z : Opening) (m : Moment z) (at : PostView) : Type 0 where
+-- a post at a moment: a worker's seat knows this there
+pub record IsPostAt (z : Opening) (m : Moment z) (at : WorkerSeatView) : Type 0 where
   pub place : ℕ
-  pub view : WorkerSeatView
-  pub there : get_elem? m.views place ≡ some (Worker view)
-  pub post : record at { board = [] } ≡ post_of view
+  pub there : get_elem? m.views place ≡ some (Worker at)
 
 -- exclusion: at any moment, while one post runs a joined phase, no post runs a split one, and none has a like in its
 -- slice
 abbrev pub PostsAreExclusive : Type 0
 PostsAreExclusive =
-    (z : Opening) (m : Moment z) (a b : PostView) (slice : List ℕ) → IsPostAt z m a → IsPostAt z m b
+    (z : Opening) (m : Moment z) (a b : WorkerSeatView) (slice : List ℕ) → IsPostAt z m a → IsPostAt z m b
     → IsSliceInSplit b slice → RunsJoined a.state
     → ¬ RunsSplit b.state × ((page : ℕ) → slice_index slice page ≡ 0)

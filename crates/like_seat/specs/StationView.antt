@@ -3,18 +3,20 @@ use Rattle.std.specs.Prelude.{◌≡◌, ◌≢◌, ℕ, ◌+◌, ◌≤◌, fal
 use Rattle.like_core.specs.Additions.{all_added}
 use Rattle.like_core.specs.OpeningLimits.{AreLimits, has_slots}
 use Rattle.like_core.specs.PhaseMasks.{HasMask}
-use Rattle.like_core.specs.Post.{PostView, additions_of, pages_of, slices}
+use Rattle.like_core.specs.Post.{additions_of, pages_of, slices}
 use Rattle.like_core.specs.WorkerState.{RunsSplit, phase_of}
 use Rattle.like_core.specs.PageSteps.{additions_among}
+use Rattle.like_core.specs.declared.view.WorkerSeatView.{WorkerSeatView}
 use Rattle.like_limits.specs.Buckets.{run_factor}
 use Rattle.like_seat.specs.SlicedLike.{SlicedLike}
 use Rattle.like_tables.specs.UserTable.{UserTable}
 use Rattle.like_tables.specs.Waiting.{IsWaiting, Waiting}
 
--- its post; what it holds, which is its stash in a split phase and its backlog in a joined one; its slice, a number for
+-- the numbers that tell its board from others; its post; what it holds, which is its stash in a split phase and its backlog in a joined one; its slice, a number for
 -- each page; all likes that ever went into its slice, in order; and the last likes of its users
 pub record StationView (W : Type 0) : Type 0 where
-  pub post : PostView
+  pub board : List ℕ
+  pub post : WorkerSeatView
   pub held : Waiting W
   pub slice : List ℕ
   pub sliced : List SlicedLike
@@ -33,24 +35,28 @@ abbrev pub tally_of : {W : Type 0} → StationView W → ℕ → ℕ
 tally_of s page = additions_of s.post page + slice_index s.slice page
 
 -- in a split phase the post has read the phase's mask
-abbrev pub HasPhaseMask : PostView → Type 0
+abbrev pub HasPhaseMask : WorkerSeatView → Type 0
 HasPhaseMask post = RunsSplit post.state → HasMask (phase_of post.state) post.masks
 
 -- a slice that is not empty belongs to a worker that runs a split phase, and has pages that are split in it alone
-abbrev pub IsSliceInSplit : PostView → List ℕ → Type 0
+abbrev pub IsSliceInSplit : WorkerSeatView → List ℕ → Type 0
 IsSliceInSplit post slice =
     (page : ℕ) → slice_index slice page ≢ 0 → RunsSplit post.state × (slices post page ≡ true)
 
--- what is true of every seat: its board's limits are lawful, and its pages and its phase are within them; in a run page i
--- has bucket i; its slice has a number for each page; it has counted at most as many likes as a worker may add; and it
--- holds no more than it has room for
-pub record IsStation {W : Type 0} (s : StationView W) : Type 0 where
-  pub few_pages : pages_of s.post ≤ s.post.limits.pages
-  pub limits : AreLimits s.post.limits
-  pub factor : has_slots s.post.limits ≡ false → s.post.factor ≡ run_factor
-  pub within : phase_at s ≤ s.post.limits.last_phase
-  pub sized : length s.slice ≡ pages_of s.post
-  pub masked : HasPhaseMask s.post
-  pub split : IsSliceInSplit s.post s.slice
-  pub few : likes_of s ≤ s.post.limits.likes
-  pub waiting : IsWaiting s.held
+-- what is true of every post, and what waits and is in a slice beside it: its board's limits are lawful, and its pages and
+-- its phase are within them; in a run page i has bucket i; the slice has a number for each page; at most as many likes were
+-- counted as a worker may add; and no more waits than there is room for
+pub record IsStationOf {W : Type 0} (post : WorkerSeatView) (held : Waiting W) (slice : List ℕ) : Type 0 where
+  pub few_pages : pages_of post ≤ post.opening.limits.pages
+  pub limits : AreLimits post.opening.limits
+  pub factor : has_slots post.opening.limits ≡ false → post.opening.factor ≡ run_factor
+  pub within : phase_of post.state ≤ post.opening.limits.last_phase
+  pub sized : length slice ≡ pages_of post
+  pub masked : HasPhaseMask post
+  pub split : IsSliceInSplit post slice
+  pub few : all_added (additions_among post.did) + sum slice ≤ post.opening.limits.likes
+  pub waiting : IsWaiting held
+
+-- that is true of a seat
+abbrev pub IsStation : {W : Type 0} → StationView W → Type 0
+IsStation s = IsStationOf s.post s.held s.slice

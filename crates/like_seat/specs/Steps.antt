@@ -2,8 +2,9 @@
 use Rattle.std.specs.Prelude.{◌≡◌, ◌≢◌, ℕ, ◌+◌, ◌%◌, ◌<◌, ◌≤◌, ◌==◌, if◌then◌else◌, true, false, List, [], ◌∷◌, ◌++◌, drop, length, replicate, slice_index, slice_set, Option, Some, MatchOption}
 use Rattle.like_core.specs.declared.sight.Sight.{Sight}
 use Rattle.like_core.specs.declared.view.PhaseMask.{PhaseMask}
-use Rattle.like_core.specs.Post.{PostView, added, additions_of, has_glanced, has_read, looked_at, returned, slices}
+use Rattle.like_core.specs.Post.{added, additions_of, has_glanced, has_read, looked_at, pages_of, returned, slices}
 use Rattle.like_core.specs.WorkerState.{IsRunning, IsSightOf, SeesEndingStill, phase_of, seen}
+use Rattle.like_core.specs.declared.view.WorkerSeatView.{WorkerSeatView}
 use Rattle.like_limits.specs.Buckets.{bucket}
 use Rattle.like_tables.specs.UserTable.{UserTable, last_of, with_last}
 use Rattle.like_seat.specs.declared.merged.Merged.{Merged}
@@ -12,12 +13,13 @@ use Rattle.like_seat.specs.StationView.{IsStation, StationView, tally_of}
 use Rattle.like_seat.specs.SlicedLike.{sliced_like}
 
 -- a seat that has done nothing yet: it holds nothing, its slice is empty, and no like ever went into it
-pub record IsNewStation {W : Type 0} (post : PostView) (room : ℕ) (users : UserTable) (s : StationView W)
+pub record IsNewStation {W : Type 0} (board : List ℕ) (post : WorkerSeatView) (room : ℕ) (users : UserTable) (s : StationView W)
     : Type 0 where
   pub is : IsStation s
+  pub at_board : s.board ≡ board
   pub at_post : s.post ≡ post
   pub held : s.held ≡ record { held = []; capacity = room }
-  pub slice : s.slice ≡ replicate (length post.marks) 0
+  pub slice : s.slice ≡ replicate (pages_of post) 0
   pub sliced : s.sliced ≡ []
   pub last : s.last ≡ users
 
@@ -31,7 +33,7 @@ abbrev pub masks_in : List PhaseMask → ℕ → ℕ → ℕ → List PhaseMask
 masks_in masks from to mask = if to == from then masks else masks_entered masks to mask
 
 -- the post after a look: where it enters a split phase it has also read that phase's mask, which is this
-abbrev pub saw_at : PostView → Sight → ℕ → PostView
+abbrev pub saw_at : WorkerSeatView → Sight → ℕ → WorkerSeatView
 saw_at post sight mask = record (looked_at post sight) {
   masks = masks_in post.masks (phase_of post.state) (phase_of (seen post.state sight)) mask;
 }
@@ -54,7 +56,7 @@ pub record LooksAndEnters {W : Type 0} (s : StationView W) (shown : Sight) (afte
   pub seat : IsStation after
 
 -- the post after it came back into a phase; of a split one it has also read that phase's mask, which is this
-abbrev pub returned_at : PostView → ℕ → ℕ → PostView
+abbrev pub returned_at : WorkerSeatView → ℕ → ℕ → WorkerSeatView
 returned_at post phase mask = record (returned post phase) { masks = masks_entered post.masks phase mask }
 
 -- the seat after it came back into a phase
@@ -139,7 +141,7 @@ pub record IsNext (factor : ℕ) (slice : List ℕ) (from page : ℕ) : Type 0 w
 -- a page's likes were merged, all of them
 pub record MergesPage {W : Type 0} (s : StationView W) (from : ℕ) (m : Merged) (after : StationView W)
     : Type 0 where
-  pub next : IsNext s.post.factor s.slice from m.page
+  pub next : IsNext s.post.opening.factor s.slice from m.page
   pub likes : m.likes ≡ slice_index s.slice m.page
   pub merged : after ≡ merged_page s m.page m.old
 
@@ -147,5 +149,5 @@ pub record MergesPage {W : Type 0} (s : StationView W) (from : ℕ) (m : Merged)
 abbrev pub MergesNext : {W : Type 0} → StationView W → ℕ → Option Merged → StationView W → Type 0
 MergesNext s from merged after =
     MatchOption merged
-    (NoneFrom s.post.factor s.slice from × (after ≡ s))
+    (NoneFrom s.post.opening.factor s.slice from × (after ≡ s))
     (λ m. MergesPage s from m after)

@@ -43,7 +43,7 @@ impl<P: Post, W: Copy, C: Counts, T: BucketTags> Model for Station<P, W, C, T> {
 
     ghost use Rattle.like_seat.specs.Kept.{view_of, IsKept};
 
-    ghost view = { λ s. view_of (P.view s.post) s.tables };
+    ghost view = { λ s. view_of (P.board s.post) (P.view s.post) s.tables };
 
     ghost invariant = { λ s. IsKept (P.view s.post) s.tables };
 }
@@ -65,12 +65,12 @@ impl<P: Post, W: Copy> Station<P, W, Slice, RunTags> {
         last: Users,
     ) -> Result<Self, NoStation<P>>
         requires fresh { IsFresh (P.view post) }
-        requires limits { AreLimits (P.view post).limits }
-        requires few_pages { pages_of (P.view post) ≤ (P.view post).limits.pages }
-        requires run { IsOfRun (P.view post) marks.items }
+        requires limits { AreLimits (P.view post).opening.limits }
+        requires few_pages { pages_of (P.view post) ≤ (P.view post).opening.limits.pages }
+        requires run { IsOfRun (P.view post).opening marks.items }
         requires some { 1 ≤ room }
         requires few { room ≤ max_stash }
-        ensures new { IfOk result (IsNewStation (P.view post) room last) }
+        ensures new { IfOk result (IsNewStation (P.board post) (P.view post) room last) }
         ensures post { IfErr result (λ refused. refused.post ≡ post) }
     {
         match Tables::of_run(alloc, marks, room, last) {
@@ -132,6 +132,7 @@ impl<P: Post, W: Copy, C: Counts, T: BucketTags> Station<P, W, C, T> {
 
     /// Gives the post back, whatever is left to do.
     pub fn leave(self) -> P
+        ensures board { P.board result ≡ self.board }
         ensures post { P.view result ≡ self.post }
         ensures seat { IsStation self }
     {
@@ -141,6 +142,7 @@ impl<P: Post, W: Copy, C: Counts, T: BucketTags> Station<P, W, C, T> {
 
     /// Takes it apart: its post, and its users' last likes.
     pub fn finish(self) -> (P, Users)
+        ensures board { P.board result.0 ≡ self.board }
         ensures post { P.view result.0 ≡ self.post }
         ensures last { result.1 ≡ self.last }
         ensures seat { IsStation self }

@@ -142,7 +142,8 @@ impl<W: Copy, C: Counts, T: BucketTags> Tables<W, C, T> {
     #[inline(never)]
     pub(crate) fn enter<P: Post>(&mut self, post: &mut P, phase: u64)
         requires may { MayEnter (P.view post.old) self.old.slice phase }
-        requires run { IsOfRun (P.view post.old) self.old.marks.items }
+        requires run { IsOfRun (P.view post.old).opening self.old.marks.items }
+        ensures board { P.board post.new ≡ P.board post.old }
         ensures enters { Enters (P.view post.old) phase (P.view post.new) self.old self.new }
     {
         self.state = WorkerState::Runs(phase);
@@ -158,7 +159,8 @@ impl<W: Copy, C: Counts, T: BucketTags> Tables<W, C, T> {
     #[inline(never)]
     pub(crate) fn enter_slots<P: SlotPost>(&mut self, post: &mut P, phase: u64)
         requires may { MayEnter (P.view post.old) self.old.slice phase }
-        requires service { IsOfService (P.view post.old) }
+        requires service { IsOfService (P.view post.old).opening }
+        ensures board { P.board post.new ≡ P.board post.old }
         ensures enters { Enters (P.view post.old) phase (P.view post.new) self.old self.new }
     {
         self.state = WorkerState::Runs(phase);

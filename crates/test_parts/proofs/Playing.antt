@@ -12,7 +12,8 @@ use Rattle.like_requests.specs.declared.request.Request.{Request}
 use Rattle.like_requests.specs.declared.request.Taken.{Taken}
 use Rattle.like_requests.specs.declared.request.Taken.TheVariants as taken
 use Rattle.like_requests.specs.declared.setup.Setup.{Setup}
-use Rattle.like_core.specs.Post.{PostView, pages_of}
+use Rattle.like_core.specs.Post.{pages_of}
+use Rattle.like_core.specs.declared.view.WorkerSeatView.{WorkerSeatView}
 use Rattle.like_tables.specs.Share.{dealt}
 use Rattle.like_limits.specs.Limits.{max_requests}
 use Rattle.like_promises.specs.WorkloadOf.{lists_of}
@@ -174,16 +175,16 @@ plan_at pages (plan ∷ plans) (suc submitter) all =
     plan_at pages plans submitter (λ k d below. all (suc k) d (omega arith))
 
 -- a new worker may be played with
-pub plays_new : (s : Setup) (plans : List (List Request)) (sizes : List ℕ) (worker : ℕ) (post : PostView) (notes : Bool)
-    (plan : List Request) (v : WorkerView)
+pub plays_new : (s : Setup) (plans : List (List Request)) (sizes : List ℕ) (worker : ℕ) (board : List ℕ)
+    (post : WorkerSeatView) (notes : Bool) (plan : List Request) (v : WorkerView)
     → FitsRun s plans
     → sizes ≡ map length plans
     → length sizes ≤ s.workers
     → plan ≡ get_or plans worker []
     → IsPostOf worker s.pages post
-    → IsNew s sizes worker post notes v
+    → IsNew s sizes worker board post notes v
     → IsPlaying plan 0 v
-plays_new s plans sizes worker post notes plan v w sized few is his new =
+plays_new s plans sizes worker board post notes plan v w sized few is his new =
     let own = dealt_one s.workers worker sizes w.numbers.workers.0 few in
     let lists = plan_at s.pages plans worker (plans-within s plans w) in
     let ended : length v.ended ≡ length v.left = ap length new.ended ∙ length-replicate (length v.left) false in
@@ -191,7 +192,7 @@ plays_new s plans sizes worker post notes plan v w sized few is his new =
     let size : get_or sizes worker 0 ≡ length plan =
     ap (λ xs. get_or xs worker 0) sized ∙ (size_at plans worker ∙ ap length (sym is)) in
     let pages : pages_of v.post ≡ length s.pages =
-    ap pages_of new.at_post ∙ (ap length his.marks ∙ length-map s.pages (λ (p : Page). p.split)) in
+    ap pages_of new.at_post ∙ (ap length his.opening.marks ∙ length-map s.pages (λ (p : Page). p.split)) in
     record {
       settled = new.pending;
       at = record {

@@ -3,16 +3,15 @@ use Rattle.std.specs.Prelude.{◌≡◌, ℕ, ◌<◌, ◌≤◌, Bool, false, L
 use Rattle.std.proofs.Common.{ap, ◌∙◌, arith}
 use Rattle.std.proofs.lemmas.List.{get_or-replicate, length-replicate}
 use Rattle.like_board.specs.Rule.{opened_coord}
-use Rattle.like_board.specs.Seats.{AreFresh, BoardId, coord_board, coord_view, seat_board, seat_meaning, seat_view}
+use Rattle.like_board.specs.Seats.{AreFresh, BoardId, coord_board, coord_view, seat_board, seat_view}
 use Rattle.like_board.specs.declared.coord_seat.CoordSeat.{CoordSeat}
 use Rattle.like_board.specs.declared.worker_seat.WorkerSeat.{WorkerSeat}
 use Rattle.like_limits.specs.Limits.{hot_pages}
 use Rattle.like_core.specs.Phase.{is_marked}
-use Rattle.like_core.specs.Post.{IsFresh}
+use Rattle.like_core.specs.Post.{fresh}
 use Rattle.like_core.specs.core.State.{opening_with}
 use Rattle.like_core.specs.declared.limits.Limits.{Limits}
 use Rattle.like_core.specs.declared.opening.Opening.{Opening}
-use Rattle.like_core.specs.views.Views.{fresh}
 use Rattle.like_promises.proofs.Lists.{slice_get-at_end}
 use Rattle.test_parts.specs.Walk.{AreOpened}
 
@@ -20,7 +19,7 @@ use Rattle.test_parts.specs.Walk.{AreOpened}
 pub last_fresh : (board : BoardId) (z : Opening) (seats left : List WorkerSeat) (seat : WorkerSeat)
     → AreFresh board z seats
     → seats ≡ left ++ seat ∷ []
-    → (seat_board seat ≡ board) × (seat_view seat ≡ fresh z (length left)) × IsFresh (seat_meaning seat)
+    → (seat_board seat ≡ board) × (seat_view seat ≡ fresh z (length left))
 last_fresh board z seats left seat are is =
     are (length left) seat (ap (λ xs. slice_get xs (length left)) is ∙ slice_get-at_end left seat)
 

@@ -7,12 +7,13 @@ use Rattle.like_core.specs.declared.view.CoordSeatView.{CoordSeatView}
 use Rattle.like_core.specs.Additions.{added_to, all_added}
 use Rattle.like_core.specs.Phase.{is_hot, is_marked}
 use Rattle.like_core.specs.PhaseMasks.{mask_of, HasMask}
-use Rattle.like_core.specs.Post.{PostView, KnowsSlices, pages_of, slices}
+use Rattle.like_core.specs.Post.{KnowsSlices, pages_of, slices}
 use Rattle.like_core.specs.WorkerState.{IsRunning}
 use Rattle.like_core.specs.PageSteps.{additions_among}
 use Rattle.like_board.specs.declared.coord_seat.CoordSeat.{CoordSeat}
 use Rattle.like_board.specs.declared.worker_seat.WorkerSeat.{WorkerSeat}
-use Rattle.like_board.specs.Seats.{BoardId, AreFresh, board_numbers, coord_board, coord_view}
+use Rattle.like_board.specs.Seats.{BoardId, AreFresh, board_numbers, coord_board, coord_view, seat_board}
+use Rattle.like_core.specs.declared.view.WorkerSeatView.{WorkerSeatView}
 use Rattle.test_parts.specs.declared.known.Known.{Known}
 
 -- the seats of a board of this many pages, whose first is marked or is not, within these limits, which give it no
@@ -29,40 +30,44 @@ pub record AreOpened (board : BoardId) (pages : ℕ) (marked : Bool) (limits : L
   pub first : is_marked (coord_view coord).opening.marks 0 ≡ marked
 
 -- page 0 is hot by the mask that the post read of a phase
-pub record IsFirstHot (v : PostView) (phase : ℕ) : Type 0 where
+pub record IsFirstHot (v : WorkerSeatView) (phase : ℕ) : Type 0 where
   pub read : HasMask phase v.masks
   pub hot : is_hot (mask_of v.masks phase) 0 ≡ true
 
 -- what is known of a post is true
-pub record IsKnown (v : PostView) (k : Known) : Type 0 where
+pub record IsKnown (v : WorkerSeatView) (k : Known) : Type 0 where
   pub state : v.state ≡ k.state
   pub last : v.last ≡ k.last
   pub pages : pages_of v ≡ k.pages
-  pub marked : is_marked v.marks 0 ≡ k.is_marked
+  pub marked : is_marked v.opening.marks 0 ≡ k.is_marked
   pub hot : (phase : ℕ) → k.hot_in ≡ Some phase → IsFirstHot v phase
-  pub room : all_added (additions_among v.did) + k.room ≤ v.limits.likes
+  pub room : all_added (additions_among v.did) + k.room ≤ v.opening.limits.likes
   pub likes : added_to 0 (additions_among v.did) ≡ k.likes
   -- no number that is known can wrap
-  pub few_phases : v.limits.last_phase < 2 ^ 64
+  pub few_phases : v.opening.limits.last_phase < 2 ^ 64
   -- its board has no slots
-  pub plain : v.limits.hot ≡ hot_pages
+  pub plain : v.opening.limits.hot ≡ hot_pages
   pub few_likes : k.likes + k.room < 2 ^ 64
 
 -- the post is the same worker's, at the same board
-pub record KeepsPlace (old new : PostView) : Type 0 where
-  pub board : new.board ≡ old.board
+pub record KeepsPlace (was : List ℕ) (old : WorkerSeatView) (is : List ℕ) (new : WorkerSeatView) : Type 0 where
+  pub board : is ≡ was
   pub worker : new.worker ≡ old.worker
 
 -- the post runs a phase in which page 0 is sliced, and knows it
-pub record SlicesFirst (v : PostView) : Type 0 where
+pub record SlicesFirst (v : WorkerSeatView) : Type 0 where
   pub there : 0 < pages_of v
   pub runs : IsRunning v.state
   pub known : KnowsSlices v 0
   pub sliced : slices v 0 ≡ true
 
--- the post is this worker's, at this board
-pub record IsWorkerAt (board : BoardId) (worker : ℕ) (v : PostView) : Type 0 where
-  pub board_is : v.board ≡ board_numbers board
+-- the numbers of a seat's board
+abbrev pub seat_numbers : WorkerSeat → List ℕ
+seat_numbers seat = board_numbers (seat_board seat)
+
+-- a seat at the board with these numbers is this worker's, at this board
+pub record IsWorkerAt (board : BoardId) (worker : ℕ) (numbers : List ℕ) (v : WorkerSeatView) : Type 0 where
+  pub board_is : numbers ≡ board_numbers board
   pub worker_is : v.worker ≡ worker
 
 -- the coordinator's seat is that of a board of this many workers and one page

@@ -4,8 +4,8 @@ ghost use Rattle.like_core.specs.declared.worker_state.WorkerState.TheVariants.{
 ghost use Rattle.like_core.specs.OpeningLimits.{AreLimits, run_limits};
 ghost use Rattle.like_core.specs.Post.{IsFresh, additions_of};
 ghost use Rattle.like_core.specs.core.Moves.{LetsReturn};
-ghost use Rattle.like_board.specs.Seats.{board_id, coord_board, coord_view, post_meaning, seat_meaning};
-ghost use Rattle.test_parts.specs.Walk.{AreOpened, IsCoordOf, IsWorkerAt, KeepsSeat};
+ghost use Rattle.like_board.specs.Seats.{board_id, coord_board, coord_view, post_numbers, post_view, seat_view};
+ghost use Rattle.test_parts.specs.Walk.{AreOpened, IsCoordOf, IsWorkerAt, KeepsSeat, seat_numbers};
 
 mod calls;
 mod leader;
@@ -41,7 +41,8 @@ fn last_walker<'a>(
 ) -> Walker<BoardPost<'a>>
     requires { AreOpened (board_id board.now) pages marked limits coord.now seats.old.items }
     ensures last { vec_len seats.old ≡ vec_len seats.new + 1 }
-    ensures at { IsWorkerAt (coord_board coord.now) (vec_len seats.new) (post_meaning result.post) }
+    ensures at { IsWorkerAt (coord_board coord.now) (vec_len seats.new) (post_numbers result.post)
+        (post_view result.post) }
     ensures rest { AreOpened (board_id board.now) pages marked limits coord.now seats.new.items }
 {
     let seat = seats.pop().expect(rt, "a seat is there");
@@ -105,13 +106,14 @@ fn party_at<'a>(
 struct Left {
     seat: WorkerSeat,
     likes: u64,
-    ghost gone: { (seat_meaning seat).state ≡ Gone },
-    ghost added: { additions_of (seat_meaning seat) 0 ≡ likes },
+    ghost gone: { (seat_view seat).state ≡ Gone },
+    ghost added: { additions_of (seat_view seat) 0 ≡ likes },
 }
 
 // Gives back the seat of a worker that is gone.
 fn left_by(rt: &impl Abort, walker: Walker<BoardPost<'_>>) -> Left
-    ensures { seat_meaning result.seat ≡ post_meaning walker.entry.post }
+    ensures board { seat_numbers result.seat ≡ post_numbers walker.entry.post }
+    ensures view { seat_view result.seat ≡ post_view walker.entry.post }
 {
     let Walker { post, known } = walker;
     assert_named(
@@ -136,9 +138,9 @@ fn walks(
 ) -> (CoordSeat, Left, Option<Left>)
     requires { AreOpened (board_id board.now) 1 marked run_limits coord seats.items }
     ensures coord { KeepsSeat coord result.0 }
-    ensures first { IsWorkerAt (coord_board coord) 0 (seat_meaning result.1.seat) }
+    ensures first { IsWorkerAt (coord_board coord) 0 (seat_numbers result.1.seat) (seat_view result.1.seat) }
     ensures second { IfSome result.2
-        (λ left. IsWorkerAt (coord_board coord) 1 (seat_meaning left.seat)) }
+        (λ left. IsWorkerAt (coord_board coord) 1 (seat_numbers left.seat) (seat_view left.seat)) }
 {
     let mut party = party_at(rt, board, coord, seats, Limits::of_run(), marked);
     party.plays(rt, parts);
@@ -167,8 +169,8 @@ fn end_of_two(
     second: Left,
 ) -> Result<End, AllocError>
     requires coord { IsCoordOf (board_id board) 2 coord }
-    requires first { IsWorkerAt (coord_board coord) 0 (seat_meaning first.seat) }
-    requires second { IsWorkerAt (coord_board coord) 1 (seat_meaning second.seat) }
+    requires first { IsWorkerAt (coord_board coord) 0 (seat_numbers first.seat) (seat_view first.seat) }
+    requires second { IsWorkerAt (coord_board coord) 1 (seat_numbers second.seat) (seat_view second.seat) }
     ensures { IfOk result (λ r. r.0
         ≡ slice_index (coord_view coord).opening.counts 0 + (r.1.0 + r.1.1)) }
 {
@@ -184,7 +186,7 @@ fn end_of_two(
 // The same of one seat.
 fn end_of_one(alloc: Global, board: Board, coord: CoordSeat, first: Left) -> Result<End, AllocError>
     requires coord { IsCoordOf (board_id board) 1 coord }
-    requires first { IsWorkerAt (coord_board coord) 0 (seat_meaning first.seat) }
+    requires first { IsWorkerAt (coord_board coord) 0 (seat_numbers first.seat) (seat_view first.seat) }
     ensures { IfOk result (λ r. r.0
         ≡ slice_index (coord_view coord).opening.counts 0 + (r.1.0 + r.1.1)) }
 {
@@ -295,8 +297,8 @@ fn last_post<'a>(
     limits: Limits,
 ) -> BoardPost<'a>
     requires { AreOpened (board_id board.now) 1 false limits coord.now seats.old.items }
-    ensures fresh { IsFresh (post_meaning result) }
-    ensures limits { (post_meaning result).limits ≡ limits }
+    ensures fresh { IsFresh (post_view result) }
+    ensures limits { (post_view result).opening.limits ≡ limits }
 {
     let seat = seats.pop().expect(rt, "a seat is there");
     seat.at(board)
@@ -305,9 +307,9 @@ fn last_post<'a>(
 // Comes back into phase 0, and retires again.
 fn comes_and_goes<P: Returns>(post: &mut P) -> bool
     requires gone { (P.view post.old).state ≡ Gone }
-    requires lets { LetsReturn (P.view post.old).limits }
+    requires lets { LetsReturn (P.view post.old).opening.limits }
     ensures left { IsTrue result → (P.view post.new).state ≡ Gone }
-    ensures limits { (P.view post.new).limits ≡ (P.view post.old).limits }
+    ensures limits { (P.view post.new).opening.limits ≡ (P.view post.old).opening.limits }
 {
     match post.come_back() {
         Some(phase) if phase % 2 == 0 => {
@@ -334,7 +336,7 @@ fn announces(coord: &mut CoordSeat, board: &Board) -> bool
 fn comes_back<P: Returns>(board: &Board, coord: &mut CoordSeat, post: &mut P) -> bool
     requires here { coord_board coord.old ≡ board_id board.now }
     requires gone { (P.view post.old).state ≡ Gone }
-    requires lets { LetsReturn (P.view post.old).limits }
+    requires lets { LetsReturn (P.view post.old).opening.limits }
 {
     coord.look(board).all_gone
         && comes_and_goes(post)
@@ -345,7 +347,7 @@ fn comes_back<P: Returns>(board: &Board, coord: &mut CoordSeat, post: &mut P) ->
 // Whether a worker that is gone comes back into phase 0, where as many tries fail first.
 fn comes_back_after<P: Returns + Drop>(post: P, misses: u32) -> bool
     requires gone { (P.view post).state ≡ Gone }
-    requires lets { LetsReturn (P.view post).limits }
+    requires lets { LetsReturn (P.view post).opening.limits }
 {
     come_back(&mut Missing { post, misses }) == Some(0)
 }

@@ -19,7 +19,7 @@ use Rattle.like_core.specs.declared.view.View.TheVariants.{Coord, Worker, Spent}
 use Rattle.like_core.specs.core.State.{CoreState}
 use Rattle.like_core.specs.word.ShownWord.{shown_word}
 use Rattle.like_core.specs.Additions.{added_before}
-use Rattle.like_core.specs.views.Views.{fresh, made_coord, seats_of}
+use Rattle.like_core.specs.views.Views.{made_coord, seats_of}
 use Rattle.like_core.specs.views.Reads.{IsCounted}
 use Rattle.like_core.specs.views.Posts.{posts_before, posts_of}
 use Rattle.like_core.proofs.views.ViewSums.{before_in, before_posts}
@@ -30,6 +30,7 @@ use Rattle.like_core.proofs.views.Chosen.{KeepsChoice, mask_in-kept, chosen-kept
 use Rattle.like_core.proofs.views.ViewLists.{within, sum_set}
 use Rattle.like_core.proofs.views.KeptCounts.{counted_on, counted_same}
 use Rattle.like_core.specs.PageSteps.{additions_among}
+use Rattle.like_core.specs.Post.{fresh}
 use Rattle.like_board.proofs.worker.Moves.{if_some, same_coord, counts_none, counts_one, keeps_elsewhere, worker-injective}
 use Rattle.like_board.proofs.coordinator.Fitting.{same_phase, same_choice}
 

@@ -21,15 +21,15 @@ use Rattle.like_core.specs.core.Table.{IsShown}
 use Rattle.like_core.specs.core.State.{CoreState, Label, is_split_now, labelled, after, numbers}
 use Rattle.like_core.specs.core.Moves.{Reached, makes}
 use Rattle.like_core.specs.WorkerState.{IsIn, phase_of}
-use Rattle.like_core.specs.Post.{PostView, MayAdd, slices}
+use Rattle.like_core.specs.Post.{MayAdd, slices, added}
 use Rattle.like_core.specs.Additions.{added_to, added_in}
 use Rattle.like_core.specs.PageSteps.{additions_among, page_step}
-use Rattle.like_core.specs.views.Views.{added_view, post_of, likes_merged, adding}
+use Rattle.like_core.specs.views.Views.{likes_merged, adding}
 use Rattle.like_core.specs.views.Reads.{IsCounted}
 use Rattle.like_core.specs.views.Posts.{posts_before, posts_of}
 use Rattle.like_core.specs.views.Order.{AppliesTo, IsOrder}
 use Rattle.like_core.specs.views.Tallies.{Tallied, room}
-use Rattle.like_core.proofs.views.ViewSums.{added_posts, paged}
+use Rattle.like_core.proofs.views.ViewSums.{added_posts, paged, added_to-le}
 use Rattle.like_core.proofs.views.Ordered.{applied_now}
 use Rattle.like_core.specs.views.Layout.{word_of}
 use Rattle.like_core.specs.views.Shows.{Shows, ShowsSome, FitsWorker, FitsCoord, IsPageStep}
@@ -39,7 +39,6 @@ use Rattle.like_core.proofs.core.Labels.{label, labelled-append, labels_else, la
 use Rattle.like_core.proofs.core.Adding.{Adding, with_applied, adds_either}
 use Rattle.like_core.proofs.views.KeptOrder.{page_step_keeps_order}
 use Rattle.like_core.proofs.views.KeptCounts.{addition_before, counted_on}
-use Rattle.like_core.proofs.views.Posts.{added_to-le}
 use Rattle.like_core.proofs.views.ViewLists.{sum_part, sum_set, sum_swap}
 use Rattle.like_board.proofs.worker.Moves.{moment_of, one_seat}
 use Rattle.like_board.proofs.worker.WorkerSteps.{running_is}
@@ -63,11 +62,11 @@ own_labels : (z : Opening) (s : CoreState) (v : WorkerSeatView) (page count n : 
     → FitsWorker z s v
     → phase_of v.state ≡ s.phase
     → (phase q : ℕ)
-    → labelled v.worker phase (applied_by s v.worker page n q) ≡ added_in phase q (additions_among (added_view v page count n).did)
+    → labelled v.worker phase (applied_by s v.worker page n q) ≡ added_in phase q (additions_among (added v page count n).did)
 own_labels z s v page count n f present phase q =
     let more : List Label = replicate n (label v.worker s.phase) in
     let P : ℕ → List Label → Type 0 =
-    λ r l. labelled v.worker phase l ≡ added_in phase r (additions_among (added_view v page count n).did) in
+    λ r l. labelled v.worker phase l ≡ added_in phase r (additions_among (added v page count n).did) in
     let here : P page (s.applied page ++ more) =
     labelled-append v.worker phase (s.applied page) more ∙
     ((λ m. f.labels phase page m + labels_here v.worker s.phase phase page n m) ∙
@@ -82,7 +81,7 @@ own_labels z s v page count n f present phase q =
 fits_added : (z : Opening) (s : CoreState) (v : WorkerSeatView) (page count n : ℕ) (rest : ℕ → List ℕ)
     → FitsWorker z s v
     → phase_of v.state ≡ s.phase
-    → FitsWorker z (record s { unmerged = rest; applied = applied_by s v.worker page n }) (added_view v page count n)
+    → FitsWorker z (record s { unmerged = rest; applied = applied_by s v.worker page n }) (added v page count n)
 fits_added z s v page count n rest f present = record {
   opening = f.opening;
   there = f.there;
@@ -131,9 +130,9 @@ tallied_added : (l : Limits) (s : CoreState) (views : List View) (place : ℕ) (
     → added_to page (additions_among v.did) + n ≤ l.likes
     → Tallied l s views
     → Tallied l (record s { unmerged = rest; applied = applied_by s v.worker page n })
-    (set views place (Worker (added_view v page count n)))
+    (set views place (Worker (added v page count n)))
 tallied_added l s views place v page count n rest at present few old =
-    let w : WorkerSeatView = added_view v page count n in
+    let w : WorkerSeatView = added v page count n in
     λ q.
     elim (cases_eq q page) [
       | inl same ↦
@@ -160,12 +159,12 @@ counted_added : (z : Opening) (s : CoreState) (words : List ℕ) (views : List V
     → get_elem? views place ≡ some (Worker v)
     → s.state v.worker ≡ Runs s.phase
     → phase_of v.state ≡ s.phase
-    → All (IsCounted z.counts (posts_before (posts_of (set views place (Worker (added_view v page count n)))))) sh.coord.counted
+    → All (IsCounted z.counts (posts_before (posts_of (set views place (Worker (added v page count n)))))) sh.coord.counted
 counted_added z s words views place v page count n sh at runs present =
     let old : FitsWorker z s v = sh.seats.each place (Worker v) at in
     let coord : FitsCoord z s sh.coord = sh.seats.each 0 (Coord sh.coord) sh.seats.first in
     counted_on z.counts (posts_before (posts_of views))
-    (posts_before (posts_of (set views place (Worker (added_view v page count n))))) sh.coord.counted
+    (posts_before (posts_of (set views place (Worker (added v page count n))))) sh.coord.counted
     (λ k d inside.
     let r : PageCount = get_or sh.coord.counted k d in
     let of = coord.choice.counted k d inside in
@@ -185,7 +184,7 @@ pub count_low : (counts : List ℕ) (page : ℕ)
 count_low counts page on low = All-get_or (λ (n : ℕ). n ≤ max_count) counts page 0 on low
 
 -- something is added
-some_likes : (v : PostView) (page n : ℕ) → MayAdd v page n → 1 ≤ n
+some_likes : (v : WorkerSeatView) (page n : ℕ) → MayAdd v page n → 1 ≤ n
 some_likes v page n may = by_test (slices v page) refl
   where
     by_test : (b : Bool) → slices v page ≡ b → 1 ≤ n
@@ -196,12 +195,12 @@ some_likes v page n may = by_test (slices v page) refl
 pub adds : (z : Opening) (words : List ℕ) (views : List View) (place : ℕ) (v : WorkerSeatView) (page n : ℕ)
     → ShowsSome z words views
     → get_elem? views place ≡ some (Worker v)
-    → MayAdd (post_of v) page n
+    → MayAdd v page n
     → IsPageStep z (likes_merged v page n) (makes (adding v page)) (Old (get_or words (word_of page) 0))
     (page_step v.worker (phase_of v.state) page (get_or words (word_of page) 0) (Add n)) (Worker v)
-    (Worker (added_view v page (get_or words (word_of page) 0) n))
+    (Worker (added v page (get_or words (word_of page) 0) n))
     × ShowsSome z (set words (word_of page) ((get_or words (word_of page) 0 + n) % 2 ^ 64))
-    (set views place (Worker (added_view v page (get_or words (word_of page) 0) n)))
+    (set views place (Worker (added v page (get_or words (word_of page) 0) n)))
     × (added_to page (additions_among v.did) ≤ get_or words (word_of page) 0)
 adds z words views place v page n some_state at may =
     let s = some_state.state in
@@ -232,17 +231,17 @@ adds z words views place v page n some_state at may =
     let part = sum_part (paged page) views place (Worker v) at in
     let found : get_or words (word_of page) 0 ≡ get_or z.counts page 0 + length (s.applied page) =
     sh.board.pages page on in
-    let same : is_split_now z s page ≡ slices (post_of v) page =
+    let same : is_split_now z s page ≡ slices v page =
     slices_are z s v page old present may.known in
     let a : Adding z s i page n (likes_merged v page n) (adding v page) =
-    adds_either z s i page n (slices (post_of v) page) same may.like
+    adds_either z s i page n (slices v page) same may.like
     (λ sliced. old.ending may.runs (may.merge sliced).1)
     sh.merged old.there on (here ∙ ap Runs now) (omega arith)
     in
     let t : CoreState = with_applied s a.rest page (replicate n (label i s.phase)) in
     let word : ℕ = (get_or words (word_of page) 0 + n) % 2 ^ 64 in
     let count : ℕ = get_or words (word_of page) 0 in
-    let w : WorkerSeatView = added_view v page count n in
+    let w : WorkerSeatView = added v page count n in
     let long = applied_here s i page n in
     let word_is : word ≡ get_or z.counts page 0 + length (applied_by s i page n page) = omega arith in
     let shows : Shows z t (set words (word_of page) word) (set views place (Worker w)) =
@@ -259,7 +258,7 @@ adds z words views place v page n some_state at may =
     (moves_by_all z s (likes_merged v page n) some_state.reachable a.before)
     a.permits
     in
-    let some_are : 1 ≤ n = some_likes (post_of v) page n may in
+    let some_are : 1 ≤ n = some_likes v page n may in
     let step : PageStep = page_step v.worker (phase_of v.state) page count (Add n) in
     let order : IsOrder z t (set views place (Worker w)) (step ∷ some_state.steps) =
     page_step_keeps_order z s t views some_state.steps place v page count (Add n)

@@ -17,7 +17,7 @@ use Rattle.like_core.specs.WorkerState.{phase_of}
 use Rattle.like_core.specs.Post.{slices, KnowsSlices}
 use Rattle.like_core.specs.core.State.{CoreState, Label, is_split_now, labelled, numbers}
 use Rattle.like_core.specs.word.ShownWord.{shown_word}
-use Rattle.like_core.specs.views.Views.{post_of, seats_of}
+use Rattle.like_core.specs.views.Views.{seats_of}
 use Rattle.like_core.specs.views.Reads.{IsCounted}
 use Rattle.like_core.specs.views.Posts.{posts_before, posts_of}
 use Rattle.like_core.specs.views.Layout.{word_of}
@@ -31,8 +31,8 @@ use Rattle.like_board.proofs.worker.Moves.{if_some, keeps_elsewhere, worker_step
 pub slices_are : (z : Opening) (s : CoreState) (v : WorkerSeatView) (page : ℕ)
     → FitsWorker z s v
     → phase_of v.state ≡ s.phase
-    → KnowsSlices (post_of v) page
-    → is_split_now z s page ≡ slices (post_of v) page
+    → KnowsSlices v page
+    → is_split_now z s page ≡ slices v page
 slices_are z s v page f present knows =
     sym (λ m. split_by (f.opening m).limits.hot (is_marked (f.opening m).marks) s.hot (present m) page) ∙
     split-known v.opening.limits.hot (is_marked v.opening.marks) s.hot v.masks (phase_of v.state) page

@@ -23,12 +23,11 @@ use Rattle.like_core.specs.core.Table.{Permits}
 use Rattle.like_core.specs.core.Moves.{IsShownBy, MayMove, Move, after_move, glances as glances_at, makes}
 use Rattle.like_core.specs.core.State.{CoreState, is_split_now, numbers}
 use Rattle.like_core.specs.WorkerState.{phase_of, IsRunning, RunsSplit}
-use Rattle.like_core.specs.Post.{MayRead, MayGlance, KnowsSlices, slices}
+use Rattle.like_core.specs.Post.{MayRead, MayGlance, KnowsSlices, slices, has_read, has_glanced, with_mask, with_slot, slots_read, MayReadSlot}
 use Rattle.like_core.specs.OpeningLimits.{has_slots}
 use Rattle.like_core.specs.Slots.{IsChoice}
 use Rattle.like_core.specs.Additions.{added_before, added_in, added_to}
 use Rattle.like_core.specs.PageSteps.{additions_among, page_step}
-use Rattle.like_core.specs.views.Views.{read_view, glanced_view, masked_view, slotted_view, slots_read, MayReadSlot, post_of}
 use Rattle.like_core.specs.views.Order.{ComesNext, IsOrder}
 use Rattle.like_core.proofs.views.ViewSums.{added_posts, paged}
 use Rattle.like_core.proofs.views.Ordered.{applied_now}
@@ -71,12 +70,12 @@ reads_word : (z : Opening) (words : List ℕ) (views : List View) (place : ℕ) 
     → get_elem? views place ≡ some (Worker v)
     → IsRunning v.state
     → page < length v.opening.marks
-    → KnowsSlices (post_of v) page
+    → KnowsSlices v page
     → after_move z some_state.state move ≡ some_state.state
     → IsShownBy z some_state.state move
     (Count (slice_index z.counts page + length (some_state.state.applied page)))
     → (some_state.state.state v.worker ≡ Runs some_state.state.phase → v.worker < z.workers → page < length z.counts
-    → is_split_now z some_state.state page ≡ slices (post_of v) page
+    → is_split_now z some_state.state page ≡ slices v page
     → MayMove z some_state.state move)
     → additions_among ds ≡ additions_among v.did
     → ((steps : List PageStep) → ComesNext z some_state.state views place v page (get_or words (word_of page) 0)
@@ -98,7 +97,7 @@ reads_word z words views place v page move call ds some_state at running may_the
     ap (λ (y : Opening). length y.marks) old.opening ∙ sh.opening.marks
     in
     let on : page < length z.counts = omega arith in
-    let same : is_split_now z s page ≡ slices (post_of v) page =
+    let same : is_split_now z s page ≡ slices v page =
     slices_are z s v page old present knows in
     let sums = applied_now z (moment_of z words views some_state) page in
     let posts = added_posts page views in
@@ -173,14 +172,14 @@ reads_word z words views place v page move call ds some_state at running may_the
 
 -- a read is the event
 pub reads : (z : Opening) (words : List ℕ) (views : List View) (place : ℕ) (v : WorkerSeatView) (page : ℕ)
-    → MayRead (post_of v) page
+    → MayRead v page
     → ShowsSome z words views
     → get_elem? views place ≡ some (Worker v)
     → IsRead z words views place v page (makes (Read v.worker page)) ReadCall
-    (read_view v page (get_or words (word_of page) 0))
+    (has_read v page (get_or words (word_of page) 0))
 reads z words views place v page may some_state at =
     let count : ℕ = get_or words (word_of page) 0 in
-    let w : WorkerSeatView = read_view v page count in
+    let w : WorkerSeatView = has_read v page count in
     reads_word z words views place v page
     (makes (Read v.worker page)) ReadCall w.did some_state at may.runs may.there may.known refl refl
     (λ runs there on
@@ -191,14 +190,14 @@ reads z words views place v page may some_state at =
 
 -- a glance is the move
 pub glances : (z : Opening) (words : List ℕ) (views : List View) (place : ℕ) (v : WorkerSeatView) (page : ℕ)
-    → MayGlance (post_of v) page
+    → MayGlance v page
     → ShowsSome z words views
     → get_elem? views place ≡ some (Worker v)
     → IsRead z words views place v page (glances_at v.worker page) GlanceCall
-    (glanced_view v page (get_or words (word_of page) 0))
+    (has_glanced v page (get_or words (word_of page) 0))
 glances z words views place v page may some_state at =
     let count : ℕ = get_or words (word_of page) 0 in
-    let w : WorkerSeatView = glanced_view v page count in
+    let w : WorkerSeatView = has_glanced v page count in
     reads_word z words views place v page
     (glances_at v.worker page) GlanceCall w.did some_state at may.runs may.there may.known refl refl
     (λ runs there on
@@ -262,13 +261,13 @@ tells_mask : (z : Opening) (words : List ℕ) (views : List View) (place : ℕ) 
     → get_elem? views place ≡ some (Worker v)
     → RunsSplit v.state
     → mask ≡ mask_in z words
-    → IsStep z (Hot v.worker) (HotShown mask) (Worker v) (Worker (masked_view v mask))
-    × ShowsSome z (set words mask_place (get_or words mask_place 0)) (set views place (Worker (masked_view v mask)))
+    → IsStep z (Hot v.worker) (HotShown mask) (Worker v) (Worker (with_mask v mask))
+    × ShowsSome z (set words mask_place (get_or words mask_place 0)) (set views place (Worker (with_mask v mask)))
 tells_mask z words views place v mask some_state at split_phase mask_is =
     let s = some_state.state in
     let sh = some_state.shows in
     let i = v.worker in
-    let w : WorkerSeatView = masked_view v mask in
+    let w : WorkerSeatView = with_mask v mask in
     let old : FitsWorker z s v = sh.seats.each place (Worker v) at in
     let runs = running_is IsSplit v.state split_phase in
     let here : s.state i ≡ Runs runs.0 = old.state ∙ runs.1 in
@@ -287,14 +286,14 @@ tells_mask z words views place v mask some_state at split_phase mask_is =
       labels = old.labels;
       masks = All-cons P (record { phase = phase_of v.state; mask = mask }) v.masks
           (omega arith, found_is ∙ ap s.hot (sym present)) old.masks;
-      slots = old.slots;
+      slots = λ _. refl;
     }
     in
     let permits : Permits (numbers z s) (Hot i) =
     record { there = old.there; suits = (here ∙ ap Runs now, odd); leaves_last = tt; room = tt }
     in
     let shows : Shows z s (set words mask_place (get_or words mask_place 0)) (set views place (Worker w)) =
-    word_reads z words views place v w mask_place some_state at refl fits (sh.seats.slots place v at)
+    word_reads z words views place v w mask_place some_state at refl fits refl
     in (
       record {
         moment = moment_of z words views some_state;
@@ -315,9 +314,9 @@ pub reads_mask : (z : Opening) (words : List ℕ) (views : List View) (place : �
     → RunsSplit v.state
     → has_slots z.limits ≡ false
     → IsStep z (Hot v.worker) (HotShown (get_or words mask_place 0)) (Worker v)
-    (Worker (masked_view v (get_or words mask_place 0)))
+    (Worker (with_mask v (get_or words mask_place 0)))
     × ShowsSome z (set words mask_place (get_or words mask_place 0))
-    (set views place (Worker (masked_view v (get_or words mask_place 0))))
+    (set views place (Worker (with_mask v (get_or words mask_place 0))))
 reads_mask z words views place v some_state at split_phase plain =
     tells_mask z words views place v (get_or words mask_place 0) some_state at split_phase
     (sym (mask_by-plain z.limits (slot_in words) (get_or words mask_place 0) plain))
@@ -347,9 +346,9 @@ pub reads_slots : (z : Opening) (words : List ℕ) (views : List View) (place : 
     → length v.slots ≡ hot_pages
     → IsChoice z.factor (length z.marks) (slice_index v.slots) (get_or words mask_place 0)
     × IsStep z (Hot v.worker) (HotShown (slots_read v (get_or words mask_place 0))) (Worker v)
-    (Worker (masked_view v (slots_read v (get_or words mask_place 0))))
+    (Worker (with_mask v (slots_read v (get_or words mask_place 0))))
     × ShowsSome z (set words mask_place (get_or words mask_place 0))
-    (set views place (Worker (masked_view v (slots_read v (get_or words mask_place 0)))))
+    (set views place (Worker (with_mask v (slots_read v (get_or words mask_place 0)))))
 reads_slots z words views place v some_state at split_phase slotted all =
     let s = some_state.state in
     let sh = some_state.shows in
@@ -378,12 +377,12 @@ pub reads_slot : (z : Opening) (words : List ℕ) (views : List View) (place : �
     → MayReadSlot v slot
     → (slot_in words slot < 2 ^ 32)
     × ShowsSome z (set words (slot_place slot) (slot_in words slot))
-    (set views place (Worker (slotted_view v slot (slot_in words slot))))
+    (set views place (Worker (with_slot v slot (slot_in words slot))))
 reads_slot z words views place v slot some_state at may =
     let s = some_state.state in
     let sh = some_state.shows in
     let page : ℕ = slot_in words slot in
-    let w : WorkerSeatView = slotted_view v slot page in
+    let w : WorkerSeatView = with_slot v slot page in
     let old : FitsWorker z s v = sh.seats.each place (Worker v) at in
     let fits : FitsWorker z s w =
     record {

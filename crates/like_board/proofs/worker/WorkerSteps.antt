@@ -21,7 +21,6 @@ use Rattle.like_core.specs.core.Table.{Permits}
 use Rattle.like_core.specs.core.State.{CoreState, numbers}
 use Rattle.like_core.specs.core.Moves.{LetsReturn, MayReturn, Reached, after_return, comes_back}
 use Rattle.like_core.specs.word.ShownWord.{shown_word}
-use Rattle.like_core.specs.views.Views.{looked_view, answered_view, retired_view, returned_view}
 use Rattle.like_core.specs.views.Shows.{Shows, ShowsSome, FitsWorker, IsMove, IsStep}
 use Rattle.like_core.specs.views.Serves.{moved}
 use Rattle.like_core.proofs.Updates.{update-same}
@@ -29,6 +28,7 @@ use Rattle.like_core.proofs.core.Moved.{moved_in_phase, moves_back, moves_by}
 use Rattle.like_core.proofs.core.Staying.{looked_in}
 use Rattle.like_core.proofs.word.Serving.{even_runs, serves, worker_sees}
 use Rattle.like_core.proofs.views.KeptOrder.{other_step_keeps_order, same_worker}
+use Rattle.like_core.specs.Post.{looked_at, answered, retired, returned}
 use Rattle.like_board.specs.Plays.{Looked, phase_at, sight_at}
 use Rattle.like_board.proofs.worker.Moves.{moment_of, worker_moves}
 use Rattle.like_board.proofs.Tallying.{tallied_on}
@@ -106,15 +106,6 @@ looked_gone phase (Answered j) is =
     absurd (Q is)
 looked_gone phase Gone is = refl
 
--- who runs no split phase after a look knew no slots before
-slots_looked : (state : WorkerState) (sight : Sight) (slots : List ℕ)
-    → (¬ RunsSplit state → slots ≡ [])
-    → ¬ RunsSplit (seen state sight)
-    → slots ≡ []
-slots_looked (Runs j) sight slots none not_split = none not_split
-slots_looked (Answered j) sight slots none not_split = none (λ split. split)
-slots_looked Gone sight slots none not_split = none (λ split. split)
-
 -- a look of a worker that is not gone is the event
 pub looks : (z : Opening) (words : List ℕ) (views : List View) (place : ℕ) (v : WorkerSeatView)
     → ShowsSome z words views
@@ -122,7 +113,7 @@ pub looks : (z : Opening) (words : List ℕ) (views : List View) (place : ℕ) (
     → v.state ≢ Gone
     → Looked z (get_or words 0 0) v
     × ShowsSome z (set words 0 (get_or words 0 0))
-    (set views place (Worker (looked_view v (sight_at z (get_or words 0 0) v.state))))
+    (set views place (Worker (looked_at v (sight_at z (get_or words 0 0) v.state))))
 looks z words views place v some_state at there =
     let s = some_state.state in
     let sh = some_state.shows in
@@ -140,7 +131,7 @@ looks z words views place v some_state at there =
     looks_at z.limits.last_phase s.phase (s.state i) sight (p.runs i) (p.answered i) not_gone p.within sees.number sees.waits in
     let state : WorkerState = looked s.phase (s.state i) in
     let t : CoreState = moved s i state in
-    let w : WorkerSeatView = looked_view v sight in
+    let w : WorkerSeatView = looked_at v sight in
     let found : ℕ = get_or words 0 0 in
     let fits : FitsWorker z t w =
     record {
@@ -151,14 +142,14 @@ looks z words views place v some_state at there =
       ending = λ _ saw. sym sees.ending ∙ saw;
       labels = old.labels;
       masks = old.masks;
-      slots = slots_looked v.state sight v.slots old.slots;
+      slots = λ _. refl;
     }
     in
     let shows_after : Shows z t (set words 0 found) (set views place (Worker w)) =
     worker_moves z s words views place v w state found sh at refl
     (sh.board.phase ∙ sym (serving.looks i))
     fits
-    (sh.seats.slots place v at)
+    refl
     (λ _. looked_in s.phase (s.state i))
     (λ _. looked_gone s.phase (s.state i))
     in
@@ -206,7 +197,7 @@ answers : (z : Opening) (s : CoreState) (words : List ℕ) (views : List View) (
     → v.state ≡ Runs phase
     → phase ≡ s.phase
     → Shows z (moved s v.worker (Answered s.phase)) (set words 0 (answered_word z (get_or words 0 0) v.worker))
-    (set views place (Worker (answered_view v)))
+    (set views place (Worker (answered v)))
 answers z s words views place v phase reached sh at runs present =
     let i = v.worker in
     let f = form_of z.limits.form in
@@ -214,7 +205,7 @@ answers z s words views place v phase reached sh at runs present =
     let old : FitsWorker z s v = sh.seats.each place (Worker v) at in
     let here : s.state i ≡ Runs phase = old.state ∙ runs in
     let state : WorkerState = Answered s.phase in
-    let fits : FitsWorker z (moved s i state) (answered_view v) =
+    let fits : FitsWorker z (moved s i state) (answered v) =
     record {
       opening = old.opening;
       there = old.there;
@@ -226,7 +217,7 @@ answers z s words views place v phase reached sh at runs present =
       slots = λ _. refl;
     }
     in
-    worker_moves z s words views place v (answered_view v) state (answered_word z (get_or words 0 0) i) sh at refl
+    worker_moves z s words views place v (answered v) state (answered_word z (get_or words 0 0) i) sh at refl
     (ap (λ n. f.put n (f.answer i)) sh.board.phase ∙ sym (serving.answers i phase old.there here))
     fits
     refl
@@ -239,9 +230,9 @@ pub acknowledges : (z : Opening) (words : List ℕ) (views : List View) (place :
     → get_elem? views place ≡ some (Worker v)
     → RunsJoined v.state
     → SawEnding v.last
-    → IsStep z (Acknowledge v.worker) Done (Worker v) (Worker (answered_view v))
+    → IsStep z (Acknowledge v.worker) Done (Worker v) (Worker (answered v))
     × ShowsSome z (set words 0 (answered_word z (get_or words 0 0) v.worker))
-    (set views place (Worker (answered_view v)))
+    (set views place (Worker (answered v)))
 acknowledges z words views place v some_state at joined saw =
     let s = some_state.state in
     let sh = some_state.shows in
@@ -275,12 +266,12 @@ acknowledges z words views place v some_state at joined saw =
         shows = after_it;
         tallied =
             tallied_on z.limits s (moved s v.worker (Answered s.phase)) views place (Worker v)
-            (Worker (answered_view v))
+            (Worker (answered v))
             (λ _. refl) at (λ _. refl) some_state.tallied;
         steps = some_state.steps;
         order = other_step_keeps_order z s (moved s v.worker (Answered s.phase)) views some_state.steps place
-            (Worker v) (Worker (answered_view v)) at
-            (same_worker v (answered_view v) refl refl) (omega arith) (λ _. refl) some_state.order;
+            (Worker v) (Worker (answered v)) at
+            (same_worker v (answered v) refl refl) (omega arith) (λ _. refl) some_state.order;
       },
     )
 
@@ -290,9 +281,9 @@ pub reports : (z : Opening) (words : List ℕ) (views : List View) (place : ℕ)
     → get_elem? views place ≡ some (Worker v)
     → RunsSplit v.state
     → SawEnding v.last
-    → IsStep z (Report v.worker) Done (Worker v) (Worker (answered_view v))
+    → IsStep z (Report v.worker) Done (Worker v) (Worker (answered v))
     × ShowsSome z (set words 0 (answered_word z (get_or words 0 0) v.worker))
-    (set views place (Worker (answered_view v)))
+    (set views place (Worker (answered v)))
 reports z words views place v some_state at split saw =
     let s = some_state.state in
     let sh = some_state.shows in
@@ -331,12 +322,12 @@ reports z words views place v some_state at split saw =
         shows = after_it;
         tallied =
             tallied_on z.limits s (moved s v.worker (Answered s.phase)) views place (Worker v)
-            (Worker (answered_view v))
+            (Worker (answered v))
             (λ _. refl) at (λ _. refl) some_state.tallied;
         steps = some_state.steps;
         order = other_step_keeps_order z s (moved s v.worker (Answered s.phase)) views some_state.steps place
-            (Worker v) (Worker (answered_view v)) at
-            (same_worker v (answered_view v) refl refl) (omega arith) (λ _. refl) some_state.order;
+            (Worker v) (Worker (answered v)) at
+            (same_worker v (answered v) refl refl) (omega arith) (λ _. refl) some_state.order;
       },
     )
 
@@ -345,9 +336,9 @@ pub retires : (z : Opening) (words : List ℕ) (views : List View) (place : ℕ)
     → ShowsSome z words views
     → get_elem? views place ≡ some (Worker v)
     → RunsJoined v.state
-    → IsStep z (Retire v.worker) Done (Worker v) (Worker (retired_view v))
+    → IsStep z (Retire v.worker) Done (Worker v) (Worker (retired v))
     × ShowsSome z (set words 0 (retired_word z (get_or words 0 0) v.worker))
-    (set views place (Worker (retired_view v)))
+    (set views place (Worker (retired v)))
 retires z words views place v some_state at joined =
     let s = some_state.state in
     let sh = some_state.shows in
@@ -360,7 +351,7 @@ retires z words views place v some_state at joined =
     let here : s.state i ≡ Runs runs.0 = old.state ∙ runs.1 in
     let present : runs.0 ≡ s.phase = p.runs i runs.0 here in
     let even : IsJoined s.phase = subst IsJoined present runs.2 in
-    let fits : FitsWorker z (moved s i Gone) (retired_view v) =
+    let fits : FitsWorker z (moved s i Gone) (retired v) =
     record {
       opening = old.opening;
       there = old.there;
@@ -377,8 +368,8 @@ retires z words views place v some_state at joined =
     in
     let reaches = moves_by z s (Retire i) some_state.reachable permits in
     let after_it : Shows z (moved s i Gone) (set words 0 (retired_word z (get_or words 0 0) i))
-    (set views place (Worker (retired_view v))) =
-    worker_moves z s words views place v (retired_view v) Gone (retired_word z (get_or words 0 0) i) sh at refl
+    (set views place (Worker (retired v))) =
+    worker_moves z s words views place v (retired v) Gone (retired_word z (get_or words 0 0) i) sh at refl
     (ap (λ n. f.put n (f.retirement i)) sh.board.phase ∙ sym (serving.retires i runs.0 old.there here))
     fits
     refl
@@ -399,13 +390,13 @@ retires z words views place v some_state at joined =
         reachable = reaches;
         shows = after_it;
         tallied =
-            tallied_on z.limits s (moved s i Gone) views place (Worker v) (Worker (retired_view v))
+            tallied_on z.limits s (moved s i Gone) views place (Worker v) (Worker (retired v))
             (λ _. refl) at
             (λ _. refl) some_state.tallied;
         steps = some_state.steps;
         order = other_step_keeps_order z s (moved s i Gone) views some_state.steps place (Worker v)
-            (Worker (retired_view v)) at
-            (same_worker v (retired_view v) refl refl) (omega arith) (λ _. refl) some_state.order;
+            (Worker (retired v)) at
+            (same_worker v (retired v) refl refl) (omega arith) (λ _. refl) some_state.order;
       },
     )
 
@@ -417,8 +408,8 @@ taken_word word taken after new found back new_is is = omega arith
 pub record BackAt (z : Opening) (words : List ℕ) (views : List View) (place : ℕ) (v : WorkerSeatView) (new phase : ℕ)
     : Type 0 where
   pub within : phase ≤ z.limits.last_phase
-  pub step : IsMove z (comes_back v.worker) (Seen (running_sight phase)) (Worker v) (Worker (returned_view v phase))
-  pub shows : ShowsSome z (set words 0 new) (set views place (Worker (returned_view v phase)))
+  pub step : IsMove z (comes_back v.worker) (Seen (running_sight phase)) (Worker v) (Worker (returned v phase))
+  pub shows : ShowsSome z (set words 0 new) (set views place (Worker (returned v phase)))
 
 -- a worker that is gone comes back, where the word is that of a phase that isn't ending
 pub returns : (z : Opening) (words : List ℕ) (views : List View) (place : ℕ) (v : WorkerSeatView) (new : ℕ)
@@ -443,7 +434,7 @@ returns z words views place v new some_state at gone lets even new_is =
     let running : s.ending ≡ false = even_runs f z s serving (ap (λ n. n % 2) (sym sh.board.phase) ∙ even) in
     let may : MayReturn z s i = record { lets = lets; there = old.there; gone = here; running = running } in
     let t : CoreState = after_return s i in
-    let w : WorkerSeatView = returned_view v phase in
+    let w : WorkerSeatView = returned v phase in
     let fits : FitsWorker z t w =
     record {
       opening = old.opening;
@@ -453,7 +444,7 @@ returns z words views place v new some_state at gone lets even new_is =
       ending = λ _ saw. (let clash : false ≡ true = saw in absurd (cc));
       labels = old.labels;
       masks = old.masks;
-      slots = λ _. old.slots (λ split. subst RunsSplit gone split);
+      slots = λ _. refl;
     }
     in
     let shows_after : Shows z t (set words 0 new) (set views place (Worker w)) =
@@ -461,7 +452,7 @@ returns z words views place v new some_state at gone lets even new_is =
     (taken_word (shown_word z s) (f.retirement i) (shown_word z t) new (get_or words 0 0)
     (serving.returns i old.there here) new_is sh.board.phase)
     fits
-    (sh.seats.slots place v at)
+    refl
     (λ none _. let ending = none lets in absurd (cc))
     (λ _ gone_now. absurd (cc))
     in

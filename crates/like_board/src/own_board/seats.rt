@@ -2,9 +2,8 @@
 ghost use Rattle.std.specs.Prelude.{◌≡◌, ◌<◌, ◌≤◌, ◌+◌, ℕ, IfOk, length};
 ghost use Rattle.like_core.specs.declared.view.View.TheVariants.{Worker};
 ghost use Rattle.like_core.specs.OpeningLimits.{most_seats};
-ghost use Rattle.like_core.specs.Post.{IsFresh};
-ghost use Rattle.like_core.specs.views.Views.{fresh};
-ghost use Rattle.like_board.specs.Own.{own_meaning, own_opening, own_place, own_view, own_views, AreNewOwn, Knows};
+ghost use Rattle.like_core.specs.Post.{fresh};
+ghost use Rattle.like_board.specs.Own.{own_opening, own_place, own_view, own_views, AreNewOwn, Knows};
 
 use crate::own_board::OwnBoard;
 use crate::own_board::worker_seat::OwnWorkerSeat;
@@ -19,7 +18,6 @@ fn own_seat(board: &OwnBoard, number: u32, form: Form) -> OwnWorkerSeat
     requires few { number < most_seats form }
     ensures place { own_place result ≡ number + 1 }
     ensures view { own_view result ≡ fresh (own_opening board.now) number }
-    ensures fresh { IsFresh (own_meaning result) }
 {
     OwnWorkerSeat {
         access: board.table.seat(number as usize + 1),

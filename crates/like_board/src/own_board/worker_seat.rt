@@ -32,11 +32,10 @@ pub struct OwnWorkerSeat {
 impl OwnWorkerSeat {
     ghost use Rattle.like_core.specs.declared.worker_state.WorkerState.TheVariants.{Gone};
     ghost use Rattle.like_core.specs.WorkerState.{IsSightOf, RunsJoined, RunsSplit, SawEnding, SeesEndingStill, phase_of, seen};
-    ghost use Rattle.like_core.specs.Post.{MayAdd, MayRead};
+    ghost use Rattle.like_core.specs.Post.{MayAdd, MayRead, looked_at, answered, retired, added, has_read, with_mask};
     ghost use Rattle.like_core.specs.Additions.{added_to};
-    ghost use Rattle.like_core.specs.views.Views.{looked_view, answered_view, retired_view, added_view, read_view, masked_view};
     ghost use Rattle.like_core.specs.views.Actions.{Looks, Acknowledges, Reports, Retires, Adds, Reads, ReadsMask};
-    ghost use Rattle.like_board.specs.Own.{own_meaning, own_place, own_view, own_views, IsPresentCount, Knows, ShowsPhase, Steps};
+    ghost use Rattle.like_board.specs.Own.{own_place, own_view, own_views, IsPresentCount, Knows, ShowsPhase, Steps};
 
     /// Looks at the phase word, and sees what the coordinator's steps before have left.
     #[inline(always)]
@@ -44,7 +43,7 @@ impl OwnWorkerSeat {
         requires here { Knows board.old (own_place self.old) (Worker (own_view self.old)) }
         requires there { (own_view self.old).state ≢ Gone }
         ensures place { own_place self.new ≡ own_place self.old }
-        ensures view { own_view self.new ≡ looked_view (own_view self.old) result }
+        ensures view { own_view self.new ≡ looked_at (own_view self.old) result }
         ensures sight { IsSightOf (own_view self.old).state result }
         ensures within { let v = own_view self.old in
             phase_of (seen v.state result) ≤ v.opening.limits.last_phase }
@@ -63,7 +62,7 @@ impl OwnWorkerSeat {
         requires runs { RunsJoined (own_view self.old).state }
         requires ending { SawEnding (own_view self.old).last }
         ensures place { own_place self.new ≡ own_place self.old }
-        ensures view { own_view self.new ≡ answered_view (own_view self.old) }
+        ensures view { own_view self.new ≡ answered (own_view self.old) }
         ensures event { Acknowledges (own_view self.old) (own_view self.new) }
         ensures board { Steps board.old board.new (own_place self.old) (Worker (own_view self.new)) }
     {
@@ -78,7 +77,7 @@ impl OwnWorkerSeat {
         requires runs { RunsSplit (own_view self.old).state }
         requires ending { SawEnding (own_view self.old).last }
         ensures place { own_place self.new ≡ own_place self.old }
-        ensures view { own_view self.new ≡ answered_view (own_view self.old) }
+        ensures view { own_view self.new ≡ answered (own_view self.old) }
         ensures event { Reports (own_view self.old) (own_view self.new) }
         ensures board { Steps board.old board.new (own_place self.old) (Worker (own_view self.new)) }
     {
@@ -92,7 +91,7 @@ impl OwnWorkerSeat {
         requires here { Knows board.old (own_place self.old) (Worker (own_view self.old)) }
         requires runs { RunsJoined (own_view self.old).state }
         ensures place { own_place self.new ≡ own_place self.old }
-        ensures view { own_view self.new ≡ retired_view (own_view self.old) }
+        ensures view { own_view self.new ≡ retired (own_view self.old) }
         ensures event { Retires (own_view self.old) (own_view self.new) }
         ensures board { Steps board.old board.new (own_place self.old) (Worker (own_view self.new)) }
     {
@@ -104,9 +103,9 @@ impl OwnWorkerSeat {
     #[inline(always)]
     pub fn add(&mut self, board: &mut OwnBoard, page: u32, n: u64) -> u64
         requires here { Knows board.old (own_place self.old) (Worker (own_view self.old)) }
-        requires may { MayAdd (own_meaning self.old) page n }
+        requires may { MayAdd (own_view self.old) page n }
         ensures place { own_place self.new ≡ own_place self.old }
-        ensures view { own_view self.new ≡ added_view (own_view self.old) page result n }
+        ensures view { own_view self.new ≡ added (own_view self.old) page result n }
         ensures own { added_to page (additions_among (own_view self.old).did) ≤ result }
         ensures event { Adds (own_view self.old) page n result (own_view self.new) }
         ensures board { Steps board.old board.new (own_place self.old) (Worker (own_view self.new)) }
@@ -121,9 +120,9 @@ impl OwnWorkerSeat {
     #[inline(always)]
     pub fn read(&mut self, board: &mut OwnBoard, page: u32) -> u64
         requires here { Knows board.old (own_place self.old) (Worker (own_view self.old)) }
-        requires may { MayRead (own_meaning self.old) page }
+        requires may { MayRead (own_view self.old) page }
         ensures place { own_place self.new ≡ own_place self.old }
-        ensures view { own_view self.new ≡ read_view (own_view self.old) page result }
+        ensures view { own_view self.new ≡ has_read (own_view self.old) page result }
         ensures own { added_to page (additions_among (own_view self.old).did) ≤ result }
         ensures event { Reads (own_view self.old) page result (own_view self.new) }
         ensures board { Steps board.old board.new (own_place self.old) (Worker (own_view self.new)) }
@@ -140,7 +139,7 @@ impl OwnWorkerSeat {
         requires runs { RunsSplit (own_view self.old).state }
         requires plain { has_slots (own_view self.old).opening.limits ≡ false }
         ensures place { own_place self.new ≡ own_place self.old }
-        ensures view { own_view self.new ≡ masked_view (own_view self.old) result }
+        ensures view { own_view self.new ≡ with_mask (own_view self.old) result }
         ensures event { ReadsMask (own_view self.old) result (own_view self.new) }
         ensures board { Steps board.old board.new (own_place self.old) (Worker (own_view self.new)) }
     {

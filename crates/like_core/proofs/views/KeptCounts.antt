@@ -8,13 +8,13 @@ use Rattle.like_core.specs.declared.view.View.{View}
 use Rattle.like_core.specs.declared.view.View.TheVariants.{Worker}
 use Rattle.like_core.specs.PageSteps.{additions_among}
 use Rattle.like_core.specs.WorkerState.{phase_of}
-use Rattle.like_core.specs.views.Views.{added_view}
 use Rattle.like_core.specs.views.Reads.{IsCounted}
 use Rattle.like_core.specs.views.Posts.{posts_before, posts_of}
 use Rattle.like_core.proofs.Between.{not_before}
 use Rattle.like_core.proofs.core.Labels.{added_before-push}
 use Rattle.like_core.proofs.views.ViewLists.{sum_set}
 use Rattle.like_core.proofs.views.ViewSums.{before_in, before_posts}
+use Rattle.like_core.specs.Post.{added}
 
 -- a view that has added what the one before it had, in its place
 pub same_before : (views : List View) (place : ℕ) (a b : View)
@@ -30,13 +30,13 @@ same_before views place a b at same k p =
 pub addition_before : (views : List View) (place : ℕ) (v : WorkerSeatView) (page old n k p : ℕ)
     → get_elem? views place ≡ some (Worker v)
     → k ≤ phase_of v.state
-    → posts_before (posts_of (set views place (Worker (added_view v page old n)))) k p ≡ posts_before (posts_of views) k p
+    → posts_before (posts_of (set views place (Worker (added v page old n)))) k p ≡ posts_before (posts_of views) k p
 addition_before views place v page old n k p at past =
     let now : ℕ = phase_of v.state in
     let push = added_before-push (additions_among v.did) now page old n k p in
     let none = not_before now k n (page == p) past in
-    sym (before_posts k p (set views place (Worker (added_view v page old n))))
-    ∙ sum_set (before_in k p) views place (Worker v) (Worker (added_view v page old n)) at (omega arith)
+    sym (before_posts k p (set views place (Worker (added v page old n))))
+    ∙ sum_set (before_in k p) views place (Worker v) (Worker (added v page old n)) at (omega arith)
     ∙ before_posts k p views
 
 -- counts stay those up to their phases, where as much was added before

@@ -13,9 +13,10 @@ use Rattle.like_core.specs.declared.view.View.TheVariants.{Coord, Worker, Spent}
 use Rattle.like_core.specs.PageSteps.{AreInTurn, adds_to, page_step, steps_by}
 use Rattle.like_core.specs.WorkerState.{phase_of}
 use Rattle.like_core.specs.core.State.{CoreState}
-use Rattle.like_core.specs.views.Views.{fresh, gathered_coord, made_coord, post_of, seats_of, stepped_view}
+use Rattle.like_core.specs.views.Views.{gathered_coord, made_coord, seats_of}
 use Rattle.like_core.specs.views.Order.{AppliesTo, HasDone, HasOrder, JoinKeepsOrder, NewSeatKeepsOrder, OtherStepKeepsOrder, PageStepKeepsOrder, SaysSame}
 use Rattle.like_core.proofs.views.ViewLists.{joined_other, kept, replaced, sum_gathered, sum_part, sum_set, sum_two, worker_other}
+use Rattle.like_core.specs.Post.{fresh, stepped}
 
 -- a worker's own step comes behind its others
 pub by_own : (i : ℕ) (s : PageStep) (steps : List PageStep)
@@ -34,8 +35,8 @@ by_other i s steps other =
 -- so what another worker did has its order
 done_other : (s : PageStep) (steps : List PageStep) (v : WorkerSeatView)
     → v.worker ≢ s.worker
-    → HasDone steps (post_of v)
-    → HasDone (s ∷ steps) (post_of v)
+    → HasDone steps v
+    → HasDone (s ∷ steps) v
 done_other s steps v other has = by_other v.worker s steps (λ same. other (sym same)) ∙ has
 
 -- and what a view did that has no seat of the step's worker
@@ -64,14 +65,14 @@ seat_of_own v = cond-true (v.worker == v.worker) 1 0 (eq-eqb v.worker v.worker r
 -- a step at a page keeps the order
 pub page_step_keeps_order : PageStepKeepsOrder
 page_step_keeps_order z s t views steps place v page found call next some_likes applies old =
-    let w : WorkerSeatView = stepped_view v page found call in
+    let w : WorkerSeatView = stepped v page found call in
     let step : PageStep = page_step v.worker (phase_of v.state) page found call in
-    let mine : HasDone steps (post_of v) = old.each place (Worker v) next.mine in
+    let mine : HasDone steps v = old.each place (Worker v) next.mine in
     let phase = applies.phase in
     let present = next.present in
     let finds = next.finds in
     let counted = old.applied page in
-    let own : HasDone (step ∷ steps) (post_of w) =
+    let own : HasDone (step ∷ steps) w =
     by_own v.worker step steps refl ∙ ap (λ (ds : List PageStep). step ∷ ds) mine in
     record {
       in_turn = (
@@ -174,7 +175,7 @@ join_keeps_order z s views steps place other c v at mine old =
   where
     gathered : HasOrder steps (Worker v) → HasOrder steps (Coord c) → HasOrder steps (Coord (gathered_coord c v))
     gathered own back zero w found =
-        subst (λ (x : WorkerSeatView). HasDone steps (post_of x)) (some-injective v w found) own
+        subst (λ (x : WorkerSeatView). HasDone steps x) (some-injective v w found) own
     gathered own back (suc j) w found = back j w found
 
 -- a new seat

@@ -12,9 +12,8 @@ use Rattle.like_core.specs.declared.view.View.{View}
 use Rattle.like_core.specs.declared.view.View.TheVariants.{Coord, Worker, Spent}
 use Rattle.like_core.specs.Additions.{added_to}
 use Rattle.like_core.specs.PageSteps.{additions_among, likes_in, steps_by, stretches_of}
-use Rattle.like_core.specs.Post.{PostView}
 use Rattle.like_core.specs.core.State.{CoreState}
-use Rattle.like_core.specs.views.Views.{post_of, seats_of}
+use Rattle.like_core.specs.views.Views.{seats_of}
 use Rattle.like_core.specs.views.Order.{HasDone, HasOrder, IsOrder}
 use Rattle.like_core.specs.views.Places.{ArePlaced, AreTiles, Counting}
 use Rattle.like_core.specs.views.PostOrder.{IsOrderOf, MomentsAreOrdered, OrderGivesBounds, OrderGivesPast, OrderGivesPlaces, posts_passing}
@@ -26,7 +25,7 @@ use Rattle.like_core.proofs.Between.{own_between, steps_before}
 use Rattle.like_core.proofs.Tiled.{counting_in, own_placed, tiled}
 use Rattle.like_core.proofs.Totals.{added-in, none_later, sum_alike, totals}
 
-module _ (first : ℕ → ℕ) (phase : ℕ) (posts : List PostView) (steps : List PageStep)
+module _ (first : ℕ → ℕ) (phase : ℕ) (posts : List WorkerSeatView) (steps : List PageStep)
     (order : IsOrderOf first phase posts steps) where
   -- what all posts' additions count is what those of all steps do
   all_posts : (f : Addition → ℕ) → sum_by (λ v. sum_by f (additions_among v.did)) posts ≡ sum_by f (additions_among steps)
@@ -51,7 +50,7 @@ order_gives_past first phase later page posts steps order past =
 
 pub order_gives_bounds : OrderGivesBounds
 order_gives_bounds counts phase posts steps order k d below =
-    let v : PostView = get_or posts k d in
+    let v : WorkerSeatView = get_or posts k d in
     let same : steps_before steps ≡ posts_before posts =
     λ i j page. sym (before_is (slice_index counts) phase posts steps order j page) i in
     λ later s earlier is.
@@ -69,14 +68,14 @@ order_gives_places first phase posts steps order =
       tiles = subst (λ f. AreTiles first f (posts_passing posts)) last
           (subst (λ (c : Counting). AreTiles first (λ page. first page + likes_in page steps) c) same all.tiles);
       each = λ k d below.
-          let v : PostView = get_or posts k d in
+          let v : WorkerSeatView = get_or posts k d in
           subst (λ (c : Counting). ArePlaced first c (stretches_of v.did)) same
           (subst (λ ds. ArePlaced first (counting_in (additions_among steps)) (stretches_of ds))
           (order.each k d below) (own_placed first phase v.worker steps order.in_turn));
     }
 
 -- what is true at each place of a list is true of all that it has
-all_at : (P : WorkerSeatView → Type 0) (vs : List WorkerSeatView)
+pub all_at : (P : WorkerSeatView → Type 0) (vs : List WorkerSeatView)
     → ((place : ℕ) (v : WorkerSeatView) → get_elem? vs place ≡ some v → P v)
     → All P vs
 all_at P [] has = All-nil P
@@ -85,10 +84,10 @@ all_at P (v ∷ vs) has = All-cons P v vs (has 0 v refl) (all_at P vs (λ place 
 -- what is true of all seats that each view tells is true of all that views tell
 all_told : (P : WorkerSeatView → Type 0) (views : List View)
     → ((place : ℕ) (u : View) → get_elem? views place ≡ some u → All P (workers_of u))
-    → All P (flat_map workers_of views)
+    → All P (posts_of views)
 all_told P [] has = All-nil P
 all_told P (u ∷ views) has =
-    All-append P (workers_of u) (flat_map workers_of views) (has 0 u refl)
+    All-append P (workers_of u) (posts_of views) (has 0 u refl)
     (all_told P views (λ place w at. has (suc place) w at))
 
 -- what each view says that it did, its posts do
@@ -96,16 +95,14 @@ done_posts : (steps : List PageStep) (views : List View)
     → ((place : ℕ) (u : View) → get_elem? views place ≡ some u → HasOrder steps u)
     → All (HasDone steps) (posts_of views)
 done_posts steps views each =
-    All-map (HasDone steps) post_of (flat_map workers_of views)
-    (all_told (λ v. HasDone steps (post_of v)) views (λ place u at. one u (each place u at))) where
-      one : (u : View) → HasOrder steps u → All (λ v. HasDone steps (post_of v)) (workers_of u)
-      one (Coord c) has = all_at (λ v. HasDone steps (post_of v)) c.joined has
-      one (Worker v) has =
-          All-cons (λ w. HasDone steps (post_of w)) v [] has (All-nil (λ w. HasDone steps (post_of w)))
-      one Spent has = All-nil (λ w. HasDone steps (post_of w))
+    all_told (HasDone steps) views (λ place u at. one u (each place u at)) where
+      one : (u : View) → HasOrder steps u → All (HasDone steps) (workers_of u)
+      one (Coord c) has = all_at (HasDone steps) c.joined has
+      one (Worker v) has = All-cons (HasDone steps) v [] has (All-nil (HasDone steps))
+      one Spent has = All-nil (HasDone steps)
 
 -- at a moment, what each worker's seat knows is true, also of those that were given back
-pub all_fit : (z : Opening) (m : Moment z) → All (FitsWorker z m.shown.state) (flat_map workers_of m.views)
+pub all_fit : (z : Opening) (m : Moment z) → All (FitsWorker z m.shown.state) (posts_of m.views)
 all_fit z m =
     all_told (FitsWorker z m.shown.state) m.views (λ place u at. one u (m.shown.shows.seats.each place u at)) where
       one : (u : View) → Fits z m.shown.state u → All (FitsWorker z m.shown.state) (workers_of u)

@@ -1,15 +1,26 @@
 -- Sums over views, each with what one view adds to it; they are those over all posts.
-use Rattle.std.proofs.Common.{◌≡◌, ℕ, ◌==◌, cond, List, [], ◌∷◌, map, count_by, ◌∙◌, refl, arith}
-use Rattle.std.specs.List.{flat_map, sum_by}
+use Rattle.std.proofs.Common.{◌≡◌, ℕ, ◌≤◌, ◌==◌, Bool, true, false, cond, List, [], ◌∷◌, count_by, refl, arith}
+use Rattle.std.specs.List.{sum_by}
 use Rattle.std.proofs.lemmas.List.Sums.{sum_by-append, sum_by-cons}
 use Rattle.like_core.specs.declared.view.WorkerSeatView.{WorkerSeatView}
 use Rattle.like_core.specs.declared.view.View.{View}
 use Rattle.like_core.specs.declared.view.View.TheVariants.{Coord, Worker, Spent}
-use Rattle.like_core.specs.Additions.{added_before, added_to}
+use Rattle.like_core.specs.declared.view.Addition.{Addition}
+use Rattle.like_core.specs.Additions.{added_before, added_to, all_added}
 use Rattle.like_core.specs.PageSteps.{additions_among}
-use Rattle.like_core.specs.Post.{PostView}
 use Rattle.like_core.specs.views.Posts.{posts_added, posts_before, posts_of, workers_of}
-use Rattle.like_core.specs.views.Views.{post_of, seats_of}
+use Rattle.like_core.specs.views.Views.{seats_of}
+use Rattle.like_core.proofs.views.ViewLists.{sum_mono}
+
+-- no page has more than all additions together
+pub added_to-le : (additions : List Addition) (page : ℕ) → added_to page additions ≤ all_added additions
+added_to-le additions page =
+    sum_mono (λ (a : Addition). cond (a.page == page) a.likes 0) (λ (a : Addition). a.likes) additions
+    (λ a. some_or_none (a.page == page) a.likes)
+  where
+    some_or_none : (b : Bool) (n : ℕ) → cond b n 0 ≤ n
+    some_or_none true n = omega arith
+    some_or_none false n = omega arith
 
 -- how much a view has added to a page: the coordinator's has what the seats that were given back to it added
 abbrev pub paged : ℕ → View → ℕ
@@ -23,27 +34,15 @@ before_in phase page (Coord c) = sum_by (λ v. added_before phase page (addition
 before_in phase page (Worker v) = added_before phase page (additions_among v.did)
 before_in phase page Spent = 0
 
--- a sum over all views is one over all seats that they tell
-module _ (f : View → ℕ) (g : WorkerSeatView → ℕ) (each : (u : View) → f u ≡ sum_by g (workers_of u)) where
-  sum_seats : (views : List View) → sum_by f views ≡ sum_by (λ v. g v) (flat_map workers_of views)
-  sum_seats [] = refl
-  sum_seats (u ∷ views) =
-      let here = each u in
-      let rest = sum_seats views in
-      omega (arith, sum_by-cons f u views, sum_by-append g (workers_of u) (flat_map workers_of views))
-
--- so it is one over their posts
-sum_posts : (f : View → ℕ) (g : PostView → ℕ) (views : List View)
-    → ((u : View) → f u ≡ sum_by (λ v. g (post_of v)) (workers_of u))
+-- a sum over all views is one over all posts that they tell
+sum_posts : (f : View → ℕ) (g : WorkerSeatView → ℕ) (views : List View)
+    → ((u : View) → f u ≡ sum_by g (workers_of u))
     → sum_by f views ≡ sum_by g (posts_of views)
-sum_posts f g views each =
-    sum_seats f (λ v. g (post_of v)) each views ∙ mapped (flat_map workers_of views)
-  where
-    mapped : (vs : List WorkerSeatView) → sum_by (λ v. g (post_of v)) vs ≡ sum_by g (map post_of vs)
-    mapped [] = refl
-    mapped (v ∷ vs) =
-        let rest = mapped vs in
-        omega (arith, sum_by-cons (λ w. g (post_of w)) v vs, sum_by-cons g (post_of v) (map post_of vs))
+sum_posts f g [] each = refl
+sum_posts f g (u ∷ views) each =
+    let here = each u in
+    let rest = sum_posts f g views each in
+    omega (arith, sum_by-cons f u views, sum_by-append g (workers_of u) (posts_of views))
 
 -- how many seats of a worker a view has is how many of its posts are
 pub seats_posts : (i : ℕ) (views : List View)

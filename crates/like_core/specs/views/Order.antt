@@ -11,20 +11,20 @@ use Rattle.like_core.specs.declared.view.CoordSeatView.{CoordSeatView}
 use Rattle.like_core.specs.declared.view.View.{View}
 use Rattle.like_core.specs.declared.view.View.TheVariants.{Coord, Worker, Spent}
 use Rattle.like_core.specs.PageSteps.{AddsSome, AreInTurn, likes_in, likes_of, page_step, steps_by}
-use Rattle.like_core.specs.Post.{PostView}
+use Rattle.like_core.specs.Post.{fresh, stepped}
 use Rattle.like_core.specs.WorkerState.{phase_of}
 use Rattle.like_core.specs.core.State.{CoreState}
-use Rattle.like_core.specs.views.Views.{fresh, gathered_coord, made_coord, post_of, seats_of, stepped_view}
+use Rattle.like_core.specs.views.Views.{gathered_coord, made_coord, seats_of}
 
 -- all that a worker's post did at pages are that worker's steps, in their order
-abbrev pub HasDone : List PageStep → PostView → Type 0
+abbrev pub HasDone : List PageStep → WorkerSeatView → Type 0
 HasDone steps v = steps_by v.worker steps ≡ v.did
 
 -- that is so of a view; the coordinator's has what the seats that were given back to it did
 abbrev pub HasOrder : List PageStep → View → Type 0
 HasOrder steps (Coord c) =
-    (place : ℕ) (v : WorkerSeatView) → get_elem? c.joined place ≡ some v → HasDone steps (post_of v)
-HasOrder steps (Worker v) = HasDone steps (post_of v)
+    (place : ℕ) (v : WorkerSeatView) → get_elem? c.joined place ≡ some v → HasDone steps v
+HasOrder steps (Worker v) = HasDone steps v
 HasOrder steps Spent = Unit {0}
 
 -- one order of a board, the latest step first
@@ -59,7 +59,7 @@ PageStepKeepsOrder =
     (page found : ℕ) (call : PageCall)
     → ComesNext z s views place v page found → AddsSome call → AppliesTo page (likes_of call) s t
     → IsOrder z s views steps
-    → IsOrder z t (slice_set views place (Worker (stepped_view v page found call)))
+    → IsOrder z t (slice_set views place (Worker (stepped v page found call)))
     (page_step v.worker (phase_of v.state) page found call ∷ steps)
 
 -- a view is of the same workers as another, and says the same of what they did

@@ -4,7 +4,7 @@ use Rattle.std.specs.List.{sum_by}
 use Rattle.like_core.specs.declared.opening.Opening.{Opening}
 use Rattle.like_core.specs.declared.page_step.PageStep.{PageStep}
 use Rattle.like_core.specs.PageSteps.{AreInTurn, additions_among, steps_by, stretches_of}
-use Rattle.like_core.specs.Post.{PostView}
+use Rattle.like_core.specs.declared.view.WorkerSeatView.{WorkerSeatView}
 use Rattle.like_core.specs.views.Posts.{last_count, posts_added, posts_before, posts_of}
 use Rattle.like_core.specs.views.Reads.{HaveBetween}
 use Rattle.like_core.specs.views.Places.{ArePlaced, AreTiles, Counting}
@@ -14,39 +14,39 @@ use Rattle.like_core.specs.views.Shows.{Moment}
 -- one order of all that these posts did at pages, the latest step first: each step found what those before it left,
 -- phases never fall, and none is later than this; what each post did are its worker's steps; no worker has two posts, and
 -- one without a post has no step
-pub record IsOrderOf (first : ℕ → ℕ) (phase : ℕ) (posts : List PostView) (steps : List PageStep) : Type 0 where
+pub record IsOrderOf (first : ℕ → ℕ) (phase : ℕ) (posts : List WorkerSeatView) (steps : List PageStep) : Type 0 where
   pub in_turn : AreInTurn first phase steps
   pub each : All (HasDone steps) posts
   pub once : (i : ℕ) → count_by (λ v. v.worker == i) posts ≤ 1
   pub others : (i : ℕ) → count_by (λ v. v.worker == i) posts ≡ 0 → steps_by i steps ≡ []
 
 -- how many additions of posts pass a test
-abbrev pub posts_passing : List PostView → Counting
+abbrev pub posts_passing : List WorkerSeatView → Counting
 posts_passing posts test = sum_by (λ v. count_by test (additions_among v.did)) posts
 
 -- the stretches of all additions of posts tile each page's counts, from the first to the last, and the calls of each post
 -- have their places
-pub record HavePlaces (first : ℕ → ℕ) (posts : List PostView) : Type 0 where
+pub record HavePlaces (first : ℕ → ℕ) (posts : List WorkerSeatView) : Type 0 where
   pub tiles : AreTiles first (last_count first posts) (posts_passing posts)
   pub each : All (λ v. ArePlaced first (posts_passing posts) (stretches_of v.did)) posts
 
 -- the law of bounds: each step lies between what all have added
 abbrev pub OrderGivesBounds : Type 0
 OrderGivesBounds =
-    (counts : List ℕ) (phase : ℕ) (posts : List PostView) (steps : List PageStep)
+    (counts : List ℕ) (phase : ℕ) (posts : List WorkerSeatView) (steps : List PageStep)
     → IsOrderOf (slice_index counts) phase posts steps
     → All (HaveBetween counts (posts_before posts) phase) posts
 
 -- the law of places: stretches tile, and calls have their places
 abbrev pub OrderGivesPlaces : Type 0
 OrderGivesPlaces =
-    (first : ℕ → ℕ) (phase : ℕ) (posts : List PostView) (steps : List PageStep)
+    (first : ℕ → ℕ) (phase : ℕ) (posts : List WorkerSeatView) (steps : List PageStep)
     → IsOrderOf first phase posts steps → HavePlaces first posts
 
 -- nothing was added in a later phase
 abbrev pub OrderGivesPast : Type 0
 OrderGivesPast =
-    (first : ℕ → ℕ) (phase later page : ℕ) (posts : List PostView) (steps : List PageStep)
+    (first : ℕ → ℕ) (phase later page : ℕ) (posts : List WorkerSeatView) (steps : List PageStep)
     → IsOrderOf first phase posts steps → phase < later
     → posts_before posts later page ≡ posts_added posts page
 

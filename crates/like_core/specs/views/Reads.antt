@@ -3,8 +3,8 @@ use Rattle.std.specs.Prelude.{◌≡◌, ℕ, ◌+◌, ◌≤◌, List, ◌∷�
 use Rattle.like_core.specs.declared.page_step.PageStep.{PageStep}
 use Rattle.like_core.specs.declared.view.PageCount.{PageCount}
 use Rattle.like_core.specs.Additions.{added_in}
-use Rattle.like_core.specs.Post.{PostView}
 use Rattle.like_core.specs.PageSteps.{additions_among, likes_of}
+use Rattle.like_core.specs.declared.view.WorkerSeatView.{WorkerSeatView}
 
 -- a worker's step lies between what was added: `before` tells how much all have added to a page before a phase, `later`
 -- are the worker's steps after this one, and `earlier` those before it
@@ -18,7 +18,7 @@ pub record IsBetween (counts : List ℕ) (before : ℕ → ℕ → ℕ) (later :
       ≤ slice_index counts s.page + before (s.phase + 1) s.page
 
 -- each step of a post does so, and none is of a later phase than this
-abbrev pub HaveBetween : List ℕ → (ℕ → ℕ → ℕ) → ℕ → PostView → Type 0
+abbrev pub HaveBetween : List ℕ → (ℕ → ℕ → ℕ) → ℕ → WorkerSeatView → Type 0
 HaveBetween counts before phase v =
     (later : List PageStep) (s : PageStep) (earlier : List PageStep) → v.did ≡ later ++ s ∷ earlier
     → (s.phase ≤ phase) × IsBetween counts before later s earlier

@@ -12,7 +12,6 @@ use Rattle.like_core.specs.Slots.{IsChoice, IsInSlot}
 use Rattle.like_core.specs.WorkerState.{IsRunning}
 use Rattle.like_core.specs.Post.{KnowsSlices, slices}
 use Rattle.like_core.specs.core.State.{is_split_now}
-use Rattle.like_core.specs.views.Views.{post_of}
 use Rattle.like_core.specs.views.Layout.{mask_place, slot_in}
 use Rattle.like_core.specs.views.Shows.{Moment}
 
@@ -32,5 +31,5 @@ SlotsAreExact =
 abbrev pub SlicesAreSplit : Type 0
 SlicesAreSplit =
     (z : Opening) (m : Moment z) (place : ℕ) (v : WorkerSeatView) (page : ℕ)
-    → get_elem? m.views place ≡ some (Worker v) → IsRunning v.state → KnowsSlices (post_of v) page
-    → slices (post_of v) page ≡ is_split_now z m.shown.state page
+    → get_elem? m.views place ≡ some (Worker v) → IsRunning v.state → KnowsSlices v page
+    → slices v page ≡ is_split_now z m.shown.state page

@@ -1,4 +1,4 @@
--- The views of seats: how they begin, and what each step makes of them.
+-- The coordinator's view: how it begins, and what each step makes of it; and the likes that a worker's additions merge.
 use Rattle.std.specs.Prelude.{◌≡◌, ℕ, ◌+◌, ◌==◌, ◌<◌, ◌≤◌, Bool, true, false, not, ◌&&◌, ◌||◌, ◌%◌, ◌^◌, if◌then◌else◌, List, [], ◌∷◌, ◌++◌, length, take, replicate, slice_index, slice_set, count_by, Option, Some, None, IsSome, IsSomeAnd}
 use Rattle.std.specs.Option.{unwrap_or}
 use Rattle.like_core.specs.declared.worker_state.WorkerState.TheVariants.{Runs, Answered, Gone}
@@ -21,20 +21,7 @@ use Rattle.like_core.specs.OpeningLimits.{has_slots}
 use Rattle.like_core.specs.Slots.{IsChoice, mask_of_slots}
 use Rattle.like_core.specs.word.Forms.{form_of}
 use Rattle.like_core.specs.WorkerState.{RunsSplit, phase_of, running_sight, seen}
-use Rattle.like_core.specs.Post.{PostView, slices}
-
--- a worker's view before its seat made a step: it runs phase 0, and did nothing yet
-abbrev pub fresh : Opening → ℕ → WorkerSeatView
-fresh z worker = record {
-  opening = z;
-  worker = worker;
-  state = Runs 0;
-  last = None;
-  looks = [];
-  did = [];
-  masks = [];
-  slots = [];
-}
+use Rattle.like_core.specs.Post.{slices}
 
 -- the coordinator's view before its first step, when this is the phase word
 abbrev pub fresh_coord : Opening → ℕ → CoordSeatView
@@ -55,92 +42,13 @@ fresh_coord z word = record {
   joined = [];
 }
 
--- a worker's view after a look
-abbrev pub looked_view : WorkerSeatView → Sight → WorkerSeatView
-looked_view v sight = record v {
-  state = seen v.state sight;
-  last = Some sight;
-  looks = v.looks ++ look_after sight v.did ∷ [];
-}
-
--- a worker's view after an acknowledgement or a report
-abbrev pub answered_view : WorkerSeatView → WorkerSeatView
-answered_view v = record v { state = Answered (phase_of v.state); slots = [] }
-
--- a worker's view after it retired
-abbrev pub retired_view : WorkerSeatView → WorkerSeatView
-retired_view v = record v { state = Gone; slots = [] }
-
--- a worker's view after it came back and runs this phase, which its exchange of the word told like a look
-abbrev pub returned_view : WorkerSeatView → ℕ → WorkerSeatView
-returned_view v phase = record v {
-  state = Runs phase;
-  last = Some (running_sight phase);
-  looks = v.looks ++ look_after (running_sight phase) v.did ∷ [];
-}
-
--- a worker's view after it did this at a page, whose count was `found` before
-abbrev pub stepped_view : WorkerSeatView → ℕ → ℕ → PageCall → WorkerSeatView
-stepped_view v page found call = record v { did = page_step v.worker (phase_of v.state) page found call ∷ v.did }
-
--- after it added n to the count, read it, or glanced at it
-abbrev pub added_view : WorkerSeatView → ℕ → ℕ → ℕ → WorkerSeatView
-added_view v page old n = stepped_view v page old (Add n)
-
-abbrev pub read_view : WorkerSeatView → ℕ → ℕ → WorkerSeatView
-read_view v page count = stepped_view v page count Read
-
-abbrev pub glanced_view : WorkerSeatView → ℕ → ℕ → WorkerSeatView
-glanced_view v page count = stepped_view v page count Glance
-
--- a worker's view after it read the mask of its phase's hot pages, which was this
-abbrev pub masked_view : WorkerSeatView → ℕ → WorkerSeatView
-masked_view v mask =
-    record v { masks = record { phase = phase_of v.state; mask = mask } ∷ v.masks }
-
--- a worker's view after it read a slot, which holds this page: it begins anew with slot 0
-abbrev pub slotted_view : WorkerSeatView → ℕ → ℕ → WorkerSeatView
-slotted_view v slot page = record v { slots = take slot v.slots ++ page ∷ [] }
-
--- the mask of the pages in the slots that it read, where this word says which are in use
-abbrev pub slots_read : WorkerSeatView → ℕ → ℕ
-slots_read v bits = mask_of_slots (slice_index v.slots) bits hot_pages
-
--- a worker may read a slot: it runs a split phase of a service, and has read those before it
-pub record MayReadSlot (v : WorkerSeatView) (slot : ℕ) : Type 0 where
-  pub split : RunsSplit v.state
-  pub slotted : has_slots v.opening.limits ≡ true
-  pub there : slot < hot_pages
-  pub next : slot ≤ length v.slots
-
--- it may read which of them are in use: it has read all
-pub record MayReadSlots (v : WorkerSeatView) : Type 0 where
-  pub split : RunsSplit v.state
-  pub slotted : has_slots v.opening.limits ≡ true
-  pub all : length v.slots ≡ hot_pages
-
--- what a worker's view means as a post, the board aside
-abbrev pub post_of : WorkerSeatView → PostView
-post_of v = record {
-  board = [];
-  worker = v.worker;
-  marks = v.opening.marks;
-  limits = v.opening.limits;
-  factor = v.opening.factor;
-  state = v.state;
-  last = v.last;
-  looks = v.looks;
-  did = v.did;
-  masks = v.masks;
-}
-
 -- the likes that an addition of n to a page merges: none if the page is not sliced, when the addition is itself a like
 abbrev pub likes_merged : WorkerSeatView → ℕ → ℕ → List Event
-likes_merged v page n = (if slices (post_of v) page then replicate n (Like v.worker page) else [])
+likes_merged v page n = (if slices v page then replicate n (Like v.worker page) else [])
 
 -- the event of an addition to a page, after the likes that it merges
 abbrev pub adding : WorkerSeatView → ℕ → Event
-adding v page = (if slices (post_of v) page then Merge v.worker page else Like v.worker page)
+adding v page = (if slices v page then Merge v.worker page else Like v.worker page)
 
 -- whether a sight shows all in, and none may come back before the release: none ever does in a run, nor at an ending in
 -- a service

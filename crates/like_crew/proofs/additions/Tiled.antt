@@ -15,13 +15,13 @@ use Rattle.like_core.specs.views.Reads.{HaveBetween}
 use Rattle.like_core.specs.views.Places.{ArePlaced, AreTiles, Counting, covers}
 use Rattle.like_core.specs.views.PostOrder.{HavePlaces, posts_passing}
 use Rattle.like_core.specs.views.Posts.{posts_before}
-use Rattle.like_core.specs.Post.{PostView}
 use Rattle.like_core.specs.PageSteps.{additions_among, earliest_first, likes_of, stretch_of, stretches_of}
 use Rattle.like_core.proofs.Steps.{all_split}
 use Rattle.std.proofs.lemmas.List.Elements.{All-map}
 use Rattle.like_board.specs.declared.worker_seat.WorkerSeat.{WorkerSeat}
 use Rattle.like_board.specs.Closed.{count_with}
-use Rattle.like_board.specs.Seats.{seat_meaning}
+use Rattle.like_board.specs.Seats.{seat_view}
+use Rattle.like_core.specs.declared.view.WorkerSeatView.{WorkerSeatView}
 use Rattle.like_promises.specs.declared.log.Ran.{Ran}
 use Rattle.like_promises.specs.declared.log.WorkerLog.{WorkerLog}
 use Rattle.like_promises.specs.places.Adds.{AddsItsLikes, addition_of}
@@ -67,7 +67,7 @@ pub record HasNoted (setup : Setup) (plans : List (List Request)) (notes : Bool)
 
 -- steps that lie between what all seats have added lie so between the likes of the run lists
 stand-noted : (workload : Workload) (runs : List (List Ran)) (counts : List ℕ) (before : ℕ → ℕ → ℕ) (last : ℕ)
-    (post : PostView)
+    (post : WorkerSeatView)
     → ((page : ℕ) → get_or counts page 0 ≡ initial_count workload.pages page)
     → ((phase page : ℕ) → before phase page ≡ likes_below workload page runs phase)
     → HaveBetween counts before last post
@@ -136,10 +136,10 @@ module _ (setup : Setup) (plans : List (List Request)) (notes : Bool) (e : Outco
   passing-same : (test : Addition → Bool)
       → posts_passing (posts setup plans notes e h) test ≡ count_by test (all_noted e.logs.items)
   passing-same test =
-      sum-of-map (λ (p : PostView). count_by test (additions_among p.did)) seat_meaning h.seats
+      sum-of-map (λ (p : WorkerSeatView). count_by test (additions_among p.did)) seat_view h.seats
       ∙ sym (pairs-sum IsSeatLike (λ (s : ServerView). count_by test (additions_among s.worker.post.did))
-      (λ (seat : WorkerSeat). count_by test (additions_among (seat_meaning seat).did)) h.servers h.seats
-      (λ s seat m. ap (λ (p : PostView). count_by test (additions_among p.did)) (sym m)) h.seats_are)
+      (λ (seat : WorkerSeat). count_by test (additions_among (seat_view seat).did)) h.servers h.seats
+      (λ s seat m. ap (λ (p : WorkerSeatView). count_by test (additions_among p.did)) (sym m)) h.seats_are)
       ∙ pairs-sum (λ (s : ServerView) (log : WorkerLog). (additions_among s.worker.post.did) ≡ additions_noted log)
       (λ (s : ServerView). count_by test (additions_among s.worker.post.did))
       (λ (log : WorkerLog). count_by test (additions_noted log)) h.servers e.logs.items

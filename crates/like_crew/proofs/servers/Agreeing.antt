@@ -84,7 +84,7 @@ serves-turn workload v w inboxes opened k follows h =
 -- what was taken from the inbox at a place, in the worker's own words
 record Changes (v w : WorkerView) (place left : ℕ) (ended : Bool) : Type 0 where
   pub share : w.last.share ≡ v.last.share
-  pub marks : w.post.marks ≡ v.post.marks
+  pub marks : w.post.opening.marks ≡ v.post.opening.marks
   pub left_is : w.left ≡ set v.left place left
   pub ended_is : w.ended ≡ set v.ended place ended
 

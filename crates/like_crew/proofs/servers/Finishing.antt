@@ -9,7 +9,7 @@ use Rattle.like_requests.specs.Pages.{Page, marks_of}
 use Rattle.like_requests.specs.Setup.{IsPlan, IsThere}
 use Rattle.like_requests.specs.declared.request.Request.{Request}
 use Rattle.like_requests.specs.declared.setup.Setup.{Setup}
-use Rattle.like_core.specs.Post.{PostView}
+use Rattle.like_core.specs.declared.view.WorkerSeatView.{WorkerSeatView}
 use Rattle.like_tables.specs.UserTable.{UserTable}
 use Rattle.like_tables.specs.Share.{share_of, Share, place_of, serves}
 use Rattle.like_promises.specs.declared.log.Took.{Took}
@@ -115,16 +115,16 @@ there-too pages marks e r =
     (sym (ap (λ (xs : List Bool). length xs) e ∙ length-map pages (λ (p : Page). p.split)))
 
 -- a worker that has done nothing yet agrees with untouched inboxes
-pub agree-new : (s : Setup) (sizes : List ℕ) (number : ℕ) (post : PostView) (notes : Bool) (v : WorkerView)
+pub agree-new : (s : Setup) (sizes : List ℕ) (number : ℕ) (board : List ℕ) (post : WorkerSeatView) (notes : Bool) (v : WorkerView)
     (inboxes : List InboxView)
     → number < s.workers
     → IsPostOf number s.pages post
     → AreInboxesFor s sizes number inboxes
-    → IsNew s sizes number post notes v → Agree v inboxes
-agree-new s sizes number post notes v inboxes is_worker fresh i new =
+    → IsNew s sizes number board post notes v → Agree v inboxes
+agree-new s sizes number board post notes v inboxes is_worker fresh i new =
     let share : v.last.share ≡ share_of s.users (length sizes) s.workers number =
     ap (λ (x : UserTable). x.share) new.last in
-    let marks : v.post.marks ≡ marks_of s.pages = ap (λ (x : PostView). x.marks) new.at_post ∙ fresh.marks in
+    let marks : v.post.opening.marks ≡ marks_of s.pages = ap (λ (x : WorkerSeatView). x.opening.marks) new.at_post ∙ fresh.opening.marks in
     let sizes_are : v.left ≡ map length (plans_of inboxes) = new.left ∙ sym i.sized in
     let lefts : length v.left ≡ length inboxes =
     ap (λ (xs : List ℕ). length xs) sizes_are ∙ length-map (plans_of inboxes) length
@@ -154,16 +154,16 @@ agree-new s sizes number post notes v inboxes is_worker fresh i new =
             ended = ap (λ xs. get_or xs place true) new.ended
                 ∙ get_or-replicate (length v.left) place false true (omega (arith, within, lefts))
                 ∙ sym (le-ltb (length j.plan) j.taken (omega (arith, none)));
-            there = λ k d h. there-too s.pages v.post.marks marks (get_or j.plan k d) (plan.there k d h);
+            there = λ k d h. there-too s.pages v.post.opening.marks marks (get_or j.plan k d) (plan.there k d h);
           };
       taken = λ submitter. ap (numbers_taken submitter) new.taken
           ∙ sym (by_test s inboxes i.untouched v.last.share submitter (serves v.last.share submitter));
       rising = λ a b d before within. absurd (omega (arith, within, ap (λ (xs : List Took). length xs) new.taken));
       above = subst (λ l. NoneAbove l v.taken)
-          (sym (ap (λ (x : PostView). x.last) new.at_post ∙ fresh.fresh.never_looked)) new.taken;
+          (sym (ap (λ (x : WorkerSeatView). x.last) new.at_post ∙ ap (λ (x : WorkerSeatView). x.last) fresh.fresh)) new.taken;
       unnoted = λ _. new.adds;
       present = λ _. subst (λ l. IfSome l (λ sight. sight.number ≡ phase_at v))
-          (sym (ap (λ (x : PostView). x.last) new.at_post ∙ fresh.fresh.never_looked)) tt;
+          (sym (ap (λ (x : WorkerSeatView). x.last) new.at_post ∙ ap (λ (x : WorkerSeatView). x.last) fresh.fresh)) tt;
     } where
       by_test : (s : Setup) (inboxes : List InboxView) → All (λ i. i.taken ≡ 0) inboxes
           → (share : Share) (submitter : ℕ) (b : Bool)

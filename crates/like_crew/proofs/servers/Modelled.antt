@@ -14,8 +14,9 @@ use Rattle.like_core.specs.declared.worker_state.WorkerState.{WorkerState}
 use Rattle.like_core.specs.declared.worker_state.WorkerState.TheVariants as state
 use Rattle.like_core.specs.Phase.{is_hot_by, is_marked}
 use Rattle.like_core.specs.PhaseMasks.{mask_of}
-use Rattle.like_core.specs.Post.{PostView, answered, slices}
+use Rattle.like_core.specs.Post.{answered, slices}
 use Rattle.like_core.specs.WorkerState.{IsSightOf, RunsJoined, RunsSplit, looked, phase_of, seen}
+use Rattle.like_core.specs.declared.view.WorkerSeatView.{WorkerSeatView}
 use Rattle.like_tables.specs.declared.held.Held.{Held}
 use Rattle.like_promises.specs.Looks.{page_looked_at}
 use Rattle.like_queue.specs.Inbox.{HandsOver, InboxView, item_count}
@@ -110,10 +111,10 @@ even-phase (state.Runs k) j = j
 even-phase (state.Answered k) j = absurd j
 even-phase state.Gone j = absurd j
 
-joined-plain : (post : PostView) (page : ℕ) → RunsJoined post.state → slices post page ≡ false
+joined-plain : (post : WorkerSeatView) (page : ℕ) → RunsJoined post.state → slices post page ≡ false
 joined-plain post page j =
-    ap (λ n. (n == 1) && (is_marked post.marks page
-    || is_hot_by post.limits.hot (mask_of post.masks (phase_of post.state)) page)) (even-phase post.state j)
+    ap (λ n. (n == 1) && (is_marked post.opening.marks page
+    || is_hot_by post.opening.limits.hot (mask_of post.masks (phase_of post.state)) page)) (even-phase post.state j)
 
 joined-prompt : (v : WorkerView) (submitter : ℕ) (r : Request)
     → RunsJoined v.post.state
@@ -127,8 +128,8 @@ joined-prompt v submitter r j =
 
 -- a worker knows whether items of its inboxes are left
 record KnowsItems (v : WorkerView) (items : ℕ) : Type 0 where
-  pub none : TookAllEnds v → items ≡ 0
-  pub some : ¬ TookAllEnds v → 0 < items
+  pub none : TookAllEnds v.ended → items ≡ 0
+  pub some : ¬ TookAllEnds v.ended → 0 < items
 
 knows-items : (v : WorkerView) (inboxes : List InboxView) → Agree v inboxes → KnowsItems v (sum_by items_left inboxes)
 knows-items v inboxes a = record {

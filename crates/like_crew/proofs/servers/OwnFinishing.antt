@@ -9,13 +9,13 @@ use Rattle.like_core.specs.declared.view.CoordSeatView.{CoordSeatView}
 use Rattle.like_core.specs.declared.view.View.{View}
 use Rattle.like_core.specs.declared.view.View.TheVariants.{Coord, Worker}
 use Rattle.like_core.specs.declared.worker_state.WorkerState.TheVariants.{Gone}
-use Rattle.like_core.specs.Post.{PostView}
 use Rattle.like_board.specs.declared.own_board.worker_seat.OwnWorkerSeat.{OwnWorkerSeat}
 use Rattle.like_board.specs.declared.worker_seat.WorkerSeat.{WorkerSeat}
 use Rattle.like_board.specs.Own.{own_place, own_view}
 use Rattle.like_board.specs.OwnClosed.{as_shared}
-use Rattle.like_board.specs.Seats.{AreAll, seat_meaning}
+use Rattle.like_board.specs.Seats.{AreAll, seat_view}
 use Rattle.like_board.proofs.InOrder.{all_in_order}
+use Rattle.like_core.specs.declared.view.WorkerSeatView.{WorkerSeatView}
 use Rattle.like_crew.specs.Crew.{AreGone}
 use Rattle.like_crew.specs.OwnCrew.{AreSeated, IsOwnSeatOf, those_in}
 use Rattle.like_crew.specs.OwnServer.{OwnServerView}
@@ -94,7 +94,7 @@ own-all seats workers sized places =
     all_in_order (map as_shared seats) workers (length-map seats as_shared ∙ sized) (λ k seat e.
     let it = mapped-at as_shared seats k seat e in
     let own : OwnWorkerSeat = it.0 in
-    ap (λ (s : WorkerSeat). (seat_meaning s).worker) (sym it.1.1)
+    ap (λ (s : WorkerSeat). (seat_view s).worker) (sym it.1.1)
     ∙ numbered (own_view own).worker own.number (own_place own) k own.numbered own.placed (places k own it.1.0))
   where
     numbered : (worker number place k : ℕ) → number ≡ worker → place ≡ number + 1 → place ≡ k + 1 → worker ≡ k
@@ -107,7 +107,7 @@ pub own-gone : (servers : List ServerView) (seats : List OwnWorkerSeat)
 own-gone servers seats are gone = λ k d within.
     let seat : OwnWorkerSeat = get_or seats k d in
     let s = left-at IsOwnSeatOf servers seats k seat are (slice_get-get_or seats k d within) in
-    ap (λ (p : PostView). p.state) s.1.1
+    ap (λ (p : WorkerSeatView). p.state) s.1.1
     ∙ subst (λ (x : ServerView). x.worker.post.state ≡ Gone) (get_or_from_slice_get servers k s.0 s.0 s.1.0)
     (gone k s.0 (slice_get_within servers k s.0 s.1.0))
 
@@ -118,4 +118,4 @@ own-like [] [] are = tt
 own-like [] (seat ∷ seats) are = absurd are
 own-like (s ∷ servers) [] are = absurd are
 own-like (s ∷ servers) (seat ∷ seats) are =
-    (ap (λ (p : PostView). record p { board = [] }) are.0, own-like servers seats are.1)
+    (are.0, own-like servers seats are.1)

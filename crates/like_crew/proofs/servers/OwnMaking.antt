@@ -9,8 +9,7 @@ use Rattle.like_core.specs.declared.opening.Opening.{Opening}
 use Rattle.like_core.specs.declared.view.View.{View}
 use Rattle.like_core.specs.declared.view.View.TheVariants.{Coord, Worker}
 use Rattle.like_core.specs.declared.view.WorkerSeatView.{WorkerSeatView}
-use Rattle.like_core.specs.Post.{IsFresh}
-use Rattle.like_core.specs.views.Views.{fresh, post_of}
+use Rattle.like_core.specs.Post.{fresh}
 use Rattle.like_board.specs.NewViews.{new_workers}
 use Rattle.like_board.specs.Rule.{opened_coord}
 use Rattle.like_board.proofs.AllSeats.{worker_is, workers_long}
@@ -26,24 +25,19 @@ use Rattle.like_crew.proofs.servers.Owned.{works-at}
 use Rattle.like_crew.proofs.servers.Seated.{each-more, known_by, those-some}
 
 -- the post of a new seat is its worker's
-pub own-post : (setup : Setup) (z : Opening) (k : ℕ) (v : WorkerSeatView) (board : List ℕ)
+pub own-post : (setup : Setup) (z : Opening) (k : ℕ) (v : WorkerSeatView)
     → z ≡ opening_of setup
     → v ≡ fresh z k
-    → IsFresh (post_of v)
-    → IsPostOf k setup.pages (record (post_of v) { board = board })
-own-post setup z k v board opened is new = record {
-  is_his = ap (λ (w : WorkerSeatView). w.worker) is;
-  marks = ap (λ (w : WorkerSeatView). w.opening.marks) is ∙ ap (λ (o : Opening). o.marks) opened;
-  limits = ap (λ (w : WorkerSeatView). w.opening.limits) is ∙ ap (λ (o : Opening). o.limits) opened;
-  factor = ap (λ (w : WorkerSeatView). w.opening.factor) is ∙ ap (λ (o : Opening). o.factor) opened;
-  fresh = record {
-    runs = new.runs;
-    never_looked = new.never_looked;
-    no_looks = new.no_looks;
-    did_nothing = new.did_nothing;
-    no_masks = new.no_masks;
+    → IsPostOf k setup.pages v
+own-post setup z k v opened is = subst (IsPostOf k setup.pages) (sym is) (record {
+  is_his = refl;
+  opening = record {
+    marks = ap (λ (o : Opening). o.marks) opened;
+    limits = ap (λ (o : Opening). o.limits) opened;
+    factor = ap (λ (o : Opening). o.factor) opened;
   };
-}
+  fresh = refl;
+})
 
 -- a server that has given the board back is its worker's
 pub server-off : (workload : Workload) (workers : ℕ) (board : List ℕ) (notes : Bool) (worker : ℕ) (s : ServerView)
@@ -62,20 +56,9 @@ pub new-off : (setup : Setup) (plans : List (List Request)) (notes : Bool) (work
     → IsNewServer setup plans notes worker s
     → IsNewServer setup plans notes worker (server_at s [])
 new-off setup plans notes worker s is = record {
-  post = record {
-    is_his = is.post.is_his;
-    marks = is.post.marks;
-    limits = is.post.limits;
-    factor = is.post.factor;
-    fresh = record {
-      runs = is.post.fresh.runs;
-      never_looked = is.post.fresh.never_looked;
-      no_looks = is.post.fresh.no_looks;
-      did_nothing = is.post.fresh.did_nothing;
-      no_masks = is.post.fresh.no_masks;
-    };
-  };
+  post = is.post;
   new = record {
+    at_board = refl;
     at_post = refl;
     held = is.new.held;
     slice = is.new.slice;

@@ -57,19 +57,19 @@ turns-at answer s t board (tries submitter tried i j took turn at hands none giv
     (Gives-moved tried board took answer t.worker gives) (ap (λ x. server_at x board) is)
 
 -- a server that is at no board
-at-none : (s : ServerView) (board : List ℕ) → s.worker.post.board ≡ [] → server_at (server_at s board) [] ≡ s
+at-none : (s : ServerView) (board : List ℕ) → s.worker.board ≡ [] → server_at (server_at s board) [] ≡ s
 at-none s board none =
-    λ m. record s { worker = record s.worker { post = record s.worker.post { board = sym none m } } }
+    λ m. record s { worker = record s.worker { board = sym none m } }
 
 -- a turn at a board that was lent to it is one of its own
-pub lent-turns : (answer : Turn) (s t : ServerView) (board : List ℕ) → s.worker.post.board ≡ []
+pub lent-turns : (answer : Turn) (s t : ServerView) (board : List ℕ) → s.worker.board ≡ []
     → ServerTurns answer (server_at s board) t
     → ServerTurns answer s (server_at t [])
 lent-turns answer s t board none turn =
     subst (λ x. ServerTurns answer x (server_at t [])) (at-none s board none)
     (turns-at answer (server_at s board) t [] turn)
 
-pub lent-goes_on : (s t : ServerView) (board : List ℕ) → s.worker.post.board ≡ []
+pub lent-goes_on : (s t : ServerView) (board : List ℕ) → s.worker.board ≡ []
     → ServerGoesOn (server_at s board) t
     → ServerGoesOn s (server_at t [])
 lent-goes_on s t board none on = record {
@@ -82,7 +82,7 @@ lent-goes_on s t board none on = record {
 }
 
 -- what it does to open its lists at a board that was lent to it is its own
-pub lent-opens-one : (submitter : ℕ) (s t : ServerView) (board : List ℕ) → s.worker.post.board ≡ []
+pub lent-opens-one : (submitter : ℕ) (s t : ServerView) (board : List ℕ) → s.worker.board ≡ []
     → OpensOne submitter (server_at s board) t
     → OpensOne submitter s (server_at t [])
 lent-opens-one submitter s t board none o = record {
@@ -96,7 +96,7 @@ lent-opens-one submitter s t board none o = record {
       }) (at-none s board none);
 }
 
-pub lent-opens-all : (s t : ServerView) (board : List ℕ) → s.worker.post.board ≡ []
+pub lent-opens-all : (s t : ServerView) (board : List ℕ) → s.worker.board ≡ []
     → OpensAll (server_at s board) t
     → OpensAll s (server_at t [])
 lent-opens-all s t board none o = record {

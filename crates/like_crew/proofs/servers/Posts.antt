@@ -21,11 +21,11 @@ use Rattle.like_crew.specs.ServerTurns.{ServerTurns, tries, tries_none}
 
 -- whose post it is, at which board, what it saw last, and all its looks
 abbrev told : WorkerView → ℕ × List ℕ × Option Sight × List Look
-told v = (v.post.worker, v.post.board, v.post.last, v.post.looks)
+told v = (v.post.worker, v.board, v.post.last, v.post.looks)
 
 -- whose post it is, and at which board
 abbrev pub whose : WorkerView → ℕ × List ℕ
-whose v = (v.post.worker, v.post.board)
+whose v = (v.post.worker, v.board)
 
 liked-told : (v : WorkerView) (user page old : ℕ) → told (liked v user page old) ≡ told v
 liked-told v user page old = by_test (slices v.post page) where

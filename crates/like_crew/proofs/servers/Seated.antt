@@ -14,9 +14,7 @@ use Rattle.like_core.specs.declared.view.View.TheVariants.{Coord, Worker}
 use Rattle.like_core.specs.declared.view.WorkerSeatView.{WorkerSeatView}
 use Rattle.like_core.specs.declared.worker_state.WorkerState.{WorkerState}
 use Rattle.like_core.specs.declared.worker_state.WorkerState.TheVariants.{Gone}
-use Rattle.like_core.specs.Post.{PostView}
 use Rattle.like_core.specs.WorkerState.{IsIn}
-use Rattle.like_core.specs.views.Views.{post_of}
 use Rattle.like_board.specs.Known.{worker_view_of}
 use Rattle.like_board.specs.Led.{BoardView, owned, shared}
 use Rattle.like_board.specs.Own as own
@@ -180,7 +178,7 @@ pub seated-after : (views views_after : List View) (c : CoordSeatView) (slots af
     → after ≡ map Some (set (those_in slots) k t)
     → t.place ≡ s.place
     → views_after ≡ set views s.place (Worker t.seat)
-    → t.as_server.worker.post ≡ post_of t.seat → AreSeated views_after c after
+    → t.as_server.worker.post ≡ t.seat → AreSeated views_after c after
 seated-after views views_after c slots after k s t h at is place views_are post = record {
   all_in = is ∙ ap (map Some) (sym those);
   views_are = views_are ∙ ap (λ p. set views p (Worker t.seat)) ((h.each k s at).place ∙ add-one k)
@@ -231,7 +229,7 @@ module _ (P : WorkerState → Type 0) (views : List View) (c : CoordSeatView) (s
     (h : AreSeated views c slots) where
   state-is : (k : ℕ) (s : OwnServerView) → slice_get (those_in slots) k ≡ Some s
       → s.as_server.worker.post.state ≡ s.seat.state
-  state-is k s at = ap (λ (p : PostView). p.state) (h.each k s at).post
+  state-is k s at = ap (λ (p : WorkerSeatView). p.state) (h.each k s at).post
 
   all-shown : ((place : ℕ) (v : WorkerSeatView) → get_elem? views place ≡ some (Worker v) → P v.state)
       → All (λ s. P s.worker.post.state) (servers_in slots)
@@ -326,7 +324,7 @@ pub are-back : (views after_views : List View) (c : CoordSeatView) (slots : List
     → AreTaken views c slots k s
     → t.place ≡ s.place
     → after_views ≡ set views s.place (Worker t.seat)
-    → t.as_server.worker.post ≡ post_of t.seat
+    → t.as_server.worker.post ≡ t.seat
     → AreBack views after_views c slots (set (set slots k gap) k (Some t)) k s t
 are-back views after_views c slots k gap s t h place views_are post =
     let back = put-back slots k gap t h.seated.all_in in

@@ -59,7 +59,7 @@ impl<P: Post, I: Inbox> Server<P, I> {
         requires post { IsPostOf number setup.now.pages (P.view post) }
         requires inboxes { AreInboxesFor setup.now sizes.now number (map I.view inboxes.items) }
         ensures new { IfOk result (λ server.
-            IsNew setup.now sizes.now number (P.view post) notes server.worker) }
+            IsNew setup.now sizes.now number (P.board post) (P.view post) notes server.worker) }
         ensures inboxes { IfOk result (λ server. server.inboxes ≡ map I.view inboxes.items) }
         ensures opened { IfOk result (λ server. server.opened ≡ map I.opened inboxes.items) }
         ensures works { IfOk result (λ server. (workload : Workload)
@@ -104,7 +104,8 @@ impl<P: Post, I: Inbox> Server<P, I> {
 
     /// Gives the post back, whatever is left to do.
     pub fn leave(self) -> P
-        ensures { P.view result ≡ self.worker.post }
+        ensures board { P.board result ≡ self.worker.board }
+        ensures post { P.view result ≡ self.worker.post }
     {
         self.worker.leave()
     }
@@ -113,6 +114,7 @@ impl<P: Post, I: Inbox> Server<P, I> {
     pub fn finish(self) -> (WorkerLog, P)
         requires { self.worker.post.state ≡ Gone }
         ensures log { IsLogOf self result.0 }
+        ensures board { P.board result.1 ≡ self.worker.board }
         ensures post { P.view result.1 ≡ self.worker.post }
     {
         self.worker.finish()

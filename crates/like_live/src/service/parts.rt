@@ -1,9 +1,8 @@
 //! The parts of a service, as it is opened and closed.
 ghost use Rattle.std.specs.Prelude.{◌≡◌, ◌^◌, ◌≤◌, ◌<◌, ◌↔◌, IfOk, IsTrue, length};
 ghost use Rattle.std.specs.Arc.{arc_value};
-ghost use Rattle.like_board.specs.Seats.{AreFresh, board_id, seat_board, seat_meaning, seat_view};
-ghost use Rattle.like_core.specs.Post.{IsFresh};
-ghost use Rattle.like_core.specs.views.Views.{fresh};
+ghost use Rattle.like_board.specs.Seats.{AreFresh, board_id, seat_board, seat_view};
+ghost use Rattle.like_core.specs.Post.{IsFresh, fresh};
 ghost use Rattle.like_tables.specs.Share.{share_of};
 ghost use Rattle.like_tables.specs.UserTable.{table_with_lasts};
 ghost use Rattle.like_live.specs.Opening.{IsWithinLimits, board_opening};
@@ -102,7 +101,6 @@ fn new_seat(
     requires there { number < opening.now.seats }
     requires here { seat_board worker ≡ board_id (arc_value board.now) }
     requires view { seat_view worker ≡ fresh (board_opening opening.now factor) number }
-    requires fresh { IsFresh (seat_meaning worker) }
     ensures { IfOk result (IsOpenedSeat opening.now factor
         (board_id (arc_value board.now)) number) }
 {

@@ -251,8 +251,8 @@ counted-served : (workload : Workload) (v : WorkerView) (page old : ℕ)
     → IsServed workload v
     → IsServed workload (counted v page old)
 counted-served workload v page old s =
-    let same : (w : WorkerView) → w.last ≡ v.last → w.post.marks ≡ v.post.marks → w.post.masks ≡ v.post.masks
-    → w.held ≡ v.held → w.post.limits ≡ v.post.limits → IsServed workload w = λ w last marks masks held limits. record {
+    let same : (w : WorkerView) → w.last ≡ v.last → w.post.opening.marks ≡ v.post.opening.marks → w.post.masks ≡ v.post.masks
+    → w.held ≡ v.held → w.post.opening.limits ≡ v.post.opening.limits → IsServed workload w = λ w last marks masks held limits. record {
       users = s.users ∙ ap (λ x. x.share.users) (sym last);
       submitters_alike = s.submitters_alike ∙ ap (λ x. x.share.submitters) (sym last);
       marks_alike = s.marks_alike ∙ sym marks;
@@ -319,18 +319,8 @@ unchanged workload v h stashed answer did same_adds served sized t none right st
     let e = ran_now v h stashed answer in
     let same : likes_ran workload (v.ran ++ e ∷ []) ≡ likes_ran workload v.ran =
     likes_ran-push workload v.ran e None none ∙ append-nil _ in (
-      record {
-        users =
-            served.users;
-        submitters_alike =
-            served.submitters_alike;
-        marks_alike =
-            served.marks_alike;
-        hot_alike = served.hot_alike;
-        stash_alike = served.stash_alike;
-        run = served.run;
-      },
-      record { slice = sized.slice; users = sized.users },
+      served,
+      sized,
       record {
         likes = λ page. ap (page_likes page) same ∙ t.likes page
             ∙ ap (λ xs. added_to page xs + get_or v.slice page 0) (sym same_adds);

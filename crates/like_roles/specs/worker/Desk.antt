@@ -20,6 +20,7 @@ use Rattle.like_roles.specs.worker.WorkerView.{WorkerView, has_to_wait}
 -- the worker of a seat and what is kept beside it
 abbrev pub view_of : StationView Held → Desk → WorkerView
 view_of s d = record {
+  board = s.board;
   post = s.post;
   held = s.held;
   slice = s.slice;
@@ -79,7 +80,7 @@ pub record HasRoomToNote (s : StationView Held) (d : Desk) : Type 0 where
 -- what is true of a worker between two calls: its board has the limits of a run, and it has started once its post looked
 pub record IsSound (s : StationView Held) (d : Desk) : Type 0 where
   pub seat : IsStation s
-  pub run : s.post.limits ≡ run_limits
+  pub run : s.post.opening.limits ≡ run_limits
   pub started : d.started ≡ is_some s.post.last
   pub places : HasSubmitters s.last.share d
   pub room : HasRoom s d

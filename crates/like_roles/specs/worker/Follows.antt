@@ -11,11 +11,15 @@ use Rattle.like_core.specs.declared.worker_state.WorkerState.{WorkerState}
 use Rattle.like_core.specs.declared.worker_state.WorkerState.TheVariants.{Runs, Answered, Gone}
 use Rattle.like_core.specs.OpeningLimits.{run_limits}
 use Rattle.like_core.specs.Phase.{IsJoined}
+use Rattle.like_core.specs.declared.opening.Opening.{Opening}
+use Rattle.like_core.specs.declared.view.PhaseMask.{PhaseMask}
+use Rattle.like_core.specs.Additions.{added_in, added_to}
 use Rattle.like_core.specs.PhaseMasks.{AreMasksOf}
 use Rattle.like_core.specs.WorkerState.{IsRunning, RunsJoined}
 use Rattle.like_core.specs.Post.{additions_of, additions_in, pages_of}
 use Rattle.like_core.specs.PageSteps.{additions_among, earliest_first, likes_of, stretches_of}
-use Rattle.like_tables.specs.UserTable.{last_of}
+use Rattle.like_tables.specs.Share.{Share}
+use Rattle.like_tables.specs.UserTable.{UserTable, last_of}
 use Rattle.like_tables.specs.declared.held.Held.{Held}
 use Rattle.like_promises.specs.declared.log.Added.{Added}
 use Rattle.like_promises.specs.declared.log.Ran.{Ran}
@@ -30,38 +34,47 @@ use Rattle.like_serial.specs.StepsTold.{plain_told, steps_ran}
 use Rattle.like_requests.specs.Setup.{IsThere}
 use Rattle.like_roles.specs.worker.WorkerView.{WorkerView, TookAllEnds, phase_at, submitter_at}
 
--- the workload is the one that the worker serves, with as much room for looks that wait; the masks that its post read are
--- the workload's, and its board has the limits of a run
-pub record IsServed (workload : Workload) (v : WorkerView) : Type 0 where
-  pub users : workload.users ≡ v.last.share.users
-  pub submitters_alike : submitters workload ≡ v.last.share.submitters
-  pub marks_alike : marks_of workload.pages ≡ v.post.marks
-  pub hot_alike : AreMasksOf workload.hot v.post.masks
-  pub stash_alike : workload.stash ≡ v.held.capacity
-  pub run : v.post.limits ≡ run_limits
+-- the workload is the one that is served at a board with this opening, by a worker with this share, with as much room for
+-- looks that wait; the masks that its post read are the workload's, and the board has the limits of a run
+pub record AreServed (workload : Workload) (z : Opening) (masks : List PhaseMask) (share : Share) (room : ℕ) : Type 0 where
+  pub users : workload.users ≡ share.users
+  pub submitters_alike : submitters workload ≡ share.submitters
+  pub marks_alike : marks_of workload.pages ≡ z.marks
+  pub hot_alike : AreMasksOf workload.hot masks
+  pub stash_alike : workload.stash ≡ room
+  pub run : z.limits ≡ run_limits
 
--- the worker has a place for each page, and for each user
-pub record IsSized (v : WorkerView) : Type 0 where
-  pub slice : length v.slice ≡ pages_of v.post
-  pub users : length v.last.last ≡ v.last.share.users
+abbrev pub IsServed : Workload → WorkerView → Type 0
+IsServed workload v = AreServed workload v.post.opening v.post.masks v.last.share v.held.capacity
+
+-- the slice has a number for each of so many pages, and the table a last like for each user
+pub record AreSized (pages : ℕ) (slice : List ℕ) (last : UserTable) : Type 0 where
+  pub slice : length slice ≡ pages
+  pub users : length last.last ≡ last.share.users
+
+abbrev pub IsSized : WorkerView → Type 0
+IsSized v = AreSized (pages_of v.post) v.slice v.last
 
 -- each step that adds nothing is at a page that is not split in its phase
 abbrev pub ArePlainReads : Workload → List PageStep → Type 0
 ArePlainReads workload did = All (λ s. likes_of s.call ≡ 0 → is_split_in workload s.phase s.page ≡ false) did
 
--- what a worker ran is what its post did: its accepted likes are its additions and its slice, by page and by phase; the
--- post's plain steps are those of its run list, in order, and each step that adds nothing is plain; each reply is right,
--- its count aside; its table has each user's last like
-pub record IsTallied (workload : Workload) (v : WorkerView) : Type 0 where
+-- what a worker in this phase ran is what its post did: its accepted likes are its additions and its slice, by page and by
+-- phase; the post's plain steps are those of its run list, in order, and each step that adds nothing is plain; each reply
+-- is right, its count aside; its table has each user's last like
+pub record AreTallied (workload : Workload) (present : ℕ) (did : List PageStep) (slice : List ℕ) (ran : List Ran)
+    (last : UserTable) : Type 0 where
   pub likes : (page : ℕ)
-      → likes_among workload page v.ran ≡ additions_of v.post page + slice_index v.slice page
-  pub by_phase : (phase page : ℕ) → likes_within workload page v.ran phase
-      ≡ additions_in v.post phase page
-      + (if phase_at v == phase then slice_index v.slice page else 0)
-  pub steps : plain_told workload (earliest_first v.post.did) ≡ steps_ran workload v.ran
-  pub reads : ArePlainReads workload v.post.did
-  pub replies : HasRightAnswers workload v.ran
-  pub last : (user : ℕ) → last_of v.last user ≡ last_like workload user v.ran
+      → likes_among workload page ran ≡ added_to page (additions_among did) + slice_index slice page
+  pub by_phase : (phase page : ℕ) → likes_within workload page ran phase
+      ≡ added_in phase page (additions_among did) + (if present == phase then slice_index slice page else 0)
+  pub steps : plain_told workload (earliest_first did) ≡ steps_ran workload ran
+  pub reads : ArePlainReads workload did
+  pub replies : HasRightAnswers workload ran
+  pub last : (user : ℕ) → last_of last user ≡ last_like workload user ran
+
+abbrev pub IsTallied : Workload → WorkerView → Type 0
+IsTallied workload v = AreTallied workload (phase_at v) v.post.did v.slice v.ran v.last
 
 -- how many additions are to a page in a phase
 abbrev pub adds_to : ℕ → ℕ → List Added → ℕ
@@ -118,16 +131,19 @@ abbrev pub IsInOrder : Workload → WorkerView → Type 0
 IsInOrder workload v =
     map entry_of v.ran ++ map (entry_held (next_joined v)) v.held.held ≡ order workload v.taken
 
--- it took nothing and ran nothing in a later phase than this
-abbrev pub HasNothingLater : WorkerView → ℕ → Type 0
-HasNothingLater v phase = All (λ t. t.phase ≤ phase) v.taken × All (λ e. e.phase ≤ phase) v.ran
+-- nothing was taken and nothing run in a later phase than this
+abbrev pub HasNothingLater : List Took → List Ran → ℕ → Type 0
+HasNothingLater taken ran phase = All (λ t. t.phase ≤ phase) taken × All (λ e. e.phase ≤ phase) ran
 
--- what its state says of what it has done: nothing is of a later phase; when it has answered a joined phase it holds
--- nothing; and when it is gone it holds nothing, and its submitters have ended
+-- what its state says of what a worker took, ran and holds, and of which submitters have ended: nothing is of a later phase;
+-- when it has answered a joined phase it holds nothing; and when it is gone it holds nothing, and its submitters have ended
+abbrev pub StandsIn : List Took → List Ran → List Held → List Bool → WorkerState → Type 0
+StandsIn taken ran held ended (Runs phase) = HasNothingLater taken ran phase
+StandsIn taken ran held ended (Answered phase) = HasNothingLater taken ran phase × (IsJoined phase → held ≡ [])
+StandsIn taken ran held ended Gone = (held ≡ []) × TookAllEnds ended
+
 abbrev pub Stands : WorkerView → WorkerState → Type 0
-Stands v (Runs phase) = HasNothingLater v phase
-Stands v (Answered phase) = HasNothingLater v phase × (IsJoined phase → v.held.held ≡ [])
-Stands v Gone = (v.held.held ≡ []) × TookAllEnds v
+Stands v state = StandsIn v.taken v.ran v.held.held v.ended state
 
 -- in no phase do more come out of the stash than it has room for
 abbrev pub FitsStash : Workload → List Took → Type 0
@@ -185,4 +201,4 @@ pub record IsDone (workload : Workload) (v : WorkerView) : Type 0 where
   pub noted : v.notes ≡ true → AreNoted workload v
   pub replies : HasRightAnswers workload v.ran
   pub last : (user : ℕ) → last_of v.last user ≡ last_like workload user v.ran
-  pub ended : TookAllEnds v
+  pub ended : TookAllEnds v.ended

@@ -3,31 +3,38 @@ use Rattle.std.specs.Prelude.{◌≡◌, ℕ, Bool, false, List, [], length, rep
 use Rattle.like_limits.specs.Buckets.{run_factor}
 use Rattle.like_requests.specs.Pages.{Page, marks_of}
 use Rattle.like_requests.specs.declared.setup.Setup.{Setup}
+use Rattle.like_core.specs.declared.opening.Opening.{Opening}
 use Rattle.like_core.specs.OpeningLimits.{run_limits}
-use Rattle.like_core.specs.Post.{PostView, IsFresh}
+use Rattle.like_core.specs.Post.{IsFresh}
 use Rattle.like_board.specs.declared.worker_seat.WorkerSeat.{WorkerSeat}
-use Rattle.like_board.specs.Seats.{BoardId, seat_board, seat_meaning}
+use Rattle.like_board.specs.Seats.{BoardId, seat_board, seat_view}
+use Rattle.like_core.specs.declared.view.WorkerSeatView.{WorkerSeatView}
 use Rattle.like_tables.specs.Share.{dealt, share_of}
 use Rattle.like_tables.specs.UserTable.{table_without_likes}
 use Rattle.like_roles.specs.worker.WorkerView.{WorkerView}
 
--- the post is that worker's, at a board of a run with these pages, where page i has bucket i, and no call was made on it
-pub record IsPostOf (worker : ℕ) (pages : List Page) (post : PostView) : Type 0 where
+-- a board of a run with these pages, where page i has bucket i
+pub record IsBoardOf (pages : List Page) (z : Opening) : Type 0 where
+  pub marks : z.marks ≡ marks_of pages
+  pub limits : z.limits ≡ run_limits
+  pub factor : z.factor ≡ run_factor
+
+-- the post is that worker's, at a board of a run with these pages, and no call was made on it
+pub record IsPostOf (worker : ℕ) (pages : List Page) (post : WorkerSeatView) : Type 0 where
   pub is_his : post.worker ≡ worker
-  pub marks : post.marks ≡ marks_of pages
-  pub limits : post.limits ≡ run_limits
-  pub factor : post.factor ≡ run_factor
+  pub opening : IsBoardOf pages post.opening
   pub fresh : IsFresh post
 
 -- the seats of all workers at a board with these pages, in order; no call was made on them
 abbrev pub AreNewSeats : BoardId → List Page → List WorkerSeat → Type 0
 AreNewSeats board pages seats =
     (worker : ℕ) (seat : WorkerSeat) → slice_get seats worker ≡ Some seat
-    → (seat_board seat ≡ board) × IsPostOf worker pages (seat_meaning seat)
+    → (seat_board seat ≡ board) × IsPostOf worker pages (seat_view seat)
 
 -- a worker that has done nothing yet, and notes its additions or does not
-pub record IsNew (s : Setup) (sizes : List ℕ) (worker : ℕ) (post : PostView) (notes : Bool)
+pub record IsNew (s : Setup) (sizes : List ℕ) (worker : ℕ) (board : List ℕ) (post : WorkerSeatView) (notes : Bool)
     (v : WorkerView) : Type 0 where
+  pub at_board : v.board ≡ board
   pub at_post : v.post ≡ post
   pub held : v.held ≡ record { held = []; capacity = s.stash }
   pub slice : v.slice ≡ replicate (length s.pages) 0

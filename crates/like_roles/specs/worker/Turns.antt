@@ -43,7 +43,7 @@ IsMerged v after =
 
 -- it cannot take a request in a split phase
 abbrev pub IsStuck : WorkerView → Type 0
-IsStuck v = TookAllEnds v ⊎ (length v.held.held ≡ v.held.capacity)
+IsStuck v = TookAllEnds v.ended ⊎ (length v.held.held ≡ v.held.capacity)
 
 -- what a worker does that has looked and runs a phase: the answer, and the worker after
 pub data Works (v : WorkerView) (ending : Bool) (answer : Turn) (after : WorkerView) : Type 0 where
@@ -51,10 +51,10 @@ pub data Works (v : WorkerView) (ending : Bool) (answer : Turn) (after : WorkerV
       → RunsJoined v.post.state → v.held.held ≡ first ∷ rest
       → answer ≡ turn.Ran → Runs (without_first v rest) first true after
       → Works v ending answer after
-  retires : RunsJoined v.post.state → v.held.held ≡ [] → TookAllEnds v
+  retires : RunsJoined v.post.state → v.held.held ≡ [] → TookAllEnds v.ended
       → answer ≡ turn.Retired → after ≡ record v { post = retired v.post }
       → Works v ending answer after
-  acknowledges : RunsJoined v.post.state → v.held.held ≡ [] → ¬ TookAllEnds v → ending ≡ true
+  acknowledges : RunsJoined v.post.state → v.held.held ≡ [] → ¬ TookAllEnds v.ended → ending ≡ true
       → answer ≡ turn.Acknowledged → after ≡ record v { post = answered v.post }
       → Works v ending answer after
   tries_joined : (place : ℕ) → RunsJoined v.post.state → v.held.held ≡ []
@@ -145,7 +145,7 @@ Pends answer v = v.pending ≡ None
 -- taken from the submitters is the same
 pub record TakesNothing (old new : WorkerView) : Type 0 where
   pub share : new.last.share ≡ old.last.share
-  pub marks : new.post.marks ≡ old.post.marks
+  pub marks : new.post.opening.marks ≡ old.post.opening.marks
   pub notes : new.notes ≡ old.notes
   pub taken : new.taken ≡ old.taken
   pub left : new.left ≡ old.left

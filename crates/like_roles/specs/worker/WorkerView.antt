@@ -5,7 +5,8 @@ use Rattle.like_requests.specs.Verdict.{is_accepted}
 use Rattle.like_requests.specs.declared.request.Request.{Request}
 use Rattle.like_promises.specs.Looks.{page_looked_at}
 use Rattle.like_core.specs.WorkerState.{phase_of}
-use Rattle.like_core.specs.Post.{PostView, slices}
+use Rattle.like_core.specs.Post.{slices}
+use Rattle.like_core.specs.declared.view.WorkerSeatView.{WorkerSeatView}
 use Rattle.like_seat.specs.StationView.{StationView}
 use Rattle.like_seat.specs.SlicedLike.{SlicedLike}
 use Rattle.like_tables.specs.Share.{submitter_of}
@@ -16,13 +17,14 @@ use Rattle.like_promises.specs.declared.log.Added.{Added}
 use Rattle.like_promises.specs.declared.log.Ran.{Ran}
 use Rattle.like_promises.specs.declared.log.Took.{Took}
 
--- its post; the looks that it holds, which are its stash in a split phase and its backlog in a joined one; its slice, a
+-- the numbers that tell its board from others; its post; the looks that it holds, which are its stash in a split phase and its backlog in a joined one; its slice, a
 -- number for each page; all likes that ever went into its slice, in order; for each of its submitters by place, how
 -- many requests of it were not taken yet and whether its end mark was taken; the place at which it looks for a
 -- submitter next; the place of the submitter that it tries, if it tries one; the last likes of its users; what it took
 -- and what it ran; whether it notes its additions, and those that it noted
 pub record WorkerView : Type 0 where
-  pub post : PostView
+  pub board : List ℕ
+  pub post : WorkerSeatView
   pub held : Waiting Held
   pub slice : List ℕ
   pub sliced : List SlicedLike
@@ -39,12 +41,12 @@ pub record WorkerView : Type 0 where
 -- the seat of a worker
 abbrev pub seat_of : WorkerView → StationView Held
 seat_of v =
-    record { post = v.post; held = v.held; slice = v.slice; sliced = v.sliced; last = v.last }
+    record { board = v.board; post = v.post; held = v.held; slice = v.slice; sliced = v.sliced; last = v.last }
 
 -- with its seat like this, and all else the same
 abbrev pub with_seat : WorkerView → StationView Held → WorkerView
 with_seat v s =
-    record v { post = s.post; held = s.held; slice = s.slice; sliced = s.sliced; last = s.last }
+    record v { board = s.board; post = s.post; held = s.held; slice = s.slice; sliced = s.sliced; last = s.last }
 
 -- the phase that it runs or has answered
 abbrev pub phase_at : WorkerView → ℕ
@@ -55,8 +57,8 @@ abbrev pub submitter_at : WorkerView → ℕ → ℕ
 submitter_at v place = submitter_of v.last.share.workers v.last.share.worker place
 
 -- it took the end mark of each of its submitters
-abbrev pub TookAllEnds : WorkerView → Type 0
-TookAllEnds v = (place : ℕ) → place < length v.ended → slice_index_or v.ended place true ≡ true
+abbrev pub TookAllEnds : List Bool → Type 0
+TookAllEnds ended = (place : ℕ) → place < length ended → slice_index_or ended place true ≡ true
 
 -- how many steps there are from one place to another of n, going up, and from the last place on to the first
 abbrev pub steps_between : ℕ → ℕ → ℕ → ℕ

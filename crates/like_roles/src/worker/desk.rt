@@ -36,7 +36,7 @@ pub(crate) struct Desk {
 
 // The phase that a worker runs or has answered, which in a run is below 2^24.
 pub(crate) fn phase_of_run<P: Post>(seat: &RunStation<P, Held>) -> u32
-    requires { seat.now.post.limits ≡ run_limits }
+    requires { seat.now.post.opening.limits ≡ run_limits }
     ensures { result ≡ phase_at seat.now }
 {
     seat.phase() as u32

@@ -19,7 +19,7 @@ impl<P: Post> Worker<P> {
     #[inline(always)]
     pub fn suspend(self) -> (P, SuspendedWorker)
         ensures suspended { IsSuspendedAt (P.view result.0) result.1 }
-        ensures worker { worker_at (P.view result.0) result.1 ≡ self }
+        ensures worker { worker_at (P.board result.0) (P.view result.0) result.1 ≡ self }
     {
         let Worker { seat, desk } = self;
         let (post, tables) = seat.into_parts();
@@ -28,11 +28,11 @@ impl<P: Post> Worker<P> {
 }
 
 impl SuspendedWorker {
-    /// Goes on at a post that means what its own meant, but may be at another board.
+    /// Goes on at a post whose seat knows what its own's knew, but may be at another board.
     #[inline(always)]
     pub fn resume<P: Post>(self, post: P) -> Worker<P>
         requires { IsSuspendedAt (P.view post) self }
-        ensures { result ≡ worker_at (P.view post) self }
+        ensures { result ≡ worker_at (P.board post) (P.view post) self }
     {
         let SuspendedWorker { tables, desk } = self;
         Worker {

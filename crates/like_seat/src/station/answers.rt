@@ -29,7 +29,7 @@ impl<P: Post, W: Copy, C: Counts, T: BucketTags> Station<P, W, C, T> {
         requires running { IsRunning self.old.post.state }
         requires there { page < pages_of self.old.post }
         requires owned { IsTrue (owns self.old.last.share user) }
-        requires room { likes_of self.old < self.old.post.limits.likes }
+        requires room { likes_of self.old < self.old.post.opening.limits.likes }
         ensures counts { CountsLike self.old user page result self.new }
         ensures seat { IsStation self.new }
     {
@@ -43,7 +43,7 @@ impl<P: Post, W: Copy, C: Counts, T: BucketTags> Station<P, W, C, T> {
         requires running { IsRunning self.old.post.state }
         requires there { page < pages_of self.old.post }
         requires placed { IsPlaced self.old.last.share placed }
-        requires fits { likes_of self.old < self.old.post.limits.likes }
+        requires fits { likes_of self.old < self.old.post.opening.limits.likes }
         ensures counts { CountsLike self.old placed.user page result self.new }
         ensures seat { IsStation self.new }
     {
@@ -66,7 +66,7 @@ impl<P: Post, W: Copy, C: Counts, T: BucketTags> Station<P, W, C, T> {
         requires there { page < pages_of self.old.post }
         requires split { slices self.old.post page ≡ true }
         requires placed { IsPlaced self.old.last.share placed }
-        requires most { 2 ^ 56 ≤ self.old.post.limits.likes }
+        requires most { 2 ^ 56 ≤ self.old.post.opening.limits.likes }
         ensures counts { IsTrue result → CountsLike self.old placed.user page None self.new }
         ensures few { IsTrue result → likes_of self.old < 2 ^ 56 }
         ensures full { result ≡ false → self.new ≡ self.old }
@@ -88,7 +88,7 @@ impl<P: Post, W: Copy, C: Counts, T: BucketTags> Station<P, W, C, T> {
         requires there { page < pages_of self.old.post }
         requires plain { slices self.old.post page ≡ false }
         requires placed { IsPlaced self.old.last.share placed }
-        requires most { 2 ^ 56 ≤ self.old.post.limits.likes }
+        requires most { 2 ^ 56 ≤ self.old.post.opening.limits.likes }
         ensures counts { IsTrue result → CountsOnBoard self.old placed.user page self.new }
         ensures few { IsTrue result → likes_of self.old < 2 ^ 56 }
         ensures full { result ≡ false → self.new ≡ self.old }

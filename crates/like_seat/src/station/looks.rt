@@ -16,7 +16,7 @@ impl<P: Post, W: Copy, C: Counts, T: BucketTags> Station<P, W, C, T> {
     #[inline(always)]
     pub fn look(&mut self) -> Sight
         requires here { self.old.post.state ≢ Gone }
-        requires plain { has_slots self.old.post.limits ≡ false }
+        requires plain { has_slots self.old.post.opening.limits ≡ false }
         ensures { LooksAndEnters self.old result self.new }
     {
         let sight = self.post.look();

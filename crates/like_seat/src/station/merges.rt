@@ -32,7 +32,7 @@ impl<P: Post, W: Copy, C: Counts, T: BucketTags> Station<P, W, C, T> {
 
     // The bucket of a page.
     fn bucket(&self, page: u32) -> u32
-        ensures { result ≡ bucket self.now.post.factor page }
+        ensures { result ≡ bucket self.now.post.opening.factor page }
     {
         self.tables.slice.bucket(page)
     }

@@ -25,14 +25,14 @@ impl<P: Post, W: Copy> Station<P, W, BucketCounts, ServiceTags> {
         last: Users,
     ) -> Result<Self, NoStation<P>>
         requires fresh { IsFresh (P.view post) }
-        requires limits { AreLimits (P.view post).limits }
-        requires few_pages { pages_of (P.view post) ≤ (P.view post).limits.pages }
-        requires service { IsOfService (P.view post) }
-        requires factor { factor ≡ (P.view post).factor }
+        requires limits { AreLimits (P.view post).opening.limits }
+        requires few_pages { pages_of (P.view post) ≤ (P.view post).opening.limits.pages }
+        requires service { IsOfService (P.view post).opening }
+        requires factor { factor ≡ (P.view post).opening.factor }
         requires least { 2 ^ 22 ≤ factor }
         requires some { 1 ≤ room }
         requires few { room ≤ max_stash }
-        ensures new { IfOk result (IsNewStation (P.view post) room last) }
+        ensures new { IfOk result (IsNewStation (P.board post) (P.view post) room last) }
         ensures post { IfErr result (λ refused. refused.post ≡ post) }
     {
         match Tables::of_service(alloc, factor, room, last) {
@@ -48,7 +48,7 @@ impl<P: SlotPost, W: Copy, C: Counts, T: BucketTags> Station<P, W, C, T> {
     #[inline(always)]
     pub fn look_with_slots(&mut self) -> Sight
         requires here { self.old.post.state ≢ Gone }
-        requires slotted { has_slots self.old.post.limits ≡ true }
+        requires slotted { has_slots self.old.post.opening.limits ≡ true }
         ensures { LooksAndEnters self.old result self.new }
     {
         let sight = self.post.look();
@@ -67,9 +67,10 @@ const TRIES: u32 = 64;
 /// Brings a worker back, and tells the phase that it then runs. `None`, with nothing done, if none of 64 tries did.
 pub fn come_back<P: Returns>(post: &mut P) -> Option<u64>
     requires gone { (P.view post.old).state ≡ Gone }
-    requires lets { LetsReturn (P.view post.old).limits }
+    requires lets { LetsReturn (P.view post.old).opening.limits }
+    ensures board { P.board post.new ≡ P.board post.old }
     ensures back { IfSome result (λ phase. P.view post.new ≡ returned (P.view post.old) phase) }
-    ensures within { IfSome result (λ phase. phase ≤ (P.view post.old).limits.last_phase) }
+    ensures within { IfSome result (λ phase. phase ≤ (P.view post.old).opening.limits.last_phase) }
     ensures none { IfNone result (P.view post.new ≡ P.view post.old) }
 {
     for _ in 0..TRIES {
@@ -85,8 +86,8 @@ impl<P: SlotPost + Returns, W: Copy, C: Counts, T: BucketTags> Station<P, W, C, 
     /// `false`, with nothing done, if that phase is ending or others changed the phase word at each of 64 tries.
     pub fn come_back(&mut self) -> bool
         requires gone { self.old.post.state ≡ Gone }
-        requires slotted { has_slots self.old.post.limits ≡ true }
-        requires lets { LetsReturn self.old.post.limits }
+        requires slotted { has_slots self.old.post.opening.limits ≡ true }
+        requires lets { LetsReturn self.old.post.opening.limits }
         ensures back { IsTrue result → ComesBack self.old self.new }
         ensures none { result ≡ false → self.new ≡ self.old }
         ensures seat { IsStation self.new }

@@ -18,8 +18,9 @@ pub struct Party<'a, P: Post> {
     pub first: Walker<P>,
     pub second: Option<Walker<P>>,
     ghost here: { coord_board leader.seat ≡ board_id board.now },
-    ghost first_here: { IsWorkerAt (coord_board leader.seat) 0 (P.view first.post) },
-    ghost second_here: { (walker : _) → second ≡ Some walker → IsWorkerAt (coord_board leader.seat) 1 (P.view walker.post) },
+    ghost first_here: { IsWorkerAt (coord_board leader.seat) 0 (P.board first.post) (P.view first.post) },
+    ghost second_here: { (walker : _) → second ≡ Some walker
+        → IsWorkerAt (coord_board leader.seat) 1 (P.board walker.post) (P.view walker.post) },
 }
 
 impl<P: Glances> Party<'_, P> {

@@ -33,10 +33,10 @@ impl<P: Glances> Walker<P> {
     /// A worker at a post on which no call was made, at a board with this many pages, whose first is marked or is not.
     pub fn new(post: P, limits: Limits, pages: u32, marked: bool) -> Walker<P>
         requires fresh { IsFresh (P.view post) }
-        requires limits { (P.view post).limits ≡ limits }
+        requires limits { (P.view post).opening.limits ≡ limits }
         requires plain { limits.hot ≡ hot_pages }
         requires pages { pages_of (P.view post) ≡ pages }
-        requires first { is_marked (P.view post).marks 0 ≡ marked }
+        requires first { is_marked (P.view post).opening.marks 0 ≡ marked }
         ensures { result.post ≡ post }
     {
         let known = Known {
@@ -53,7 +53,8 @@ impl<P: Glances> Walker<P> {
 
     /// Makes a call, and tells whether it may be made and is answered as it says.
     pub fn answers(&mut self, call: OnPost) -> bool
-        ensures { KeepsPlace (P.view self.old.post) (P.view self.new.post) }
+        ensures { KeepsPlace (P.board self.old.post) (P.view self.old.post)
+            (P.board self.new.post) (P.view self.new.post) }
     {
         match call {
             OnPost::Look(sight) => self.sees(sight),
@@ -68,7 +69,8 @@ impl<P: Glances> Walker<P> {
     }
 
     fn sees(&mut self, want: Sight) -> bool
-        ensures { KeepsPlace (P.view self.old.post) (P.view self.new.post) }
+        ensures { KeepsPlace (P.board self.old.post) (P.view self.old.post)
+            (P.board self.new.post) (P.view self.new.post) }
     {
         if self.known.state == WorkerState::Gone {
             return false;
@@ -80,7 +82,8 @@ impl<P: Glances> Walker<P> {
     }
 
     fn stops(&mut self) -> bool
-        ensures { KeepsPlace (P.view self.old.post) (P.view self.new.post) }
+        ensures { KeepsPlace (P.board self.old.post) (P.view self.old.post)
+            (P.board self.new.post) (P.view self.new.post) }
     {
         let WorkerState::Runs(phase) = self.known.state else {
             return false;
@@ -126,7 +129,8 @@ impl<P: Glances> Walker<P> {
     fn add(&mut self, page: u32, likes: u64) -> u64
         requires may { MayAdd (P.view self.old.post) page likes }
         requires room { likes ≤ self.old.known.room }
-        ensures { KeepsPlace (P.view self.old.post) (P.view self.new.post) }
+        ensures { KeepsPlace (P.board self.old.post) (P.view self.old.post)
+            (P.board self.new.post) (P.view self.new.post) }
     {
         let old = self.post.add(page, likes);
         self.known.room -= likes;
@@ -137,7 +141,8 @@ impl<P: Glances> Walker<P> {
     }
 
     fn likes(&mut self, page: u32, old: u64) -> bool
-        ensures { KeepsPlace (P.view self.old.post) (P.view self.new.post) }
+        ensures { KeepsPlace (P.board self.old.post) (P.view self.old.post)
+            (P.board self.new.post) (P.view self.new.post) }
     {
         if !self.runs_joined() || page >= self.known.pages || self.known.room == 0 {
             return false;
@@ -146,7 +151,8 @@ impl<P: Glances> Walker<P> {
     }
 
     fn merges(&mut self, likes: u64, old: u64) -> bool
-        ensures { KeepsPlace (P.view self.old.post) (P.view self.new.post) }
+        ensures { KeepsPlace (P.board self.old.post) (P.view self.old.post)
+            (P.board self.new.post) (P.view self.new.post) }
     {
         let may_merge = self.saw_ending() && self.slices_first();
         if !may_merge || likes == 0 || likes > self.known.room {
@@ -156,7 +162,8 @@ impl<P: Glances> Walker<P> {
     }
 
     fn reads(&mut self, page: u32, count: u64) -> bool
-        ensures { KeepsPlace (P.view self.old.post) (P.view self.new.post) }
+        ensures { KeepsPlace (P.board self.old.post) (P.view self.old.post)
+            (P.board self.new.post) (P.view self.new.post) }
     {
         if !self.runs_joined() || page >= self.known.pages {
             return false;
@@ -165,13 +172,15 @@ impl<P: Glances> Walker<P> {
     }
 
     fn glances(&mut self, count: u64) -> bool
-        ensures { KeepsPlace (P.view self.old.post) (P.view self.new.post) }
+        ensures { KeepsPlace (P.board self.old.post) (P.view self.old.post)
+            (P.board self.new.post) (P.view self.new.post) }
     {
         self.slices_first() && self.post.glance(0) == count
     }
 
     fn learns(&mut self, mask: u64) -> bool
-        ensures { KeepsPlace (P.view self.old.post) (P.view self.new.post) }
+        ensures { KeepsPlace (P.board self.old.post) (P.view self.old.post)
+            (P.board self.new.post) (P.view self.new.post) }
     {
         match self.known.state {
             WorkerState::Runs(phase) if phase % 2 == 1 => {
@@ -184,7 +193,8 @@ impl<P: Glances> Walker<P> {
     }
 
     fn retires(&mut self) -> bool
-        ensures { KeepsPlace (P.view self.old.post) (P.view self.new.post) }
+        ensures { KeepsPlace (P.board self.old.post) (P.view self.old.post)
+            (P.board self.new.post) (P.view self.new.post) }
     {
         if !self.runs_joined() {
             return false;

@@ -73,7 +73,7 @@ fn worker_of<P: Post>(
     requires within { IsWithin setup.now sizes.now }
     requires is_worker { number < setup.now.workers }
     requires post { IsPostOf number setup.now.pages (P.view post) }
-    ensures { IfOk result (IsNew setup.now sizes.now number (P.view post) notes) }
+    ensures { IfOk result (IsNew setup.now sizes.now number (P.board post) (P.view post) notes) }
 {
     if notes {
         return Worker::new(alloc, setup, sizes, number, post);

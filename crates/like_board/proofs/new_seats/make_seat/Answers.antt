@@ -1,7 +1,6 @@
 use Rattle.std.proofs.Common.{ℕ, ◌<◌, subst}
 use Rattle.like_board.specs.Known.{coord_view_of}
-use Rattle.like_board.proofs.Allowed.{making, fresh_seat}
-use Rattle.like_board.proofs.Meanings.{is_fresh}
+use Rattle.like_board.proofs.Allowed.{making}
 use Rattle.like_board.proofs.new_seats.make_seat.Goals as goal
 
 pub split_seat-access-requires : goal.split_seat-access-requires
@@ -12,6 +11,3 @@ split_seat-access-requires c =
       making c.args.board.now.table.shared.key _ _ (λ m. (c.requires.coord m).0)
           (subst (λ (n : ℕ). n < known.opening.workers) c.requires.next c.requires.room),
     )
-
-pub returns-clause-fresh : goal.returns-clause-fresh
-returns-clause-fresh c = is_fresh _ _ (fresh_seat _ _ _ c.split_seat-access.ensures.4)

@@ -6,9 +6,8 @@ ghost use Rattle.like_core.specs.declared.view.View.{View};
 ghost use Rattle.like_core.specs.declared.view.View.TheVariants.{Coord, Worker};
 ghost use Rattle.like_core.specs.declared.view.WorkerSeatView.{WorkerSeatView};
 ghost use Rattle.like_core.specs.declared.worker_state.WorkerState.TheVariants.{Gone};
-ghost use Rattle.like_core.specs.views.Views.{post_of};
 ghost use Rattle.like_board.specs.Lent.{lent_board};
-ghost use Rattle.like_board.specs.Own.{own_meaning, own_views, Knows};
+ghost use Rattle.like_board.specs.Own.{own_view, own_views, Knows};
 ghost use Rattle.like_board.specs.OwnPosts.{CameBack};
 ghost use Rattle.like_crew.specs.Fresh.{IsModelled, LooksFresh};
 ghost use Rattle.like_crew.specs.OwnServer.{server_at, CameBackFrom};
@@ -35,7 +34,7 @@ pub struct OwnServer<I: Inbox> {
 
 impl<I: Inbox> Model for OwnServer<I> {
     ghost use Rattle.std.specs.Prelude.{◌≡◌, None, map};
-    ghost use Rattle.like_board.specs.Own.{own_meaning, own_place, own_view};
+    ghost use Rattle.like_board.specs.Own.{own_place, own_view};
     ghost use Rattle.like_roles.specs.worker.Suspended.{worker_at, IsSuspendedAt};
     ghost use Rattle.like_crew.specs.OwnServer.{OwnServerView};
     ghost use Rattle.like_crew.specs.Server.{Agree};
@@ -45,7 +44,7 @@ impl<I: Inbox> Model for OwnServer<I> {
     ghost view = { λ s. let inboxes = s.inboxes.items in
         record {
           as_server = record {
-            worker = worker_at (own_meaning s.seat) s.worker;
+            worker = worker_at [] (own_view s.seat) s.worker;
             inboxes = map I.view inboxes;
             opened = map I.opened inboxes;
           };
@@ -53,8 +52,8 @@ impl<I: Inbox> Model for OwnServer<I> {
           seat = own_view s.seat;
         } };
 
-    ghost invariant = { λ s. let worker = worker_at (own_meaning s.seat) s.worker in
-        IsSuspendedAt (own_meaning s.seat) s.worker × (worker.pending ≡ None)
+    ghost invariant = { λ s. let worker = worker_at [] (own_view s.seat) s.worker in
+        IsSuspendedAt (own_view s.seat) s.worker × (worker.pending ≡ None)
         × (s.workers ≡ worker.last.share.workers) × Agree worker (map I.view s.inboxes.items) };
 }
 
@@ -73,7 +72,8 @@ impl<I: Inbox> OwnServer<I> {
         requires { Knows board self.place (Worker self.seat) }
         ensures lent { result ≡ server_at self.as_server
             (lent_board (own_views board) self.place (Worker self.seat)) }
-        ensures seat { self.as_server.worker.post ≡ post_of self.seat }
+        ensures seat { self.as_server.worker.post ≡ self.seat }
+        ensures none { self.as_server.worker.board ≡ [] }
     {
         let OwnServer {
             seat,
@@ -103,7 +103,7 @@ impl<I: Inbox> OwnServer<I> {
             → LooksFresh c.phase c.ending self.as_server result.server.as_server }
         ensures came { CameBackFrom (own_views board) self.place self.seat result.board result.server }
         ensures here { Knows result.board result.server.place (Worker result.server.seat) }
-        ensures seat { result.server.as_server.worker.post ≡ post_of result.server.seat }
+        ensures seat { result.server.as_server.worker.post ≡ result.server.seat }
     {
         let mut server = self.lend(board);
         let answer = server.turn(rt, gate);
@@ -122,7 +122,7 @@ impl<I: Inbox> OwnServer<I> {
         requires here { Knows board self.place (Worker self.seat) }
         requires gone { self.as_server.worker.post.state ≡ Gone }
         ensures log { IsLogOf self.as_server result.0 }
-        ensures seat { own_meaning result.1 ≡ record self.as_server.worker.post { board = [] } }
+        ensures seat { own_view result.1 ≡ self.as_server.worker.post }
         ensures came { CameBack (own_views board) self.place self.seat result.2 result.1 }
     {
         let server = self.lend(board);
@@ -140,7 +140,7 @@ impl OwnServer<ListInbox> {
         ensures opens { OpensOne submitter self.as_server result.0.as_server }
         ensures goes_on { ServerGoesOn self.as_server result.0.as_server }
         ensures came { CameBackFrom (own_views board) self.place self.seat result.1 result.0 }
-        ensures seat { result.0.as_server.worker.post ≡ post_of result.0.seat }
+        ensures seat { result.0.as_server.worker.post ≡ result.0.seat }
     {
         let mut server = self.lend(board);
         server.open_one(submitter);
@@ -153,7 +153,7 @@ impl OwnServer<ListInbox> {
         ensures opens { OpensAll self.as_server result.0.as_server }
         ensures goes_on { ServerGoesOn self.as_server result.0.as_server }
         ensures came { CameBackFrom (own_views board) self.place self.seat result.1 result.0 }
-        ensures seat { result.0.as_server.worker.post ≡ post_of result.0.seat }
+        ensures seat { result.0.as_server.worker.post ≡ result.0.seat }
     {
         let mut server = self.lend(board);
         server.open_all();
@@ -166,10 +166,10 @@ impl<I: Inbox> Server<OwnPost, I> {
     #[inline(always)]
     pub fn back(self) -> (OwnServer<I>, OwnBoard)
         ensures server { result.0.as_server ≡ server_at self [] }
-        ensures seat { result.0.as_server.worker.post ≡ post_of result.0.seat }
+        ensures seat { result.0.as_server.worker.post ≡ result.0.seat }
         ensures here { Knows result.1 result.0.place (Worker result.0.seat) }
         ensures came { (views : List View) (place : ℕ) (v : WorkerSeatView)
-            → self.worker.post.board ≡ lent_board views place (Worker v)
+            → self.worker.board ≡ lent_board views place (Worker v)
             → CameBackFrom views place v result.1 result.0 }
     {
         let Server {

@@ -13,11 +13,11 @@ pub returns-clause-fresh : goal.returns-clause-fresh
 returns-clause-fresh g c =
     let left = c.pop.new.self.items in
     let popped = c.pop.ensures.items ∙ ap (λ o. left ++ option_to_list o) c.expect-seat.ensures in
-    rw c.at.ensures.meaning (last_fresh _ _ _ left c.expect-seat.result c.requires.fresh popped).2
+    rw (c.at.ensures.view, (last_fresh _ _ _ left c.expect-seat.result c.requires.fresh popped).1) refl
 
 pub returns-clause-limits : goal.returns-clause-limits
 returns-clause-limits g c =
     let left = c.pop.new.self.items in
     let popped = c.pop.ensures.items ∙ ap (λ o. left ++ option_to_list o) c.expect-seat.ensures in
     let fresh = last_fresh _ _ _ left c.expect-seat.result c.requires.fresh popped in
-    ap (λ v. v.limits) c.at.ensures.meaning ∙ ap (λ v. v.opening.limits) fresh.1 ∙ c.requires.limits_are
+    ap (λ v. v.opening.limits) (c.at.ensures.view ∙ fresh.1) ∙ c.requires.limits_are

@@ -19,28 +19,28 @@ pub new-requires-clause-fresh : goal.new-requires-clause-fresh
 new-requires-clause-fresh g c =
     let left = c.pop.new.self.items in
     let popped = c.pop.ensures.items ∙ ap (λ o. left ++ option_to_list o) c.expect-seat.ensures in
-    rw c.at.ensures.meaning (last_fresh _ _ _ left c.expect-seat.result c.requires.fresh popped).2
+    rw (c.at.ensures.view, (last_fresh _ _ _ left c.expect-seat.result c.requires.fresh popped).1) refl
 
 pub new-requires-clause-limits : goal.new-requires-clause-limits
 new-requires-clause-limits g c =
     let left = c.pop.new.self.items in
     let popped = c.pop.ensures.items ∙ ap (λ o. left ++ option_to_list o) c.expect-seat.ensures in
     let fresh = last_fresh _ _ _ left c.expect-seat.result c.requires.fresh popped in
-    ap (λ v. v.limits) c.at.ensures.meaning ∙ ap (λ v. v.opening.limits) fresh.1 ∙ c.requires.limits_are
+    ap (λ v. v.opening.limits) (c.at.ensures.view ∙ fresh.1) ∙ c.requires.limits_are
 
 pub new-requires-clause-pages : goal.new-requires-clause-pages
 new-requires-clause-pages g c =
     let left = c.pop.new.self.items in
     let popped = c.pop.ensures.items ∙ ap (λ o. left ++ option_to_list o) c.expect-seat.ensures in
     let fresh = last_fresh _ _ _ left c.expect-seat.result c.requires.fresh popped in
-    ap pages_of c.at.ensures.meaning ∙ ap (λ v. length v.opening.marks) fresh.1 ∙ c.requires.sized
+    ap pages_of (c.at.ensures.view ∙ fresh.1) ∙ c.requires.sized
 
 pub new-requires-clause-first : goal.new-requires-clause-first
 new-requires-clause-first g c =
     let left = c.pop.new.self.items in
     let popped = c.pop.ensures.items ∙ ap (λ o. left ++ option_to_list o) c.expect-seat.ensures in
     let fresh = last_fresh _ _ _ left c.expect-seat.result c.requires.fresh popped in
-    ap (λ v. is_marked v.marks 0) c.at.ensures.meaning ∙ ap (λ v. is_marked v.opening.marks 0) fresh.1
+    ap (λ v. is_marked v.opening.marks 0) (c.at.ensures.view ∙ fresh.1)
     ∙ c.requires.first
 
 pub returns-clause-at : goal.returns-clause-at
@@ -48,7 +48,7 @@ returns-clause-at g c =
     let left = c.pop.new.self.items in
     let popped = c.pop.ensures.items ∙ ap (λ o. left ++ option_to_list o) c.expect-seat.ensures in
     let fresh = last_fresh _ _ _ left c.expect-seat.result c.requires.fresh popped in
-    rw (c.new.ensures, c.at.ensures.meaning) (record {
+    rw (c.new.ensures, c.at.ensures.board, c.at.ensures.view) (record {
       board_is = ap board_numbers (fresh.0 ∙ sym c.requires.here);
       worker_is = ap (λ v. v.worker) fresh.1 ∙ sym c.pop.new.self.ok.0;
     })

@@ -4,7 +4,7 @@ use lib.ListN.{get_elem?}
 use Rattle.own_table.specs.Table.{views_of}
 use Rattle.like_core.specs.declared.view.View.{View}
 use Rattle.like_core.specs.declared.view.View.TheVariants.{Worker}
-use Rattle.like_core.specs.views.Views.{fresh}
+use Rattle.like_core.specs.Post.{fresh}
 use Rattle.like_board.specs.declared.key.Key.{Key}
 use Rattle.like_board.specs.Rule.{opening_of}
 use Rattle.like_board.proofs.AllSeats.{shows_made, worker_is, workers_long}

@@ -1,8 +1,7 @@
 use Rattle.std.proofs.Common.{rules, ◌≡◌, ℕ, ◌+◌, subst, sym, ap, ◌∙◌}
-use Rattle.like_core.specs.Post.{IsFresh}
-use Rattle.like_core.specs.views.Views.{fresh}
+use Rattle.like_core.specs.Post.{fresh}
 use Rattle.like_board.specs.declared.own_board.worker_seat.OwnWorkerSeat.{OwnWorkerSeat}
-use Rattle.like_board.specs.Own.{AreNewOwn, own_meaning, own_opening, own_place, own_view}
+use Rattle.like_board.specs.Own.{AreNewOwn, own_opening, own_place, own_view}
 use Rattle.like_board.proofs.Pushing.{each-pushed}
 use Rattle.like_board.proofs.own_board.seats.own_seats.Goals as goal
 
@@ -14,11 +13,11 @@ loop-number-preserved c =
     let made = c.own_seat.ensures in
     let long = sym l.invariant.len in
     let Is : ℕ → OwnWorkerSeat → Type 0 =
-    λ i seat. (own_place seat ≡ i + 1) × (own_view seat ≡ fresh z i) × IsFresh (own_meaning seat) in
+    λ i seat. (own_place seat ≡ i + 1) × (own_view seat ≡ fresh z i) in
     record {
       len = search rules;
       room = search rules;
       seats = subst (AreNewOwn board) (sym c.push_reserved.ensures.items)
           (each-pushed Is l.seats.items c.own_seat.result l.invariant.seats
-          (made.place ∙ ap (λ n. n + 1) long, made.view ∙ ap (fresh z) long, made.fresh));
+          (made.place ∙ ap (λ n. n + 1) long, made.view ∙ ap (fresh z) long));
     }

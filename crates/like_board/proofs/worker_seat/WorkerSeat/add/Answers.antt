@@ -5,7 +5,6 @@ use Rattle.like_core.specs.views.Actions.{Adds}
 use Rattle.like_board.specs.Known.{worker_view_of}
 use Rattle.like_board.specs.Seats.{seat_view}
 use Rattle.like_board.proofs.Allowed.{adding_to}
-use Rattle.like_board.proofs.Meanings.{may_add}
 use Rattle.like_board.proofs.worker_seat.WorkerSeat.add.Goals as goal
 
 pub fetch_add-requires : goal.fetch_add-requires
@@ -18,8 +17,7 @@ fetch_add-requires c =
     let there = word_of-order c.args.page _ c.requires.may.there in (
       c.requires.here,
       omega arith,
-      adding_to board.table.shared.key _ _ _ c.args.page _ c.args.n word seat.is_worker
-          (may_add _ _ c.args.page c.args.n c.requires.may),
+      adding_to board.table.shared.key _ _ _ c.args.page _ c.args.n word seat.is_worker c.requires.may,
     )
 
 pub returns-clause-event : goal.returns-clause-event

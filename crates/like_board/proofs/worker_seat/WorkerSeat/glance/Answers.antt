@@ -2,7 +2,6 @@ use Rattle.std.proofs.Common.{ap, rules, arith}
 use Rattle.atomic_table.specs.Seated.{TableId}
 use Rattle.like_core.proofs.views.Apart.{word_of-order}
 use Rattle.like_board.proofs.Allowed.{glancing}
-use Rattle.like_board.proofs.Meanings.{may_glance}
 use Rattle.like_board.proofs.worker_seat.WorkerSeat.glance.Goals as goal
 
 pub load-requires : goal.load-requires
@@ -15,8 +14,7 @@ load-requires c =
     let there = word_of-order c.args.page _ c.requires.may.there in (
       c.requires.here,
       omega arith,
-      glancing board.table.shared.key _ _ _ c.args.page _ word seat.is_worker
-          (may_glance _ _ c.args.page c.requires.may),
+      glancing board.table.shared.key _ _ _ c.args.page _ word seat.is_worker c.requires.may,
     )
 
 pub invariant_of-self : goal.invariant_of-self

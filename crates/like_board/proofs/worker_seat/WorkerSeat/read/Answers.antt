@@ -5,7 +5,6 @@ use Rattle.like_core.specs.views.Actions.{Reads}
 use Rattle.like_board.specs.Known.{worker_view_of}
 use Rattle.like_board.specs.Seats.{seat_view}
 use Rattle.like_board.proofs.Allowed.{reading}
-use Rattle.like_board.proofs.Meanings.{may_read}
 use Rattle.like_board.proofs.worker_seat.WorkerSeat.read.Goals as goal
 
 pub load-requires : goal.load-requires
@@ -18,7 +17,7 @@ load-requires c =
     let there = word_of-order c.args.page _ c.requires.may.there in (
       c.requires.here,
       omega arith,
-      reading board.table.shared.key _ _ _ c.args.page _ word seat.is_worker (may_read _ _ c.args.page c.requires.may),
+      reading board.table.shared.key _ _ _ c.args.page _ word seat.is_worker c.requires.may,
     )
 
 pub invariant_of-self : goal.invariant_of-self

@@ -7,7 +7,7 @@ use Rattle.like_limits.specs.Limits.{hot_pages}
 use Rattle.like_core.specs.declared.view.WorkerSeatView.{WorkerSeatView}
 use Rattle.like_core.specs.OpeningLimits.{has_slots}
 use Rattle.like_core.specs.WorkerState.{RunsSplit}
-use Rattle.like_core.specs.views.Views.{slotted_view, MayReadSlot}
+use Rattle.like_core.specs.Post.{with_slot, MayReadSlot}
 use Rattle.like_board.specs.Seats.{seat_view}
 use Rattle.like_board.proofs.worker_seat.WorkerSeat.read_slots.Goals as goal
 
@@ -54,7 +54,7 @@ may_read v w slot pages has split slotted below all = elim (cases_eq slot 0) [
 reads_one : (v w : WorkerSeatView) (slot page : ℕ) (pages : List ℕ)
     → HasRead v w slot pages
     → slot < length pages
-    → slotted_view w slot page ≡ record v { slots = take (slot + 1) (set pages slot page) }
+    → with_slot w slot page ≡ record v { slots = take (slot + 1) (set pages slot page) }
 reads_one v w slot page pages has below =
     let front = front_read v w slot pages has in
     let more : take (slot + 1) (set pages slot page) ≡ take slot pages ++ page ∷ [] =

@@ -5,8 +5,8 @@ use Rattle.std.specs.List.{AllZip, range_with_len}
 use Rattle.std.proofs.lemmas.List.{length_push}
 use Rattle.std.proofs.lemmas.Option.{slice_get_read}
 use Rattle.like_requests.specs.Setup.{IsWithin}
-use Rattle.like_board.specs.Seats.{board_id, board_numbers, seat_meaning}
-use Rattle.like_core.specs.Post.{PostView}
+use Rattle.like_board.specs.Seats.{board_id, board_numbers, post_board, seat_view}
+use Rattle.like_core.specs.declared.view.WorkerSeatView.{WorkerSeatView}
 use Rattle.like_queue.specs.Inbox.{InboxView}
 use Rattle.like_tables.specs.Share.{dealt}
 use Rattle.like_roles.specs.worker.New.{IsNew, IsPostOf}
@@ -32,8 +32,8 @@ new-requires-clause-post g c =
     let fresh = c.requires.seats k c.in-Some.seat
     (slice_get_read c.args.seats.items (length c.args.seats.items) k c.in-Some.seat refl turn.0 turn.1) in
     let same : c.len-number.result ≡ k = c.len-number.ensures ∙ l.servers.ok.0 ∙ l.invariant.len in
-    subst (IsPostOf c.len-number.result c.args.setup.now.pages) (sym c.at.ensures.meaning)
-    (subst (λ n. IsPostOf n c.args.setup.now.pages (seat_meaning c.in-Some.seat)) (sym same) fresh.1)
+    subst (IsPostOf c.len-number.result c.args.setup.now.pages) (sym c.at.ensures.view)
+    (subst (λ n. IsPostOf n c.args.setup.now.pages (seat_view c.in-Some.seat)) (sym same) fresh.1)
 
 pub new-requires-clause-inboxes : goal.new-requires-clause-inboxes
 new-requires-clause-inboxes g c =
@@ -77,12 +77,16 @@ loop-seat-preserved g c =
     (slice_get_read c.args.seats.items (length c.args.seats.items) k c.in-Some.seat refl turn.0 turn.1) in
     let longer : length (l.yielded ++ c.in-Some.seat ∷ []) ≡ k + 1 = length_push l.yielded c.in-Some.seat in
     let same : c.len-number.result ≡ k = c.len-number.ensures ∙ l.servers.ok.0 ∙ l.invariant.len in
-    let new = subst (λ (p : PostView). IsNew c.args.setup.now c.args.sizes.now c.len-number.result p c.args.notes
-    c.in-Ok.server.worker) c.at.ensures.meaning c.in-Ok.ensures.new in
+    let here : board_numbers (post_board c.at.result) ≡ board =
+    ap board_numbers (c.at.ensures.board ∙ fresh.0) in
+    let new = subst (λ b. IsNew c.args.setup.now c.args.sizes.now c.len-number.result b (seat_view c.in-Some.seat) c.args.notes
+    c.in-Ok.server.worker) here
+    (subst (λ (p : WorkerSeatView). IsNew c.args.setup.now c.args.sizes.now c.len-number.result
+    (board_numbers (post_board c.at.result)) p c.args.notes c.in-Ok.server.worker) c.at.ensures.view c.in-Ok.ensures.new) in
     let server : R k c.in-Ok.server =
     server-at c.args.setup.now c.args.sizes.now c.len-number.result k inboxes own
-    (seat_meaning c.in-Some.seat) board c.args.notes c.in-Ok.server
-    same c.requires.sizes is fresh.1 (ap board_numbers fresh.0) new c.in-Ok.ensures.works in
+    (seat_view c.in-Some.seat) board c.args.notes c.in-Ok.server
+    same c.requires.sizes is fresh.1 new c.in-Ok.ensures.works in
     let both = one-pushed R k
     (length (l.yielded ++ c.in-Some.seat ∷ [])) l.servers.items _ c.in-Ok.server c.in_ok-push-in-Ok.ensures.items
     l.invariant.len longer l.invariant.servers server in
@@ -91,7 +95,7 @@ loop-seat-preserved g c =
     c.remove-inboxes.result c.args.inboxes.items c.in_ok-hands.ensures.dealt c.in_ok-hands.ensures.len below
     l.invariant.hands c.remove-inboxes.ensures.value c.requires.closed in
     let none_done : Q k c.in-Ok.server =
-    new-server c.args.setup.now c.args.sizes.now c.len-number.result k inboxes own (seat_meaning c.in-Some.seat)
+    new-server c.args.setup.now c.args.sizes.now c.len-number.result k inboxes own (seat_view c.in-Some.seat) board
     c.args.notes c.in-Ok.server same c.requires.sizes c.requires.untouched is fresh.1 new c.in-Ok.ensures.inboxes
     (c.in-Ok.ensures.opened ∙ closed) in
     let news = one-pushed Q k

@@ -6,8 +6,8 @@ use Rattle.std.proofs.lemmas.List.{length-map, length_push, map-id}
 use Rattle.std.proofs.lemmas.Option.{get_or_from_slice_get, slice_get_within}
 use Rattle.like_core.specs.declared.view.View.TheVariants.{Coord}
 use Rattle.like_core.specs.declared.worker_state.WorkerState.TheVariants.{Gone}
-use Rattle.like_core.specs.Post.{PostView}
 use Rattle.like_board.specs.Own.{own_views}
+use Rattle.like_core.specs.declared.view.WorkerSeatView.{WorkerSeatView}
 use Rattle.like_crew.specs.OwnCrew.{IsOwnSeatOf, servers_in, those_in}
 use Rattle.like_crew.specs.OwnServer.{OwnServerView}
 use Rattle.like_crew.specs.Server.{IsLogOf, ServerView}
@@ -96,7 +96,6 @@ loop-slot-preserved g c =
     let after = l.yielded ++ c.in-Some.slot ∷ [] in
     let pushed = those-pushed l.yielded after s l.invariant.full (ap (λ o. l.yielded ++ o ∷ []) slot_is) in
     let more : servers_in after ≡ servers_in l.yielded ++ s.as_server ∷ [] = servers-pushed l.yielded after s pushed in
-    let post = (seated.each k s it.at).post in
     record {
       full = full-again l.yielded after s pushed;
       logs = subst (AllZip IsLogOf (servers_in after)) (sym c.in_ok-push.ensures.items)
@@ -106,7 +105,7 @@ loop-slot-preserved g c =
       seats = subst (AllZip IsOwnSeatOf (servers_in after)) (sym c.in_ok-push-2.ensures.items)
           (subst (λ ss. AllZip IsOwnSeatOf ss (l.seats.items ++ seat ∷ [])) (sym more)
           (pairs-more IsOwnSeatOf (servers_in l.yielded) l.seats.items s.as_server seat l.invariant.seats
-          (told.seat ∙ ap (λ (p : PostView). record p { board = [] }) post ∙ sym post)));
+          told.seat));
       len = ap (λ xs. length xs) c.in_ok-push-2.ensures.items ∙ length_push l.seats.items seat
           ∙ ap (λ n. n + 1) l.invariant.len ∙ sym (length_push l.yielded c.in-Some.slot);
       views = λ v h. left-more v (own_views c.args.board) (own_views l.board) (own_views c.finish-log.result.2) slots

@@ -7,11 +7,10 @@ use Rattle.std.proofs.lemmas.Option.{slice_get_read}
 use Rattle.like_requests.specs.Setup.{IsWithin}
 use Rattle.like_core.specs.declared.opening.Opening.{Opening}
 use Rattle.like_core.specs.declared.view.View.TheVariants.{Worker}
-use Rattle.like_core.specs.Post.{PostView}
-use Rattle.like_core.specs.views.Views.{post_of}
 use Rattle.like_board.specs.Lent.{lent_board}
 use Rattle.like_board.specs.Own.{own_opening, own_place, own_view, own_views}
-use Rattle.like_board.specs.OwnPosts.{lent_meaning}
+use Rattle.like_board.specs.OwnPosts.{lent_numbers, lent_view}
+use Rattle.like_core.specs.declared.view.WorkerSeatView.{WorkerSeatView}
 use Rattle.like_queue.specs.Inbox.{InboxView}
 use Rattle.like_tables.specs.Share.{dealt}
 use Rattle.like_promises.specs.WorkloadOf.{workload_of}
@@ -116,14 +115,10 @@ new-requires-clause-post g c =
     c.next.ensures.steps in
     let fresh = c.requires.seats k c.in-Some.seat
     (slice_get_read c.args.seats.items (length c.args.seats.items) k c.in-Some.seat refl turn.0 turn.1) in
-    subst (IsPostOf c.len-number.result c.args.setup.now.pages) (sym c.lend-post.ensures.meaning)
-    (subst (λ n. IsPostOf n c.args.setup.now.pages
-    (record (post_of (own_view c.in-Some.seat)) {
-      board = lent_board (own_views l.board) (own_place c.in-Some.seat) (Worker (own_view c.in-Some.seat));
-    }))
+    subst (IsPostOf c.len-number.result c.args.setup.now.pages) (sym c.lend-post.ensures.view)
+    (subst (λ n. IsPostOf n c.args.setup.now.pages (own_view c.in-Some.seat))
     (sym (c.len-number.ensures ∙ l.servers.ok.0 ∙ l.invariant.len))
-    (own-post c.args.setup.now (own_opening c.args.board) k (own_view c.in-Some.seat) _ c.requires.opening fresh.1
-    fresh.2))
+    (own-post c.args.setup.now (own_opening c.args.board) k (own_view c.in-Some.seat) c.requires.opening fresh.1))
 
 pub new-requires-clause-inboxes : goal.new-requires-clause-inboxes
 new-requires-clause-inboxes g c =
@@ -169,24 +164,25 @@ loop-seat-preserved g c =
     c.args.inboxes.items c.in_ok-hands.ensures.dealt c.in_ok-hands.ensures.len below l.invariant.hands
     c.remove-inboxes.ensures.value in
     let longer : length (l.yielded ++ c.in-Some.seat ∷ []) ≡ k + 1 = length_push l.yielded c.in-Some.seat in
-    let lent : PostView = lent_meaning c.lend-post.result in
+    let lent : WorkerSeatView = lent_view c.lend-post.result in
+    let board : List ℕ = lent_numbers c.lend-post.result in
     let fits : IsPostOf k c.args.setup.now.pages lent =
-    subst (IsPostOf k c.args.setup.now.pages) (sym c.lend-post.ensures.meaning)
-    (own-post c.args.setup.now z k (own_view c.in-Some.seat) _ c.requires.opening fresh.1 fresh.2) in
+    subst (IsPostOf k c.args.setup.now.pages) (sym c.lend-post.ensures.view)
+    (own-post c.args.setup.now z k (own_view c.in-Some.seat) c.requires.opening fresh.1) in
     let made : ServerView = c.in-Ok.server in
     let same : c.len-number.result ≡ k = c.len-number.ensures ∙ l.servers.ok.0 ∙ l.invariant.len in
     let server : R k c.back-server.result.0.as_server =
     subst (R k) (sym c.back-server.ensures.server)
-    (server-off (workload_of c.args.setup.now (plans_of inboxes)) workers lent.board c.args.notes k made
-    (server-at c.args.setup.now c.args.sizes.now c.len-number.result k inboxes mine lent lent.board c.args.notes made
-    same c.requires.sizes is fits refl c.in-Ok.ensures.new c.in-Ok.ensures.works)) in
+    (server-off (workload_of c.args.setup.now (plans_of inboxes)) workers board c.args.notes k made
+    (server-at c.args.setup.now c.args.sizes.now c.len-number.result k inboxes mine lent board c.args.notes made
+    same c.requires.sizes is fits c.in-Ok.ensures.new c.in-Ok.ensures.works)) in
     let closed = hand-closed g.I.Inbox.opened g.I.Inbox.view c.in_ok-hands.hands.items l.hands.items k workers
     c.remove-inboxes.result c.args.inboxes.items c.in_ok-hands.ensures.dealt c.in_ok-hands.ensures.len below
     l.invariant.hands c.remove-inboxes.ensures.value c.requires.closed in
     let none_done : Q k c.back-server.result.0.as_server =
     subst (Q k) (sym c.back-server.ensures.server)
     (new-off c.args.setup.now (plans_of inboxes) c.args.notes k made
-    (new-server c.args.setup.now c.args.sizes.now c.len-number.result k inboxes mine lent c.args.notes made same
+    (new-server c.args.setup.now c.args.sizes.now c.len-number.result k inboxes mine lent board c.args.notes made same
     c.requires.sizes c.requires.untouched is fits c.in-Ok.ensures.new c.in-Ok.ensures.inboxes
     (c.in-Ok.ensures.opened ∙ closed))) in
     let t : OwnServerView = c.back-server.result.0 in
@@ -196,8 +192,7 @@ loop-seat-preserved g c =
     servers-pushed l.servers.items after t pushed in
     let many : length (servers_in l.servers.items) ≡ k = length-map (those_in l.servers.items) (λ (s : OwnServerView). s.as_server) ∙ sized in
     let came = c.back-server.ensures.came (own_views l.board) (own_place c.in-Some.seat) (own_view c.in-Some.seat)
-    (ap (λ (p : PostView). p.board) c.in-Ok.ensures.new.at_post
-    ∙ ap (λ (p : PostView). p.board) c.lend-post.ensures.meaning) in
+    (c.in-Ok.ensures.new.at_board ∙ c.lend-post.ensures.numbers) in
     let both = one-pushed R k (length (l.yielded ++ c.in-Some.seat ∷ [])) (servers_in l.servers.items) (servers_in after)
     t.as_server more many longer l.invariant.servers server in
     let news = one-pushed Q k (length (l.yielded ++ c.in-Some.seat ∷ [])) (servers_in l.servers.items) (servers_in after)

@@ -27,7 +27,7 @@ returns-clause-case g c =
     let counts = subst (λ (t : StationView Asked). CountsLike s c.args.placed.user c.args.page c.count_like_at.result t)
     (sym c.store.ensures) c.count_like_at.ensures.counts in
     liked c.count_like_at.result c.store.new.station c.requires.accepted.verdict
-    (subst (λ (t : StationView Asked). likes_of t < t.post.limits.likes) same few)
+    (subst (λ (t : StationView Asked). likes_of t < t.post.opening.limits.likes) same few)
     refl
     (subst (λ (t : StationView Asked). CountsLike t c.args.placed.user c.args.page c.count_like_at.result c.store.new.station)
     same counts)
@@ -39,5 +39,5 @@ returns-then-likes-ge-MAX_LIKES-clause-case g c =
     let live = c.self.invariant.live in
     let same : s ≡ c.args.self.now.station = ap (λ (w : LiveView). w.station) c.self.view_is in
     full c.requires.accepted.verdict
-    (subst (λ (t : StationView Asked). likes_of t ≡ t.post.limits.likes) same
+    (subst (λ (t : StationView Asked). likes_of t ≡ t.post.opening.limits.likes) same
     (is-full s live.station live.limits (omega (arith, c.likes.ensures.likes, c.if-likes-ge-MAX_LIKES.true)))) refl refl

@@ -21,7 +21,7 @@ returns-then-try_sliced_at-clause-case g c =
     let counts = subst (λ (u : ℕ). CountsLike s u c.args.page None c.try_sliced_at.new.self)
     accepted.user_is (c.try_sliced_at.ensures.counts c.if-try_sliced_at.true) in
     liked None c.try_sliced_at.new.self accepted.verdict
-    (subst (λ (t : StationView Asked). likes_of t < t.post.limits.likes) same few)
+    (subst (λ (t : StationView Asked). likes_of t < t.post.opening.limits.likes) same few)
     refl
     (subst (λ (t : StationView Asked). CountsLike t c.args.user c.args.page None c.try_sliced_at.new.self)
     same counts)
@@ -37,7 +37,7 @@ returns-then-try_plain_at-clause-case g c =
     let counts = subst (λ (u : ℕ). CountsLike s u c.args.page (Some (c.try_plain_at.ensures.counts c.if-try_plain_at.true).0) c.try_plain_at.new.self)
     accepted.user_is (c.try_plain_at.ensures.counts c.if-try_plain_at.true).1 in
     liked (Some (c.try_plain_at.ensures.counts c.if-try_plain_at.true).0) c.try_plain_at.new.self accepted.verdict
-    (subst (λ (t : StationView Asked). likes_of t < t.post.limits.likes) same few)
+    (subst (λ (t : StationView Asked). likes_of t < t.post.opening.limits.likes) same few)
     refl
     (subst (λ (t : StationView Asked). CountsLike t c.args.user c.args.page (Some (c.try_plain_at.ensures.counts c.if-try_plain_at.true).0) c.try_plain_at.new.self)
     same counts)

@@ -2,7 +2,7 @@ use Rattle.std.proofs.Common.{◌≡◌, ℕ, zero, suc, ◌/◌, Bool, false, L
 use Rattle.std.proofs.lemmas.List.{length-replicate}
 use Rattle.like_core.specs.OpeningLimits.{has_slots, service_limits}
 use Rattle.like_core.specs.declared.limits.Limits.{Limits}
-use Rattle.like_core.specs.Post.{PostView}
+use Rattle.like_core.specs.declared.view.WorkerSeatView.{WorkerSeatView}
 use Rattle.like_seat.specs.StationView.{StationView, phase_at}
 use Rattle.like_seat.specs.Steps.{IsNewStation}
 use Rattle.like_tables.specs.Home.{Home, IsHomeOf}
@@ -17,17 +17,17 @@ use Rattle.like_live.proofs.Looking.{all-none}
 use Rattle.like_live.proofs.live_seat.LiveSeat.new.Goals as goal
 
 -- the parts of a new live seat agree
-new-parts : (post : PostView) (s : StationView Asked) (found : Waiting Found) (home : Home) (users : UserTable)
+new-parts : (board : List ℕ) (post : WorkerSeatView) (s : StationView Asked) (found : Waiting Found) (home : Home) (users : UserTable)
     (pages room : ℕ) (left : RoomView)
-    → IsNewStation post room users s
+    → IsNewStation board post room users s
     → found ≡ record { held = []; capacity = room }
     → IsHomeOf home users.share
     → left ≡ record { free = 0; left = room }
-    → post.limits ≡ service_limits
-    → post.marks ≡ replicate pages false
+    → post.opening.limits ≡ service_limits
+    → post.opening.marks ≡ replicate pages false
     → users.share.submitters ≡ users.share.workers
     → AreLiveSeatParts s found home pages left (room / 2)
-new-parts post s found home users pages room left new is home_is all limits marks alone =
+new-parts board post s found home users pages room left new is home_is all limits marks alone =
     let none = ap (λ (w : Waiting Asked). w.held) new.held in
     let capacity = ap (λ (w : Waiting Asked). w.capacity) new.held in
     let none_found = ap (λ (w : Waiting Found). w.held) is in
@@ -36,7 +36,7 @@ new-parts post s found home users pages room left new is home_is all limits mark
     record {
       live = record {
         station = new.is;
-        limits = ap (λ (p : PostView). p.limits) new.at_post ∙ limits;
+        limits = ap (λ (p : WorkerSeatView). p.opening.limits) new.at_post ∙ limits;
         home = subst (λ (t : UserTable). t.share.submitters ≡ t.share.workers) (sym new.last) alone;
         split = λ joined. none;
         own = all-none (IsOwn s) s.held.held none;
@@ -47,7 +47,7 @@ new-parts post s found home users pages room left new is home_is all limits mark
       capacity = ap (λ (w : Waiting Found). w.capacity) is ∙ sym capacity;
       home_is = subst (λ (t : UserTable). IsHomeOf home t.share) (sym new.last) home_is;
       pages_are =
-          sym (ap (λ (p : PostView). length p.marks) new.at_post ∙ ap (λ (xs : List Bool). length xs) marks
+          sym (ap (λ (p : WorkerSeatView). length p.opening.marks) new.at_post ∙ ap (λ (xs : List Bool). length xs) marks
           ∙ length-replicate {A = Bool} pages false);
       room_is = omega (arith, no_more, no_found, capacity, ap (λ (r : RoomView). r.left) all);
       early = λ some. absurd (omega (arith, some, ap (λ (r : RoomView). r.free) all));
@@ -79,7 +79,7 @@ of_service-requires-clause-service g c = record {
 
 pub invariant_of-result : goal.invariant_of-result
 invariant_of-result g c =
-    new-parts (g.P.Post.view c.args.post) c.in-Ok.station c.in_ok-found.found c.home-home.result c.args.last c.args.pages
+    new-parts (g.P.Post.board c.args.post) (g.P.Post.view c.args.post) c.in-Ok.station c.in_ok-found.found c.home-home.result c.args.last c.args.pages
     c.args.room c.new-in-Ok.result c.in-Ok.ensures.new c.in_ok-found.ensures c.home-home.ensures c.new-in-Ok.ensures
     c.requires.limits c.requires.marks c.requires.home
 
@@ -90,6 +90,7 @@ pub returns-in-Ok-clause-new : goal.returns-in-Ok-clause-new
 returns-in-Ok-clause-new g c =
     let new = c.in-Ok.ensures.new in
     record {
+      at_board = new.at_board;
       at_post = new.at_post;
       held = new.held;
       slice = new.slice;

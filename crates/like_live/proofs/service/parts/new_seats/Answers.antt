@@ -3,21 +3,20 @@ use Rattle.std.proofs.lemmas.Iterator.Adapters.{YieldsList-from_vec}
 use Rattle.std.proofs.lemmas.Iterator.Consumers.{YieldsList-turn, YieldsList-end}
 use Rattle.std.proofs.lemmas.List.{length_push}
 use Rattle.std.specs.Arc.{arc_value}
-use Rattle.like_board.specs.Seats.{board_id, AreFresh, BoardId, seat_board, seat_meaning, seat_view}
+use Rattle.like_board.specs.Seats.{board_id, AreFresh, BoardId, seat_board, seat_view}
 use Rattle.like_live.specs.LiveView.{LiveView}
 use Rattle.like_live.specs.Service.{IsOpenedSeat}
 use Rattle.like_board.proofs.Pushing.{each-pushed}
 use Rattle.std.proofs.lemmas.Option.{slice_get-get_or}
 use Rattle.like_board.specs.declared.worker_seat.WorkerSeat.{WorkerSeat}
-use Rattle.like_core.specs.Post.{IsFresh}
+use Rattle.like_core.specs.Post.{fresh}
 use Rattle.like_core.specs.declared.opening.Opening.{Opening as CoreOpening}
-use Rattle.like_core.specs.views.Views.{fresh}
 use Rattle.like_live.proofs.service.parts.new_seats.Goals as goal
 
 -- the next of a new board's seats is the one with this number
 at-turn : (board : BoardId) (z : CoreOpening) (workers : List WorkerSeat) (i number : ℕ) (w : WorkerSeat)
     → AreFresh board z workers → (i < length workers) × (w ≡ get_or workers i w) → number ≡ i
-    → (seat_board w ≡ board) × (seat_view w ≡ fresh z number) × IsFresh (seat_meaning w)
+    → (seat_board w ≡ board) × (seat_view w ≡ fresh z number)
 at-turn board z workers i number w all turn same =
     all number w (subst (λ n. slice_get workers n ≡ Some w) (sym same)
     (slice_get-get_or workers i w turn.0 ∙ ap Some (sym turn.1)))
@@ -64,7 +63,6 @@ new_seat-requires g c =
       there = omega (arith, turn.0, c.requires.len, number);
       here = worker.0;
       view = worker.1;
-      fresh = worker.2;
     }
 
 pub returns : goal.returns

@@ -4,9 +4,10 @@ use Rattle.std.proofs.lemmas.List.Elements.{All-nil}
 use Rattle.std.specs.List.{All}
 use Rattle.like_core.specs.Additions.{all_added}
 use Rattle.like_core.specs.OpeningLimits.{has_slots}
-use Rattle.like_core.specs.Post.{PostView, pages_of}
+use Rattle.like_core.specs.Post.{pages_of}
 use Rattle.like_core.specs.declared.limits.Limits.{Limits}
 use Rattle.like_core.specs.PageSteps.{additions_among}
+use Rattle.like_core.specs.declared.view.WorkerSeatView.{WorkerSeatView}
 use Rattle.like_requests.specs.declared.setup.Setup.{Setup}
 use Rattle.like_seat.proofs.Keeping.{sum-zeros}
 use Rattle.like_seat.specs.StationView.{StationView}
@@ -22,15 +23,16 @@ use Rattle.like_roles.proofs.Started.{follows-new}
 use Rattle.like_roles.proofs.worker.Worker.noting.Goals as goal
 
 -- a new post of a worker has the pages of its setup
-pages_are : (worker : ℕ) (s : Setup) (post : PostView) → IsPostOf worker s.pages post → pages_of post ≡ length s.pages
-pages_are worker s post p = ap (λ (xs : List Bool). length xs) p.marks ∙ length-map s.pages (λ q. q.split)
+pages_are : (worker : ℕ) (s : Setup) (post : WorkerSeatView) → IsPostOf worker s.pages post → pages_of post ≡ length s.pages
+pages_are worker s post p = ap (λ (xs : List Bool). length xs) p.opening.marks ∙ length-map s.pages (λ q. q.split)
 
 -- a new seat at its post and a new desk make a new worker
-new : (s : Setup) (sizes : List ℕ) (worker : ℕ) (post : PostView) (notes : Bool) (last : UserTable)
-    (seat : StationView Held) (d : Desk) → IsPostOf worker s.pages post → IsNewStation post s.stash last seat
+new : (s : Setup) (sizes : List ℕ) (worker : ℕ) (board : List ℕ) (post : WorkerSeatView) (notes : Bool) (last : UserTable)
+    (seat : StationView Held) (d : Desk) → IsPostOf worker s.pages post → IsNewStation board post s.stash last seat
     → last ≡ table_without_likes (share_of s.users (length sizes) s.workers worker)
-    → IsNewDesk s sizes worker notes d → IsNew s sizes worker post notes (view_of seat d)
-new s sizes worker post notes last seat d p n users k = record {
+    → IsNewDesk s sizes worker notes d → IsNew s sizes worker board post notes (view_of seat d)
+new s sizes worker board post notes last seat d p n users k = record {
+  at_board = n.at_board;
   at_post = n.at_post;
   held = n.held;
   slice = n.slice ∙ ap (λ (x : ℕ). replicate x 0) (pages_are worker s post p);
@@ -47,23 +49,23 @@ new s sizes worker post notes last seat d p n users k = record {
 }
 
 -- which is sound
-sound : (s : Setup) (sizes : List ℕ) (worker : ℕ) (post : PostView) (notes : Bool) (last : UserTable)
-    (seat : StationView Held) (d : Desk) → IsPostOf worker s.pages post → IsNewStation post s.stash last seat
+sound : (s : Setup) (sizes : List ℕ) (worker : ℕ) (board : List ℕ) (post : WorkerSeatView) (notes : Bool) (last : UserTable)
+    (seat : StationView Held) (d : Desk) → IsPostOf worker s.pages post → IsNewStation board post s.stash last seat
     → last ≡ table_without_likes (share_of s.users (length sizes) s.workers worker)
     → IsNewDesk s sizes worker notes d → worker < s.workers → IsSound seat d
-sound s sizes worker post notes last seat d p n users k is_worker =
+sound s sizes worker board post notes last seat d p n users k is_worker =
     let held : seat.held.held ≡ [] = ap (λ (x : Waiting Held). x.held) n.held in
     let none : length seat.held.held ≡ 0 = ap (λ (xs : List Held). length xs) held in
-    let zeros : sum seat.slice ≡ 0 = ap (λ (xs : List ℕ). sum xs) n.slice ∙ sum-zeros (length post.marks) in
+    let zeros : sum seat.slice ≡ 0 = ap (λ (xs : List ℕ). sum xs) n.slice ∙ sum-zeros (length post.opening.marks) in
     let additions : all_added (additions_among seat.post.did) ≡ 0 =
-    ap (λ (x : PostView). all_added (additions_among x.did)) n.at_post
-    ∙ ap (λ ds. all_added (additions_among ds)) p.fresh.did_nothing in
+    ap (λ (x : WorkerSeatView). all_added (additions_among x.did)) n.at_post
+    ∙ ap (λ ds. all_added (additions_among ds)) ap (λ v. v.did) p.fresh in
     let sized : length d.ended.items ≡ length d.left.items =
     ap (λ (xs : List Bool). length xs) k.ended ∙ length-replicate (length d.left.items) false in
     record {
       seat = n.is;
-      run = ap (λ (x : PostView). x.limits) n.at_post ∙ p.limits;
-      started = k.started ∙ ap is_some (sym (ap (λ (x : PostView). x.last) n.at_post ∙ p.fresh.never_looked));
+      run = ap (λ (x : WorkerSeatView). x.opening.limits) n.at_post ∙ p.opening.limits;
+      started = k.started ∙ ap is_some (sym (ap (λ (x : WorkerSeatView). x.last) n.at_post ∙ ap (λ v. v.last) p.fresh));
       places = subst (λ (t : UserTable). HasSubmitters t.share d) (sym (n.last ∙ users)) (record {
         is_worker = is_worker;
         sized = omega (arith, d.left.ok.0, d.ended.ok.0, sized);
@@ -89,30 +91,32 @@ new-requires-2-clause-run g c =
     let p = c.requires.post in
     let pages = c.args.setup.now.pages in
     record {
-      plain = ap (λ (l : Limits). has_slots l) p.limits;
-      marks = p.marks ∙ sym c.in-Ok.ensures.marks;
+      plain = ap (λ (l : Limits). has_slots l) p.opening.limits;
+      marks = p.opening.marks ∙ sym c.in-Ok.ensures.marks;
       small = omega (
         arith,
-        ap (λ (xs : List Bool). length xs) p.marks,
+        ap (λ (xs : List Bool). length xs) p.opening.marks,
         length-map pages (λ q. q.split),
         c.in-Ok.ensures.pages.entries.few,
       );
-      factor = p.factor;
+      factor = p.opening.factor;
     }
 
 pub invariant_of-result : goal.invariant_of-result
 invariant_of-result g c =
-    sound c.args.setup.now c.args.sizes.now c.args.worker (g.P.Post.view c.args.post) c.args.notes c.in-Ok.parts.last
+    sound c.args.setup.now c.args.sizes.now c.args.worker (g.P.Post.board c.args.post) (g.P.Post.view c.args.post) c.args.notes
+    c.in-Ok.parts.last
     c.in-Ok-new.seat c.in-Ok.parts.desk c.requires.post c.in-Ok-new.ensures.new c.in-Ok.ensures.last
     c.in-Ok.ensures.desk c.requires.is_worker
 
 pub returns-in-Ok-new-clause-new : goal.returns-in-Ok-new-clause-new
 returns-in-Ok-new-clause-new g c =
-    new c.args.setup.now c.args.sizes.now c.args.worker (g.P.Post.view c.args.post) c.args.notes c.in-Ok.parts.last
+    new c.args.setup.now c.args.sizes.now c.args.worker (g.P.Post.board c.args.post) (g.P.Post.view c.args.post) c.args.notes
+    c.in-Ok.parts.last
     c.in-Ok-new.seat c.in-Ok.parts.desk c.requires.post c.in-Ok-new.ensures.new c.in-Ok.ensures.last
     c.in-Ok.ensures.desk
 
 pub returns-in-Ok-new-clause-follows : goal.returns-in-Ok-new-clause-follows
 returns-in-Ok-new-clause-follows g c = λ workload same.
-    follows-new c.args.setup.now c.args.sizes.now c.args.worker (g.P.Post.view c.args.post) c.args.notes
+    follows-new c.args.setup.now c.args.sizes.now c.args.worker (g.P.Post.board c.args.post) (g.P.Post.view c.args.post) c.args.notes
     (view_of c.in-Ok-new.seat c.in-Ok.parts.desk) workload c.requires.post (returns-in-Ok-new-clause-new g c) same

@@ -23,15 +23,15 @@ invariant_of-result g c =
     let none : sum (by_page t.slice n) ≡ 0 =
     ap (λ (s : SplitSlice). sum (by_page s n)) slice ∙ ap sum (by_page-no_slice run_factor n n) ∙ sum-zeros n in
     let added : all_added (additions_among p.did) ≡ 0 =
-    ap (λ ds. all_added (additions_among ds)) c.requires.fresh.did_nothing in
-    let phase : phase_of p.state ≡ 0 = ap phase_of c.requires.fresh.runs in
+    ap (λ v. all_added (additions_among v.did)) c.requires.fresh in
+    let phase : phase_of p.state ≡ 0 = ap phase_of (ap (λ v. v.state) c.requires.fresh) in
     Kept-unsplit p t run_factor n
-    (λ runs. absurd (omega (arith, subst RunsSplit c.requires.fresh.runs runs)))
+    (λ runs. absurd (omega (arith, subst RunsSplit (ap (λ v. v.state) c.requires.fresh) runs)))
     slice (sym c.requires.run.factor) (omega arith)
     (λ page there. omega (arith, there, c.requires.run.small, bucket-run page, length-replicate {A = ℕ} n 0))
-    (λ plain. subst (λ ms. IsOfRun p ms) (sym (ap (λ v. v.items) e.marks)) c.requires.run)
+    (λ plain. subst (λ ms. IsOfRun p.opening ms) (sym (ap (λ v. v.items) e.marks)) c.requires.run)
     (λ slotted. absurd (cc (slotted, c.requires.run.plain)))
-    (c.requires.fresh.runs ∙ sym e.new.state) (omega (arith, e.new.likes, none, added)) (omega (arith, e.new.likes))
+    ((ap (λ v. v.state) c.requires.fresh) ∙ sym e.new.state) (omega (arith, e.new.likes, none, added)) (omega (arith, e.new.likes))
     c.requires.few_pages c.requires.limits (omega (arith, phase))
     (subst (λ (w : Waiting g.row.W.Denot). IsWaiting w) (sym e.new.held)
     (record { some = c.requires.some; few = c.requires.few; within = omega arith }))
@@ -44,6 +44,7 @@ returns-in-Ok-clause-new g c =
     e.new.slice ∙ ap (λ (ms : List Bool). no_slice run_factor (length ms)) (sym c.requires.run.marks) in
     record {
       is = (invariant_of-result g c).seat;
+      at_board = refl;
       at_post = refl;
       held = e.new.held;
       slice = ap (λ (s : SplitSlice). by_page s n) slice ∙ by_page-no_slice run_factor n n;

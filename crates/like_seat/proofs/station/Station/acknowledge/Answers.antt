@@ -9,7 +9,7 @@ invariant_of-self g c =
     Kept-answered (g.P.Post.view c.self.inside.post) (g.P.Post.view c.acknowledge.new.self) c.self.inside.tables
     c.phase.result c.self.invariant
     (subst (λ (v : StationView g.row.W.Denot). RunsJoined v.post.state) (sym c.self.view_is) c.requires.runs)
-    c.phase.ensures c.acknowledge.ensures
+    c.phase.ensures c.acknowledge.ensures.view
 
 pub returns-clause-seat : goal.returns-clause-seat
 returns-clause-seat g c = (invariant_of-self g c).seat

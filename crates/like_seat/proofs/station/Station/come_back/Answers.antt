@@ -1,12 +1,12 @@
 use Rattle.std.proofs.Common.{◌≡◌, true, ap, sym, subst, ◌∙◌}
 use Rattle.like_core.specs.declared.worker_state.WorkerState.TheVariants.{Gone}
 use Rattle.like_core.specs.OpeningLimits.{has_slots}
-use Rattle.like_core.specs.Post.{PostView}
 use Rattle.like_core.specs.core.Moves.{LetsReturn}
-use Rattle.like_seat.specs.Kept.{IsKept, view_of}
+use Rattle.like_core.specs.declared.view.WorkerSeatView.{WorkerSeatView}
+use Rattle.like_seat.specs.Kept.{IsKept, IsOfService, view_of}
 use Rattle.like_seat.specs.StationView.{StationView}
 use Rattle.like_seat.specs.Steps.{came_back, masks_entered, returned_at}
-use Rattle.like_seat.proofs.Entering.{IsKept-entered, IsOfService-ran, MayEnter-kept, empty-entered, idle-gone, ran-returned}
+use Rattle.like_seat.proofs.Entering.{IsKept-entered, MayEnter-kept, empty-entered, idle-gone, opening-ran, ran-returned}
 use Rattle.like_seat.proofs.station.Station.come_back.Goals as goal
 
 pub invariant_of-self-2 : goal.invariant_of-self-2
@@ -29,7 +29,7 @@ returns-clause-back g c = λ _.
     let phase = c.in-Some.phase in
     let mask = c.enter_slots.ensures.enters.0 in
     let e = c.enter_slots.ensures.enters.1 in
-    let entered : PostView → PostView = λ q. record q { masks = masks_entered q.masks phase mask } in
+    let entered : WorkerSeatView → WorkerSeatView = λ q. record q { masks = masks_entered q.masks phase mask } in
     let after : g.P.Post.view c.enter_slots.new.post ≡ returned_at p phase mask =
     ◌∙◌ {b = entered back} e.at_post (ap entered c.in-Some.ensures.back) in
     let slice = empty-entered p back (g.P.Post.view c.enter_slots.new.post) t c.enter_slots.new.self phase mask
@@ -37,9 +37,10 @@ returns-clause-back g c = λ _.
       phase,
       (
         mask,
-        ◌∙◌ {a = view_of (g.P.Post.view c.enter_slots.new.post) c.enter_slots.new.self}
-            {b = came_back (view_of p t) phase mask}
-            (λ m. record (view_of p t) {
+        ◌∙◌ {a = view_of (g.P.Post.board c.enter_slots.new.post) (g.P.Post.view c.enter_slots.new.post) c.enter_slots.new.self}
+            {b = came_back (view_of (g.P.Post.board c.self.inside.post) p t) phase mask}
+            (λ m. record (view_of (g.P.Post.board c.self.inside.post) p t) {
+              board = (c.enter_slots.ensures.board ∙ c.come_back.ensures.board) m;
               post = after m;
               held = (e.rest m).held;
               slice = slice m;
@@ -59,15 +60,16 @@ come_back-requires-clause-gone g c =
 
 pub come_back-requires-clause-lets : goal.come_back-requires-clause-lets
 come_back-requires-clause-lets g c =
-    subst (λ (v : StationView g.row.W.Denot). LetsReturn v.post.limits) (sym c.self.view_is) c.requires.lets
+    subst (λ (v : StationView g.row.W.Denot). LetsReturn v.post.opening.limits) (sym c.self.view_is) c.requires.lets
 
 pub invariant_of-self : goal.invariant_of-self
 invariant_of-self g c =
-    subst (λ (p : PostView). IsKept p c.self.inside.tables) (sym c.in_default.ensures.none) c.self.invariant
+    subst (λ (p : WorkerSeatView). IsKept p c.self.inside.tables) (sym c.in_default.ensures.none) c.self.invariant
 
 pub returns-in_default-clause-none : goal.returns-in_default-clause-none
 returns-in_default-clause-none g c = λ _.
-    ap (λ (p : PostView). view_of p c.self.inside.tables) c.in_default.ensures.none ∙ c.self.view_is
+    ◌∙◌ {b = view_of (g.P.Post.board c.self.inside.post) (g.P.Post.view c.self.inside.post) c.self.inside.tables}
+    (λ m. view_of (c.come_back.ensures.board m) (c.in_default.ensures.none m) c.self.inside.tables) c.self.view_is
 
 pub returns-in_default-clause-seat : goal.returns-in_default-clause-seat
 returns-in_default-clause-seat g c = (invariant_of-self g c).seat
@@ -85,7 +87,8 @@ pub enter_slots-requires-clause-service : goal.enter_slots-requires-clause-servi
 enter_slots-requires-clause-service g c =
     let p = g.P.Post.view c.self.inside.post in
     let back = g.P.Post.view c.come_back.new.post in
-    let slotted = subst (λ (v : StationView g.row.W.Denot). has_slots v.post.limits ≡ true) (sym c.self.view_is)
+    let slotted = subst (λ (v : StationView g.row.W.Denot). has_slots v.post.opening.limits ≡ true) (sym c.self.view_is)
     c.requires.slotted in
-    IsOfService-ran p back c.self.inside.tables c.in-Some.phase c.self.invariant
-    (ran-returned p back c.in-Some.phase c.in-Some.ensures.back) slotted
+    subst IsOfService
+    (sym (opening-ran p back c.in-Some.phase (ran-returned p back c.in-Some.phase c.in-Some.ensures.back)))
+    (c.self.invariant.service slotted)

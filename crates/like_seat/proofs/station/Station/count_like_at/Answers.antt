@@ -1,8 +1,9 @@
 use Rattle.std.proofs.Common.{◌≡◌, ℕ, ◌+◌, ◌<◌, true, get_or, length, length-set, set, sum, refl, sym, ap, subst, ◌∙◌, arith}
 use Rattle.like_core.specs.Additions.{addition}
 use Rattle.like_core.specs.PageSteps.{additions_among}
-use Rattle.like_core.specs.Post.{PostView, added, pages_of, slices}
+use Rattle.like_core.specs.Post.{added, pages_of, slices}
 use Rattle.like_core.specs.WorkerState.{IsRunning, phase_of}
+use Rattle.like_core.specs.declared.view.WorkerSeatView.{WorkerSeatView}
 use Rattle.like_tables.specs.SplitSlice.{SplitSlice, bucket_in, by_page, has_split, likes_in}
 use Rattle.like_tables.proofs.ByPage.{by_page-with_likes, get_or-by_page}
 use Rattle.like_seat.specs.Kept.{IsKept, view_of}
@@ -21,8 +22,8 @@ invariant_of-self g c =
     let page : ℕ = c.args.page in
     let there : page < n =
     subst (λ (v : StationView g.row.W.Denot). page < pages_of v.post) (sym c.self.view_is) c.requires.there in
-    let room : likes_of (view_of p t) < p.limits.likes =
-    subst (λ (v : StationView g.row.W.Denot). likes_of v < v.post.limits.likes) (sym c.self.view_is) c.requires.fits in
+    let room : likes_of (view_of (g.P.Post.board c.self.inside.post) p t) < p.opening.limits.likes =
+    subst (λ (v : StationView g.row.W.Denot). likes_of v < v.post.opening.limits.likes) (sym c.self.view_is) c.requires.fits in
     let runs : IsRunning p.state =
     subst (λ (v : StationView g.row.W.Denot). IsRunning v.post.state) (sym c.self.view_is) c.requires.running in
     let is : slices c.args.self.now.post page ≡ true =
@@ -63,8 +64,8 @@ returns-then-is_sliced-clause-counts g c =
     ∙ ap (λ (x : ℕ). set (by_page t.slice n) page (x + 1)) (sym had) in
     let counted = λ (v : StationView g.row.W.Denot). liked_last (sliced v page) c.args.placed.user page in (
       is,
-      ◌∙◌ {b = counted (view_of p t)}
-          (λ i. record (view_of p t) {
+      ◌∙◌ {b = counted (view_of (g.P.Post.board c.self.inside.post) p t)}
+          (λ i. record (view_of (g.P.Post.board c.self.inside.post) p t) {
             slice = likes i;
             sliced = c.then-self-inside.ensures i;
             last = c.set_at.ensures.table i;
@@ -81,11 +82,11 @@ invariant_of-self-2 g c =
     let t = c.self.inside.tables in
     let k = c.self.invariant in
     let page : ℕ = c.args.page in
-    let room : likes_of (view_of p t) < p.limits.likes =
-    subst (λ (v : StationView g.row.W.Denot). likes_of v < v.post.limits.likes) (sym c.self.view_is) c.requires.fits in
+    let room : likes_of (view_of (g.P.Post.board c.self.inside.post) p t) < p.opening.limits.likes =
+    subst (λ (v : StationView g.row.W.Denot). likes_of v < v.post.opening.limits.likes) (sym c.self.view_is) c.requires.fits in
     let one = addition (phase_of p.state) page c.add-2.result 1 in
     let more = all_added-push (additions_among p.did) one in
-    subst (λ (q : PostView). IsKept q (record t { likes = c.count-2.new.self; last = c.set_at-2.new.self }))
+    subst (λ (q : WorkerSeatView). IsKept q (record t { likes = c.count-2.new.self; last = c.set_at-2.new.self }))
     (sym c.add-2.ensures.view)
     (Kept-written p (added p page c.add-2.result 1).did t
     (record t { likes = c.count-2.new.self; last = c.set_at-2.new.self }) k refl refl refl refl refl k.slice k.sums
@@ -102,7 +103,7 @@ returns-clause-counts g c =
     let user : ℕ = c.args.placed.user in
     let old : ℕ = c.add-2.result in (
       sym (c.is_sliced.ensures.sliced c.requires.there) ∙ c.if-is_sliced.false,
-      ◌∙◌ {b = liked_last (with_addition (view_of p t) page old 1) user page}
-          (λ m. view_of (c.add-2.ensures.view m) (record t { likes = c.count-2.new.self; last = c.set_at-2.ensures.table m }))
+      ◌∙◌ {b = liked_last (with_addition (view_of (g.P.Post.board c.self.inside.post) p t) page old 1) user page}
+          (λ m. view_of (c.add-2.ensures.board m) (c.add-2.ensures.view m) (record t { likes = c.count-2.new.self; last = c.set_at-2.ensures.table m }))
           (ap (λ (s : StationView g.row.W.Denot). liked_last (with_addition s page old 1) user page) c.self.view_is),
     )

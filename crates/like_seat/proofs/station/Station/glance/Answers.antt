@@ -1,6 +1,8 @@
 use Rattle.std.proofs.Common.{◌≡◌, true, ℕ, ◌+◌, ◌<◌, get_or, sym, refl, ap, subst, ◌∙◌, arith}
-use Rattle.like_core.specs.Post.{PostView, has_glanced, pages_of, slices}
+use Rattle.std.proofs.lemmas.List.Sums.{get_or-le-sum_by}
+use Rattle.like_core.specs.Post.{has_glanced, pages_of, slices}
 use Rattle.like_core.specs.WorkerState.{IsRunning}
+use Rattle.like_core.specs.declared.view.WorkerSeatView.{WorkerSeatView}
 use Rattle.like_tables.specs.Placed.{IsPlaced}
 use Rattle.like_tables.specs.SplitSlice.{by_page}
 use Rattle.like_tables.proofs.ByPage.{get_or-by_page}
@@ -21,14 +23,14 @@ returns-clause-glances g c =
     let own : c.likes-own.result ≡ get_or (by_page t.slice (pages_of p)) page 0 =
     c.likes-own.ensures ∙ sym (get_or-by_page t.slice (pages_of p) page 0 there) in
     let shown : Seen = record { last = c.last_at-last.result; count = c.glance.result + c.likes-own.result } in
-    subst (λ (v : StationView g.row.W.Denot). Glances v c.args.placed.user page shown (view_of (g.P.Post.view c.glance.new.self) t))
-    c.self.view_is
+    subst (λ (v : StationView g.row.W.Denot). Glances v c.args.placed.user page shown
+    (view_of (g.P.Post.board c.glance.new.self) (g.P.Post.view c.glance.new.self) t)) c.self.view_is
     (record {
       count = c.glance.result;
       last = c.last_at-last.ensures;
       counts = omega (arith, own);
       own = omega (arith, own, c.glance.ensures.own);
-      glanced = ap (λ (q : PostView). view_of q t) c.glance.ensures.view;
+      glanced = λ m. view_of (c.glance.ensures.board m) (c.glance.ensures.view m) t;
     })
 
 pub invariant_of-self : goal.invariant_of-self
@@ -69,3 +71,16 @@ glance-requires g c =
       sliced = subst (λ (v : StationView g.row.W.Denot). slices v.post page ≡ true) (sym c.self.view_is)
           c.requires.sliced;
     }
+
+pub overflow_add-result : goal.overflow_add-result
+overflow_add-result g c =
+    let p = g.P.Post.view c.self.inside.post in
+    let slice = by_page c.self.inside.tables.slice (pages_of p) in
+    let page : ℕ = c.args.page in
+    let there : page < pages_of p =
+    subst (λ (v : StationView g.row.W.Denot). page < pages_of v.post) (sym c.self.view_is) c.requires.there in
+    let own : c.likes-own.result ≡ get_or slice page 0 =
+    c.likes-own.ensures ∙ sym (get_or-by_page c.self.inside.tables.slice (pages_of p) page 0 there) in
+    let seat = c.self.invariant.seat in
+    let within = get_or-le-sum_by (λ (n : ℕ). n) slice page 0 (omega (arith, there, seat.sized)) in
+    omega (arith, own, within, seat.few, seat.limits.own, c.glance.ensures.bounded)

@@ -13,12 +13,12 @@ pub loop-merged-init : goal.loop-merged-init
 loop-merged-init g c = record {
   within = omega arith;
   likes = refl;
-  merging = ([], Merging-start c.args.self.now.post.factor c.args.self.now);
+  merging = ([], Merging-start c.args.self.now.post.opening.factor c.args.self.now);
 }
 
 pub loop-merged-preserved : goal.loop-merged-preserved
 loop-merged-preserved g c =
-    let f : ℕ = c.args.self.now.post.factor in
+    let f : ℕ = c.args.self.now.post.opening.factor in
     let s0 = c.args.self.now in
     let s = c.loop-merged.self in
     let t = c.merge_next.new.self in
@@ -26,8 +26,8 @@ loop-merged-preserved g c =
     let adds = i.merging.0 in
     let m = c.in-Some.merged in
     let merges = subst (λ r. MergesNext s c.loop-merged.from r t) c.in-Some.is c.merge_next.ensures.merges in
-    let was : s.post.factor ≡ f = ap (λ (x : StationView g.row.W.Denot). x.post.factor) i.merging.1.rest in
-    let still : t.post.factor ≡ f = ap (λ (x : StationView g.row.W.Denot). x.post.factor) merges.merged ∙ was in
+    let was : s.post.opening.factor ≡ f = ap (λ (x : StationView g.row.W.Denot). x.post.opening.factor) i.merging.1.rest in
+    let still : t.post.opening.factor ≡ f = ap (λ (x : StationView g.row.W.Denot). x.post.opening.factor) merges.merged ∙ was in
     let next = subst (λ (x : ℕ). IsNext x s.slice c.loop-merged.from m.page) was merges.next in
     let from : c.bucket-from.result ≡ bucket f m.page = c.bucket-from.ensures ∙ ap (λ (x : ℕ). bucket x m.page) still in
     let now : List Addition = adds ++ merge_of s m.page m.old ∷ [] in
@@ -54,7 +54,7 @@ sized {W} f s0 s t n adds m is seat =
 
 pub returns-clause-merges : goal.returns-clause-merges
 returns-clause-merges g c =
-    let f : ℕ = c.args.self.now.post.factor in
+    let f : ℕ = c.args.self.now.post.opening.factor in
     let s0 = c.args.self.now in
     let l = c.loop-merged in
     let t = c.merge_next.new.self in
@@ -63,7 +63,7 @@ returns-clause-merges g c =
     let done = subst (λ r. MergesNext l.self l.from r t) c.in_default.is c.merge_next.ensures.merges in
     let pages = sized f s0 l.self t l.from adds m done.1 c.merge_next.ensures.seat in
     let none = subst (λ (x : ℕ). NoneFrom x l.self.slice l.from)
-    (ap (λ (x : StationView g.row.W.Denot). x.post.factor) m.rest) done.0 in
+    (ap (λ (x : StationView g.row.W.Denot). x.post.opening.factor) m.rest) done.0 in
     (adds, Merging-done f s0 l.self t l.from adds m none done.1 pages)
 
 pub returns-clause-empty : goal.returns-clause-empty

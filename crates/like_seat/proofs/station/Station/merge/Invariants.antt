@@ -9,7 +9,7 @@ abbrev pub invariant-loop-merged : goal.invariant-loop-merged
 invariant-loop-merged g l = record {
   within : l.from ≤ buckets;
   likes : likes_of l.self ≡ likes_of l.initial.self;
-  merging : (adds : List Addition) × Merging l.initial.self.post.factor l.initial.self l.self l.from adds;
+  merging : (adds : List Addition) × Merging l.initial.self.post.opening.factor l.initial.self l.self l.from adds;
 }
 
 abbrev pub decreases-loop-merged : goal.decreases-loop-merged

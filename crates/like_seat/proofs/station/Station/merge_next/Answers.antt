@@ -1,6 +1,7 @@
 use Rattle.std.proofs.Common.{◌≡◌, ℕ, set, refl, sym, ap, subst, ◌∙◌, get_or}
-use Rattle.like_core.specs.Post.{PostView, added, pages_of}
+use Rattle.like_core.specs.Post.{added, pages_of}
 use Rattle.like_core.specs.WorkerState.{SawEnding}
+use Rattle.like_core.specs.declared.view.WorkerSeatView.{WorkerSeatView}
 use Rattle.like_tables.specs.SplitSlice.{SplitSlice, by_page}
 use Rattle.like_tables.proofs.ByPage.{by_page-with_likes, get_or-by_page}
 use Rattle.like_seat.specs.declared.merged.Merged.{Merged}
@@ -16,14 +17,14 @@ returns-in_default-clause-merges g c =
     let t = c.self.inside.tables in
     let k = c.self.invariant in
     let none = NoneFrom-sliced (g.P.Post.view c.self.inside.post) t.slice
-    (g.P.Post.view c.self.inside.post).factor c.args.from k.factor k.splits
+    (g.P.Post.view c.self.inside.post).opening.factor c.args.from k.factor k.splits
     c.in_default.ensures.none in
-    (subst (λ (v : StationView g.row.W.Denot). NoneFrom v.post.factor v.slice c.args.from) c.self.view_is none, refl)
+    (subst (λ (v : StationView g.row.W.Denot). NoneFrom v.post.opening.factor v.slice c.args.from) c.self.view_is none, refl)
 
 pub invariant_of-self : goal.invariant_of-self
 invariant_of-self g c =
     let t = c.self.inside.tables in
-    subst (λ (p : PostView). IsKept p (record t { slice = c.take-likes.new.self })) (sym c.add-old.ensures.view)
+    subst (λ (p : WorkerSeatView). IsKept p (record t { slice = c.take-likes.new.self })) (sym c.add-old.ensures.view)
     (IsKept-merged (g.P.Post.view c.self.inside.post) t c.in-Some.page c.add-old.result c.take-likes.result
     c.take-likes.new.self c.self.invariant c.in-Some.ensures.next.split c.take-likes.ensures.taken
     c.take-likes.ensures.emptied c.take-likes.ensures.total c.take-likes.ensures.slice)
@@ -44,16 +45,21 @@ returns-clause-merges g c =
     c.add-old.ensures.view ∙ ap (λ (k : ℕ). added p page old k) likes in
     let slices : by_page c.take-likes.new.self (pages_of (g.P.Post.view c.add-old.new.self))
     ≡ set (by_page t.slice n) page 0 =
-    ap (λ (q : PostView). by_page c.take-likes.new.self (pages_of q)) c.add-old.ensures.view
+    ap (λ (q : WorkerSeatView). by_page c.take-likes.new.self (pages_of q)) c.add-old.ensures.view
     ∙ ap (λ (s : SplitSlice). by_page s n) c.take-likes.ensures.emptied
     ∙ by_page-with_likes t.slice n page 0 k.slice next.split there in
     let m : Merged = record { page = page; old = old; likes = c.take-likes.result } in
     subst (λ (v : StationView g.row.W.Denot). MergesPage v c.args.from m
-    (view_of (g.P.Post.view c.add-old.new.self) (record t { slice = c.take-likes.new.self }))) c.self.view_is
+    (view_of (g.P.Post.board c.add-old.new.self) (g.P.Post.view c.add-old.new.self)
+    (record t { slice = c.take-likes.new.self }))) c.self.view_is
     (record {
-      next = IsNext-sliced p t.slice p.factor c.args.from page k.slice k.factor k.splits next;
+      next = IsNext-sliced p t.slice p.opening.factor c.args.from page k.slice k.factor k.splits next;
       likes = likes;
-      merged = λ i. record (view_of p t) { post = posts i; slice = slices i };
+      merged = λ i. record (view_of (g.P.Post.board c.self.inside.post) p t) {
+        board = c.add-old.ensures.board i;
+        post = posts i;
+        slice = slices i;
+      };
     })
 
 pub returns-clause-seat : goal.returns-clause-seat

@@ -25,7 +25,7 @@ returns-clause-first g c =
 
 pub returns-clause-rest : goal.returns-clause-rest
 returns-clause-rest g c =
-    let v = view_of (g.P.Post.view c.self.inside.post) c.self.inside.tables in
+    let v = view_of (g.P.Post.board c.self.inside.post) (g.P.Post.view c.self.inside.post) c.self.inside.tables in
     ◌∙◌ {b = without_first v} (λ m. record v { held = c.pop_front.ensures.rest m })
     (ap (λ (s : StationView g.row.W.Denot). without_first s) c.self.view_is)
 

@@ -10,7 +10,7 @@ invariant_of-self g c =
     Kept-left (g.P.Post.view c.self.inside.post) (g.P.Post.view c.retire.new.self) c.self.inside.tables Gone
     c.self.invariant
     (subst (λ (v : StationView g.row.W.Denot). RunsJoined v.post.state) (sym c.self.view_is) c.requires)
-    (λ runs. runs) (omega arith) c.retire.ensures
+    (λ runs. runs) (omega arith) c.retire.ensures.view
 
 pub returns-clause-seat : goal.returns-clause-seat
 returns-clause-seat g c = (invariant_of-self g c).seat

@@ -1,8 +1,9 @@
 use Rattle.std.proofs.Common.{◌≡◌, false, ℕ, ◌+◌, ◌^◌, ◌<◌, ◌≤◌, refl, sym, ap, subst, ◌∙◌, arith}
 use Rattle.like_core.specs.Additions.{addition}
-use Rattle.like_core.specs.Post.{PostView, added, pages_of, slices}
+use Rattle.like_core.specs.Post.{added, pages_of, slices}
 use Rattle.like_core.specs.WorkerState.{IsRunning, phase_of}
 use Rattle.like_core.specs.PageSteps.{additions_among}
+use Rattle.like_core.specs.declared.view.WorkerSeatView.{WorkerSeatView}
 use Rattle.like_seat.specs.LikeCount.{LikeCountView}
 use Rattle.like_seat.specs.Kept.{IsKept, view_of}
 use Rattle.like_seat.specs.StationView.{StationView, likes_of}
@@ -18,13 +19,13 @@ invariant_of-self-2 g c =
     let t = c.self.inside.tables in
     let k = c.self.invariant in
     let page : ℕ = c.args.page in
-    let most : 2 ^ 56 ≤ p.limits.likes =
-    subst (λ (v : StationView g.row.W.Denot). 2 ^ 56 ≤ v.post.limits.likes) (sym c.self.view_is) c.requires.most in
+    let most : 2 ^ 56 ≤ p.opening.limits.likes =
+    subst (λ (v : StationView g.row.W.Denot). 2 ^ 56 ≤ v.post.opening.limits.likes) (sym c.self.view_is) c.requires.most in
     let few : t.likes.likes < 2 ^ 56 = c.try_count.ensures.room c.if-not-try_count.false in
     let one_more : c.try_count.new.self.likes ≡ t.likes.likes + 1 = c.try_count.ensures.added c.if-not-try_count.false in
     let one = addition (phase_of p.state) page c.add.result 1 in
     let more = all_added-push (additions_among p.did) one in
-    subst (λ (q : PostView). IsKept q (record t { likes = c.try_count.new.self; last = c.set_at.new.self }))
+    subst (λ (q : WorkerSeatView). IsKept q (record t { likes = c.try_count.new.self; last = c.set_at.new.self }))
     (sym c.add.ensures.view)
     (Kept-written p (added p page c.add.result 1).did t
     (record t { likes = c.try_count.new.self; last = c.set_at.new.self }) k refl refl refl refl refl k.slice k.sums (omega (arith, k.likes, more, one_more)) (omega (arith, few, most, one_more)))
@@ -48,8 +49,8 @@ returns-clause-counts g c = λ _.
       old,
       (
         c.requires.plain,
-        ◌∙◌ {b = liked_last (with_addition (view_of p t) page old 1) user page}
-            (λ m. view_of (c.add.ensures.view m)
+        ◌∙◌ {b = liked_last (with_addition (view_of (g.P.Post.board c.self.inside.post) p t) page old 1) user page}
+            (λ m. view_of (c.add.ensures.board m) (c.add.ensures.view m)
             (record t { likes = c.try_count.new.self; last = c.set_at.ensures.table m }))
             (ap (λ (s : StationView g.row.W.Denot). liked_last (with_addition s page old 1) user page) c.self.view_is),
       ),
@@ -79,8 +80,8 @@ add-requires g c =
     subst (λ (v : StationView g.row.W.Denot). IsRunning v.post.state) (sym c.self.view_is) c.requires.running in
     let plain : slices p page ≡ false =
     subst (λ (v : StationView g.row.W.Denot). slices v.post page ≡ false) (sym c.self.view_is) c.requires.plain in
-    let most : 2 ^ 56 ≤ p.limits.likes =
-    subst (λ (v : StationView g.row.W.Denot). 2 ^ 56 ≤ v.post.limits.likes) (sym c.self.view_is) c.requires.most in
+    let most : 2 ^ 56 ≤ p.opening.limits.likes =
+    subst (λ (v : StationView g.row.W.Denot). 2 ^ 56 ≤ v.post.opening.limits.likes) (sym c.self.view_is) c.requires.most in
     let few : t.likes.likes < 2 ^ 56 = c.try_count.ensures.room c.if-not-try_count.false in
     record {
       runs = runs;

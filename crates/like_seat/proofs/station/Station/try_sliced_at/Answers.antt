@@ -20,8 +20,8 @@ invariant_of-self-2 g c =
     let page : ℕ = c.args.page in
     let there : page < n =
     subst (λ (v : StationView g.row.W.Denot). page < pages_of v.post) (sym c.self.view_is) c.requires.there in
-    let most : 2 ^ 56 ≤ p.limits.likes =
-    subst (λ (v : StationView g.row.W.Denot). 2 ^ 56 ≤ v.post.limits.likes) (sym c.self.view_is) c.requires.most in
+    let most : 2 ^ 56 ≤ p.opening.limits.likes =
+    subst (λ (v : StationView g.row.W.Denot). 2 ^ 56 ≤ v.post.opening.limits.likes) (sym c.self.view_is) c.requires.most in
     let few : t.likes.likes < 2 ^ 56 = c.try_count.ensures.room c.if-not-try_count.false in
     let one_more : c.try_count.new.self.likes ≡ t.likes.likes + 1 = c.try_count.ensures.added c.if-not-try_count.false in
     let runs : IsRunning p.state =
@@ -60,8 +60,8 @@ returns-clause-counts g c =
     ∙ ap (λ (x : ℕ). set (by_page t.slice n) page (x + 1)) (sym had) in
     let counted = λ (v : StationView g.row.W.Denot). liked_last (sliced v page) c.args.placed.user page in λ _. (
       c.requires.split,
-      ◌∙◌ {b = counted (view_of p t)}
-          (λ i. record (view_of p t) {
+      ◌∙◌ {b = counted (view_of (g.P.Post.board c.self.inside.post) p t)}
+          (λ i. record (view_of (g.P.Post.board c.self.inside.post) p t) {
             slice = likes i;
             sliced = c.then-self-inside.ensures i;
             last = c.set_at.ensures.table i;

@@ -24,10 +24,11 @@ returns g c =
     ap (λ (k : ℕ). record { phase = k; mask = mask } ∷ p.masks) (ap phase_of c.requires.may.runs)
     ∙ sym (cond-true (phase % 2 == 1) (read ∷ p.masks) p.masks (eq-eqb (phase % 2) 1 odd)) in
     record {
+      board = c.slots-used.ensures.board;
       enters = (
         mask,
         record {
-          at_post = c.slots-used.ensures.view ∙ (λ i. record p { masks = masks i });
+          at_post = c.slots-used.ensures.view ∙ (λ i. record p { masks = masks i; slots = sym c.requires.may.unread i });
           rest = refl {a = record c.args.self.now { state = Runs phase; slice = c.split_slots.new.slice }};
           split = λ _. filled-service p slots c.slots-used.result c.args.self.now.slice c.split_slots.new.slice
               c.requires.service c.requires.may.limits c.requires.may.few_pages c.slots-used.ensures.choice

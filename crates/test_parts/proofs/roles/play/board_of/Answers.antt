@@ -1,5 +1,6 @@
-use Rattle.std.proofs.Common.{ℕ, ◌^◌, ◌<◌, ◌≤◌, List, length, get_or, ap, sym, subst, ◌∙◌}
+use Rattle.std.proofs.Common.{ℕ, ◌^◌, ◌<◌, ◌≤◌, List, length, get_or, ap, refl, sym, subst, ◌∙◌}
 use Rattle.std.proofs.lemmas.Result.{IfOk-weaker}
+use Rattle.like_roles.specs.worker.New.{IsPostOf}
 use Rattle.test_parts.proofs.Playing.{counts_small}
 use Rattle.test_parts.proofs.roles.play.board_of.Goals as goal
 
@@ -25,12 +26,14 @@ returns-clause-seats c =
     IfOk-weaker c.new.result _ _
     (λ r fresh worker seat at. let is = fresh worker seat at in (
       is.0,
-      record {
-        is_his = ap (λ v. v.worker) is.1;
-        marks = ap (λ v. v.opening.marks) is.1 ∙ (c.as_slice-2.ensures.value ∙ c.in_ok-marks.ensures.marks);
-        limits = ap (λ v. v.opening.limits) is.1;
-        factor = ap (λ v. v.opening.factor) is.1;
-        fresh = is.2;
-      },
+      subst (IsPostOf worker c.args.setup.now.pages) (sym is.1) (record {
+        is_his = refl;
+        opening = record {
+          marks = c.as_slice-2.ensures.value ∙ c.in_ok-marks.ensures.marks;
+          limits = refl;
+          factor = refl;
+        };
+        fresh = refl;
+      }),
     ))
     c.new.ensures.views

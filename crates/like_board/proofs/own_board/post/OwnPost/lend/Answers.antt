@@ -3,7 +3,7 @@ use mathlib.Core.Option.{some-injective}
 use lib.ListN.{get_elem?}
 use Rattle.like_core.specs.declared.view.View.TheVariants.{Worker}
 use Rattle.like_board.specs.Lent.{lent_board}
-use Rattle.like_board.specs.Own.{own_meaning, own_place, own_view, own_views}
+use Rattle.like_board.specs.Own.{own_place, own_view, own_views}
 use Rattle.like_board.proofs.Lending.{inside}
 use Rattle.like_board.proofs.own_board.post.OwnPost.lend.Goals as goal
 
@@ -14,11 +14,9 @@ seat-before-requires c =
     let is = seat.placed in
     omega (arith, there, is)
 
-pub returns-clause-meaning : goal.returns-clause-meaning
-returns-clause-meaning c =
+pub returns-clause-numbers : goal.returns-clause-numbers
+returns-clause-numbers c =
     let seat = c.args.seat in
     let views = own_views c.args.board in
-    let is : c.seat-before.result.me.0 ≡ Worker (own_view seat) =
-    some-injective c.seat-before.result.me.0 (Worker (own_view seat))
-    (sym c.seat-before.ensures.view ∙ ap (get_elem? views) (sym seat.placed) ∙ c.requires) in
-    λ m. record (own_meaning seat) { board = lent_board views (own_place seat) (is m) }
+    ap (lent_board views (own_place seat)) (some-injective c.seat-before.result.me.0 (Worker (own_view seat))
+    (sym c.seat-before.ensures.view ∙ ap (get_elem? views) (sym seat.placed) ∙ c.requires))

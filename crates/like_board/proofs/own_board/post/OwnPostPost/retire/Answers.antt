@@ -1,6 +1,5 @@
 use Rattle.std.proofs.Common.{ap}
 use Rattle.like_core.specs.declared.view.WorkerSeatView.{WorkerSeatView}
-use Rattle.like_core.specs.views.Views.{post_of}
 use Rattle.like_board.proofs.LentPosts.{here_after, looked_after, numbers_after}
 use Rattle.like_board.proofs.own_board.post.OwnPostPost.retire.Goals as goal
 
@@ -16,9 +15,7 @@ invariant_of-self c =
       looked = looked_after p b s told.place told.board (ap (λ (v : WorkerSeatView). v.looks) told.view);
     }
 
-pub returns-clause-view : goal.returns-clause-view
-returns-clause-view c =
-    let p = c.args.self.now in
+pub returns-clause-board : goal.returns-clause-board
+returns-clause-board c =
     let told = c.retire.ensures in
-    let numbers = numbers_after p c.retire.new.board c.retire.new.self told.place told.board in
-    λ m. record (post_of (told.view m)) { board = numbers m }
+    numbers_after c.args.self.now c.retire.new.board c.retire.new.self told.place told.board

@@ -84,7 +84,7 @@ returns-in_default-next_place-clause-works g c =
     let d = c.args.self.now in
     let empty = none_first s.held.held (sym c.next_held.ensures.first ∙ c.in_default.is) in
     let same = unheld s c.next_held.new.self empty c.next_held.ensures.rest in
-    let all : TookAllEnds (view_of s d) =
+    let all : TookAllEnds d.ended.items =
     subst (λ xs. (place : ℕ) → place < length xs → get_or xs place true ≡ true) c.deref.ensures.value
     c.in_default-next_place.ensures in
     retires c.requires.joined empty all refl

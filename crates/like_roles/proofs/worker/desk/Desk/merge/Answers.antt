@@ -24,11 +24,11 @@ use Rattle.like_roles.proofs.worker.desk.Desk.merge.Goals as goal
 -- a run has no more pages than there are buckets
 few_pages : (s : StationView Held) (d : Desk) → IsSettled s d → length s.slice ≤ buckets
 few_pages s d is =
-    let most : s.post.limits.pages ≡ max_pages = ap (λ (l : Limits). l.pages) is.sound.run in
+    let most : s.post.opening.limits.pages ≡ max_pages = ap (λ (l : Limits). l.pages) is.sound.run in
     omega (arith, is.sound.seat.sized, is.sound.seat.few_pages, most)
 
 -- and there page i has bucket i
-in_run : (s : StationView Held) (d : Desk) → IsSettled s d → s.post.factor ≡ run_factor
+in_run : (s : StationView Held) (d : Desk) → IsSettled s d → s.post.opening.factor ≡ run_factor
 in_run s d is = is.sound.seat.factor (ap (λ (l : Limits). has_slots l) is.sound.run)
 
 pub merge_next-requires-clause-within : goal.merge_next-requires-clause-within

@@ -47,7 +47,7 @@ returns-in-Some-clause-sound g c =
 
 pub returns-in-None-clause-works : goal.returns-in-None-clause-works
 returns-in-None-clause-works g c =
-    let all : TookAllEnds (view_of c.args.seat.now c.args.self.now) =
+    let all : TookAllEnds c.args.self.now.ended.items =
     subst (λ xs. (place : ℕ) → place < length xs → get_or xs place true ≡ true) c.deref.ensures.value
     c.in-None.ensures in
     idles c.requires.split c.if-ending.false (inl all) refl refl

@@ -1,8 +1,8 @@
 use Rattle.std.proofs.Common.{◌≡◌, ◌≢◌, false, true, refl, subst, ap, ◌∙◌}
 use Rattle.like_core.specs.declared.sight.Sight.{Sight}
 use Rattle.like_core.specs.declared.worker_state.WorkerState.TheVariants.{Gone}
-use Rattle.like_core.specs.Post.{PostView}
 use Rattle.like_core.specs.WorkerState.{IsSightOf}
+use Rattle.like_core.specs.declared.view.WorkerSeatView.{WorkerSeatView}
 use Rattle.like_seat.specs.StationView.{StationView}
 use Rattle.like_seat.specs.Steps.{Looks}
 use Rattle.like_seat.proofs.Looking.{saw-waiting}
@@ -27,7 +27,7 @@ turn-waits s t d e sight looks rest there sees stays =
     let v = view_of s d in
     let saw_is : view_of t e ≡ saw v sight looks.0 = λ m. view_of (looks.1 m) (rest m) in
     waits sight there sees stays refl
-    (saw_is ∙ ap (λ (p : PostView). record v { post = p }) (saw-waiting v.post sight looks.0 stays))
+    (saw_is ∙ ap (λ (p : WorkerSeatView). record v { post = p }) (saw-waiting v.post sight looks.0 stays))
 
 -- one that looked, and worked
 turn-works : (s t : StationView Held) (d e : Desk) (sight : Sight) (answer : Turn) (after : WorkerView)

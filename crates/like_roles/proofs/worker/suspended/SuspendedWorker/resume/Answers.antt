@@ -7,4 +7,4 @@ use Rattle.like_roles.proofs.worker.suspended.SuspendedWorker.resume.Goals as go
 pub invariant_of-result : goal.invariant_of-result
 invariant_of-result g c =
     subst (λ (s : StationView Held). IsSound s c.args.self.desk) (sym c.from_parts.ensures)
-    (c.requires.1 (g.P.Post.view c.args.post).board)
+    (c.requires.1 (g.P.Post.board c.args.post))

@@ -20,14 +20,14 @@ invariant_of-result g c =
     let none : sum (by_page t.slice n) ≡ 0 =
     ap (λ (s : SplitSlice). sum (by_page s n)) e.slice ∙ ap sum (by_page-no_slice c.args.factor buckets n) ∙ sum-zeros n in
     let added : all_added (additions_among p.did) ≡ 0 =
-    ap (λ ds. all_added (additions_among ds)) c.requires.fresh.did_nothing in
-    let phase : phase_of p.state ≡ 0 = ap phase_of c.requires.fresh.runs in
+    ap (λ v. all_added (additions_among v.did)) c.requires.fresh in
+    let phase : phase_of p.state ≡ 0 = ap phase_of (ap (λ v. v.state) c.requires.fresh) in
     Kept-unsplit p t c.args.factor buckets
-    (λ runs. absurd (omega (arith, subst RunsSplit c.requires.fresh.runs runs)))
+    (λ runs. absurd (omega (arith, subst RunsSplit (ap (λ v. v.state) c.requires.fresh) runs)))
     e.slice c.requires.factor c.ranges.factor.fits
     (λ page there. omega (arith, bucket-lt c.args.factor page, length-replicate {A = ℕ} buckets 0))
     (λ plain. absurd (cc (plain, c.requires.service.slotted))) (λ slotted. c.requires.service)
-    (c.requires.fresh.runs ∙ sym e.state) (omega (arith, e.likes, none, added)) (omega (arith, e.likes))
+    ((ap (λ v. v.state) c.requires.fresh) ∙ sym e.state) (omega (arith, e.likes, none, added)) (omega (arith, e.likes))
     c.requires.few_pages c.requires.limits (omega (arith, phase))
     (subst (λ (w : Waiting g.row.W.Denot). IsWaiting w) (sym e.held)
     (record { some = c.requires.some; few = c.requires.few; within = omega arith }))
@@ -38,6 +38,7 @@ returns-in-Ok-clause-new g c =
     let n : ℕ = pages_of (g.P.Post.view c.args.post) in
     record {
       is = (invariant_of-result g c).seat;
+      at_board = refl;
       at_post = refl;
       held = e.held;
       slice = ap (λ (s : SplitSlice). by_page s n) e.slice ∙ by_page-no_slice c.args.factor buckets n;

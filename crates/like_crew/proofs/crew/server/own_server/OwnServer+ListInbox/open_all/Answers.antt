@@ -1,8 +1,8 @@
 use Rattle.std.proofs.Common.{◌≡◌, ◌∙◌, [], sym, ap, subst}
 use Rattle.like_core.specs.declared.view.View.TheVariants.{Worker}
-use Rattle.like_core.specs.Post.{PostView}
 use Rattle.like_board.specs.Lent.{lent_board}
 use Rattle.like_board.specs.Own.{own_views}
+use Rattle.like_core.specs.declared.view.WorkerSeatView.{WorkerSeatView}
 use Rattle.like_crew.specs.Server.{ServerGoesOn, ServerView}
 use Rattle.like_crew.specs.ServerTurns.{OpensAll}
 use Rattle.like_crew.proofs.servers.Owned.{lent-goes_on, lent-opens-all}
@@ -12,7 +12,7 @@ pub returns-clause-opens : goal.returns-clause-opens
 returns-clause-opens c =
     let s = c.args.self.as_server in
     let board = lent_board (own_views c.args.board) c.args.self.place (Worker c.args.self.seat) in
-    let none : s.worker.post.board ≡ [] = ap (λ (p : PostView). p.board) c.lend-server.ensures.seat in
+    let none : s.worker.board ≡ [] = c.lend-server.ensures.none in
     subst (λ (t : ServerView). OpensAll s t) (sym c.back.ensures.server)
     (lent-opens-all s c.open_all.new.self board none
     (subst (λ (x : ServerView). OpensAll x c.open_all.new.self) c.lend-server.ensures.lent c.open_all.ensures.opens))
@@ -21,7 +21,7 @@ pub returns-clause-goes_on : goal.returns-clause-goes_on
 returns-clause-goes_on c =
     let s = c.args.self.as_server in
     let board = lent_board (own_views c.args.board) c.args.self.place (Worker c.args.self.seat) in
-    let none : s.worker.post.board ≡ [] = ap (λ (p : PostView). p.board) c.lend-server.ensures.seat in
+    let none : s.worker.board ≡ [] = c.lend-server.ensures.none in
     subst (λ (t : ServerView). ServerGoesOn s t) (sym c.back.ensures.server)
     (lent-goes_on s c.open_all.new.self board none
     (subst (λ (x : ServerView). ServerGoesOn x c.open_all.new.self) c.lend-server.ensures.lent c.open_all.ensures.goes_on))
@@ -29,4 +29,4 @@ returns-clause-goes_on c =
 pub returns-clause-came : goal.returns-clause-came
 returns-clause-came c =
     c.back.ensures.came (own_views c.args.board) c.args.self.place c.args.self.seat
-    (c.open_all.ensures.goes_on.board ∙ ap (λ (x : ServerView). x.worker.post.board) c.lend-server.ensures.lent)
+    (c.open_all.ensures.goes_on.board ∙ ap (λ (x : ServerView). x.worker.board) c.lend-server.ensures.lent)

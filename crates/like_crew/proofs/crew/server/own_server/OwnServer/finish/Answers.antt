@@ -1,9 +1,9 @@
 use Rattle.std.proofs.Common.{◌≡◌, ◌∙◌, [], sym, ap, subst}
 use Rattle.like_core.specs.declared.view.View.TheVariants.{Worker}
 use Rattle.like_core.specs.declared.worker_state.WorkerState.TheVariants.{Gone}
-use Rattle.like_core.specs.Post.{PostView}
 use Rattle.like_board.specs.Lent.{lent_board}
 use Rattle.like_board.specs.Own.{own_views}
+use Rattle.like_core.specs.declared.view.WorkerSeatView.{WorkerSeatView}
 use Rattle.like_crew.specs.Server.{IsLogOf, ServerView}
 use Rattle.like_crew.proofs.servers.Owned.{lent-log}
 use Rattle.like_crew.proofs.crew.server.own_server.OwnServer.finish.Goals as goal
@@ -20,11 +20,10 @@ returns-clause-log g c =
 
 pub returns-clause-seat : goal.returns-clause-seat
 returns-clause-seat g c =
-    c.back-board.ensures.meaning ∙ ap (λ (p : PostView). record p { board = [] }) c.finish-log.ensures.post
-    ∙ ap (λ (s : ServerView). record s.worker.post { board = [] }) c.lend-server.ensures.lent
+    c.back-board.ensures.view ∙ c.finish-log.ensures.post
+    ∙ ap (λ (s : ServerView). s.worker.post) c.lend-server.ensures.lent
 
 pub returns-clause-came : goal.returns-clause-came
 returns-clause-came g c =
     c.back-board.ensures.came (own_views c.args.board) c.args.self.place c.args.self.seat
-    (ap (λ (p : PostView). p.board) c.finish-log.ensures.post
-    ∙ ap (λ (s : ServerView). s.worker.post.board) c.lend-server.ensures.lent)
+    (c.finish-log.ensures.board ∙ ap (λ (s : ServerView). s.worker.board) c.lend-server.ensures.lent)
