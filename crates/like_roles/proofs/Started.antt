@@ -41,12 +41,12 @@ follows-new s sizes worker board post notes v workload p new same =
     ap (λ x. x.opening.marks) new.at_post ∙ p.opening.marks ∙ ap (map (λ q. q.split)) (sym same.pages_are) in
     let pages : pages_of v.post ≡ length s.pages =
     ap length (ap (λ x. x.opening.marks) new.at_post ∙ p.opening.marks) ∙ length-map s.pages (λ q. q.split) in
-    let did_is : v.post.did ≡ [] = ap (λ x. x.did) new.at_post ∙ ap (λ v. v.did) p.fresh in
+    let did_is : v.post.did ≡ [] = ap (λ x. x.did) (new.at_post ∙ p.fresh) in
     let additions : additions_among v.post.did ≡ [] = ap additions_among did_is in
-    let state_is : v.post.state ≡ state.Runs 0 = ap (λ x. x.state) new.at_post ∙ ap (λ v. v.state) p.fresh in
+    let state_is : v.post.state ≡ state.Runs 0 = ap (λ x. x.state) (new.at_post ∙ p.fresh) in
     let held : v.held.held ≡ [] = ap (λ x. x.held) new.held in
     let did : earliest_first v.post.did ≡ [] = ap earliest_first did_is in
-    let masks : v.post.masks ≡ [] = ap (λ x. x.masks) new.at_post ∙ ap (λ v. v.masks) p.fresh in
+    let masks : v.post.masks ≡ [] = ap (λ x. x.masks) (new.at_post ∙ p.fresh) in
     let nothing : (page : ℕ) → additions_of v.post page ≡ 0 = λ page. ap (added_to page) additions in
     let in_slice : (page : ℕ) → get_or v.slice page 0 ≡ 0 =
     λ page. ap (λ xs. get_or xs page 0) new.slice ∙ same_everywhere (length s.pages) page 0 in

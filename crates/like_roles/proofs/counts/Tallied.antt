@@ -243,24 +243,12 @@ counted-reads workload v page old reads =
 -- a like that is counted changes no size, and whom the worker serves as little
 counted-sized : (v : WorkerView) (page old : ℕ) → IsSized v → IsSized (counted v page old)
 counted-sized v page old s =
-    counted_by IsSized v page old
-    (record { slice = length-set v.slice page _ ∙ s.slice; users = s.users })
-    (record { slice = s.slice; users = s.users })
+    counted_by IsSized v page old (record { slice = length-set v.slice page _ ∙ s.slice; users = s.users }) s
 
 counted-served : (workload : Workload) (v : WorkerView) (page old : ℕ)
     → IsServed workload v
     → IsServed workload (counted v page old)
-counted-served workload v page old s =
-    let same : (w : WorkerView) → w.last ≡ v.last → w.post.opening.marks ≡ v.post.opening.marks → w.post.masks ≡ v.post.masks
-    → w.held ≡ v.held → w.post.opening.limits ≡ v.post.opening.limits → IsServed workload w = λ w last marks masks held limits. record {
-      users = s.users ∙ ap (λ x. x.share.users) (sym last);
-      submitters_alike = s.submitters_alike ∙ ap (λ x. x.share.submitters) (sym last);
-      marks_alike = s.marks_alike ∙ sym marks;
-      hot_alike = subst (AreMasksOf workload.hot) (sym masks) s.hot_alike;
-      stash_alike = s.stash_alike ∙ ap (λ x. x.capacity) (sym held);
-      run = limits ∙ s.run;
-    } in
-    counted_by (IsServed workload) v page old (same _ refl refl refl refl refl) (same _ refl refl refl refl refl)
+counted-served workload v page old s = counted_by (IsServed workload) v page old s s
 
 -- one more entry that ran no like changes no number of a phase
 pub within-none : (workload : Workload) (ran : List Ran) (e : Ran) (page phase : ℕ)

@@ -1,5 +1,5 @@
 -- What a worker has done, as the plans of its submitters say it should.
-use Rattle.std.specs.Prelude.{◌≡◌, ℕ, ◌+◌, ◌%◌, ◌≤◌, ◌==◌, ◌&&◌, if◌then◌else◌, true, false, List, [], ◌++◌, length, map, filter, count_by, slice_get, slice_index, All, Some, ⊤}
+use Rattle.std.specs.Prelude.{◌≡◌, ℕ, ◌+◌, ◌%◌, ◌≤◌, ◌==◌, ◌&&◌, if◌then◌else◌, Bool, true, false, List, [], ◌++◌, length, map, filter, count_by, slice_get, slice_index, All, Some, ⊤}
 use Rattle.std.specs.List.{AllPairs}
 use Rattle.std.specs.Option.{option_to_list}
 use Rattle.like_requests.specs.Pages.{marks_of}
@@ -47,10 +47,10 @@ pub record AreServed (workload : Workload) (z : Opening) (masks : List PhaseMask
 abbrev pub IsServed : Workload → WorkerView → Type 0
 IsServed workload v = AreServed workload v.post.opening v.post.masks v.last.share v.held.capacity
 
--- the slice has a number for each of so many pages, and the table a last like for each user
-pub record AreSized (pages : ℕ) (slice : List ℕ) (last : UserTable) : Type 0 where
-  pub slice : length slice ≡ pages
-  pub users : length last.last ≡ last.share.users
+-- there is a number for each of so many pages, and a last like for each user
+pub record AreSized (pages : ℕ) (numbers : List ℕ) (table : UserTable) : Type 0 where
+  pub slice : length numbers ≡ pages
+  pub users : length table.last ≡ table.share.users
 
 abbrev pub IsSized : WorkerView → Type 0
 IsSized v = AreSized (pages_of v.post) v.slice v.last
@@ -63,7 +63,7 @@ ArePlainReads workload did = All (λ s. likes_of s.call ≡ 0 → is_split_in wo
 -- phase; the post's plain steps are those of its run list, in order, and each step that adds nothing is plain; each reply
 -- is right, its count aside; its table has each user's last like
 pub record AreTallied (workload : Workload) (present : ℕ) (did : List PageStep) (slice : List ℕ) (ran : List Ran)
-    (last : UserTable) : Type 0 where
+    (table : UserTable) : Type 0 where
   pub likes : (page : ℕ)
       → likes_among workload page ran ≡ added_to page (additions_among did) + slice_index slice page
   pub by_phase : (phase page : ℕ) → likes_within workload page ran phase
@@ -71,7 +71,7 @@ pub record AreTallied (workload : Workload) (present : ℕ) (did : List PageStep
   pub steps : plain_told workload (earliest_first did) ≡ steps_ran workload ran
   pub reads : ArePlainReads workload did
   pub replies : HasRightAnswers workload ran
-  pub last : (user : ℕ) → last_of last user ≡ last_like workload user ran
+  pub last : (user : ℕ) → last_of table user ≡ last_like workload user ran
 
 abbrev pub IsTallied : Workload → WorkerView → Type 0
 IsTallied workload v = AreTallied workload (phase_at v) v.post.did v.slice v.ran v.last

@@ -58,14 +58,13 @@ sound s sizes worker board post notes last seat d p n users k is_worker =
     let none : length seat.held.held ≡ 0 = ap (λ (xs : List Held). length xs) held in
     let zeros : sum seat.slice ≡ 0 = ap (λ (xs : List ℕ). sum xs) n.slice ∙ sum-zeros (length post.opening.marks) in
     let additions : all_added (additions_among seat.post.did) ≡ 0 =
-    ap (λ (x : WorkerSeatView). all_added (additions_among x.did)) n.at_post
-    ∙ ap (λ ds. all_added (additions_among ds)) ap (λ v. v.did) p.fresh in
+    ap (λ (x : WorkerSeatView). all_added (additions_among x.did)) (n.at_post ∙ p.fresh) in
     let sized : length d.ended.items ≡ length d.left.items =
     ap (λ (xs : List Bool). length xs) k.ended ∙ length-replicate (length d.left.items) false in
     record {
       seat = n.is;
       run = ap (λ (x : WorkerSeatView). x.opening.limits) n.at_post ∙ p.opening.limits;
-      started = k.started ∙ ap is_some (sym (ap (λ (x : WorkerSeatView). x.last) n.at_post ∙ ap (λ v. v.last) p.fresh));
+      started = k.started ∙ ap is_some (sym (ap (λ (x : WorkerSeatView). x.last) (n.at_post ∙ p.fresh)));
       places = subst (λ (t : UserTable). HasSubmitters t.share d) (sym (n.last ∙ users)) (record {
         is_worker = is_worker;
         sized = omega (arith, d.left.ok.0, d.ended.ok.0, sized);
