@@ -15,6 +15,7 @@ use Rattle.like_core.specs.Phase.{IsJoined, is_hot_by, is_marked}
 use Rattle.like_core.specs.PhaseMasks.{mask_of}
 use Rattle.like_core.specs.WorkerState.{IsRunning, RunsJoined, RunsSplit, phase_of}
 use Rattle.like_tables.specs.Share.{owns}
+use Rattle.like_tables.specs.Waiting.{Waiting}
 use Rattle.like_tables.specs.UserTable.{UserTable, last_of}
 use Rattle.like_core.proofs.Steps.{then-push}
 use Rattle.like_core.specs.declared.view.WorkerSeatView.{WorkerSeatView}
@@ -80,12 +81,11 @@ pub record Finding (v now : LiveView) : Type 0 where
   pub found : List Found
   pub order : map (λ f. f.asked) found ++ waiting now ≡ waiting v
   pub shown : All (IsFoundAt v.station) found
-  pub post : now.station.post
-      ≡ record v.station.post { did = then_steps v.station.post.did (map (step_for v.station.post.worker) found) }
+  pub station : now.station ≡ record v.station {
+        post = record v.station.post { did = then_steps v.station.post.did (map (step_for v.station.post.worker) found) };
+        held = now.station.held;
+      }
   pub capacity : now.station.held.capacity ≡ v.station.held.capacity
-  pub slice : now.station.slice ≡ v.station.slice
-  pub sliced : now.station.sliced ≡ v.station.sliced
-  pub last : now.station.last ≡ v.station.last
   pub found_is : now.found ≡ v.found ++ found
 
 -- none is found at first
@@ -94,11 +94,8 @@ Finding-start v = record {
   found = [];
   order = refl;
   shown = All-nil (IsFoundAt v.station);
-  post = refl;
+  station = refl;
   capacity = refl;
-  slice = refl;
-  sliced = refl;
-  last = refl;
   found_is = sym (append-nil v.found);
 }
 
@@ -109,17 +106,17 @@ Finding-end v now f none = record {
   order = sym (append-nil (map (λ (x : Found). x.asked) f.found))
       ∙ ap (λ ws. map (λ (x : Found). x.asked) f.found ++ ws) (sym none) ∙ f.order;
   shown = f.shown;
-  rest = λ m. record {
-    station = record {
-      post = f.post m;
-      held = record { held = none m; capacity = f.capacity m };
-      slice = f.slice m;
-      sliced = f.sliced m;
-      last = f.last m;
-    };
-    found = f.found_is m;
-  };
+  rest = λ m. record { station = (f.station ∙ empty) m; found = f.found_is m };
 }
+  where
+    at : Waiting Asked → StationView Asked
+    at held = record v.station {
+      post = record v.station.post { did = then_steps v.station.post.did (map (step_for v.station.post.worker) f.found) };
+      held = held;
+    }
+
+    empty : at now.station.held ≡ at (record v.station.held { held = [] })
+    empty = λ m. at (record { held = none m; capacity = f.capacity m })
 
 -- the looks that wait still are the seat's
 pub Finding-own : (v now : LiveView) → Finding v now → All (IsOwn v.station) (waiting v) → All (IsOwn v.station) (waiting now)
@@ -153,14 +150,13 @@ Finding-ran v now f before next =
 -- one look more is found, which was the first that waited still
 pub Finding-more : (v now next : LiveView) (a : Asked) (f : Found) → Finding v now
     → waiting now ≡ a ∷ waiting next → f.asked ≡ a → IsFoundAt v.station f
-    → next.station.post
-    ≡ record now.station.post { did = step_for v.station.post.worker f ∷ now.station.post.did }
+    → next.station ≡ record now.station {
+      post = record now.station.post { did = step_for v.station.post.worker f ∷ now.station.post.did };
+      held = next.station.held;
+    }
     → next.station.held.capacity ≡ now.station.held.capacity
-    → next.station.slice ≡ now.station.slice
-    → next.station.sliced ≡ now.station.sliced
-    → next.station.last ≡ now.station.last
     → next.found ≡ now.found ++ f ∷ [] → Finding v next
-Finding-more v now next a f d first is shown post capacity slice sliced last found = record {
+Finding-more v now next a f d first is shown station capacity found = record {
   found = d.found ++ f ∷ [];
   order =
       ap (λ (xs : List Asked). xs ++ waiting next) (map-append (λ (x : Found). x.asked) d.found (f ∷ []))
@@ -169,15 +165,14 @@ Finding-more v now next a f d first is shown post capacity slice sliced last fou
       ∙ ap (λ ws. map (λ (x : Found). x.asked) d.found ++ ws) (sym first)
       ∙ d.order;
   shown = All-push (IsFoundAt v.station) d.found f d.shown shown;
-  post =
-      post
-      ∙ ap
-      (λ (p : WorkerSeatView). record p { did = step_for v.station.post.worker f ∷ p.did }) d.post
-      ∙ (λ m. record v.station.post { did = did m });
+  station =
+      station
+      ∙ ap (λ (t : StationView Asked). record t {
+        post = record t.post { did = step_for v.station.post.worker f ∷ t.post.did };
+        held = next.station.held;
+      }) d.station
+      ∙ (λ m. record v.station { post = record v.station.post { did = did m }; held = next.station.held });
   capacity = capacity ∙ d.capacity;
-  slice = slice ∙ d.slice;
-  sliced = sliced ∙ d.sliced;
-  last = last ∙ d.last;
   found_is = found ∙ ap (λ xs. xs ++ f ∷ []) d.found_is ∙ append_assoc v.found d.found (f ∷ []);
 }
   where
@@ -205,7 +200,8 @@ Finding-room v now f =
 pub Finding-joined : (v now : LiveView) (s : StationView Asked) → Finding v now
     → RunsJoined v.station.post.state → s ≡ without_first now.station → RunsJoined s.post.state
 Finding-joined v now s f joined is =
-    subst (λ (p : WorkerSeatView). RunsJoined p.state) (sym (ap (λ (t : StationView Asked). t.post) is ∙ f.post)) joined
+    subst (λ (p : WorkerSeatView). RunsJoined p.state) 
+    (sym (ap (λ (t : StationView Asked). t.post) is ∙ ap (λ (t : StationView Asked). t.post) f.station)) joined
 
 -- the first that waits still is the seat's, once it is taken out
 pub Finding-first : (v now : LiveView) (s : StationView Asked) (a : Asked) → Finding v now → All (IsOwn v.station) (waiting v)
@@ -215,8 +211,9 @@ Finding-first v now s a d own first is =
     All-head (IsOwn v.station) a (drop 1 (waiting now))
     (subst (All (IsOwn v.station)) (first_of (waiting now) a first) (Finding-own v now d own)) in
     let marks : s.post.opening.marks ≡ v.station.post.opening.marks =
-    ap (λ (t : StationView Asked). t.post.opening.marks) is ∙ ap (λ (p : WorkerSeatView). p.opening.marks) d.post in
-    let last : s.last ≡ v.station.last = ap (λ (t : StationView Asked). t.last) is ∙ d.last in
+    ap (λ (t : StationView Asked). t.post.opening.marks) is ∙ ap (λ (t : StationView Asked). t.post.opening.marks) d.station in
+    let last : s.last ≡ v.station.last =
+    ap (λ (t : StationView Asked). t.last) is ∙ ap (λ (t : StationView Asked). t.last) d.station in
     record {
       there = subst (λ (m : List Bool). a.page < length m) (sym marks) mine.there;
       owned = subst (λ (t : UserTable). IsTrue (owns t.share a.user)) (sym last) mine.owned;
@@ -233,13 +230,14 @@ pub Finding-next : (v now : LiveView) (s after : StationView Asked) (found : Lis
     → found ≡ now.found ++ record { asked = a; last = seen.last; count = seen.count; phase = phase } ∷ []
     → Finding v (record { station = after; found = found })
 Finding-next v now s after found a seen phase d first is reads phase_is found_is =
-    let last : s.last ≡ v.station.last = ap (λ (t : StationView Asked). t.last) is ∙ d.last in
-    let post : s.post ≡ now.station.post = ap (λ (t : StationView Asked). t.post) is in
+    let last : s.last ≡ v.station.last =
+    ap (λ (t : StationView Asked). t.last) is ∙ ap (λ (t : StationView Asked). t.last) d.station in
+    let post = ap (λ (t : StationView Asked). t.post) d.station in
     let additions : additions_among s.post.did ≡ additions_among v.station.post.did =
-    ap (λ (p : WorkerSeatView). additions_among p.did) (post ∙ d.post)
+    ap (λ (p : WorkerSeatView). additions_among p.did) (ap (λ (t : StationView Asked). t.post) is ∙ post)
     ∙ found-additions v.station.post.worker v.station.post.did d.found in
-    let state : phase_of now.station.post.state ≡ phase = ap (λ (p : WorkerSeatView). phase_of p.state) d.post ∙ sym phase_is in
-    let worker : now.station.post.worker ≡ v.station.post.worker = ap (λ (p : WorkerSeatView). p.worker) d.post in
+    let state : phase_of now.station.post.state ≡ phase = ap (λ (p : WorkerSeatView). phase_of p.state) post ∙ sym phase_is in
+    let worker : now.station.post.worker ≡ v.station.post.worker = ap (λ (p : WorkerSeatView). p.worker) post in
     let e : after ≡ record (without_first now.station) { post = has_read now.station.post a.page seen.count } =
     reads.read ∙ ap (λ (t : StationView Asked). record t { post = has_read t.post a.page seen.count }) is in
     let f : Found = record { asked = a; last = seen.last; count = seen.count; phase = phase } in
@@ -252,14 +250,13 @@ Finding-next v now s after found a seen phase d first is reads phase_is found_is
       own = subst (λ (xs : List Addition). added_to a.page xs ≤ seen.count) additions reads.own;
       phase = phase_is;
     })
-    (ap (λ (t : StationView Asked). t.post) e
-    ∙ (λ m. record now.station.post {
-      did = page_step (worker m) (state m) a.page seen.count Read ∷ now.station.post.did;
+    (e ∙ (λ m. record now.station {
+      post = record now.station.post {
+        did = page_step (worker m) (state m) a.page seen.count Read ∷ now.station.post.did;
+      };
+      held = sym (ap (λ (t : StationView Asked). t.held) e) m;
     }))
     (ap (λ (t : StationView Asked). t.held.capacity) e)
-    (ap (λ (t : StationView Asked). t.slice) e)
-    (ap (λ (t : StationView Asked). t.sliced) e)
-    (ap (λ (t : StationView Asked). t.last) e)
     found_is
 
 -- who runs a phase runs a joined one or a split one

@@ -119,7 +119,7 @@ Keeps-looked v sight mask = record {
 
 -- the seat in another state
 abbrev stopped : LiveView → WorkerState → LiveView
-stopped v s = with_station v (record v.station { post = record v.station.post { state = s } })
+stopped v s = with_station v (record v.station { post = record v.station.post { state = s; slots = [] } })
 
 -- the end of a joined phase, for the seat
 pub Keeps-stopped : (v : LiveView) (s : WorkerState) → RunsJoined v.station.post.state → Keeps v (stopped v s)

@@ -34,5 +34,5 @@ returns g c =
           ∙ last-total c.args.self c.args.seats.items back page c.give_back.ensures.back c.give_back.ensures.merged
           c.requires.gone;
       closed = subst (λ (d : CoordSeatView). IsClosed d (posts_at c.args.seats.items)) seat_is
-          (subst (IsClosed (coord_view c.finish.result)) c.give_back.ensures.back is.closed);
+          (subst (IsClosed (coord_view c.finish.result)) c.give_back.ensures.back.views is.closed);
     }

@@ -1,4 +1,4 @@
-use Rattle.std.proofs.Common.{◌≡◌, ◌<◌, ℕ, List, false, replicate, ap, sym, subst, ◌∙◌, arith}
+use Rattle.std.proofs.Common.{◌≡◌, ◌<◌, ℕ, List, false, replicate, ap, refl, sym, subst, ◌∙◌, arith}
 use Rattle.std.specs.Arc.{arc_value}
 use Rattle.like_core.specs.Post.{IsFresh, fresh}
 use Rattle.like_core.specs.declared.view.WorkerSeatView.{WorkerSeatView}
@@ -39,11 +39,11 @@ new-requires-clause-there c =
 pub returns-in-Ok : goal.returns-in-Ok
 returns-in-Ok c =
     let o = c.args.opening.now in
-    let new = c.in-Ok.ensures.new in
-    let post = c.at_shared-post.ensures.view ∙ c.requires.view in
-    let here : board_numbers (post_board c.at_shared-post.result) ≡ board_numbers (board_id (arc_value c.args.board.now)) =
-    ap board_numbers (c.at_shared-post.ensures.board ∙ c.requires.here) in
-    subst (λ (t : UserTable). IsNewLive (board_numbers (board_id (arc_value c.args.board.now)))
-    (fresh (board_opening o c.args.factor) c.args.number) o.room t c.in-Ok.seat) c.in_ok-board.ensures.users
-    (subst (λ (p : WorkerSeatView). IsNewLive (board_numbers (board_id (arc_value c.args.board.now))) p o.room _ c.in-Ok.seat) post
-    (subst (λ (b : List ℕ). IsNewLive b (post_view c.at_shared-post.result) o.room _ c.in-Ok.seat) here new))
+    let at : List ℕ = board_numbers (post_board c.at_shared-post.result) in
+    let table : UserTable = table_with_lasts (share_of o.users o.seats o.seats c.args.number) o.lasts.items in
+    subst (λ (b : List ℕ). IsNewLive b (fresh (board_opening o c.args.factor) c.args.number) o.room table c.in-Ok.seat)
+    (ap board_numbers (c.at_shared-post.ensures.board ∙ c.requires.here))
+    (subst (λ (p : WorkerSeatView). IsNewLive at p o.room table c.in-Ok.seat)
+    (c.at_shared-post.ensures.view ∙ c.requires.view)
+    (subst (λ (t : UserTable). IsNewLive at (post_view c.at_shared-post.result) o.room t c.in-Ok.seat)
+    c.in_ok-board.ensures.users c.in-Ok.ensures.new))
