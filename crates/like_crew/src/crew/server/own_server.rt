@@ -33,7 +33,7 @@ pub struct OwnServer<I: Inbox> {
 }
 
 impl<I: Inbox> Model for OwnServer<I> {
-    ghost use Rattle.std.specs.Prelude.{◌≡◌, None, map};
+    ghost use Rattle.std.specs.Prelude.{◌≡◌, [], None, map};
     ghost use Rattle.like_board.specs.Own.{own_place, own_view};
     ghost use Rattle.like_roles.specs.worker.Suspended.{worker_at, IsSuspendedAt};
     ghost use Rattle.like_crew.specs.OwnServer.{OwnServerView};

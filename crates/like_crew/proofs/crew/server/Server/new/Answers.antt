@@ -15,7 +15,7 @@ invariant_of-result g c =
       new.pending,
       workers-new _
           (share_of c.args.setup.now.users (length c.args.sizes.now) c.args.setup.now.workers c.args.number) new.last,
-      agree-new c.args.setup.now c.args.sizes.now c.args.number _ c.args.notes c.in_ok-worker.worker
+      agree-new c.args.setup.now c.args.sizes.now c.args.number _ _ c.args.notes c.in_ok-worker.worker
           (map g.I.Inbox.view c.args.inboxes.items) c.requires.is_worker c.requires.post c.requires.inboxes new,
     )
 
