@@ -1,0 +1,53 @@
+-- The views of a lock's table, one of which changes.
+use Rattle.std.proofs.Common.{◌≡◌, ◌≢◌, ℕ, zero, suc, ◌<◌, Bool, inl, inr, List, [], ◌∷◌, length, get_or, Option, Some, None, sym, ap, ◌∙◌, arith, eq-eqb, ne_eqb, if◌then◌else◌}
+use Rattle.std.specs.Prelude.{sum_by}
+use Rattle.std.proofs.lemmas.Bool.{cases_eq}
+use Rattle.std.proofs.lemmas.List.Sums.{sum_by-cons}
+use mathlib.Core.Option.{some, some-injective, some-ne-none}
+use lib.ListN.{get_elem?}
+use Rattle.told_lock.specs.declared.known.Known.{Known}
+use Rattle.told_lock.specs.declared.known.Known.TheVariants.{Pass}
+use Rattle.told_lock.specs.Rule.{outs, taken_by}
+
+module _ {A : Type 0} where
+  -- what is at a place is within the list
+  pub within : (xs : List A) (i : ℕ) (x : A) → get_elem? xs i ≡ some x → i < length xs
+  within [] i x at = absurd (some-ne-none x (sym at))
+  within (y ∷ xs) zero x at = omega arith
+  within (y ∷ xs) (suc i) x at = let r = within xs i x at in omega (arith, r)
+
+  pub read-at : (xs : List A) (i : ℕ) (x d : A) → get_elem? xs i ≡ some x → get_or xs i d ≡ x
+  read-at [] i x d at = absurd (some-ne-none x (sym at))
+  read-at (y ∷ xs) zero x d at = some-injective y x at
+  read-at (y ∷ xs) (suc i) x d at = read-at xs i x d at
+
+-- nobody else's name is the holder's
+pub taken-none : {T : Type 0} (holder name : ℕ) (now : T) → holder ≢ name → taken_by holder now name ≡ None
+taken-none {T} holder name now other =
+    let f : Bool → Option T = λ b. if b then Some now else None in ap f (ne_eqb holder name other)
+
+pub taken-some : {T : Type 0} (holder name : ℕ) (now : T) → holder ≡ name → taken_by holder now name ≡ Some now
+taken-some {T} holder name now same =
+    let f : Bool → Option T = λ b. if b then Some now else None in ap f (eq-eqb holder name same)
+
+-- who took a value is the holder
+pub holder-is : {T : Type 0} (holder name : ℕ) (x now : T) → Some x ≡ taken_by holder now name → (holder ≡ name) × (x ≡ now)
+holder-is holder name x now is = elim (cases_eq holder name) [
+  | inl same ↦ (same, cc (is ∙ taken-some holder name now same))
+  | inr other ↦ absurd (cc (is ∙ taken-none holder name now other))
+]
+
+-- who took nothing isn't
+pub holder-not : {T : Type 0} (holder name : ℕ) (now : T) → None ≡ taken_by holder now name → holder ≢ name
+holder-not holder name now is = λ same. cc (is ∙ taken-some holder name now same)
+
+-- if no pass is out, no view is a pass's, but for passes that are not made yet
+pub quiet : {T C : Type 0} (views : List (Known T C)) (i : ℕ) (first : T) (name : ℕ) (f : T) (n : ℕ) (log : List C)
+    (taken : Option T)
+    → sum_by outs views ≡ 0 → get_or views i (Pass first name [] None) ≡ Pass f n log taken → (log ≡ []) × (taken ≡ None)
+quiet [] i first name f n log taken none is = (cc (sym is), cc (sym is))
+quiet (v ∷ views) zero first name f n log taken none is =
+    let one : outs v ≡ 1 = ap outs is in let all = sum_by-cons outs v views in absurd (omega (arith, none, one, all))
+quiet (v ∷ views) (suc i) first name f n log taken none is =
+    let all = sum_by-cons outs v views in
+    quiet views i first name f n log taken (omega (arith, none, all)) is

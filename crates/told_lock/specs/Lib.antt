@@ -1,0 +1,5 @@
+pub mod Deeds
+pub mod Known
+pub mod Lending
+pub mod Rights
+pub mod Rule
