@@ -1,5 +1,5 @@
 -- A lock is made, and closed once no pass is out.
-use Rattle.std.proofs.Common.{◌≡◌, ◌≢◌, ℕ, zero, suc, ◌<◌, inl, inr, List, [], ◌∷◌, length, Option, None, refl, sym, ap, ◌∙◌, subst, arith}
+use Rattle.std.proofs.Common.{◌≡◌, ◌≢◌, ℕ, zero, suc, ◌<◌, inl, inr, List, [], ◌∷◌, length, map, Option, None, refl, sym, ap, ◌∙◌, subst, arith}
 use Rattle.std.specs.Prelude.{slice_index}
 use Rattle.std.proofs.lemmas.Bool.{cases_eq}
 use mathlib.Core.Option.{some, some-injective}
@@ -14,9 +14,9 @@ use Rattle.told_lock.proofs.Views.{holder-not, quiet, taken-none}
 
 module _ {T C : Type 0} (does : T → C → T → Type 0) (first : T) where
   -- the table of a new lock
-  pub opens : (words : List ℕ) → lock_word < length words → slice_index words lock_word ≡ 0
-      → IsLocked {C = C} does first (opening words (first ∷ []) (Keeper first 0 0 []))
-  opens words sized free = record {
+  pub opens : (value : T) (words : List ℕ) (slots : List T) → lock_word < length words → slice_index words lock_word ≡ 0
+      → first ≡ value → slots ≡ value ∷ [] → IsLocked {C = C} does first (opening words slots (Keeper first 0 0 []))
+  opens value words slots sized free is slots-are = record {
     order = [];
     now = first;
     run = refl;
@@ -30,7 +30,7 @@ module _ {T C : Type 0} (does : T → C → T → Type 0) (first : T) where
     views = new-views;
     word = free;
     sized = sized;
-    home = λ z. refl;
+    home = λ z. ap (λ (l : List T). get_elem? (map some l) 0) slots-are ∙ ap (λ (x : T). some (some x)) (sym is);
   } where
     new-views : (n : ℕ)
         → Knows {C = C} first first [] [] 0 n (view_at first (Keeper first 0 0 [] ∷ []) n)

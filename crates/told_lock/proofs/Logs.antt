@@ -52,10 +52,13 @@ run-append does x y z [] ds first then = subst (λ u. HasRun does u ds z) first 
 run-append does x y z (c ∷ cs) ds first then =
     (first.0, first.1, run-append does first.0 y z cs ds first.2 then)
 
+-- all deeds, with a log behind them
+pub all-more : {C : Type 0} (es : Named C) (n : ℕ) (cs : List C) → deeds_in (es ++ named n cs) ≡ deeds_in es ++ cs
+all-more {C} es n cs =
+    map-append (λ (e : ℕ × C). e.1) es (named n cs) ∙ ap (λ (l : List C). deeds_in es ++ l) (unnamed n cs)
+
 -- a log is done after all deeds so far
 pub run-more : {T C : Type 0} (does : T → C → T → Type 0) (x y z : T) (es : Named C) (n : ℕ) (cs : List C)
     → HasRun does x (deeds_in es) y → HasRun does y cs z → HasRun does x (deeds_in (es ++ named n cs)) z
 run-more {T} {C} does x y z es n cs first then =
-    let all : deeds_in (es ++ named n cs) ≡ deeds_in es ++ cs =
-    map-append (λ (e : ℕ × C). e.1) es (named n cs) ∙ ap (λ (l : List C). deeds_in es ++ l) (unnamed n cs) in
-    subst (λ ds. HasRun does x ds z) (sym all) (run-append does x y z (deeds_in es) cs first then)
+    subst (λ ds. HasRun does x ds z) (sym (all-more es n cs)) (run-append does x y z (deeds_in es) cs first then)

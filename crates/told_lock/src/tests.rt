@@ -1,0 +1,96 @@
+//! Two threads add to a number, each with a pass of its own.
+ghost use Rattle.std.specs.Prelude.{◌≡◌, ◌+◌, ◌<◌, ◌≤◌, ◌^◌, IfOk, if◌then◌else◌, sum};
+ghost use Rattle.told_lock.specs.Rights.{IsHolding, IsIdle, log_of, name_of};
+
+use super::*;
+use std::alloc::{AllocError, Global};
+use std::test::*;
+use std::thread::{Threads, join};
+
+// A number that is added to another.
+struct Adds;
+
+impl Deeds<u64, u64> for Adds {
+    ghost does = { λ before more after. after ≡ before + more };
+}
+
+type Sum = Lock<u64, u64, Adds>;
+
+// Adds a number to the value that the pass has, if there is room for it. Whether it did.
+fn add(lock: &Sum, pass: &mut Pass<u64, u64>, more: u64) -> bool
+    requires { (x : _) × IsHolding lock.now pass.old x x }
+    ensures name { name_of pass.new ≡ name_of pass.old }
+    ensures log { log_of pass.new ≡ log_of pass.old }
+    ensures added { (x : _) × IsHolding lock.now pass.new x (if result then x + more else x) }
+{
+    let value = pass.value_mut(lock);
+    let Some(sum) = value.checked_add(more) else {
+        return false;
+    };
+    *value = sum;
+    true
+}
+
+// Adds a number, if nobody else has the lock and there is room for it. The pass comes back, with what was added.
+fn try_add(lock: &Sum, mut pass: Pass<u64, u64>, more: u64) -> (Pass<u64, u64>, u64)
+    requires { IsIdle lock.now pass }
+    ensures idle { IsIdle lock.now result.0 }
+    ensures name { name_of result.0 ≡ name_of pass }
+    ensures told { sum (log_of result.0) ≡ sum (log_of pass) + result.1 }
+    ensures few { result.1 ≤ more }
+{
+    if !lock.try_take(&mut pass) {
+        return (pass, 0);
+    }
+    if add(lock, &mut pass, more) {
+        lock.give_back(&mut pass, &more);
+        (pass, more)
+    } else {
+        lock.give_back_after::<std::marker::Brand>(&mut pass);
+        (pass, 0)
+    }
+}
+
+// Two threads try to add a number each. The value, and what they added.
+fn added_by_two<R: Threads + Sync>(
+    rt: &R,
+    alloc: Global,
+    first: u64,
+    one: u64,
+    two: u64,
+) -> Result<(u64, u64), AllocError>
+    requires { first + one + two < 2 ^ 64 }
+    ensures { IfOk result (λ r. r.0 ≡ first + r.1) }
+{
+    let (lock, mut keeper) = Sum::new(alloc, first)?;
+    let a = lock.new_pass(&mut keeper);
+    let b = lock.new_pass(&mut keeper);
+    let (a, b) = join(
+        rt,
+        || -> (Pass<u64, u64>, u64)
+            requires { IsIdle lock a }
+            ensures idle { IsIdle lock result.0 }
+            ensures told { sum (log_of result.0) ≡ sum (log_of a) + result.1 }
+            ensures few { result.1 ≤ one }
+        { try_add(&lock, a, one) },
+        || -> (Pass<u64, u64>, u64)
+            requires { IsIdle lock b }
+            ensures idle { IsIdle lock result.0 }
+            ensures told { sum (log_of result.0) ≡ sum (log_of b) + result.1 }
+            ensures few { result.1 ≤ two }
+        { try_add(&lock, b, two) },
+    );
+    let (a, by_a) = a;
+    let (b, by_b) = b;
+    lock.take_back(&mut keeper, a);
+    lock.take_back(&mut keeper, b);
+    logs_weigh_all::<u64, u64, Adds>();
+    Ok((lock.close(keeper), by_a + by_b))
+}
+
+#[test]
+fn two_threads_add(rt: HostRuntime) -> Result<(), Fail> {
+    let (value, added) = added_by_two(&rt, rt.alloc(), 5, 3, 4)?;
+    assert!(rt; value == 5 + added && added >= 3 && added <= 7);
+    Ok(())
+}
