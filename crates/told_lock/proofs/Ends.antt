@@ -1,5 +1,5 @@
 -- A lock is made, and closed once no pass is out.
-use Rattle.std.proofs.Common.{◌≡◌, ◌≢◌, ℕ, zero, suc, ◌<◌, inl, inr, List, [], ◌∷◌, length, map, Option, None, refl, sym, ap, ◌∙◌, subst, arith}
+use Rattle.std.proofs.Common.{◌≡◌, ◌≢◌, ℕ, zero, suc, ◌<◌, inl, inr, List, [], ◌∷◌, ◌++◌, length, map, Option, None, refl, sym, ap, ◌∙◌, subst, arith}
 use Rattle.std.specs.Prelude.{slice_index}
 use Rattle.std.proofs.lemmas.Bool.{cases_eq}
 use mathlib.Core.Option.{some, some-injective}
@@ -9,14 +9,16 @@ use Rattle.told_lock.specs.declared.known.Known.{Known}
 use Rattle.told_lock.specs.declared.known.Known.TheVariants.{Back, Keeper, Pass}
 use Rattle.told_lock.specs.Deeds.{HasRun, Leads, Named, deeds_by, deeds_in}
 use Rattle.told_lock.specs.Rule.{IsLocked, Knows, lock_word, view_at}
+use Rattle.told_lock.proofs.Holding.{free}
 use Rattle.told_lock.proofs.Keeping.{keeper-at}
-use Rattle.told_lock.proofs.Views.{holder-not, quiet, taken-none}
+use Rattle.told_lock.proofs.Views.{holder-not, quiet, read-at, taken-none}
 
 module _ {T C : Type 0} (does : T → C → T → Type 0) (first : T) where
   -- the table of a new lock
-  pub opens : (value : T) (words : List ℕ) (slots : List T) → lock_word < length words → slice_index words lock_word ≡ 0
-      → first ≡ value → slots ≡ value ∷ [] → IsLocked {C = C} does first (opening words slots (Keeper first 0 0 []))
-  opens value words slots sized free is slots-are = record {
+  pub opens : (value : T) (words : List ℕ) (none slots : List T) → lock_word < length words
+      → slice_index words lock_word ≡ 0 → first ≡ value → none ≡ [] → slots ≡ none ++ value ∷ []
+      → IsLocked {C = C} does first (opening words slots (Keeper first 0 0 []))
+  opens value words none slots sized free-word is none-is slots-are = record {
     order = [];
     now = first;
     run = refl;
@@ -28,9 +30,11 @@ module _ {T C : Type 0} (does : T → C → T → Type 0) (first : T) where
     are_out = refl;
     holder = 0;
     views = new-views;
-    word = free;
+    word = free-word;
     sized = sized;
-    home = λ z. ap (λ (l : List T). get_elem? (map some l) 0) slots-are ∙ ap (λ (x : T). some (some x)) (sym is);
+    home =
+        let all : slots ≡ value ∷ [] = slots-are ∙ ap (λ (l : List T). l ++ value ∷ []) none-is in
+        λ z. ap (λ (l : List T). get_elem? (map some l) 0) all ∙ ap (λ (x : T). some (some x)) (sym is);
   } where
     new-views : (n : ℕ)
         → Knows {C = C} first first [] [] 0 n (view_at first (Keeper first 0 0 [] ∷ []) n)
@@ -76,3 +80,14 @@ module _ {T C : Type 0} (does : T → C → T → Type 0) (first : T) where
         own = λ m. (seen m).0 ∙ ap (deeds_by m) told-is;
         run = subst (HasRun does first (deeds_in k.order)) is k.run;
       }
+
+  -- if nobody has the lock, all deeds so far lead to the value
+  pub frees : (words : List ℕ) (xs : List T) (word : ℕ) (value : T) → Final (IsLocked {C = C} does first) words xs
+      → get_elem? words lock_word ≡ some word → word ≡ 0 → get_elem? xs 0 ≡ some value
+      → (done : List C) × HasRun does first done value
+  frees words xs word value end word-is zero-word at =
+      let k = end.1 in
+      let found = ap (λ ws. slice_index ws lock_word) end.2 ∙ read-at words lock_word word 0 word-is ∙ zero-word in
+      let nobody = free k.holder (sym k.word ∙ found) in
+      let is : k.now ≡ value = some-injective _ _ (sym (end.4 0 k.now (k.home nobody)) ∙ at) in
+      (deeds_in k.order, subst (HasRun does first (deeds_in k.order)) is k.run)

@@ -26,7 +26,7 @@ held : (holder : ℕ) → holder ≢ 0 → word_for holder ≡ 1
 held holder some_one = let f : Bool → ℕ = λ b. if b then 0 else 1 in ap f (ne_eqb holder 0 some_one)
 
 -- and nobody has it if the word is 0
-free : (holder : ℕ) → word_for holder ≡ 0 → holder ≡ 0
+pub free : (holder : ℕ) → word_for holder ≡ 0 → holder ≡ 0
 free holder is = elim (cases_eq holder 0) [
   | inl nobody ↦ nobody
   | inr some_one ↦ absurd (omega (arith, is, held holder some_one))

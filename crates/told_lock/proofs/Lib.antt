@@ -1,3 +1,4 @@
+pub mod Adding
 pub mod Ends
 pub mod Holding
 pub mod Keeping

@@ -1,4 +1,4 @@
-ghost use Rattle.std.specs.Prelude.{◌≡◌, ◌+◌, ◌-◌, ◌<◌, ◌^◌, ◌++◌, [], ◌∷◌, IfOk, MatchBool};
+ghost use Rattle.std.specs.Prelude.{List, ◌≡◌, ◌+◌, ◌-◌, ◌<◌, ◌^◌, ◌++◌, [], ◌∷◌, IfOk, MatchBool};
 ghost use Rattle.told_lock.specs.Deeds.{HasRun, IsReached, Leads, named};
 
 use crate::deeds::{Deeds, Done};
@@ -143,5 +143,16 @@ impl<T, C, D: Deeds<T, C>> Lock<T, C, D> {
         let value = closed.take(0);
         closed.free();
         value
+    }
+    /// The value, if passes are lost. `Err`: as a holder left it that never gave the lock back.
+    pub fn into_inner(self) -> Result<T, T>
+        ensures { IfOk result (λ x. (done : List C) × HasRun D.does (first_of self) done x) }
+    {
+        let Lock { table } = self;
+        let mut closed = table.close();
+        let is_free = closed.word(LOCK_WORD) == 0;
+        let value = closed.take(0);
+        closed.free();
+        if is_free { Ok(value) } else { Err(value) }
     }
 }

@@ -1,5 +1,5 @@
 //! Two threads add to a number, each with a pass of its own.
-ghost use Rattle.std.specs.Prelude.{◌≡◌, ◌+◌, ◌<◌, ◌≤◌, ◌^◌, IfOk, if◌then◌else◌, sum};
+ghost use Rattle.std.specs.Prelude.{◌≡◌, ◌+◌, ◌<◌, ◌≤◌, ◌^◌, IfOk, IfSome, if◌then◌else◌, sum};
 ghost use Rattle.told_lock.specs.Rights.{IsHolding, IsIdle, log_of, name_of};
 
 use super::*;
@@ -88,9 +88,29 @@ fn added_by_two<R: Threads + Sync>(
     Ok((lock.close(keeper), by_a + by_b))
 }
 
+// Tries to add a number with a pass that is lost then. The value, if it was given back.
+fn added_by_lost(alloc: Global, first: u64, more: u64) -> Result<Option<u64>, AllocError>
+    ensures { IfOk result (λ found. IfSome found (λ value. first ≤ value)) }
+{
+    let (lock, mut keeper) = Sum::new(alloc, first)?;
+    let pass = lock.new_pass(&mut keeper);
+    try_add(&lock, pass, more);
+    match lock.into_inner() {
+        Ok(value) => Ok(Some(value)),
+        Err(_) => Ok(None),
+    }
+}
+
 #[test]
 fn two_threads_add(rt: HostRuntime) -> Result<(), Fail> {
     let (value, added) = added_by_two(&rt, rt.alloc(), 5, 3, 4)?;
     assert!(rt; value == 5 + added && added >= 3 && added <= 7);
+    Ok(())
+}
+
+#[test]
+fn pass_is_lost(rt: HostRuntime) -> Result<(), Fail> {
+    let value = added_by_lost(rt.alloc(), 5, 3)?;
+    assert_eq!(rt; value, Some(8));
     Ok(())
 }
