@@ -1,4 +1,3 @@
-pub mod Adding
 pub mod Ends
 pub mod Holding
 pub mod Keeping

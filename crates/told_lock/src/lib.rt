@@ -11,9 +11,6 @@ mod laws;
 mod lock;
 mod pass;
 mod rule;
-#[cfg(test)]
-mod tests;
-
 pub use deeds::{Deeds, Done};
 pub use keeper::Keeper;
 pub use known::Known;

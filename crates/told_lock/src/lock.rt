@@ -144,6 +144,7 @@ impl<T, C, D: Deeds<T, C>> Lock<T, C, D> {
         closed.free();
         value
     }
+
     /// The value, if passes are lost. `Err`: as a holder left it that never gave the lock back.
     pub fn into_inner(self) -> Result<T, T>
         ensures { IfOk result (λ x. (done : List C) × HasRun D.does (first_of self) done x) }

@@ -1,6 +1,6 @@
 use Rattle.std.proofs.Common.{◌≤◌, arith}
-use Rattle.told_lock.proofs.Adding.{added}
-use Rattle.told_lock.proofs.tests.added_by_lost.Goals as goal
+use Rattle.test_lock.proofs.Adding.{added}
+use Rattle.test_lock.proofs.adds.added_by_lost.Goals as goal
 
 pub returns-in-Ok : goal.returns-in-Ok
 returns-in-Ok c =

@@ -2,10 +2,11 @@
 ghost use Rattle.std.specs.Prelude.{◌≡◌, ◌+◌, ◌<◌, ◌≤◌, ◌^◌, IfOk, IfSome, if◌then◌else◌, sum};
 ghost use Rattle.told_lock.specs.Rights.{IsHolding, IsIdle, log_of, name_of};
 
-use super::*;
 use std::alloc::{AllocError, Global};
+use std::marker::Brand;
 use std::test::*;
 use std::thread::{Threads, join};
+use told_lock::{Deeds, Lock, Pass, logs_weigh_all};
 
 // A number that is added to another.
 struct Adds;
@@ -46,7 +47,7 @@ fn try_add(lock: &Sum, mut pass: Pass<u64, u64>, more: u64) -> (Pass<u64, u64>, 
         lock.give_back(&mut pass, &more);
         (pass, more)
     } else {
-        lock.give_back_after::<std::marker::Brand>(&mut pass);
+        lock.give_back_after::<Brand>(&mut pass);
         (pass, 0)
     }
 }

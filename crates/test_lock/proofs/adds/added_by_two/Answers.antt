@@ -2,8 +2,8 @@ use Rattle.std.proofs.Common.{◌+◌, ◌++◌, ℕ, List, ap, ◌∙◌, arith
 use Rattle.std.specs.Prelude.{sum}
 use Rattle.told_lock.specs.Deeds.{Named, deeds_in, named}
 use Rattle.told_lock.specs.Rights.{log_of, name_of}
-use Rattle.told_lock.proofs.Adding.{both, last-is}
-use Rattle.told_lock.proofs.tests.added_by_two.Goals as goal
+use Rattle.test_lock.proofs.Adding.{both, last-is}
+use Rattle.test_lock.proofs.adds.added_by_two.Goals as goal
 
 pub returns : goal.returns
 returns g c =
