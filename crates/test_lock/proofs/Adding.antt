@@ -3,11 +3,8 @@ use Rattle.std.proofs.Common.{◌≡◌, ◌+◌, ◌++◌, ℕ, List, [], ◌�
 use Rattle.std.specs.Prelude.{sum}
 use Rattle.std.proofs.lemmas.List.Sums.{sum_by-append, sum_by-cons}
 use Rattle.told_lock.specs.Deeds.{HasRun, Leads, LogsWeighAll, Named, deeds_in, named}
+use Rattle.test_lock.specs.Adding.{Added}
 use Rattle.told_lock.proofs.Logs.{all-more}
-
--- a number was added
-abbrev pub Added : ℕ → ℕ → ℕ → Type 0
-Added before more after = after ≡ before + more
 
 -- numbers that were added one after the other
 pub added : (x y : ℕ) (cs : List ℕ) → HasRun Added x cs y → y ≡ x + sum cs

@@ -1,1 +1,2 @@
 pub mod Adding
+pub mod Keepers

@@ -1,5 +1,6 @@
 //! Two threads add to a number, each with a pass of its own.
 ghost use Rattle.std.specs.Prelude.{◌≡◌, ◌+◌, ◌<◌, ◌≤◌, ◌^◌, IfOk, IfSome, if◌then◌else◌, sum};
+ghost use Rattle.test_lock.specs.Adding.{Added};
 ghost use Rattle.told_lock.specs.Rights.{IsHolding, IsIdle, log_of, name_of};
 
 use std::alloc::{AllocError, Global};
@@ -8,14 +9,15 @@ use std::test::*;
 use std::thread::{Threads, join};
 use told_lock::{Deeds, Lock, Pass, logs_weigh_all};
 
-// A number that is added to another.
-struct Adds;
+/// A number that is added to another.
+pub(crate) struct Adds;
 
 impl Deeds<u64, u64> for Adds {
-    ghost does = { λ before more after. after ≡ before + more };
+    ghost does = { Added };
 }
 
-type Sum = Lock<u64, u64, Adds>;
+/// A number behind a lock.
+pub(crate) type Sum = Lock<u64, u64, Adds>;
 
 // Adds a number to the value that the pass has, if there is room for it. Whether it did.
 fn add(lock: &Sum, pass: &mut Pass<u64, u64>, more: u64) -> bool
@@ -32,8 +34,8 @@ fn add(lock: &Sum, pass: &mut Pass<u64, u64>, more: u64) -> bool
     true
 }
 
-// Adds a number, if nobody else has the lock and there is room for it. The pass comes back, with what was added.
-fn try_add(lock: &Sum, mut pass: Pass<u64, u64>, more: u64) -> (Pass<u64, u64>, u64)
+/// Adds a number, if nobody else has the lock and there is room for it. The pass comes back, with what was added.
+pub(crate) fn try_add(lock: &Sum, mut pass: Pass<u64, u64>, more: u64) -> (Pass<u64, u64>, u64)
     requires { IsIdle lock.now pass }
     ensures idle { IsIdle lock.now result.0 }
     ensures name { name_of result.0 ≡ name_of pass }
