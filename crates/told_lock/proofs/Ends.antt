@@ -15,10 +15,10 @@ use Rattle.told_lock.proofs.Views.{holder-not, quiet, read-at, taken-none}
 
 module _ {T C : Type 0} (does : T → C → T → Type 0) (first : T) where
   -- the table of a new lock
-  pub opens : (value : T) (words : List ℕ) (none slots : List T) → lock_word < length words
+  pub opens : {value : T} {words : List ℕ} {none slots : List T} → lock_word < length words
       → slice_index words lock_word ≡ 0 → first ≡ value → none ≡ [] → slots ≡ none ++ value ∷ []
       → IsLocked {C = C} does first (opening words slots (Keeper first 0 0 []))
-  opens value words none slots sized free-word is none-is slots-are = record {
+  opens {value} {words} {none} {slots} sized free-word is none-is slots-are = record {
     order = [];
     now = first;
     run = refl;
@@ -58,10 +58,10 @@ module _ {T C : Type 0} (does : T → C → T → Type 0) (first : T) where
   closed now order told holder name Back quiet knows = (knows.1, λ some_one. knows.2)
 
   -- once no pass is out, what the passes told leads to the value
-  pub closes : (words : List ℕ) (xs : List T) (id made out : ℕ) (f value : T) (told : Named C) (v : Known T C)
+  pub closes : {words : List ℕ} (xs : List T) {id made out : ℕ} {f value : T} {told : Named C} {v : Known T C}
       → v ≡ Keeper f made out told → out ≡ 0 → Final (Seen (IsLocked does first) id v) words xs
       → get_elem? xs 0 ≡ some value → Leads does first told value
-  closes words xs id made out f value told v v-is all-back end at =
+  closes {words} xs {id} {made} {out} {f} {value} {told} {v} v-is all-back end at =
       let s = end.0 in
       let k = end.1.0 in
       let here = keeper-at does first s k id made out f told (end.1.1 ∙ ap some v-is) in
@@ -82,10 +82,10 @@ module _ {T C : Type 0} (does : T → C → T → Type 0) (first : T) where
       }
 
   -- if nobody has the lock, all deeds so far lead to the value
-  pub frees : (words : List ℕ) (xs : List T) (word : ℕ) (value : T) → Final (IsLocked {C = C} does first) words xs
+  pub frees : {words : List ℕ} (xs : List T) {word : ℕ} {value : T} → Final (IsLocked {C = C} does first) words xs
       → get_elem? words lock_word ≡ some word → word ≡ 0 → get_elem? xs 0 ≡ some value
       → (done : List C) × HasRun does first done value
-  frees words xs word value end word-is zero-word at =
+  frees {words} xs {word} {value} end word-is zero-word at =
       let k = end.1 in
       let found = ap (λ ws. slice_index ws lock_word) end.2 ∙ read-at words lock_word word 0 word-is ∙ zero-word in
       let nobody = free k.holder (sym k.word ∙ found) in

@@ -1,9 +1,8 @@
 -- A pass takes the lock and gives it back: both steps keep the rule.
-use Rattle.std.proofs.Common.{◌≡◌, ◌≢◌, ◌==◌, ℕ, ◌<◌, Bool, true, false, inl, inr, List, [], ◌∷◌, ◌++◌, length, get_or, set, slice_index, slice_set, Option, Some, None, refl, sym, ap, ◌∙◌, subst, arith, eq-eqb, ne_eqb, if◌then◌else◌}
+use Rattle.std.proofs.Common.{◌≡◌, ◌≢◌, ◌==◌, ℕ, ◌<◌, Bool, true, false, inl, inr, List, [], ◌∷◌, ◌++◌, length, set, slice_index, slice_set, Option, Some, None, refl, sym, ap, ◌∙◌, subst, arith, eq-eqb, ne_eqb, if◌then◌else◌}
 use Rattle.std.specs.Prelude.{MatchBool}
 use Rattle.std.proofs.lemmas.Bool.{cases_eq}
-use Rattle.std.proofs.lemmas.List.{get_or-set_other, get_or-set_same, length-set, set-get_or}
-use Rattle.std.proofs.lemmas.List.Sums.{sum_by-set}
+use Rattle.std.proofs.lemmas.List.{get_or-set_same, length-set, set-get_or}
 use mathlib.Core.Option.{Option as Home, none, some}
 use lib.ListN.{get_elem?}
 use prog.Atomic.{either}
@@ -13,9 +12,9 @@ use Rattle.told_lock.specs.declared.known.Known.{Known}
 use Rattle.told_lock.specs.declared.known.Known.TheVariants.{Back, Keeper, Pass}
 use Rattle.told_lock.specs.Deeds.{HasRun, Named, deeds_by, deeds_in, named}
 use Rattle.told_lock.specs.Known.{Takes, given_back}
-use Rattle.told_lock.specs.Rule.{IsLocked, Knows, lock_word, outs, taken_by, view_at, word_for}
+use Rattle.told_lock.specs.Rule.{IsLocked, Knows, lock_word, taken_by, view_at, word_for}
 use Rattle.told_lock.proofs.Logs.{other-more, own-more, run-more}
-use Rattle.told_lock.proofs.Views.{holder-is, read-at, taken-none, taken-some, within}
+use Rattle.told_lock.proofs.Views.{holder-is, read-at, set-outs, set-view, taken-none, taken-some, within}
 
 -- a word that is written
 word-set : (words : List ℕ) (i w : ℕ) → i < length words → slice_index (slice_set words i w) i ≡ w
@@ -42,7 +41,8 @@ match-false false P Q is q = q
 
 module _ {T C : Type 0} (does : T → C → T → Type 0) (first : T) where
   -- what is so of a pass that is out
-  pub pass-at : (s : State T (Known T C)) (k : IsLocked does first s) (id n : ℕ) (f : T) (log : List C) (taken : Option T)
+  pub pass-at : (s : State T (Known T C)) (k : IsLocked does first s) (id n : ℕ) (f : T) (log : List C)
+      (taken : Option T)
       → get_elem? s.views id ≡ some (Pass f n log taken)
       → Knows first k.now k.order k.told k.holder id (Pass f n log taken)
   pass-at s k id n f log taken at =
@@ -73,7 +73,8 @@ module _ {T C : Type 0} (does : T → C → T → Type 0) (first : T) where
     -- the state after a step of this pass
     abbrev stepped-to : ℕ → List (Home T) → List C → Option T → State T (Known T C)
     stepped-to w homes log' taken' =
-        record { words = slice_set s.words lock_word w; homes = homes; views = slice_set s.views id (Pass first id log' taken') }
+        let v : Known T C = Pass first id log' taken' in
+        record { words = slice_set s.words lock_word w; homes = homes; views = slice_set s.views id v }
 
     -- it keeps the rule with this order, this value and this holder, if nobody else has the lock before or after it
     steps : (w : ℕ) (homes : List (Home T)) (order : Named C) (now : T) (holder : ℕ) (taken' : Option T)
@@ -89,8 +90,6 @@ module _ {T C : Type 0} (does : T → C → T → Type 0) (first : T) where
         let v : Known T C = Pass first id (deeds_by id order) taken' in
         let it = pass-at s k id id first log taken at in
         let there = within views id (Pass first id log taken) at in
-        let d : Known T C = Pass first id [] None in
-        let was : get_or views id d ≡ Pass first id log taken = read-at views id (Pass first id log taken) d at in
         record {
           order = order;
           now = now;
@@ -101,19 +100,13 @@ module _ {T C : Type 0} (does : T → C → T → Type 0) (first : T) where
           keeper = set_else views id 0 v (λ z. it.0 (sym z)) ∙ k.keeper;
           all = length-set views id v ∙ k.all;
           are_out =
-              let set = sum_by-set outs views id v d there in
-              let one : outs (get_or views id d) ≡ 1 = ap outs was in
-              let same = k.are_out in omega (arith, set, one, same);
+              let rest = set-outs views id (Pass first id log taken) v at in
+              let same = k.are_out in omega (arith, rest, same);
           holder = holder;
-          views = λ m. elim (cases_eq m id) [
-            | inl same ↦ subst (λ n. Knows first now order k.told holder n (view_at first (set views id v) n)) (sym same)
-                (subst (Knows first now order k.told holder id) (sym (get_or-set_same views id v d there))
-                (it.0, refl, refl, refl, mine, it.5))
-            | inr other ↦ subst (Knows first now order k.told holder m)
-                (sym (get_or-set_other views id m v (Pass first m [] None) other))
-                (still k.now now k.order order k.told k.holder holder m (view_at first s.views m)
-                (λ n is. apart n (λ e. other (sym is ∙ e))) (λ some_one. others m some_one other) (k.views m))
-          ];
+          views = set-view first (Knows first now order k.told holder) views id v there
+              (it.0, refl, refl, refl, mine, it.5)
+              (λ m other. still k.now now k.order order k.told k.holder holder m (view_at first views m)
+              (λ n is. apart n (λ e. other (sym is ∙ e))) (λ some_one. others m some_one other) (k.views m));
           word = word-set s.words lock_word w k.sized ∙ word;
           sized = subst (λ (n : ℕ). lock_word < n) (sym (length-set s.words lock_word w)) k.sized;
           home = home;
@@ -125,16 +118,18 @@ module _ {T C : Type 0} (does : T → C → T → Type 0) (first : T) where
       Allows (IsLocked does first) slots id me lock_word (λ w. either (w == 0) 1 w)
       (λ found after. MatchBool (found == 0) (Takes does me.0 after) (after ≡ me))
 
-  pub tries : (slots id n : ℕ) (f : T) (log : List C) → MayTry slots id (Pass f n log None, [])
-  tries slots id n f log s k long at bound =
+  pub tries : {slots : ℕ} (id : ℕ) {n : ℕ} {f : T} {log : List C} → MayTry slots id (Pass f n log None, [])
+  tries {slots} id {n} {f} {log} s k long at bound =
       let word = slice_index s.words lock_word in
       let p = pass-at s k id n f log None at in
       let me : Me T (Known T C) = (Pass f n log None, []) in
-      let is : get_elem? s.views id ≡ some (Pass first id log None) = at ∙ (λ i. some (Pass (p.1 i) (p.2 i) log None)) in
+      let is : get_elem? s.views id ≡ some (Pass first id log None) =
+      at ∙ (λ i. some (Pass (p.1 i) (p.2 i) log None)) in
       let told : Known T C → Act T → Type 0 =
       (λ v a. MatchBool (word == 0) (Takes does me.0 (v, carried_after [] a)) ((v, carried_after [] a) ≡ me)) in
       exchanged word 0 1
-      (λ w. (v : Known T C) × (a : Act T) × Valid s.homes [] a × IsLocked does first (stepped s lock_word w id [] v a) × told v a)
+      (λ w. (v : Known T C) × (a : Act T) × Valid s.homes [] a
+      × IsLocked does first (stepped s lock_word w id [] v a) × told v a)
       (λ zero.
       let nobody = free k.holder (sym k.word ∙ zero) in
       let view : ◌≡◌ {A = Known T C} (Pass first id (deeds_by id k.order) (Some k.now)) (Pass f n log (Some k.now)) =
@@ -162,7 +157,7 @@ module _ {T C : Type 0} (does : T → C → T → Type 0) (first : T) where
         tt,
         subst (λ (l : List ℕ). IsLocked does first (record { words = l; homes = s.homes; views = set s.views id me.0 }))
             (sym (set-get_or s.words lock_word 0))
-            (subst (λ (l : List (Known T C)). IsLocked does first (record { words = s.words; homes = s.homes; views = l }))
+            (subst (λ l. IsLocked does first (record { words = s.words; homes = s.homes; views = l }))
             (sym (set_again s.views id me.0 at)) k),
         match-false (word == 0) _ _ (ne_eqb word 0 busy) refl,
       ))
@@ -172,9 +167,9 @@ module _ {T C : Type 0} (does : T → C → T → Type 0) (first : T) where
   MayGive done slots id me =
       Allows (IsLocked does first) slots id me lock_word (λ _. 0) (λ _ after. after ≡ (given_back me.0 done, []))
 
-  pub gives-back : (slots id n : ℕ) (f x y : T) (log done : List C) → slots ≡ 1 → HasRun does x done y
+  pub gives-back : {slots : ℕ} (id : ℕ) {n : ℕ} {f x y : T} {log : List C} (done : List C) → slots ≡ 1 → HasRun does x done y
       → MayGive done slots id (Pass f n log (Some x), (0, y) ∷ [])
-  gives-back slots id n f x y log done one run s k long at bound =
+  gives-back {slots} id {n} {f} {x} {y} {log} done one run s k long at bound =
       let p = pass-at s k id n f log (Some x) at in
       let h = holder-is k.holder id x k.now p.4 in
       let is : get_elem? s.views id ≡ some (Pass first id log (Some x)) =

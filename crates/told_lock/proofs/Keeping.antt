@@ -1,11 +1,9 @@
 -- The keeper makes passes and takes them back: both steps keep the rule.
-use Rattle.std.proofs.Common.{◌≡◌, ◌≢◌, ℕ, suc, ◌+◌, ◌-◌, ◌<◌, inl, inr, List, [], ◌∷◌, ◌++◌, length, get_or, set, None, refl, sym, ap, ◌∙◌, subst, arith}
-use Rattle.std.proofs.lemmas.Bool.{cases_eq}
-use Rattle.std.proofs.lemmas.List.{get_or-set_other, get_or-set_same, get_or_append_left, get_or_past, get_or_push, length-append, length-set}
-use Rattle.std.proofs.lemmas.List.Sums.{sum_by-append, sum_by-cons, sum_by-set}
+use Rattle.std.proofs.Common.{◌≡◌, ◌≢◌, ℕ, ◌+◌, ◌-◌, ◌<◌, List, [], ◌∷◌, ◌++◌, length, set, None, refl, sym, ap, ◌∙◌, subst, arith}
+use Rattle.std.proofs.lemmas.List.{length-append, length-set}
+use Rattle.std.proofs.lemmas.List.Sums.{sum_by-append, sum_by-cons}
 use mathlib.Core.Option.{some, some-injective}
 use lib.ListN.{get_elem?}
-use native.Mathlib.Decide.{dec_le}
 use Rattle.atomic_table.specs.Table.{Joins, Splits, State}
 use Rattle.atomic_table.proofs.Lists.{at_longer, set_else, set_here}
 use Rattle.told_lock.specs.declared.known.Known.{Known}
@@ -15,11 +13,7 @@ use Rattle.told_lock.specs.Known.{made_one, new_pass, took_back}
 use Rattle.told_lock.specs.Rule.{IsLocked, Knows, outs, view_at}
 use Rattle.told_lock.proofs.Logs.{other-more, own-more}
 use Rattle.told_lock.proofs.Holding.{pass-at}
-use Rattle.told_lock.proofs.Views.{holder-not, read-at, within}
-
--- a place behind all of a list
-behind : {A : Type 0} (xs : List A) (x d : A) (i : ℕ) → length xs < i → get_or (xs ++ x ∷ []) i d ≡ d
-behind xs x d i past = let long = length-append xs (x ∷ []) in get_or_past (xs ++ x ∷ []) i d (omega (arith, long, past))
+use Rattle.told_lock.proofs.Views.{holder-not, push-view, read-at, set-outs, set-view, within}
 
 module _ {T C : Type 0} (does : T → C → T → Type 0) (first : T) where
   -- the state with these views
@@ -52,8 +46,8 @@ module _ {T C : Type 0} (does : T → C → T → Type 0) (first : T) where
   abbrev pub MaySplit : ℕ → Known T C → Type 0
   MaySplit id v = Splits (IsLocked does first) id v (made_one v) (new_pass v)
 
-  pub splits : (id made out : ℕ) (f : T) (told : Named C) → MaySplit id (Keeper f made out told)
-  splits id made out f told s k at =
+  pub splits : (id : ℕ) {made out : ℕ} {f : T} {told : Named C} → MaySplit id (Keeper f made out told)
+  splits id {made} {out} {f} {told} s k at =
       let here = keeper-at s k id made out f told at in
       let left : Known T C = Keeper first (k.made + 1) (k.out + 1) k.told in
       let right : Known T C = Pass first (k.made + 1) [] None in
@@ -61,21 +55,8 @@ module _ {T C : Type 0} (does : T → C → T → Type 0) (first : T) where
       let all = k.all in
       let there : 0 < length s.views = omega (arith, all) in
       let long : length views ≡ k.made + 1 = length-set s.views 0 left ∙ all in
-      let was = read-at s.views 0 (Keeper first k.made k.out k.told) left k.keeper in
       let knows = knows-first s k in
-      let as-before : (m : ℕ) → m ≢ 0 → view_at first (views ++ right ∷ []) m ≡ view_at first s.views m =
-      (λ m some_one. elim (cases_eq m (k.made + 1)) [
-        | inl new ↦ subst (λ n. view_at first (views ++ right ∷ []) n ≡ view_at first s.views n) (sym new)
-            (get_or_push views right right (k.made + 1) long ∙ sym (get_or_past s.views (k.made + 1) right (omega (arith, all))))
-        | inr old ↦
-            let d : Known T C = Pass first m [] None in
-            elim (dec_le (suc m) (k.made + 1)) [
-              | yes low ↦ get_or_append_left views (right ∷ []) d m (omega (arith, low, long))
-                  ∙ get_or-set_other s.views 0 m left d some_one
-              | no high ↦ behind views right d m (omega (arith, high, old, long))
-                  ∙ sym (get_or_past s.views m d (omega (arith, high, all)))
-            ]
-      ]) in
+      let P = Knows first k.now k.order k.told k.holder in
       let kept : IsLocked does first (with-views s (views ++ right ∷ [])) =
       record {
         order = k.order;
@@ -88,20 +69,12 @@ module _ {T C : Type 0} (does : T → C → T → Type 0) (first : T) where
         all = length-append views (right ∷ []) ∙ ap (λ n. n + 1) long;
         are_out =
             let both = sum_by-append outs views (right ∷ []) in
-            let set = sum_by-set outs s.views 0 left left there in
-            let none : outs (get_or s.views 0 left) ≡ 0 = ap outs was in
             let one = sum_by-cons outs right [] in
-            let same = k.are_out in omega (arith, both, set, none, one, same);
+            let rest = set-outs s.views 0 (Keeper first k.made k.out k.told) left k.keeper in
+            let same = k.are_out in omega (arith, both, one, rest, same);
         holder = k.holder;
-        views = λ m. elim (cases_eq m 0) [
-          | inl first_one ↦ subst (λ n. Knows first k.now k.order k.told k.holder n (view_at first (views ++ right ∷ []) n))
-              (sym first_one)
-              (subst (Knows first k.now k.order k.told k.holder 0)
-              (sym (get_or_append_left views (right ∷ []) (Pass first 0 [] None) 0 (omega (arith, long))
-              ∙ get_or-set_same s.views 0 left (Pass first 0 [] None) there))
-              (refl, refl, knows.2, knows.3))
-          | inr some_one ↦ subst (Knows first k.now k.order k.told k.holder m) (sym (as-before m some_one)) (k.views m)
-        ];
+        views = λ m. subst (P m) (sym (push-view first views (k.made + 1) long m))
+            (set-view first P s.views 0 left there (refl, refl, knows.2, knows.3) (λ n other. k.views n) m);
         word = k.word;
         sized = k.sized;
         home = k.home;
@@ -124,9 +97,9 @@ module _ {T C : Type 0} (does : T → C → T → Type 0) (first : T) where
       (knows.0, knows.1, knows.2, knows.3, knows.4, same ∙ knows.5)
   more-told now order told told' holder name Back some_one same knows = (knows.0, knows.1 ∙ sym same, knows.2)
 
-  pub joins : (id made out : ℕ) (f : T) (told : Named C) (other n : ℕ) (g : T) (log : List C)
+  pub joins : {id made out : ℕ} {f : T} {told : Named C} {other n : ℕ} {g : T} {log : List C}
       → MayJoin id (Keeper f made out told) other (Pass g n log None)
-  joins id made out f told other n g log s k at apart found =
+  joins {id} {made} {out} {f} {told} {other} {n} {g} {log} s k at apart found =
       let here = keeper-at s k id made out f told at in
       let pass : Known T C = Pass g n log None in
       let was : get_elem? s.views other ≡ some pass =
@@ -138,11 +111,9 @@ module _ {T C : Type 0} (does : T → C → T → Type 0) (first : T) where
       let views : List (Known T C) = set mid other Back in
       let all = k.all in
       let there : 0 < length s.views = omega (arith, all) in
-      let there-too : other < length mid =
-      subst (λ (l : ℕ). other < l) (sym (length-set s.views 0 left)) (within s.views other pass was) in
-      let first-is = read-at s.views 0 (Keeper first k.made k.out k.told) left k.keeper in
-      let other-is : get_or mid other left ≡ pass =
-      get_or-set_other s.views 0 other left left p.0 ∙ read-at s.views other pass left was in
+      let was-too : get_elem? mid other ≡ some pass = set_else s.views 0 other left p.0 ∙ was in
+      let there-too = within mid other pass was-too in
+      let P = Knows first k.now k.order more k.holder in
       let knows = knows-first s k in
       let mine : deeds_by other more ≡ log =
       ap (λ x. deeds_by other (k.told ++ named x log)) p.2 ∙ own-more other k.told [] log (sym p.5) in
@@ -159,29 +130,16 @@ module _ {T C : Type 0} (does : T → C → T → Type 0) (first : T) where
         keeper = set_else mid other 0 Back (λ z. p.0 (sym z)) ∙ set_here s.views 0 left there;
         all = length-set mid other Back ∙ length-set s.views 0 left ∙ all;
         are_out =
-            let one = sum_by-set outs s.views 0 left left there in
-            let none : outs (get_or s.views 0 left) ≡ 0 = ap outs first-is in
-            let two = sum_by-set outs mid other Back left there-too in
-            let out-is : outs (get_or mid other left) ≡ 1 = ap outs other-is in
-            let same = k.are_out in omega (arith, one, none, two, out-is, same);
+            let one = set-outs s.views 0 (Keeper first k.made k.out k.told) left k.keeper in
+            let two = set-outs mid other pass Back was-too in
+            let same = k.are_out in omega (arith, one, two, same);
         holder = k.holder;
-        views = λ m. elim (cases_eq m other) [
-          | inl same ↦ subst (λ x. Knows first k.now k.order more k.holder x (view_at first views x)) (sym same)
-              (subst (Knows first k.now k.order more k.holder other)
-              (sym (get_or-set_same mid other Back (Pass first other [] None) there-too))
-              (p.0, sym p.3 ∙ sym mine, holder-not k.holder other k.now p.4))
-          | inr ne ↦ subst (Knows first k.now k.order more k.holder m)
-              (sym (get_or-set_other mid other m Back (Pass first m [] None) ne))
-              (elim (cases_eq m 0) [
-                | inl first_one ↦ subst (λ x. Knows first k.now k.order more k.holder x (view_at first mid x)) (sym first_one)
-                    (subst (Knows first k.now k.order more k.holder 0)
-                    (sym (get_or-set_same s.views 0 left (Pass first 0 [] None) there))
-                    (refl, refl, knows.2, others 0 (λ z. p.0 (sym z)) ∙ knows.3))
-                | inr some_one ↦ subst (Knows first k.now k.order more k.holder m)
-                    (sym (get_or-set_other s.views 0 m left (Pass first m [] None) some_one))
-                    (more-told k.now k.order k.told more k.holder m (view_at first s.views m) some_one (others m ne) (k.views m))
-              ])
-        ];
+        views = set-view first P mid other Back there-too (p.0, sym p.3 ∙ sym mine, holder-not k.holder other k.now p.4)
+            (set-view first (λ m v. m ≢ other → P m v) s.views 0 left there
+            (λ ne. (refl, refl, knows.2, others 0 ne ∙ knows.3))
+            (λ m some_one ne.
+            more-told k.now k.order k.told more k.holder m (view_at first s.views m) some_one (others m ne)
+            (k.views m)));
         word = k.word;
         sized = k.sized;
         home = k.home;

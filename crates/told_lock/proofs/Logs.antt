@@ -15,12 +15,14 @@ module _ {C : Type 0} (n : ℕ) where
   -- the first deed is this pass's
   pub by-first : (e : ℕ × C) (es : Named C) → e.0 ≡ n → deeds_by n (e ∷ es) ≡ e.1 ∷ deeds_by n es
   by-first e es same =
-      ap (λ (b : Bool). deeds_in (cond b (e ∷ filter (λ d. d.0 == n) es) (filter (λ d. d.0 == n) es))) (eq-eqb e.0 n same)
+      let rest : Named C = filter (λ d. d.0 == n) es in
+      ap (λ (b : Bool). deeds_in (cond b (e ∷ rest) rest)) (eq-eqb e.0 n same)
 
   -- it is another's
   pub by-later : (e : ℕ × C) (es : Named C) → e.0 ≢ n → deeds_by n (e ∷ es) ≡ deeds_by n es
   by-later e es other =
-      ap (λ (b : Bool). deeds_in (cond b (e ∷ filter (λ d. d.0 == n) es) (filter (λ d. d.0 == n) es))) (ne_eqb e.0 n other)
+      let rest : Named C = filter (λ d. d.0 == n) es in
+      ap (λ (b : Bool). deeds_in (cond b (e ∷ rest) rest)) (ne_eqb e.0 n other)
 
   -- this pass's log has its deeds alone
   pub by-own : (cs : List C) → deeds_by n (named n cs) ≡ cs
@@ -39,7 +41,8 @@ module _ {C : Type 0} (n : ℕ) where
   -- and with another's
   pub other-more : (es : Named C) (m : ℕ) (cs : List C) → m ≢ n → deeds_by n (es ++ named m cs) ≡ deeds_by n es
   other-more es m cs other =
-      by-append es (named m cs) ∙ ap (λ (l : List C). deeds_by n es ++ l) (by-other m cs other) ∙ append-nil (deeds_by n es)
+      by-append es (named m cs) ∙ ap (λ (l : List C). deeds_by n es ++ l) (by-other m cs other)
+      ∙ append-nil (deeds_by n es)
 
 -- the deeds of a log, without the name
 unnamed : {C : Type 0} (n : ℕ) (cs : List C) → deeds_in (named n cs) ≡ cs

@@ -28,7 +28,8 @@ taken_by holder now name = if holder == name then Some now else None
 abbrev pub view_at : {T C : Type 0} → T → List (Known T C) → ℕ → Known T C
 view_at first views name = slice_index_or views name (Pass first name [] None)
 
--- what a seat knows is so
+-- what the seat of this name knows is so, by the value at first and now, all deeds so far, what the keeper was told, and
+-- the holder's name (0: nobody)
 abbrev pub Knows : {T C : Type 0} → T → T → Named C → Named C → ℕ → ℕ → Known T C → Type 0
 Knows first now order told holder name (Keeper f made out t) =
     (name ≡ 0) × (t ≡ told) × (deeds_by 0 order ≡ []) × (deeds_by 0 told ≡ [])

@@ -4,5 +4,5 @@ use Rattle.told_lock.proofs.lock.Lock.into_inner.Goals as goal
 
 pub returns-then-is_free : goal.returns-then-is_free
 returns-then-is_free g c =
-    frees g.D.Deeds.does (first_of c.args.self) _ _ _ _ c.close-closed.ensures.values.2 c.word-is_free.ensures
-    c.if-is_free.true c.take-value.ensures.value
+    frees g.D.Deeds.does (first_of c.args.self) _ c.close-closed.ensures.values.2 c.word-is_free.ensures c.if-is_free.true
+    c.take-value.ensures.value

@@ -4,5 +4,5 @@ use Rattle.told_lock.proofs.lock.Lock.new.Goals as goal
 
 pub new-requires : goal.new-requires
 new-requires g c =
-    opens g.D.Deeds.does c.of-first.result.value c.args.value _ _ _ (omega arith) refl c.of-first.ensures
-    c.in_ok-slots.ensures.items c.push_reserved.ensures.items
+    opens g.D.Deeds.does c.of-first.result.value (omega arith) refl c.of-first.ensures c.in_ok-slots.ensures.items
+    c.push_reserved.ensures.items
