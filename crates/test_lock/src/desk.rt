@@ -1,4 +1,4 @@
-//! Passes that are given back without the keeper at hand: it lies at a desk, behind a lock of its own, and whoever gives
+//! Passes that are given back without the keeper at hand: it lies at a desk, behind a lock of its own, and who gives
 //! a pass back takes that lock. The passes of the desk are never given back.
 ghost use Rattle.std.specs.Prelude.{◌≡◌, ℕ, IfOk, IfSome};
 ghost use Rattle.told_lock.specs.Deeds.{Leads};
