@@ -11,6 +11,7 @@ mod laws;
 mod lock;
 mod pass;
 mod rule;
+
 pub use deeds::{Deeds, Done};
 pub use keeper::Keeper;
 pub use known::Known;
