@@ -5,3 +5,5 @@
 mod adds;
 #[cfg(test)]
 mod desk;
+#[cfg(test)]
+mod threads;

@@ -31,6 +31,7 @@ free holder is = elim (cases_eq holder 0) [
   | inr some_one ↦ absurd (omega (arith, is, held holder some_one))
 ]
 
+-- the two cases of what a try tells
 match-true : (b : Bool) (P Q : Type 0) → b ≡ true → P → MatchBool b P Q
 match-true true P Q is p = p
 match-true false P Q is p = absurd (cc is)
@@ -118,6 +119,7 @@ module _ {T C : Type 0} (does : T → C → T → Type 0) (first : T) where
       Allows (IsLocked does first) slots id me lock_word (λ w. either (w == 0) 1 w)
       (λ found after. MatchBool (found == 0) (Takes does me.0 after) (after ≡ me))
 
+  -- it may: it takes the lock if nobody has it, and else nothing changes
   pub tries : {slots : ℕ} (id : ℕ) {n : ℕ} {f : T} {log : List C} → MayTry slots id (Pass f n log None, [])
   tries {slots} id {n} {f} {log} s k long at bound =
       let word = slice_index s.words lock_word in
@@ -167,6 +169,7 @@ module _ {T C : Type 0} (does : T → C → T → Type 0) (first : T) where
   MayGive done slots id me =
       Allows (IsLocked does first) slots id me lock_word (λ _. 0) (λ _ after. after ≡ (given_back me.0 done, []))
 
+  -- it may, if these lead from the value that it took to the one that it leaves
   pub gives-back : {slots : ℕ} (id : ℕ) {n : ℕ} {f x y : T} {log : List C} (done : List C) → slots ≡ 1 → HasRun does x done y
       → MayGive done slots id (Pass f n log (Some x), (0, y) ∷ [])
   gives-back {slots} id {n} {f} {x} {y} {log} done one run s k long at bound =

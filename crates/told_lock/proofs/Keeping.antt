@@ -25,6 +25,7 @@ module _ {T C : Type 0} (does : T → C → T → Type 0) (first : T) where
     pub place : id ≡ 0
     pub is : v ≡ Keeper first k.made k.out k.told
 
+  -- the seat of a view that is a keeper's
   pub keeper-at : (s : State T (Known T C)) (k : IsLocked does first s) (id made out : ℕ) (f : T) (told : Named C)
       → get_elem? s.views id ≡ some (Keeper f made out told) → IsKeeperAt s k id (Keeper f made out told)
   keeper-at s k id made out f told at =
@@ -46,6 +47,7 @@ module _ {T C : Type 0} (does : T → C → T → Type 0) (first : T) where
   abbrev pub MaySplit : ℕ → Known T C → Type 0
   MaySplit id v = Splits (IsLocked does first) id v (made_one v) (new_pass v)
 
+  -- it may: the new pass has done nothing
   pub splits : (id : ℕ) {made out : ℕ} {f : T} {told : Named C} → MaySplit id (Keeper f made out told)
   splits id {made} {out} {f} {told} s k at =
       let here = keeper-at s k id made out f told at in
@@ -97,6 +99,7 @@ module _ {T C : Type 0} (does : T → C → T → Type 0) (first : T) where
       (knows.0, knows.1, knows.2, knows.3, knows.4, same ∙ knows.5)
   more-told now order told told' holder name Back some_one same knows = (knows.0, knows.1 ∙ sym same, knows.2)
 
+  -- it may, any pass that doesn't hold the value
   pub joins : {id made out : ℕ} {f : T} {told : Named C} {other n : ℕ} {g : T} {log : List C}
       → MayJoin id (Keeper f made out told) other (Pass g n log None)
   joins {id} {made} {out} {f} {told} {other} {n} {g} {log} s k at apart found =

@@ -18,6 +18,7 @@ module _ {A : Type 0} where
   within (y ∷ xs) zero x at = omega arith
   within (y ∷ xs) (suc i) x at = let r = within xs i x at in omega (arith, r)
 
+  -- and is read there, whatever the default
   pub read-at : (xs : List A) (i : ℕ) (x d : A) → get_elem? xs i ≡ some x → get_or xs i d ≡ x
   read-at [] i x d at = absurd (some-ne-none x (sym at))
   read-at (y ∷ xs) zero x d at = some-injective y x at
@@ -58,11 +59,12 @@ set-outs views i was v at =
     ap (λ w. sum_by outs (set views i v) + outs w) (sym (read-at views i was v at))
     ∙ sum_by-set outs views i v v (within views i was at)
 
--- nobody else's name is the holder's
+-- others have taken nothing
 pub taken-none : {T : Type 0} (holder name : ℕ) (now : T) → holder ≢ name → taken_by holder now name ≡ None
 taken-none {T} holder name now other =
     let f : Bool → Option T = λ b. if b then Some now else None in ap f (ne_eqb holder name other)
 
+-- the holder has taken the value
 pub taken-some : {T : Type 0} (holder name : ℕ) (now : T) → holder ≡ name → taken_by holder now name ≡ Some now
 taken-some {T} holder name now same =
     let f : Bool → Option T = λ b. if b then Some now else None in ap f (eq-eqb holder name same)

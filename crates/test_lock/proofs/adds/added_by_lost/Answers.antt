@@ -1,4 +1,4 @@
-use Rattle.std.proofs.Common.{◌≤◌, arith}
+use Rattle.std.proofs.Common.{arith}
 use Rattle.test_lock.proofs.Adding.{added}
 use Rattle.test_lock.proofs.adds.added_by_lost.Goals as goal
 

@@ -1,4 +1,4 @@
-use Rattle.std.proofs.Common.{◌+◌, ◌++◌, ℕ, List, ap, ◌∙◌, arith}
+use Rattle.std.proofs.Common.{◌++◌, ℕ, ap, ◌∙◌, arith}
 use Rattle.std.specs.Prelude.{sum}
 use Rattle.told_lock.specs.Deeds.{Named, deeds_in, named}
 use Rattle.told_lock.specs.Rights.{log_of, name_of}
