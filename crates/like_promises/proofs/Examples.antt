@@ -1,12 +1,18 @@
--- Run order of worked examples, computed.
-use Rattle.std.proofs.Common.{◌≡◌, ℕ, Bool, true, false, [], ◌∷◌, refl}
+-- Worked examples, computed: run order, what requests ask, and what a store replies.
+use Rattle.std.proofs.Common.{◌≡◌, ℕ, Bool, true, false, [], ◌∷◌, map, Some, None, refl}
 use Rattle.like_requests.specs.Pages.{Page}
 use Rattle.like_requests.specs.declared.request.Op.{Op}
 use Rattle.like_requests.specs.declared.request.Op.TheVariants.{Like, Look}
-use Rattle.like_requests.specs.declared.request.PageRef.TheVariants.{Known}
+use Rattle.like_requests.specs.declared.request.PageRef.TheVariants.{Known, Unknown}
 use Rattle.like_requests.specs.declared.request.Request.{Request}
+use Rattle.like_requests.specs.declared.verdict.Verdict.TheVariants.{UnknownUser, OtherHome, UnknownPage}
 use Rattle.like_promises.specs.declared.log.Took.{Took}
+use Rattle.like_promises.specs.declared.reply.Reply.TheVariants.{Liked, Seen, Refused}
+use Rattle.like_promises.specs.Asked.{asked}
+use Rattle.like_promises.specs.OneThread.{start}
 use Rattle.like_promises.specs.Order.{Entry, order}
+use Rattle.like_promises.specs.Store.{like, look, refuse, replies}
+use Rattle.like_promises.specs.Workload.{Workload}
 
 -- a page without a name
 abbrev page : ℕ → Bool → Page
@@ -76,3 +82,35 @@ pub unsplit_in_split_phase : order
     })
     (took 1 1 ∷ took 1 2 ∷ []) ≡ runs 1 1 false ∷ runs 1 2 false ∷ []
 unsplit_in_split_phase = refl
+
+-- two users and two submitters. The first asks for a user who isn't there, for the other's user, for a page that isn't
+-- there, and then for its own user at a page
+abbrev refusing : Workload
+refusing = record {
+  users = 2;
+  pages = page 10 false ∷ [];
+  stash = 256;
+  hot = λ _. 0;
+  plans = (record { op = Like; user = 2; page = Known 0 }
+      ∷ record { op = Look; user = 1; page = Known 0 }
+      ∷ record { op = Look; user = 0; page = Unknown }
+      ∷ asks Like 0
+      ∷ asks Look 0
+      ∷ []) ∷ [] ∷ [];
+}
+
+-- who is refused, and why
+pub refusals : map (asked refusing 0) (1 ∷ 2 ∷ 3 ∷ 4 ∷ 5 ∷ 6 ∷ [])
+    ≡ Some (refuse UnknownUser)
+    ∷ Some (refuse OtherHome)
+    ∷ Some (refuse UnknownPage)
+    ∷ Some (like 0 0)
+    ∷ Some (look 0 0)
+    ∷ None
+    ∷ []
+refusals = refl
+
+-- what the store replies: a look shows the like before it
+pub one_thread : replies (start refusing) (look 0 0 ∷ like 0 0 ∷ look 0 0 ∷ look 1 0 ∷ refuse OtherHome ∷ [])
+    ≡ Seen None 10 ∷ Liked ∷ Seen (Some 0) 11 ∷ Seen None 11 ∷ Refused OtherHome ∷ []
+one_thread = refl

@@ -11,4 +11,9 @@ pub mod Serial
 pub mod EndToEnd
 pub mod WorkloadOf
 pub mod RunFault
+pub mod Store
+pub mod Asked
+pub mod OneThread
+pub mod Waits
+pub mod RunReport
 pub mod places
