@@ -18,7 +18,7 @@ use Rattle.like_promises.specs.Likes.{last_in, last_like, like_ran, likes_ran}
 use Rattle.like_promises.specs.Replies.{HasRightAnswers, IsReplyTo, IsRightAnswer}
 use Rattle.like_promises.specs.Workload.{Workload, request_of, submitters}
 use Rattle.like_promises.specs.Serial.{entries_by}
-use Rattle.like_serial.proofs.Parts.{at_place, place_of_part, take_part}
+use Rattle.like_serial.proofs.Parts.{at_place, passed, place_of_part, take_part}
 use Rattle.like_serial.proofs.Seen.{not_some, some_is}
 use Rattle.std.proofs.lemmas.List.Elements.{filter-append}
 
@@ -107,31 +107,49 @@ module _ (workload : Workload) (workers user : ℕ) where
       → last_like workload user xs ≡ last_like workload user (entries_by workers serving xs)
   last_of_own xs = ap (λ likes. last_in (map (λ (l : AcceptedRequest). l.page) likes)) (user_likes xs)
 
--- a right answer after its worker's entries is right after all
-pub right_after_all : (workload : Workload) (workers : ℕ) (before : List Ran) (e : Ran)
-    → IsRightAnswer workload (entries_by workers (worker_of workers e.submitter) before) e
+-- a right answer is right after other entries, if they have the same last like of the request's user
+same_last : (workload : Workload) (before other : List Ran) (e : Ran)
+    → ((r : Request) → verdict_on workload e.submitter r ≡ Accepted
+    → last_like workload r.user before ≡ last_like workload r.user other)
     → IsRightAnswer workload before e
-right_after_all workload workers before e right = by (request_of workload e) right where
+    → IsRightAnswer workload other e
+same_last workload before other e same right = by (request_of workload e) right where
   by_reply : (r : Request) (reply : Reply)
-      → IsReplyTo workload (entries_by workers (worker_of workers e.submitter) before) e.submitter r reply
       → IsReplyTo workload before e.submitter r reply
+      → IsReplyTo workload other e.submitter r reply
   by_reply r Liked is = is
   by_reply r (Refused why) is = is
-  by_reply r (Seen last count) is = (
-    is.0,
-    is.1,
-    is.2
-        ∙ ap (λ w. last_like workload r.user (entries_by workers w before))
-        (ap (worker_of workers) (sym (at_home workload e.submitter r is.0)))
-        ∙ sym (last_of_own workload workers r.user before),
-  )
+  by_reply r (Seen last count) is = (is.0, is.1, is.2 ∙ same r is.0)
 
   by : (o : Option Request)
-      → IsSomeAnd o
-      (λ r. IsReplyTo workload (entries_by workers (worker_of workers e.submitter) before) e.submitter r e.reply)
       → IsSomeAnd o (λ r. IsReplyTo workload before e.submitter r e.reply)
+      → IsSomeAnd o (λ r. IsReplyTo workload other e.submitter r e.reply)
   by None is = is
   by (Some r) is = by_reply r e.reply is
+
+-- so it is right after its worker's entries if it is right after all, and the other way round
+own_last : (workload : Workload) (workers : ℕ) (before : List Ran) (e : Ran) (r : Request)
+    → verdict_on workload e.submitter r ≡ Accepted
+    → last_like workload r.user before
+    ≡ last_like workload r.user (entries_by workers (worker_of workers e.submitter) before)
+own_last workload workers before e r is =
+    last_of_own workload workers r.user before
+    ∙ ap (λ w. last_like workload r.user (entries_by workers w before))
+    (ap (worker_of workers) (at_home workload e.submitter r is))
+
+right_after_own : (workload : Workload) (workers : ℕ) (before : List Ran) (e : Ran)
+    → IsRightAnswer workload before e
+    → IsRightAnswer workload (entries_by workers (worker_of workers e.submitter) before) e
+right_after_own workload workers before e =
+    same_last workload before (entries_by workers (worker_of workers e.submitter) before) e
+    (own_last workload workers before e)
+
+right_after_all : (workload : Workload) (workers : ℕ) (before : List Ran) (e : Ran)
+    → IsRightAnswer workload (entries_by workers (worker_of workers e.submitter) before) e
+    → IsRightAnswer workload before e
+right_after_all workload workers before e =
+    same_last workload (entries_by workers (worker_of workers e.submitter) before) before e
+    (λ r is. sym (own_last workload workers before e r is))
 
 -- the place of an entry in its worker's run list
 pub own_part : (workers : ℕ) (before : List Ran) (e : Ran) (after : List Ran)
@@ -168,3 +186,22 @@ answers_of_own workload workers runs serial own right i e at =
     in
     right_after_all workload workers before e
     (subst (λ xs. IsRightAnswer workload xs e) front (right w n e here))
+
+-- and a part of it by worker has right answers if the merge does
+pub own_answers : (workload : Workload) (workers w : ℕ) (serial : List Ran)
+    → HasRightAnswers workload serial
+    → HasRightAnswers workload (entries_by workers w serial)
+own_answers workload workers w serial right i e at =
+    let run = entries_by workers w serial in
+    let p = passed (λ (d : Ran). worker_of workers d.submitter == w) serial (take i run) e (drop (suc i) run)
+    (at_place run i e at)
+    in
+    let mine : worker_of workers e.submitter ≡ w = eqb-true (worker_of workers e.submitter) w p.passes in
+    let there = right (length p.front) e
+    (subst (λ xs. slice_get xs (length p.front) ≡ Some e) (sym p.is) (place_of_part p.front e p.rest))
+    in
+    let after : IsRightAnswer workload p.front e =
+    subst (λ xs. IsRightAnswer workload xs e) (ap (take (length p.front)) p.is ∙ take_part p.front e p.rest) there
+    in
+    subst (λ xs. IsRightAnswer workload xs e) (ap (λ k. entries_by workers k p.front) mine ∙ p.fronts)
+    (right_after_own workload workers p.front e after)

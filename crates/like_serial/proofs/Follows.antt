@@ -1,16 +1,12 @@
 -- What follows from a serial list.
 use Rattle.std.proofs.Common.{◌≡◌, ℕ, zero, suc, ◌+◌, ◌<◌, ◌≤◌, Bool, true, false, nat_lt, ◌==◌, List, [], ◌∷◌, ◌++◌, length, take, drop, map, filter, slice_get, Some, subst, ap, ap₂, sym, ◌∙◌, refl, arith, add-one}
-use Rattle.std.specs.List.{AllByRecursion, range_with_len}
-use Rattle.like_requests.specs.Verdict.{home}
-use Rattle.like_tables.specs.Share.{worker_of}
+use Rattle.std.specs.List.{AllByRecursion}
 use Rattle.like_promises.specs.declared.log.Ran.{Ran}
-use Rattle.like_promises.specs.Likes.{Between, count_before, initial_count, last_like, likes, likes_among, likes_within}
+use Rattle.like_promises.specs.Likes.{Between, count_before, initial_count, likes, likes_among, likes_within}
 use Rattle.like_promises.specs.Looks.{count_in, look_at}
-use Rattle.like_promises.specs.EndToEnd.{runs_of}
-use Rattle.like_promises.specs.Workload.{Workload, submitters}
-use Rattle.like_serial.specs.Laws.{CountsAreSerial, LastLikesAreSerial, SerialIsBetween}
+use Rattle.like_promises.specs.Workload.{Workload}
+use Rattle.like_serial.specs.Laws.{SerialIsBetween}
 use Rattle.like_promises.specs.Serial.{IsSerial, run_of}
-use Rattle.like_serial.proofs.Answers.{last_of_own}
 use Rattle.like_serial.proofs.Counts.{likes-weigh, likes_by}
 use Rattle.like_serial.proofs.Interleaved.{with_key}
 use Rattle.like_serial.proofs.Parts.{at_place, passed, place_of_part, take_part}
@@ -62,7 +58,7 @@ module _ (workload : Workload) (workers : ℕ) (runs : List (List Ran)) (serial 
       (λ w past. ap (weigh f) (no_run runs w past))
       ∙ sym (runs-upto (weigh f) runs)
 
-map-alike : {X Y : Type 0} (f g : X → Y) (xs : List X) → ((x : X) → f x ≡ g x) → map f xs ≡ map g xs
+pub map-alike : {X Y : Type 0} (f g : X → Y) (xs : List X) → ((x : X) → f x ≡ g x) → map f xs ≡ map g xs
 map-alike f g [] each = refl
 map-alike f g (x ∷ xs) each = ap₂ (λ y ys. y ∷ ys) (each x) (map-alike f g xs each)
 
@@ -75,28 +71,6 @@ likes-serial workload workers runs serial page is =
     ∙ weigh-alike (likes_among workload page) (weigh (likes_by workload page)) runs (likes-weigh workload page)
     ∙ sym (same_counts workload workers runs serial is (likes_by workload page))
     ∙ sym (likes-weigh workload page serial)
-
-pub counts_are_serial : CountsAreSerial
-counts_are_serial workload workers runs serial counts is right =
-    right
-    ∙ map-alike (λ page. initial_count workload.pages page + likes workload page runs)
-    (λ page. initial_count workload.pages page + likes workload page (serial ∷ []))
-    (range_with_len 0 (length workload.pages))
-    (λ page.
-    let one : likes workload page (serial ∷ []) ≡ likes_among workload page serial =
-    sum-weigh (likes_among workload page) (serial ∷ []) ∙ omega arith
-    in
-    ap (λ n. initial_count workload.pages page + n) (likes-serial workload workers runs serial page is ∙ sym one))
-
-pub last_likes_are_serial : LastLikesAreSerial
-last_likes_are_serial workload workers logs serial last is right =
-    right
-    ∙ map-alike
-    (λ user. last_like workload user (run_of (runs_of logs) (worker_of workers (home (submitters workload) user))))
-    (λ user. last_like workload user serial)
-    (range_with_len 0 workload.users)
-    (λ user. ap (last_like workload user) (sym (is.own (worker_of workers (home (submitters workload) user))))
-    ∙ sym (last_of_own workload workers user serial))
 
 -- what counts less
 weigh-less : {X : Type 0} (f g : X → ℕ) (xs : List X) → ((x : X) → f x ≤ g x) → weigh f xs ≤ weigh g xs

@@ -17,7 +17,7 @@ use Rattle.like_serial.proofs.Phases.{Rises, all_append, all_then, pairs_of, rec
 use Rattle.like_serial.proofs.Seen.{not_some}
 use Rattle.like_serial.proofs.Serial.{phase_of, server_of}
 
-all_filter : {X : Type 0} (P : X → Type 0) (t : X → Bool) (xs : List X)
+pub all_filter : {X : Type 0} (P : X → Type 0) (t : X → Bool) (xs : List X)
     → AllByRecursion P xs
     → AllByRecursion P (filter t xs)
 all_filter P t [] all = tt
@@ -26,7 +26,7 @@ all_filter {X} P t (x ∷ xs) all = by (t x) (all_filter P t xs all.1) where
   by true others = (all.0, others)
   by false others = others
 
-all_map : {X Y : Type 0} (P : Y → Type 0) (f : X → Y) (xs : List X)
+pub all_map : {X Y : Type 0} (P : Y → Type 0) (f : X → Y) (xs : List X)
     → AllByRecursion (λ x. P (f x)) xs
     → AllByRecursion P (map f xs)
 all_map P f [] all = tt
@@ -105,7 +105,7 @@ rises_blocks blocks a (suc n) each =
     (λ e is. omega (arith, is, least)) (each k)))
 
 -- a block's entries are of its phase, and of those who took them
-block_phase : (workload : Workload) (taken : List Took) (k : ℕ)
+pub block_phase : (workload : Workload) (taken : List Took) (k : ℕ)
     → AllByRecursion (λ (e : Entry). e.phase ≡ k) (block workload taken k)
 block_phase workload taken k =
     let due : List Took = filter (is_due workload k) taken in

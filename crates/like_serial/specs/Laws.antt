@@ -1,10 +1,8 @@
 -- The laws of run lists.
-use Rattle.std.specs.Prelude.{◌≡◌, ℕ, List, [], ◌∷◌, map, Option}
-use Rattle.std.specs.List.{range_with_len}
+use Rattle.std.specs.Prelude.{ℕ, List}
 use Rattle.like_promises.specs.declared.log.Ran.{Ran}
 use Rattle.like_promises.specs.declared.log.WorkerLog.{WorkerLog}
-use Rattle.like_promises.specs.EndToEnd.{AreCounts, AreLastLikes, AreLogs, runs_of}
-use Rattle.like_promises.specs.Likes.{last_like}
+use Rattle.like_promises.specs.EndToEnd.{AreLogs, runs_of}
 use Rattle.like_promises.specs.Replies.{HasRightCounts}
 use Rattle.like_promises.specs.Serial.{HasOneOrder, IsSerial, run_of}
 use Rattle.like_promises.specs.Workload.{Workload}
@@ -23,20 +21,6 @@ abbrev pub LogsAreRunLists : Type 0
 LogsAreRunLists =
     (workload : Workload) (workers phases : ℕ) (logs : List WorkerLog)
     → AreLogs workload workers phases logs → AreRunLists workload workers (runs_of logs)
-
--- final counts that are right by the run lists are those that the one thread leaves
-abbrev pub CountsAreSerial : Type 0
-CountsAreSerial =
-    (workload : Workload) (workers : ℕ) (runs : List (List Ran)) (serial : List Ran) (counts : List ℕ)
-    → IsSerial workload workers runs serial → AreCounts workload runs counts
-    → AreCounts workload (serial ∷ []) counts
-
--- and so are last likes
-abbrev pub LastLikesAreSerial : Type 0
-LastLikesAreSerial =
-    (workload : Workload) (workers : ℕ) (logs : List WorkerLog) (serial : List Ran) (last : List (Option ℕ))
-    → IsSerial workload workers (runs_of logs) serial → AreLastLikes workload workers logs last
-    → last ≡ map (λ user. last_like workload user serial) (range_with_len 0 workload.users)
 
 -- each count in a serial run's lists has the bounds of Between
 abbrev pub SerialIsBetween : Type 0

@@ -1,7 +1,8 @@
 //! The laws of one order. Each is the contract of a function that does nothing.
 ghost use Rattle.like_serial.specs.Example.{CrossedLooksHaveNoOrder, OrderedLooksFit};
-ghost use Rattle.like_serial.specs.Laws.{CountsAreSerial, LastLikesAreSerial, LogsAreRunLists, RunsAreSerial, SerialIsBetween};
+ghost use Rattle.like_serial.specs.Laws.{LogsAreRunLists, RunsAreSerial, SerialIsBetween};
 ghost use Rattle.like_serial.specs.OneSees.{OneSeesTheOther};
+ghost use Rattle.like_serial.specs.StoreLaws.{EndIsStore, OneThreadIsRight, OneThreadIsSerial, RightIsOneThread, SerialIsOneThread};
 
 /// Of two workers that each add to a page and then read the other's page, one at least reads the other's likes.
 pub fn one_sees_the_other()
@@ -18,17 +19,33 @@ pub fn logs_are_run_lists()
     ensures { LogsAreRunLists }
 {}
 
-/// Then right final counts are those that the one thread leaves.
-pub fn counts_are_serial()
-    ensures { CountsAreSerial }
+/// Where each answer is right after the entries before it, and counts are exact, the replies are those of a store.
+pub fn serial_is_one_thread()
+    ensures { SerialIsOneThread }
 {}
 
-/// So are right last likes.
-pub fn last_likes_are_serial()
-    ensures { LastLikesAreSerial }
+/// And the other way round.
+pub fn one_thread_is_serial()
+    ensures { OneThreadIsSerial }
 {}
 
-/// And each count in the run lists has the bounds of its phase.
+/// Final counts and last likes are right if they are what the store has at the end, and only then.
+pub fn end_is_store()
+    ensures { EndIsStore }
+{}
+
+/// A report that is right end to end is that of one thread, which has a store.
+pub fn right_is_one_thread()
+    ensures { RightIsOneThread }
+{}
+
+/// And the report of one thread is right end to end: run order in one list, hot pages by the likes of run lists, each
+/// answer by its worker's entries before it, and the bounds of each count follow from it.
+pub fn one_thread_is_right()
+    ensures { OneThreadIsRight }
+{}
+
+/// Each count in the run lists has the bounds of its phase.
 pub fn serial_is_between()
     ensures { SerialIsBetween }
 {}

@@ -1,0 +1,163 @@
+-- A report that is right end to end is that of one thread, and the other way round.
+use Rattle.std.proofs.Common.{◌≡◌, ℕ, zero, suc, ◌<◌, ◌≤◌, ◌==◌, List, [], ◌∷◌, filter, map, length, get_or, slice_get, Some, subst, ap, sym, ◌∙◌, refl, arith}
+use Rattle.like_requests.specs.declared.request.Request.{Request}
+use Rattle.like_requests.specs.declared.setup.Setup.{Setup}
+use Rattle.like_promises.specs.declared.log.Ran.{Ran}
+use Rattle.like_promises.specs.declared.log.WorkerLog.{WorkerLog}
+use Rattle.like_promises.specs.declared.report.Report.{Report}
+use Rattle.like_promises.specs.Collected.{answer_of}
+use Rattle.like_promises.specs.EndToEnd.{IsEndToEnd, runs_of}
+use Rattle.like_promises.specs.HotPages.{hot_by, likes_lately}
+use Rattle.like_promises.specs.Order.{Entry, entry_of}
+use Rattle.like_promises.specs.Replies.{HasRightAnswers, HasRightCounts}
+use Rattle.like_promises.specs.RunReport.{IsRunOf, grew, workload_by}
+use Rattle.like_promises.specs.Serial.{IsSerial, entries_by, run_of}
+use Rattle.like_promises.specs.Workload.{Workload}
+use Rattle.like_promises.specs.WorkloadOf.{workload_of, workload_of_run}
+use Rattle.like_serial.specs.StoreLaws.{OneThreadIsRight, RightIsOneThread}
+use Rattle.like_serial.proofs.Answers.{own_answers}
+use Rattle.like_serial.proofs.Collected.{entries_same}
+use Rattle.like_serial.proofs.Ends.{end_is_store}
+use Rattle.like_serial.proofs.Follows.{same_counts, serial_is_between}
+use Rattle.like_serial.proofs.Growth.{grew_is}
+use Rattle.like_serial.proofs.OneThread.{last_like_is, serial_in, serial_is_one_thread}
+use Rattle.like_serial.proofs.Phases.{Rises, rises_of}
+use Rattle.like_serial.proofs.RunOrder.{block_of, in_order, rises_filter, rises_map}
+use Rattle.like_serial.proofs.Seen.{not_some, some_is}
+use Rattle.like_serial.proofs.Serial.{phase_of, server_of}
+use Rattle.like_serial.proofs.Waits.{due_same}
+use Rattle.like_serial.proofs.Weigh.{weigh}
+
+-- a report that is right end to end is that of its serial list
+is_run : (workload : Workload) (workers : ℕ) (r : Report) (e : IsEndToEnd workload workers r)
+    → IsRunOf workload workers r e.one_order.0
+is_run workload workers r e =
+    let serial = e.one_order.0 in
+    let is = e.one_order.1 in
+    let end = end_is_store workload workers r.logs.items serial is in
+    record {
+      one = record {
+        own = is.own;
+        rising = is.rising;
+        replies = serial_is_one_thread workload serial is.answers is.counts;
+        counts = e.counts ∙ sym end.0;
+        last = e.last ∙ sym end.1;
+        answers = record {
+          sized = e.replies.sized;
+          each = λ submitter number.
+              ap (map answer_of) (sym (entries_same workload workers r.logs.items serial is submitter number))
+              ∙ e.replies.each submitter number;
+        };
+      };
+      workers_all = e.workers_all;
+      logs = λ worker log at.
+          let l = e.logs worker log at in
+          record {
+            taken = l.0.taken;
+            rising = l.0.rising;
+            ended = l.1;
+            ran = λ phase.
+                ap (filter (λ (x : Entry). x.phase == phase)) l.0.ran ∙ block_of workload log.taken.items phase;
+            stashed = λ phase.
+                subst (λ n. n ≤ workload.stash) (due_same workload log.taken.items phase) (l.0.stashed phase);
+            last = λ user. l.0.last user ∙ sym (last_like_is workload user log.ran.items);
+          };
+      joined = e.joined;
+      hot = e.hot;
+    }
+
+-- the run list of a log
+run_at : (logs : List WorkerLog) (w : ℕ) (log : WorkerLog)
+    → slice_get logs w ≡ Some log
+    → run_of (runs_of logs) w ≡ log.ran.items
+run_at [] w log at = absurd (not_some log at)
+run_at (l ∷ logs) zero log at = ap (λ (x : WorkerLog). x.ran.items) (some_is l log at)
+run_at (l ∷ logs) (suc w) log at = run_at logs w log at
+
+run_there : (logs : List WorkerLog) (w : ℕ) (d : WorkerLog)
+    → w < length logs
+    → run_of (runs_of logs) w ≡ (get_or logs w d).ran.items
+run_there [] w d there = absurd (omega (arith, there))
+run_there (l ∷ logs) zero d there = refl
+run_there (l ∷ logs) (suc w) d there = run_there logs w d (omega (arith, there))
+
+-- and the report of one thread is right end to end
+module _ (workload : Workload) (workers : ℕ) (r : Report) (serial : List Ran) (h : IsRunOf workload workers r serial)
+  where
+    is : IsSerial workload workers (runs_of r.logs.items) serial
+    is = serial_in workload workers r serial h.one
+
+    own : (worker : ℕ) (log : WorkerLog)
+        → slice_get r.logs.items worker ≡ Some log
+        → entries_by workers worker serial ≡ log.ran.items
+    own worker log at = is.own worker ∙ run_at r.logs.items worker log at
+
+    rises : (worker : ℕ) (log : WorkerLog)
+        → slice_get r.logs.items worker ≡ Some log
+        → Rises (λ (e : Entry). e.phase) (map entry_of log.ran.items)
+    rises worker log at =
+        rises_map (λ (e : Entry). e.phase) entry_of log.ran.items
+        (subst (Rises phase_of) (own worker log at)
+        (rises_filter phase_of (λ (e : Ran). server_of workers e == worker) serial (rises_of phase_of serial is.rising)))
+
+    is_right : IsEndToEnd workload workers r
+    is_right =
+        let end = end_is_store workload workers r.logs.items serial is in
+        record {
+          one_order = (serial, is);
+          workers_all = h.workers_all;
+          logs = λ worker log at.
+              let l = h.logs worker log at in (
+                record {
+                  taken = l.taken;
+                  rising = l.rising;
+                  ran = in_order workload log.taken.items (map entry_of log.ran.items) (rises worker log at) l.ran;
+                  stashed = λ phase.
+                      subst (λ n. n ≤ workload.stash) (sym (due_same workload log.taken.items phase)) (l.stashed phase);
+                  answers = subst (HasRightAnswers workload) (own worker log at)
+                      (own_answers workload workers worker serial is.answers);
+                  last = λ user. l.last user ∙ last_like_is workload user log.ran.items;
+                },
+                l.ended,
+              );
+          replies = record {
+            sized = h.one.answers.sized;
+            each = λ submitter number.
+                ap (map answer_of) (entries_same workload workers r.logs.items serial is submitter number)
+                ∙ h.one.answers.each submitter number;
+          };
+          counts = h.one.counts ∙ end.0;
+          last = h.one.last ∙ end.1;
+          joined = h.joined;
+          seen = λ worker d there.
+              subst (HasRightCounts workload (runs_of r.logs.items)) (run_there r.logs.items worker d there)
+              (serial_is_between workload workers worker (runs_of r.logs.items) serial is);
+          hot = h.hot;
+        }
+
+-- the hot pages of run lists are those of the serial list
+same_hot : (setup : Setup) (plans : List (List Request)) (runs : List (List Ran)) (serial : List Ran)
+    → ((f : Ran → ℕ) → weigh f serial ≡ weigh (weigh f) runs)
+    → workload_of_run setup plans runs ≡ workload_by setup plans serial
+same_hot setup plans runs serial same =
+    let plain = workload_of setup plans in
+    let lately : likes_lately plain runs ≡ grew plain serial =
+    λ i phase page. grew_is plain runs serial phase page same i in
+    ap (λ got. record plain { hot = hot_by setup.hot (length plain.pages) got }) lately
+
+pub right_is_one_thread : RightIsOneThread
+right_is_one_thread setup plans r e =
+    let runs = runs_of r.logs.items in
+    let workload = workload_of_run setup plans runs in
+    let serial = e.one_order.0 in
+    let same = same_hot setup plans runs serial (same_counts workload setup.workers runs serial e.one_order.1) in
+    (serial, subst (λ w. IsRunOf w setup.workers r serial) same (is_run workload setup.workers r e))
+
+pub one_thread_is_right : OneThreadIsRight
+one_thread_is_right setup plans r one =
+    let runs = runs_of r.logs.items in
+    let serial = one.0 in
+    let workload = workload_by setup plans serial in
+    let is = serial_in workload setup.workers r serial one.1.one in
+    let same = same_hot setup plans runs serial (same_counts workload setup.workers runs serial is) in
+    subst (λ w. IsEndToEnd w setup.workers r) (sym same) (is_right workload setup.workers r serial one.1)
