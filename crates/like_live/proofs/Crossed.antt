@@ -10,8 +10,10 @@ use Rattle.like_serial.proofs.Seen.{not_some, some_is}
 use Rattle.like_serial.proofs.Weigh.{sum-weigh, weigh}
 use Rattle.like_live.specs.declared.opening.Opening.{Opening}
 use Rattle.like_live.specs.CrossedLooks.{CrossedLooksAreNotSerial, IsForTwo, like_and_look}
-use Rattle.like_live.specs.Deeds.{Deed, ShowsCount, ShowsLast, counted, deed, showed}
-use Rattle.like_live.specs.SerialService.{IsSerialService, count_after, deeds_by, last_after}
+use Rattle.like_live.specs.DeedStore.{ShowsLast}
+use Rattle.like_live.specs.Deeds.{Deed, counted, deed, showed}
+use Rattle.like_live.specs.SerialService.{IsSerialService, deeds_by}
+use Rattle.like_live.proofs.DeedLikes.{ShowsCount, count_after, fits_store, last_after, shows_count}
 use Rattle.like_live.proofs.DeedPhases.{phase_of_deed}
 use Rattle.like_live.proofs.DeedTotals.{likes_of_deed}
 
@@ -36,8 +38,8 @@ stands o serial deeds seat liked looked a b two is own likes shows page =
     let less = weigh-filter_less (λ (d : Deed). home o.seats d.user == seat) (likes_of_deed liked) p.front in
     let mine : weigh (likes_of_deed liked) (filter (λ (d : Deed). home o.seats d.user == seat) p.front) ≡ 1 =
     ap (weigh (likes_of_deed liked)) p.fronts ∙ likes in
-    let shown = shows _ (is.counts place b
-    (subst (λ xs. slice_get xs place ≡ Some b) (sym p.is) (place_of_part p.front b p.rest))) in
+    let shown = shows _ (shows_count o (take place serial) b (is.fits place b
+    (subst (λ xs. slice_get xs place ≡ Some b) (sym p.is) (place_of_part p.front b p.rest)))) in
     let among = sum-weigh (likes_of_deed b.page) (take place serial) in
     record {
       place = place;
@@ -107,8 +109,7 @@ module _ (o : Opening) (two : IsForTwo o) where
         (sym two.seats) (own seat);
     rising = pairs_of phase_of_deed both
         ((omega arith, (omega arith, (omega arith, tt))), ((omega arith, (omega arith, tt)), ((omega arith, tt), (tt, tt))));
-    lasts = lasts;
-    counts = counts;
+    fits = λ i d at. fits_store o (take i both) d (lasts i d at) (counts i d at);
   }
 
 pub crossed_looks_are_not_serial : CrossedLooksAreNotSerial

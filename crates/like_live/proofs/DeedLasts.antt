@@ -7,7 +7,10 @@ use Rattle.like_tables.specs.UserTable.{last_of}
 use Rattle.like_live.specs.declared.asked.Found.{Found}
 use Rattle.like_live.specs.LiveView.{LiveView}
 use Rattle.like_live.specs.Moves.{IsFoundAt}
-use Rattle.like_live.specs.Deeds.{Deed, DeedsShowLasts, ShowsLast, counted, deed, deed_found, page_counted, pages_counted}
+use Rattle.like_live.specs.DeedStore.{DeedsShowLasts, ShowsLast, store_of}
+use Rattle.like_live.specs.Deeds.{Deed, counted, deed, deed_found, deeds_of}
+use Rattle.like_live.specs.History.{HasDone, IsUnused, Told}
+use Rattle.like_live.proofs.DeedLikes.{last_is, page_counted, pages_counted}
 use Rattle.like_live.proofs.Histories.{last_or-append}
 use Rattle.like_live.proofs.Standing.{IsKept, Stands, kept_by_calls}
 use Rattle.like_live.proofs.Stepping.{Step, acknowledges, adds_like, done_by, finds, glances, holds, looks, next, reads, reports, retires, returns, slices_like, takes}
@@ -47,9 +50,9 @@ module _ (first : LiveView) where
   Shows before d = ShowsLast (last_or (last_of first.station.last d.user) (pages_counted d.user before)) d.act
 
   -- the seat's users have the last likes that its deeds say, and each deed shows them
-  record HasLasts (v : LiveView) (ds : List Deed) : Type 0 where
-    table : (user : ℕ) → last_of v.station.last user ≡ last_or (last_of first.station.last user) (pages_counted user ds)
-    shows : AllAfter Shows [] ds
+  pub record HasLasts (v : LiveView) (ds : List Deed) : Type 0 where
+    pub table : (user : ℕ) → last_of v.station.last user ≡ last_or (last_of first.station.last user) (pages_counted user ds)
+    pub shows : AllAfter Shows [] ds
 
   -- a step that is no deed leaves them
   no_deed : (v w : LiveView) (ds : List Deed) → w.station.last ≡ v.station.last → HasLasts v ds → HasLasts w (ds ++ [])
@@ -121,10 +124,25 @@ module _ (first : LiveView) where
       look_deed v _ ds _ refl (λ other. refl) last k
   lasts_next v (holds user page tag req) ds is k = no_deed v _ ds refl k
 
-pub deeds_show_lasts : DeedsShowLasts
-deeds_show_lasts v after told done unused i d at =
+-- the last likes that a seat's calls leave, and those that its deeds show, by its deeds
+pub calls_leave_lasts : (v after : LiveView) (told : List Told) (done : HasDone v told after)
+    → IsUnused v
+    → HasLasts v after (deeds_of told v after done)
+calls_leave_lasts v after told done unused =
     let kept : IsKept v (λ w. Unit {0}) (HasLasts v) =
     record { back = λ w s stands sound. tt; kept = λ w s ds stands sound k. lasts_next v w s ds stands k } in
-    let k = kept_by_calls v (λ w. Unit {0}) (HasLasts v) kept told after done unused tt
-    (record { table = λ user. refl; shows = tt }) in
-    all_after-at (Shows v) [] _ i d k.shows at
+    kept_by_calls v (λ w. Unit {0}) (HasLasts v) kept told after done unused tt
+    (record { table = λ user. refl; shows = tt })
+
+pub deeds_show : (v after : LiveView) (told : List Told) (done : HasDone v told after)
+    → IsUnused v
+    → (i : ℕ) (d : Deed)
+    → slice_get (deeds_of told v after done) i ≡ Some d
+    → ShowsLast (last_or (last_of v.station.last d.user) (pages_counted d.user (take i (deeds_of told v after done)))) d.act
+deeds_show v after told done unused i d at =
+    all_after-at (Shows v) [] _ i d (calls_leave_lasts v after told done unused).shows at
+
+pub deeds_show_lasts : DeedsShowLasts
+deeds_show_lasts v after told done unused i d at =
+    subst (λ o. ShowsLast o d.act) (sym (last_is (store_of v) (take i (deeds_of told v after done)) d.user))
+    (deeds_show v after told done unused i d at)

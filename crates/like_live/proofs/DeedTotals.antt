@@ -17,8 +17,9 @@ use Rattle.like_serial.proofs.Weigh.{only, weigh, weigh-append}
 use Rattle.like_live.specs.declared.asked.Found.{Found}
 use Rattle.like_live.specs.LiveView.{LiveView}
 use Rattle.like_live.specs.Moves.{step_for}
-use Rattle.like_live.specs.Deeds.{Deed, counted, deed, deed_found, glimpsed, likes_counted, showed}
+use Rattle.like_live.specs.Deeds.{Deed, counted, deed, deed_found, glimpsed, showed}
 use Rattle.like_live.proofs.Calling.{page_there, slice-more}
+use Rattle.like_live.proofs.DeedLikes.{likes_counted}
 use Rattle.like_live.proofs.Ordered.{looked_phase}
 use Rattle.like_live.proofs.Standing.{IsKept, Stands, unsplit}
 use Rattle.like_live.proofs.Stepping.{Step, acknowledges, adds_like, done_by, finds, glances, holds, looks, next, reads, reports, retires, returns, slices_like, takes}

@@ -38,4 +38,4 @@ last_moments_are_serial o factor board hs m opened at gone =
           (ap (count_by (λ (p : WorkerSeatView). p.worker == i)) (sym at)
           ∙ sum-of-map (λ (p : WorkerSeatView). cond {A = ℕ} (p.worker == i) 1 0) post_at ends
           ∙ none);
-    }) in (one.0, one.1.0)
+    }) in (one.0, one.1.0, one.1.1)

@@ -7,6 +7,7 @@ pub mod CallsKeep
 pub mod Closing
 pub mod Crossed
 pub mod DeedLasts
+pub mod DeedLikes
 pub mod DeedOwners
 pub mod DeedPhases
 pub mod DeedSteps
@@ -16,6 +17,7 @@ pub mod Finding
 pub mod Gone
 pub mod Histories
 pub mod Keeping
+pub mod LastCounts
 pub mod LastMoment
 pub mod Lasting
 pub mod Looking

@@ -44,18 +44,20 @@ use Rattle.like_live.specs.LiveView.{LiveView}
 use Rattle.like_live.specs.History.{IsUnused}
 use Rattle.like_live.specs.Driver.{DriverView, IsSameDriver}
 use Rattle.like_live.specs.Opening.{board_opening}
-use Rattle.like_live.specs.Service.{AreOpened, AreOpenedSeats, IsClosedService, IsOpenedSeat, posts_at}
-use Rattle.like_live.specs.Deeds.{Act, Deed, ShowsCount, ShowsLast, counted, glimpsed, likes_among, likes_counted, page_counted, pages_counted, showed}
-use Rattle.like_live.specs.SerialService.{IsSerialService, SeatHistory, SeatsRise, ServicesAreSerial, count_after, deeds_in, last_after}
+use Rattle.like_live.specs.Service.{AreGone, AreOpened, AreOpenedSeats, IsClosedService, IsOpenedSeat, posts_at}
+use Rattle.like_live.specs.DeedStore.{ShowsLast}
+use Rattle.like_live.specs.Deeds.{Act, Deed, counted, glimpsed, showed}
+use Rattle.like_live.specs.SerialService.{HasLastLikes, IsSerialService, SeatHistory, SeatsRise, SnapshotsStand, deeds_in, opened as store_opened}
 use Rattle.like_live.proofs.Closing.{all-of-map, post_at, sum-of-map}
-use Rattle.like_live.proofs.DeedLasts.{deeds_show_lasts}
+use Rattle.like_live.proofs.DeedLasts.{calls_leave_lasts, deeds_show}
+use Rattle.like_live.proofs.DeedLikes.{ShowsCount, count_after, count_is, fits_store, last_after, last_is, likes_among, likes_counted, page_counted, pages_counted}
 use Rattle.like_live.proofs.DeedOwners.{AreHis, his_kept}
 use Rattle.like_live.proofs.DeedPhases.{HasRisen, phase_of_deed, risen_kept}
 use Rattle.like_live.proofs.DeedSteps.{HasSteps, is_plain, step_by, step_of, steps_kept}
 use Rattle.like_live.proofs.DeedTotals.{HasTotals, deed_in, is_none, likes_of_deed, step_in, totals_kept}
 use Rattle.like_live.proofs.Merging.{FitsAll, IsMerged, merged_serial, own_steps}
 use Rattle.like_live.proofs.Ordered.{IsOrdered, split_in}
-use Rattle.like_live.proofs.Snapshots.{at_number, before_steps, front_before}
+use Rattle.like_live.proofs.Snapshots.{at_number, before_steps}
 use Rattle.like_live.proofs.Standing.{Stands, kept_by_calls, stands_by_calls}
 
 -- one order of all that these seats did at pages, the latest step first
@@ -71,14 +73,14 @@ at_all P f [] i x all at = absurd (not_some x at)
 at_all P f (y ∷ xs) zero x all at = subst (λ z. P (f z)) (some_is y x at) (All-head P (f y) (map f xs) all)
 at_all P f (y ∷ xs) (suc i) x all at = at_all P f xs i x (All-tail P (f y) (map f xs) all) at
 
-at_map : {A B : Type 0} (f : A → B) (xs : List A) (i : ℕ) (x : A) → slice_get xs i ≡ Some x
+pub at_map : {A B : Type 0} (f : A → B) (xs : List A) (i : ℕ) (x : A) → slice_get xs i ≡ Some x
     → slice_get (map f xs) i ≡ Some (f x)
 at_map f [] i x at = absurd (not_some x at)
 at_map f (y ∷ xs) zero x at = ap (λ z. Some (f z)) (some_is y x at)
 at_map f (y ∷ xs) (suc i) x at = at_map f xs i x at
 
 -- a sum over a list, place by place
-alike_at : {A : Type 0} (f g : A → ℕ) (xs : List A) → ((k : ℕ) (x : A) → slice_get xs k ≡ Some x → f x ≡ g x)
+pub alike_at : {A : Type 0} (f g : A → ℕ) (xs : List A) → ((k : ℕ) (x : A) → slice_get xs k ≡ Some x → f x ≡ g x)
     → weigh f xs ≡ weigh g xs
 alike_at f g [] each = refl
 alike_at f g (x ∷ xs) each =
@@ -91,15 +93,15 @@ place (x ∷ xs) zero = inl (x, refl)
 place (x ∷ xs) (suc i) = elim (place xs i) [ inl there ↦ inl there | inr past ↦ inr (omega (arith, past)) ]
 
 -- the deeds at a place
-abbrev deeds_at : List SeatHistory → ℕ → List Deed
+abbrev pub deeds_at : List SeatHistory → ℕ → List Deed
 deeds_at hs i = get_or (map deeds_in hs) i []
 
-deeds_there : (hs : List SeatHistory) (i : ℕ) (h : SeatHistory) → slice_get hs i ≡ Some h → deeds_at hs i ≡ deeds_in h
+pub deeds_there : (hs : List SeatHistory) (i : ℕ) (h : SeatHistory) → slice_get hs i ≡ Some h → deeds_at hs i ≡ deeds_in h
 deeds_there [] i h at = absurd (not_some h at)
 deeds_there (g ∷ hs) zero h at = ap deeds_in (some_is g h at)
 deeds_there (g ∷ hs) (suc i) h at = deeds_there hs i h at
 
-deeds_past : (hs : List SeatHistory) (i : ℕ) → length hs ≤ i → deeds_at hs i ≡ []
+pub deeds_past : (hs : List SeatHistory) (i : ℕ) → length hs ≤ i → deeds_at hs i ≡ []
 deeds_past [] i past = refl
 deeds_past (g ∷ hs) zero past = absurd (omega (arith, past))
 deeds_past (g ∷ hs) (suc i) past = deeds_past hs i (omega (arith, past))
@@ -328,7 +330,7 @@ module _ (o : Opening) (factor : ℕ) (board : BoardId) (hs : List SeatHistory) 
         let his = at_list (deeds_in h) j d mine there in
         subst (λ x. ShowsLast (last_or x (pages_counted d.user (take j (deeds_in h)))) d.act)
         (opened_last d.user his.0 his.1)
-        (deeds_show_lasts h.first h.last h.told h.done unused j d there) where
+        (deeds_show h.first h.last h.told h.done unused j d there) where
           at_list : (xs : List Deed) (j : ℕ) (d : Deed)
               → All (λ e. (e.user < o.users) × (home o.seats e.user ≡ i)) xs → slice_get xs j ≡ Some d
               → (d.user < o.users) × (home o.seats d.user ≡ i)
@@ -338,6 +340,13 @@ module _ (o : Opening) (factor : ℕ) (board : BoardId) (hs : List SeatHistory) 
               (All-head (λ (z : Deed). (z.user < o.users) × (home o.seats z.user ≡ i)) e xs all)
           at_list (e ∷ xs) (suc j) d all at =
               at_list xs j d (All-tail (λ (z : Deed). (z.user < o.users) × (home o.seats z.user ≡ i)) e xs all) at
+
+    -- the last likes that it has at the end are those that its deeds say
+    left_lasts : (user : ℕ) → user < o.users → home o.seats user ≡ i
+        → last_of h.last.station.last user ≡ last_after o user (deeds_in h)
+    left_lasts user there mine =
+        (calls_leave_lasts h.first h.last h.told h.done unused).table user
+        ∙ ap (λ x. last_or x (pages_counted user (deeds_in h))) (opened_last user there mine)
 
   -- what is true of no deeds past all seats, and of each seat's
   each_run : (P : ℕ → List Deed → Type 0) → ((i : ℕ) → length hs ≤ i → P i [])
@@ -468,7 +477,7 @@ module _ (o : Opening) (factor : ℕ) (board : BoardId) (hs : List SeatHistory) 
     -- what the seats added before a phase is what the deeds before it count
     all_before : (n page : ℕ)
         → sum_by (λ (s : LiveView). added_before n page (additions_among s.station.post.did)) (map (λ (h : SeatHistory). h.last) hs)
-        ≡ likes_among page (take (count_by (λ d. nat_lt (phase_of_deed d) n) serial) serial)
+        ≡ likes_among page (filter (λ d. nat_lt (phase_of_deed d) n) serial)
     all_before n page =
         let G : Deed → ℕ = λ d. only (nat_lt (phase_of_deed d) n) (likes_of_deed page d) in
         let number : SeatHistory → ℕ = λ h. h.last.station.post.worker in
@@ -482,8 +491,8 @@ module _ (o : Opening) (factor : ℕ) (board : BoardId) (hs : List SeatHistory) 
         ∙ at_number number (λ (h : SeatHistory). weigh G (deeds_in h)) hs 0
         (λ j h at. let e = worker_is j h at in omega (arith, e)) (λ j. weigh G (deeds_at hs j))
         (λ j h at. ap (weigh G) (deeds_there hs j h at)) (λ j past. ap (weigh G) (deeds_past hs j past)) k)))
-        ∙ front_before phase_of_deed (likes_of_deed page) n serial m.rising
-        ∙ sym (sum-weigh (likes_of_deed page) (take (count_by (λ d. nat_lt (phase_of_deed d) n) serial) serial)) where
+        ∙ sym (weigh-filter (λ d. nat_lt (phase_of_deed d) n) (likes_of_deed page) serial)
+        ∙ sym (sum-weigh (likes_of_deed page) (filter (λ d. nat_lt (phase_of_deed d) n) serial)) where
           zero_and : (k : ℕ) → k ≡ 0 + k
           zero_and k = omega arith
 
@@ -491,23 +500,42 @@ module _ (o : Opening) (factor : ℕ) (board : BoardId) (hs : List SeatHistory) 
     is_serial = record {
       own = m.own;
       rising = pairs_of phase_of_deed serial m.rising;
-      lasts = lasts;
-      counts = λ j d at. counts_by j d d.act at;
+      fits = λ j d at. fits_store o (take j serial) d (lasts j d at) (counts_by j d d.act at);
     }
 
-  -- a serial list, and what it says of the seats' additions before each phase
+    -- the last likes of all seats are those after all deeds
+    last_likes : HasLastLikes o (map (λ (h : SeatHistory). h.last) hs) serial
+    last_likes i user v at there mine = elim (place hs i) [
+      | inl h ↦
+          let mine_in : deeds_in h.0 ≡ with_key user_home (home o.seats user) serial =
+          sym (deeds_there hs i h.0 h.1) ∙ sym (m.own i) ∙ ap (λ k. with_key user_home k serial) (sym mine) in
+          ap (λ (w : LiveView). last_of w.station.last user)
+          (some_is v h.0.last (sym at ∙ at_map (λ (g : SeatHistory). g.last) hs i h.0 h.1))
+          ∙ left_lasts i h.0 h.1 user there mine
+          ∙ ap (last_or (last_in o.lasts.items user)) (ap (pages_counted user) mine_in ∙ sym (user_likes user serial))
+          ∙ sym (last_is (store_opened o) serial user)
+      | inr past ↦ absurd (not_some v (sym (none_at hs i past) ∙ at))
+    ] where
+      none_at : (xs : List SeatHistory) (k : ℕ) → length xs ≤ k
+          → slice_get (map (λ (h : SeatHistory). h.last) xs) k ≡ None
+      none_at [] k past = refl
+      none_at (x ∷ xs) zero past = absurd (omega (arith, past))
+      none_at (x ∷ xs) (suc k) past = none_at xs k (omega (arith, past))
+
+  -- a serial list, and what it says of the seats' last likes, and of their additions before each phase
   abbrev pub Serial : List Deed → Type 0
   Serial serial =
       IsSerialService o (map deeds_in hs) serial
+      × HasLastLikes o (map (λ (h : SeatHistory). h.last) hs) serial
       × ((n page : ℕ)
       → sum_by (λ (s : LiveView). added_before n page (additions_among s.station.post.did)) (map (λ (h : SeatHistory). h.last) hs)
-      ≡ likes_among page (take (count_by (λ d. nat_lt (phase_of_deed d) n) serial) serial))
+      ≡ likes_among page (filter (λ d. nat_lt (phase_of_deed d) n) serial))
 
   pub one_thread : (serial : List Deed) × Serial serial
   one_thread =
       let m = merged_serial user_home phase_of_deed (step_of split) likes_of_deed split first_count last steps (length hs)
       (deeds_at hs) fits in
-      (m.0, (is_serial m.0 m.1, all_before m.0 m.1))
+      (m.0, (is_serial m.0 m.1, last_likes m.0 m.1, all_before m.0 m.1))
 
   -- phases never fall along the deeds of each seat
   pub each_rises : All (λ h. AllPairs (λ d e. d.phase ≤ e.phase) (deeds_in h)) hs
@@ -518,7 +546,7 @@ module _ (o : Opening) (factor : ℕ) (board : BoardId) (hs : List SeatHistory) 
 module _ (o : Opening) (driver now : DriverView) (hs : List SeatHistory) (counts : List ℕ)
     (opened : AreOpened o driver (map (λ (h : SeatHistory). h.first) hs)) (same : IsSameDriver driver now)
     (service : IsClosedService now (map (λ (h : SeatHistory). h.last) hs) counts) where
-  opening_is : now.lead.seat.opening ≡ board_opening o opened.factor
+  pub opening_is : now.lead.seat.opening ≡ board_opening o opened.factor
   opening_is = same.opening ∙ ap (λ (d : DriverView). d.lead.seat.opening) opened.new
 
   masks_are : All (λ (s : LiveView). AreMasksOf (mask_of now.lead.seat.masks) s.station.post.masks)
@@ -541,8 +569,16 @@ module _ (o : Opening) (driver now : DriverView) (hs : List SeatHistory) (counts
         ∙ none);
   }
 
-pub services_are_serial : ServicesAreSerial
-services_are_serial o driver now hs counts opened same service gone =
+-- there is a serial list, in which snapshots stand, and of last likes
+pub serial_service : (o : Opening) (driver now : DriverView) (hs : List SeatHistory) (counts : List ℕ)
+    → AreOpened o driver (map (λ (h : SeatHistory). h.first) hs)
+    → IsSameDriver driver now
+    → IsClosedService now (map (λ (h : SeatHistory). h.last) hs) counts
+    → AreGone (map (λ (h : SeatHistory). h.last) hs)
+    → (serial : List Deed) × IsSerialService o (map deeds_in hs) serial
+    × SnapshotsStand o now.lead.seat.counted serial
+    × HasLastLikes o (map (λ (h : SeatHistory). h.last) hs) serial
+serial_service o driver now hs counts opened same service gone =
     let ends = map (λ (h : SeatHistory). h.last) hs in
     let one = one_thread o opened.factor driver.lead.board hs (mask_of now.lead.seat.masks) now.lead.seat.phase
     service.closed.steps opened.fresh gone (masks_are o driver now hs counts opened same service)
@@ -556,7 +592,9 @@ services_are_serial o driver now hs counts opened same service gone =
           (opening_is o driver now hs counts opened same service)
           ∙ ap (λ n. get_or o.counts.items r.page 0 + n)
           (sum-of-map (λ (p : WorkerSeatView). added_before (r.phase + 1) r.page (additions_among p.did)) post_at ends
-          ∙ one.1.1 (r.phase + 1) r.page),
+          ∙ one.1.2 (r.phase + 1) r.page)
+          ∙ sym (count_is (store_opened o) (filter (λ (d : Deed). nat_lt d.phase (r.phase + 1)) one.0) r.page),
+      one.1.1,
     )
 
 pub seats_rise : SeatsRise

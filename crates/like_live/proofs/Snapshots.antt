@@ -1,15 +1,11 @@
 -- What was added up to a phase, by the deeds in their order.
-use Rattle.std.proofs.Common.{◌≡◌, ℕ, zero, suc, ◌+◌, ◌≤◌, ◌<◌, ◌⊎◌, ◌==◌, ◌&&◌, inl, inr, Bool, true, false, cond, nat_lt, List, [], ◌∷◌, length, take, slice_get, Some, refl, ap, ap₂, sym, ◌∙◌, arith, eq-eqb, ne_eqb}
-use Rattle.std.specs.List.{AllByRecursion, count_by}
-use Rattle.std.proofs.lemmas.Bool.{cases_lt}
-use Rattle.std.proofs.lemmas.List.Sums.{sum_by-cons}
+use Rattle.std.proofs.Common.{◌≡◌, ℕ, zero, suc, ◌+◌, ◌≤◌, ◌<◌, ◌==◌, ◌&&◌, Bool, true, false, cond, nat_lt, List, [], ◌∷◌, length, slice_get, Some, refl, ap, sym, ◌∙◌, arith, eq-eqb, ne_eqb}
 use Rattle.like_core.specs.declared.page_step.PageCall.{PageCall}
 use Rattle.like_core.specs.declared.page_step.PageCall.TheVariants.{Add, Read, Glance}
 use Rattle.like_core.specs.declared.page_step.PageStep.{PageStep}
 use Rattle.like_core.specs.Additions.{added_before}
 use Rattle.like_core.specs.PageSteps.{additions_among, adds_to, and_addition, likes_of}
 use Rattle.like_core.proofs.core.Labels.{added_before-push}
-use Rattle.like_serial.proofs.Phases.{Rises, all_then, below, not_below}
 use Rattle.like_serial.proofs.Totals.{only-none}
 use Rattle.like_serial.proofs.Weigh.{only, weigh}
 
@@ -41,44 +37,6 @@ before_steps n page (s ∷ steps) =
       by Glance =
           let zero_is = ap (only (nat_lt s.phase n)) (none (s.page == page)) ∙ only-none (nat_lt s.phase n) in
           omega arith
-
--- along a list in which phases never fall, those before a phase are its front
-none_left : {X : Type 0} (phase f : X → ℕ) (n : ℕ) (xs : List X) → AllByRecursion (λ x. n ≤ phase x) xs
-    → (count_by (λ x. nat_lt (phase x) n) xs ≡ 0) × (weigh (λ x. only (nat_lt (phase x) n) (f x)) xs ≡ 0)
-none_left phase f n [] all = (refl, refl)
-none_left phase f n (x ∷ xs) all =
-    let rest = none_left phase f n xs all.1 in
-    let here = not_below (phase x) n all.0 in
-    let one : cond {A = ℕ} (nat_lt (phase x) n) 1 0 ≡ 0 = ap {B = ℕ} (λ b. cond b 1 0) here in
-    let many : only (nat_lt (phase x) n) (f x) ≡ 0 = ap (λ b. only b (f x)) here in
-    let more = rest.0 in
-    let all_more = rest.1 in (
-      sum_by-cons (λ y. cond {A = ℕ} (nat_lt (phase y) n) 1 0) x xs ∙ omega (arith, one, more),
-      omega (arith, many, all_more),
-    )
-
-pub front_before : {X : Type 0} (phase f : X → ℕ) (n : ℕ) (xs : List X) → Rises phase xs
-    → weigh (λ x. only (nat_lt (phase x) n) (f x)) xs ≡ weigh f (take (count_by (λ x. nat_lt (phase x) n) xs) xs)
-front_before phase f n [] rises = refl
-front_before {X} phase f n (x ∷ xs) rises = by (cases_lt (phase x) n) (front_before phase f n xs rises.1) where
-  count : ℕ
-  count = count_by (λ y. nat_lt (phase y) n) xs
-
-  by : (phase x < n) ⊎ (n ≤ phase x)
-      → weigh (λ y. only (nat_lt (phase y) n) (f y)) xs ≡ weigh f (take count xs)
-      → weigh (λ y. only (nat_lt (phase y) n) (f y)) (x ∷ xs)
-      ≡ weigh f (take (count_by (λ y. nat_lt (phase y) n) (x ∷ xs)) (x ∷ xs))
-  by (inl low) rest =
-      let here = below (phase x) n low in
-      let one : cond {A = ℕ} (nat_lt (phase x) n) 1 0 ≡ 1 = ap {B = ℕ} (λ b. cond b 1 0) here in
-      let places : count_by (λ y. nat_lt (phase y) n) (x ∷ xs) ≡ suc count =
-      sum_by-cons (λ y. cond {A = ℕ} (nat_lt (phase y) n) 1 0) x xs ∙ omega (arith, one) in
-      ap₂ (λ a b. a + b) (ap (λ b. only b (f x)) here) rest
-      ∙ sym (ap (λ k. weigh f (take k (x ∷ xs))) places)
-  by (inr least) rest =
-      let all : AllByRecursion (λ y. n ≤ phase y) (x ∷ xs) = (least, all_then (λ y. phase x ≤ phase y) (λ y. n ≤ phase y) xs (λ y is. omega (arith, is, least)) rises.0) in
-      let none = none_left phase f n (x ∷ xs) all in
-      none.1 ∙ sym (ap (λ k. weigh f (take k (x ∷ xs))) none.0)
 
 -- of things with numbers one after the other, what counts at one number
 pub at_number : {A : Type 0} (number G : A → ℕ) (xs : List A) (from : ℕ)

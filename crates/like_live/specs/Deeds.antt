@@ -1,10 +1,8 @@
 -- What a live seat did for its users: its deeds.
-use Rattle.std.specs.Prelude.{◌≡◌, ℕ, ◌==◌, if◌then◌else◌, List, [], ◌∷◌, ◌++◌, drop, flat_map, length, map, slice_get, take, Option, Some, None, sum_by}
-use Rattle.std.specs.List.{filter_map, last_or}
+use Rattle.std.specs.Prelude.{◌≡◌, ℕ, if◌then◌else◌, List, [], ◌∷◌, ◌++◌, drop, flat_map, length, map, Some}
 use Rattle.like_core.specs.Post.{slices}
 use Rattle.like_seat.specs.declared.seen.Seen.{Seen}
 use Rattle.like_seat.specs.StationView.{phase_at}
-use Rattle.like_tables.specs.UserTable.{last_of}
 use Rattle.like_live.specs.declared.answer.GlanceAnswer.TheVariants as glanced
 use Rattle.like_live.specs.declared.answer.LikeAnswer.TheVariants.{Liked}
 use Rattle.like_live.specs.declared.answer.LookAnswer.TheVariants as looked
@@ -54,44 +52,6 @@ deeds_of_call v t now = map deed_found (found_by v now) ++ own_deed now t
 abbrev pub deeds_of : (told : List Told) (v after : LiveView) → HasDone v told after → List Deed
 deeds_of [] v after done = []
 deeds_of (t ∷ told) v after done = deeds_of_call v t done.0 ++ deeds_of told done.0 after done.1.1
-
--- the page of a like of this user that was counted, if that is what was done for a user at a page
-abbrev pub page_counted : (user other page : ℕ) → Act → Option ℕ
-page_counted user other page counted = if other == user then Some page else None
-page_counted user other page act = None
-
--- the pages of the likes of a user that were counted, in order
-abbrev pub pages_counted : ℕ → List Deed → List ℕ
-pages_counted user deeds = filter_map (λ d. page_counted user d.user d.page d.act) deeds
-
--- how many likes of a page were counted, if that is what was done at a page: one or none
-abbrev pub likes_counted : (page other : ℕ) → Act → ℕ
-likes_counted page other counted = if other == page then 1 else 0
-likes_counted page other act = 0
-
--- how many likes of a page deeds counted
-abbrev pub likes_among : ℕ → List Deed → ℕ
-likes_among page deeds = sum_by (λ d. likes_counted page d.page d.act) deeds
-
--- this last like was shown, if one was
-abbrev pub ShowsLast : Option ℕ → Act → Type 0
-ShowsLast last counted = Unit {0}
-ShowsLast last (showed s) = s.last ≡ last
-ShowsLast last (glimpsed s) = s.last ≡ last
-
--- this count was shown, if one was, but for glances at pages that are split
-abbrev pub ShowsCount : ℕ → Act → Type 0
-ShowsCount count counted = Unit {0}
-ShowsCount count (showed s) = s.count ≡ count
-ShowsCount count (glimpsed s) = Unit {0}
-
--- the law of last likes: whatever calls a fresh seat is asked, each of its deeds shows the last like of its user: the page
--- of the user's last like among the deeds before it, or that with which the seat was opened
-abbrev pub DeedsShowLasts : Type 0
-DeedsShowLasts =
-    (v after : LiveView) (told : List Told) (done : HasDone v told after) → IsUnused v
-    → (i : ℕ) (d : Deed) → slice_get (deeds_of told v after done) i ≡ Some d
-    → ShowsLast (last_or (last_of v.station.last d.user) (pages_counted d.user (take i (deeds_of told v after done)))) d.act
 
 -- a found look that was taken, if that was the call
 abbrev pub found_taken : Told → List Found

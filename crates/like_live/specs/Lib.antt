@@ -2,6 +2,7 @@ pub mod Answers
 pub mod Batch
 pub mod Calls
 pub mod CrossedLooks
+pub mod DeedStore
 pub mod Deeds
 pub mod Driver
 pub mod History

@@ -1,13 +1,13 @@
 -- The calls of all seats of a service, as those of one thread.
-use Rattle.std.specs.Prelude.{◌≡◌, ℕ, ◌+◌, ◌≤◌, ◌==◌, nat_lt, All, List, [], count_by, filter, map, take, slice_get, slice_index, slice_index_or, AllPairs, Option, Some}
-use Rattle.std.specs.List.{last_or}
+use Rattle.std.specs.Prelude.{◌≡◌, ℕ, ◌+◌, ◌<◌, ◌≤◌, ◌==◌, nat_lt, All, List, [], filter, length, map, take, slice_get, slice_index, slice_index_or, AllPairs, Some}
 use Rattle.like_board.specs.Seats.{BoardId}
 use Rattle.like_core.specs.declared.view.PageCount.{PageCount}
 use Rattle.like_core.specs.core.Numbers.{AllGone}
 use Rattle.like_core.specs.core.State.{numbers}
 use Rattle.like_core.specs.views.Shows.{Moment}
+use Rattle.like_promises.specs.Store.{Store}
 use Rattle.like_requests.specs.Verdict.{home}
-use Rattle.like_tables.specs.UserTable.{last_in}
+use Rattle.like_tables.specs.UserTable.{last_in, last_of}
 use Rattle.like_live.specs.declared.opening.Opening.{Opening}
 use Rattle.like_live.specs.Driver.{DriverView, IsSameDriver}
 use Rattle.like_live.specs.LiveView.{LiveView}
@@ -15,7 +15,8 @@ use Rattle.like_live.specs.Moments.{AreSeatsAt}
 use Rattle.like_live.specs.Opening.{board_opening}
 use Rattle.like_live.specs.Service.{AreGone, AreOpened, AreOpenedSeats, IsClosedService}
 use Rattle.like_live.specs.History.{HasDone, Told}
-use Rattle.like_live.specs.Deeds.{Deed, ShowsCount, ShowsLast, deeds_of, likes_among, pages_counted}
+use Rattle.like_live.specs.DeedStore.{Fits, store_after}
+use Rattle.like_live.specs.Deeds.{Deed, deeds_of}
 
 -- the calls of a seat, from one view of it to another
 pub record SeatHistory : Type 0 where
@@ -32,34 +33,38 @@ deeds_in h = deeds_of h.told h.first h.last h.done
 abbrev pub deeds_by : (seats seat : ℕ) → List Deed → List Deed
 deeds_by seats seat deeds = filter (λ d. home seats d.user == seat) deeds
 
--- a user's last like after these deeds: the page of the last like of the user that was counted, or that of the opening
-abbrev pub last_after : Opening → ℕ → List Deed → Option ℕ
-last_after o user deeds = last_or (last_in o.lasts.items user) (pages_counted user deeds)
-
--- a page's count after these deeds: its first count, and their likes of it
-abbrev pub count_after : Opening → ℕ → List Deed → ℕ
-count_after o page deeds = slice_index o.counts.items page + likes_among page deeds
+-- the store of an opening
+abbrev pub opened : Opening → Store
+opened o = record { count = slice_index o.counts.items; last = last_in o.lasts.items }
 
 -- serial, where these are the deeds of each seat: the list has them in their order, and no others; phases never fall; and
--- each look shows its user's last like among the deeds before it, and its page's count after them. (A glance at a page
--- that is split then may lack likes that other seats have in their slices. Its count has the bounds of `IsWithinAdded`)
+-- each deed fits the store after the deeds before it. (A glance at a page that is split then may lack likes that other
+-- seats have in their slices. Its count has the bounds of `IsWithinAdded`)
 pub record IsSerialService (o : Opening) (deeds : List (List Deed)) (serial : List Deed) : Type 0 where
   pub own : (seat : ℕ) → deeds_by o.seats seat serial ≡ slice_index_or deeds seat []
   pub rising : AllPairs (λ d e. d.phase ≤ e.phase) serial
-  pub lasts : (i : ℕ) (d : Deed) → slice_get serial i ≡ Some d → ShowsLast (last_after o d.user (take i serial)) d.act
-  pub counts : (i : ℕ) (d : Deed) → slice_get serial i ≡ Some d → ShowsCount (count_after o d.page (take i serial)) d.act
+  pub fits : (i : ℕ) (d : Deed) → slice_get serial i ≡ Some d
+      → Fits (store_after (opened o) (take i serial)) d.user d.page d.act
 
--- how many deeds are of this phase or an earlier one
-abbrev pub until : ℕ → List Deed → ℕ
-until phase serial = count_by (λ d. nat_lt d.phase (phase + 1)) serial
-
--- a snapshot stands in the order at the end of its phase: each count that the driver read in a phase is its page's after
--- all deeds of the phase and of earlier ones
+-- a snapshot is the store at the end of its phase: each count that the driver read in a phase is its page's after all
+-- deeds of the phase and of earlier ones
 abbrev pub SnapshotsStand : Opening → List PageCount → List Deed → Type 0
-SnapshotsStand o counted serial = All (λ r. r.count ≡ count_after o r.page (take (until r.phase serial) serial)) counted
+SnapshotsStand o counted serial =
+    All (λ r. r.count ≡ (store_after (opened o) (filter (λ d. nat_lt d.phase (r.phase + 1)) serial)).count r.page) counted
+
+-- the last counts are the store's after all deeds
+abbrev pub HasLastCounts : Opening → List ℕ → List Deed → Type 0
+HasLastCounts o counts serial =
+    (page : ℕ) → page < length counts → slice_index counts page ≡ (store_after (opened o) serial).count page
+
+-- and so are the last likes that each seat tells of its users
+abbrev pub HasLastLikes : Opening → List LiveView → List Deed → Type 0
+HasLastLikes o seats serial =
+    (seat user : ℕ) (v : LiveView) → slice_get seats seat ≡ Some v → user < o.users → home o.seats user ≡ seat
+    → last_of v.station.last user ≡ (store_after (opened o) serial).last user
 
 -- the law of one thread: of a service that was opened so and is closed, there is a serial list of all deeds of its seats'
--- calls, in which each snapshot stands
+-- calls. Each snapshot is its store at the end of the phase, and last counts and last likes are its store's at the end
 abbrev pub ServicesAreSerial : Type 0
 ServicesAreSerial =
     (o : Opening) (driver now : DriverView) (histories : List SeatHistory) (counts : List ℕ)
@@ -69,6 +74,7 @@ ServicesAreSerial =
     → AreGone (map (λ h. h.last) histories)
     → (serial : List Deed) × IsSerialService o (map deeds_in histories) serial
     × SnapshotsStand o now.lead.seat.counted serial
+    × HasLastCounts o counts serial × HasLastLikes o (map (λ h. h.last) histories) serial
 
 -- a seat's phases never fall, also where it came back: of a service that was opened so and is closed, no deed of a seat
 -- is of an earlier phase than one before it
@@ -89,3 +95,4 @@ LastMomentsAreSerial =
     → AreSeatsAt (board_opening o factor) m (map (λ h. h.last) histories)
     → AllGone (numbers (board_opening o factor) m.shown.state)
     → (serial : List Deed) × IsSerialService o (map deeds_in histories) serial
+    × HasLastLikes o (map (λ h. h.last) histories) serial

@@ -2,7 +2,8 @@
 //! contract of a function that does nothing.
 ghost use Rattle.like_live.specs.Answers.{AnswersAreBounded, AnswersAreReads};
 ghost use Rattle.like_live.specs.CrossedLooks.{CrossedLooksAreNotSerial};
-ghost use Rattle.like_live.specs.Deeds.{DeedsShowLasts, FoundAreTaken};
+ghost use Rattle.like_live.specs.DeedStore.{DeedsShowLasts};
+ghost use Rattle.like_live.specs.Deeds.{FoundAreTaken};
 ghost use Rattle.like_live.specs.Driver.{LastCountsStay};
 ghost use Rattle.like_live.specs.History.{HistoriesAreCounted, NoneWaitsOnceGone};
 ghost use Rattle.like_live.specs.SerialService.{LastMomentsAreSerial, SeatsRise, ServicesAreSerial};
@@ -78,8 +79,9 @@ pub fn found_are_taken()
 
 /// There is one list of all deeds of the seats of a closed service that one thread could have done, one after the other:
 /// each seat's deeds stand in it in their order, phases never fall along it, and each look shows its user's last like
-/// and its page's count as the deeds before it left them. Only a glance at a page that is split may lack likes that other
-/// seats have in their slices then.
+/// and its page's count in a store, as the deeds before it left them. Only a glance at a page that is split may lack
+/// likes that other seats have in their slices then. A snapshot shows the store at the end of its phase, and the last
+/// counts and the last likes that seats tell are the store's at the end.
 pub fn services_are_serial()
     ensures { ServicesAreSerial }
 {}

@@ -1,4 +1,4 @@
-use Rattle.like_live.proofs.OneThread.{services_are_serial}
+use Rattle.like_live.proofs.LastCounts.{services_are_serial}
 use Rattle.like_live.proofs.laws.services_are_serial.Goals as goal
 
 pub returns : goal.returns
