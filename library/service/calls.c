@@ -1,5 +1,5 @@
 /* Single calls, each with a seat's lock. */
-#include "held.h"
+#include "locked.h"
 
 /* Likes at a seat that is between two phases. */
 LIKES_SELDOM static uint32_t like_later(likes_service *service, likes_place *place, uint32_t user, uint32_t page) {

@@ -1,7 +1,7 @@
 /* Seats that leave a service, and come back. */
-#include "held.h"
+#include "locked.h"
 
-/* Makes a try at a place, with its lock held, and gives its answer. */
+/* Makes a try at a place, with its lock taken, and gives its answer. */
 typedef uint32_t try(likes_place *place);
 
 static uint32_t retire(likes_place *place) {

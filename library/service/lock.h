@@ -30,7 +30,7 @@ static inline bool likes_lock_try(likes_lock *lock) {
     return true;
 }
 
-/* Takes the mark that others left, with the lock held. Whether there was one. */
+/* Takes the mark that others left, with the lock taken. Whether there was one. */
 static inline bool likes_lock_take_mark(likes_lock *lock) {
     return __atomic_load_n(&lock->is_missed, __ATOMIC_SEQ_CST) &&
            __atomic_exchange_n(&lock->is_missed, false, __ATOMIC_SEQ_CST);

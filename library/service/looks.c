@@ -1,5 +1,5 @@
 /* Looks, which may have to wait for a phase. */
-#include "held.h"
+#include "locked.h"
 
 /* Why a look is refused for which there is no room, in the order of a seat's answers. */
 static uint32_t fault_without_room(const likes_service *service, likes_place *place, uint32_t user, uint32_t page) {
@@ -10,7 +10,7 @@ static uint32_t fault_without_room(const likes_service *service, likes_place *pl
     return page >= service->pages ? LIKES_UNKNOWN_PAGE : LIKES_NO_ROOM;
 }
 
-/* Looks at a place, with its lock held: the seat's answer, but not LIKES_BETWEEN. A look that waits is given, and its
+/* Looks at a place, with its lock taken: the seat's answer, but not LIKES_BETWEEN. A look that waits is given, and its
  * answer will go to `to`. */
 static likes_wait *look_at(likes_service *service, likes_place *place, uint32_t user, uint32_t page, uint64_t until,
                            likes_answer *to) {
@@ -40,8 +40,8 @@ static likes_wait *look_at(likes_service *service, likes_place *place, uint32_t 
     return wait;
 }
 
-/* Waits until a look is found that waits at a place, or until it is too late, and then throws its answer away. It began
- * to wait at `since`. */
+/* Waits until a look is found that waits at a place, or until it is too late, and then throws its answer away. It
+ * began to wait at `since`. */
 static void await_look(likes_place *place, likes_wait *wait, uint64_t since, uint64_t until, likes_answer *to) {
     pthread_mutex_lock(&place->asleep);
     while (to->status == LIKES_WAITS && !likes_is_over(until))

@@ -1,5 +1,5 @@
 /* Counts and last likes, of one moment or as they are. */
-#include "held.h"
+#include "locked.h"
 
 /* Does what others left to the thread that has a place's lock, which keeps it. */
 static void work_meanwhile(likes_service *service, likes_place *place) {
@@ -10,7 +10,7 @@ static void work_meanwhile(likes_service *service, likes_place *place) {
     likes_service_advance(service);
 }
 
-/* Writes the last likes of a seat's users into an array by user number, with the place's lock held. That takes long
+/* Writes the last likes of a seat's users into an array by user number, with the place's lock taken. That takes long
  * where there are many, and phases go on meanwhile. */
 static void write_lasts(likes_service *service, uint32_t number, uint32_t *lasts) {
     uint32_t row[256], seats = service->seats;
@@ -41,8 +41,8 @@ uint32_t likes_service_lasts(likes_service *service, uint32_t *lasts, size_t use
     return LIKES_OK;
 }
 
-/* Ends a joined phase that all seats have left, with `driving` held: a seat comes back, and leaves again once the end
- * is announced. Last counts would end the service. Where a seat isn't gone any more, nothing is left to do. */
+/* Ends a joined phase that all seats have left, with `driving` locked: a seat comes back, and leaves again once the
+ * end is announced. Last counts would end the service. Where a seat isn't gone any more, nothing is left to do. */
 static void end_for_all(likes_service *service) {
     for (uint32_t number = 0; number < service->seats; number++) {
         likes_place *place = &service->places[number];
@@ -58,8 +58,8 @@ static void end_for_all(likes_service *service) {
     }
 }
 
-/* Makes a turn towards the end of a joined phase, with `driving` held, unless the next phase would be released unseen,
- * or a split one has to go on for a thread: LIKES_NOT_ALL_IN. */
+/* Makes a turn towards the end of a joined phase, with `driving` locked, unless the next phase would be released
+ * unseen, or a split one has to go on for a thread: LIKES_NOT_ALL_IN. */
 static uint32_t turn_to_moment(likes_service *service) {
     bool is_split = likes_driver_phase(&service->driver) % 2 == 1;
     if (is_split ? likes_service_starves(service) : service->is_ending)
@@ -70,29 +70,29 @@ static uint32_t turn_to_moment(likes_service *service) {
 /* A seat as a call that waits for it last found it, and since when it has been so. */
 typedef struct sighting {
     uint64_t since;
-    uint32_t holds;
+    uint32_t locks;
 } sighting;
 
-/* Whether a thread has held a seat for LIKES_MOMENT, in no call of the service, since it was first found so. */
-static bool is_held_long(const likes_place *place, sighting *seen) {
+/* Whether a thread has locked a seat for LIKES_MOMENT, in no call of the service, since it was first found so. */
+static bool is_locked_long(const likes_place *place, sighting *seen) {
     uint64_t now = likes_clock();
-    uint32_t holds = __atomic_load_n(&place->holds, __ATOMIC_RELAXED);
-    if (holds != seen->holds) {
-        seen->holds = holds;
+    uint32_t locks = __atomic_load_n(&place->locks, __ATOMIC_RELAXED);
+    if (locks != seen->locks) {
+        seen->locks = locks;
         seen->since = now;
     }
-    return holds % 2 == 1 && now - seen->since >= LIKES_MOMENT;
+    return locks % 2 == 1 && now - seen->since >= LIKES_MOMENT;
 }
 
-static bool is_any_held_long(const likes_service *service, sighting *seen) {
+static bool is_any_locked_long(const likes_service *service, sighting *seen) {
     bool is_any = false;
     for (uint32_t number = 0; number < service->seats; number++)
-        is_any |= is_held_long(&service->places[number], &seen[number]);
+        is_any |= is_locked_long(&service->places[number], &seen[number]);
     return is_any;
 }
 
-/* Goes on to a moment at which no count changes, with `driving` held, and writes the counts. A service's last phase
- * goes on: there is none in it. With `seen`, it gives up once a seat is held for long. */
+/* Goes on to a moment at which no count changes, with `driving` locked, and writes the counts. A service's last phase
+ * goes on: there is none in it. With `seen`, it gives up once a seat is locked for long. */
 static uint32_t go_to_moment(likes_service *service, uint64_t *counts, size_t pages, sighting *seen) {
     uint32_t status, turn = LIKES_RELEASED;
     uint64_t began = likes_clock();
@@ -104,20 +104,20 @@ static uint32_t go_to_moment(likes_service *service, uint64_t *counts, size_t pa
             end_for_all(service);
         likes_service_seats_work(service);
         if (turn == LIKES_NOT_ALL_IN || turn == LIKES_ENDED) {
-            is_late = seen != NULL && is_any_held_long(service, seen);
+            is_late = seen != NULL && is_any_locked_long(service, seen);
             likes_pass(began);
         }
     }
     return status;
 }
 
-/* Writes all last likes at such a moment. A thread that holds its seat lends it soon, if it waits for a phase in a call
- * of the service. Who has the lock otherwise gives it back. */
+/* Writes all last likes at such a moment. A thread that has locked its seat lends it soon, if it waits for a phase in
+ * a call of the service. Who has the lock otherwise gives it back. */
 static uint32_t write_moment_lasts(likes_service *service, uint32_t *lasts, sighting *seen) {
     for (uint32_t number = 0; number < service->seats; number++) {
         likes_place *place = &service->places[number];
         bool is_taken = false;
-        while (!is_taken && !is_held_long(place, &seen[number]))
+        while (!is_taken && !is_locked_long(place, &seen[number]))
             is_taken = likes_lock_take(&place->lock, likes_clock() + LIKES_PHASE_NAP);
         if (!is_taken) {
             likes_place_turn(place); /* somebody may have left its work to this thread, which waited for the lock */

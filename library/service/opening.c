@@ -1,6 +1,6 @@
 /* How a service begins and ends. */
 #include "../defaults.h"
-#include "held.h"
+#include "locked.h"
 
 #include <stdlib.h>
 

@@ -1,4 +1,4 @@
-/* Places: who gets which found look, and the phase work of seats that nobody holds. */
+/* Places: who gets which found look, and the phase work of seats that nobody has locked. */
 #include "../proved.h"
 #include "service.h"
 
@@ -125,8 +125,8 @@ bool likes_place_turn(likes_place *place) {
     return could;
 }
 
-/* Sleeps until a seat that is lent comes back, with the place's lock held, which is given back meanwhile. False: it is
- * too late, and the thread doesn't have the lock. */
+/* Sleeps until a seat that is lent comes back, with the place's lock taken, which is given back meanwhile. False: it
+ * is too late, and the thread doesn't have the lock. */
 static bool await_back(likes_place *place, uint64_t until) {
     uint32_t backs = __atomic_load_n(&place->backs, __ATOMIC_SEQ_CST);
     likes_place_give(place->service, place);

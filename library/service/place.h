@@ -45,14 +45,14 @@ typedef struct likes_place {
     uint32_t backs;      /* how often the seat was lent and came back; a futex */
     likes_wait *unused, *waits;
     likes_ring others;
-    pthread_mutex_t asleep; /* for those that wait for looks. It may be taken with `lock` held */
+    pthread_mutex_t asleep; /* for those that wait for looks. It may be taken under `lock` */
     pthread_cond_t found;
     uint64_t founds;               /* how often looks were found. Read under one of the two locks, written under both */
     uint64_t row_phase, row_waits; /* about how many looks of rows wait in that phase */
     struct likes_service *service;
-    uint32_t holds; /* odd while a thread holds the seat and is in no call of the service; goes up each time that
+    uint32_t locks; /* odd while a thread has locked the seat and is in no call of the service; goes up each time that
                        changes; atomic */
-    struct likes_place *next_held; /* for the thread that holds the seat (held.h) */
+    struct likes_place *next_locked; /* for the thread that has locked the seat (locked.h) */
 } likes_place;
 
 /* Of `wakes`: those that wait for looks, and those that wait for the seat to be lent no more. */
@@ -69,9 +69,9 @@ static inline void likes_add(uint64_t *at, uint64_t by) {
     __atomic_store_n(at, __atomic_load_n(at, __ATOMIC_RELAXED) + by, __ATOMIC_RELAXED);
 }
 
-/* Notes that a thread begins or ends to hold a seat, or a call of the service while it holds the seat. */
-static inline void likes_place_note_hold(likes_place *place) {
-    __atomic_store_n(&place->holds, __atomic_load_n(&place->holds, __ATOMIC_RELAXED) + 1, __ATOMIC_RELAXED);
+/* Notes that a thread locks or unlocks a seat, or begins or ends a call of the service meanwhile. */
+static inline void likes_place_note_lock(likes_place *place) {
+    __atomic_store_n(&place->locks, __atomic_load_n(&place->locks, __ATOMIC_RELAXED) + 1, __ATOMIC_RELAXED);
 }
 
 /* Writes an answer that shows nothing, and gives its status. */
@@ -111,7 +111,7 @@ void likes_place_free(likes_place *place);
  * LIKES_NO_MEMORY. */
 uint32_t likes_place_take_memory(likes_place *place, uint32_t room);
 
-/* Hands out the looks that were found at a place, with its lock held. */
+/* Hands out the looks that were found at a place, with its lock taken. */
 void likes_place_hand_out(likes_place *place);
 
 static inline void likes_place_deliver(likes_place *place) {
@@ -119,10 +119,10 @@ static inline void likes_place_deliver(likes_place *place) {
         likes_place_hand_out(place);
 }
 
-/* Takes the next found look with a tag of the host's, with the place's lock held. */
+/* Takes the next found look with a tag of the host's, with the place's lock taken. */
 bool likes_place_take_found(likes_place *place, likes_found *found);
 
-/* Does the phase work of a place's seat with its lock held, which retires if it is to leave, and gives its answer. */
+/* Does the phase work of a place's seat with its lock taken, which retires if it is to leave, and gives its answer. */
 uint32_t likes_place_work(likes_place *place);
 
 /* Does the phase work of a place's seat, or leaves it to the thread that has the lock. Whether it could. */

@@ -1,14 +1,14 @@
 /* Seats that a thread locks for rows of requests. */
 #include "../proved.h"
-#include "held.h"
+#include "locked.h"
 
-_Thread_local likes_place *likes_held;
+_Thread_local likes_place *likes_locked;
 
-uint32_t likes_held_fault(const likes_service *service, uint32_t number) {
+uint32_t likes_locked_fault(const likes_service *service, uint32_t number) {
     uint32_t fault = likes_service_fault(service);
     if (fault == LIKES_OK && number >= service->seats)
         return LIKES_UNKNOWN_SEAT;
-    return fault == LIKES_OK && !likes_holds(&service->places[number]) ? (uint32_t)LIKES_NOT_LOCKED : fault;
+    return fault == LIKES_OK && !likes_locks(&service->places[number]) ? (uint32_t)LIKES_NOT_LOCKED : fault;
 }
 
 likes_seat *likes_service_lock(likes_service *service, uint32_t number) {
@@ -17,25 +17,25 @@ likes_seat *likes_service_lock(likes_service *service, uint32_t number) {
     likes_place *place = &service->places[number];
     likes_lock_give_way(&place->lock);
     likes_place_take(place, UINT64_MAX);
-    likes_place_note_hold(place);
-    place->next_held = likes_held;
-    likes_held = place;
-    bool is_first = !__atomic_load_n(&service->has_holders, __ATOMIC_SEQ_CST);
+    likes_place_note_lock(place);
+    place->next_locked = likes_locked;
+    likes_locked = place;
+    bool is_first = !__atomic_load_n(&service->has_lockers, __ATOMIC_SEQ_CST);
     if (is_first)
-        __atomic_store_n(&service->has_holders, true, __ATOMIC_SEQ_CST);
+        __atomic_store_n(&service->has_lockers, true, __ATOMIC_SEQ_CST);
     if (is_first || __atomic_load_n(&service->is_resting, __ATOMIC_SEQ_CST))
         likes_service_call(service);
     return &place->seat;
 }
 
 void likes_service_unlock(likes_service *service, uint32_t number) {
-    if (likes_held_fault(service, number) != LIKES_OK)
+    if (likes_locked_fault(service, number) != LIKES_OK)
         return;
-    likes_place *place = &service->places[number], **at = &likes_held;
+    likes_place *place = &service->places[number], **at = &likes_locked;
     while (*at != place)
-        at = &(*at)->next_held;
-    *at = place->next_held;
-    likes_place_note_hold(place);
+        at = &(*at)->next_locked;
+    *at = place->next_locked;
+    likes_place_note_lock(place);
     likes_place_give(service, place);
 }
 
@@ -117,7 +117,7 @@ LIKES_SELDOM static size_t refuse_row(likes_answer *answers) {
 
 size_t likes_service_run(likes_service *service, uint32_t number, const likes_request *requests, size_t length,
                          likes_answer *answers) {
-    uint32_t fault = likes_held_fault(service, number);
+    uint32_t fault = likes_locked_fault(service, number);
     if ((requests == NULL || answers == NULL) && length > 0)
         return refuse_row(answers);
     if (fault != LIKES_OK) {
@@ -126,28 +126,29 @@ size_t likes_service_run(likes_service *service, uint32_t number, const likes_re
         return 0;
     }
     likes_place *place = &service->places[number];
-    likes_place_note_hold(place);
+    likes_place_note_lock(place);
     size_t done = run_tagged(service, place, requests, length, answers);
     likes_place_deliver(place);
     likes_place_wake_now(place);
     likes_add(&place->tally.likes, count_likes(answers, done));
     if (is_half_full(place, answers, done) || done < length)
         likes_service_advance(service);
-    likes_place_note_hold(place);
+    likes_place_note_lock(place);
     return done;
 }
 
 bool likes_service_take_found(likes_service *service, uint32_t number, likes_found *found) {
-    if (likes_held_fault(service, number) != LIKES_OK || found == NULL)
+    if (likes_locked_fault(service, number) != LIKES_OK || found == NULL)
         return false;
     return likes_place_take_found(&service->places[number], found);
 }
 
-/* At a seat of a service that the thread holds, looks of the service are handed to the threads that wait for them. */
+/* At a seat of a service that the thread has locked, looks of the service are handed to the threads that wait for
+ * them. */
 bool likes_seat_take_found(likes_seat *seat, likes_found *found) {
-    likes_place *place = likes_held;
+    likes_place *place = likes_locked;
     while (place != NULL && &place->seat != seat)
-        place = place->next_held;
+        place = place->next_locked;
     return place != NULL ? likes_place_take_found(place, found) : likes_proved_seat_take_found(seat, found);
 }
 

@@ -2,16 +2,16 @@
  *   - Phases. Whoever makes a turn of the driver that begins or ends a phase goes on with what comes of it
  *     (likes_service_advance): the driver's thread when a phase is due, a thread that ticks, the last seat to answer,
  *     or a look by which those that wait take half of the room.
- *   - A seat that nobody holds. Whoever ends a phase does the seat's phase work, if the seat's lock is free. Otherwise
- *     it leaves that to the thread that has the lock, which does the work when it gives the lock back (likes_lock), and
- *     then makes the driver's turn. Those turns are passed on in the same way.
- *   - A thread whose seat is between two phases tries again for LIKES_SPIN_TIME. Then it sleeps until the next phase is
- *     released, and lends the seat meanwhile: others may do its phase work and read its last likes, and whoever else
- *     wants the seat sleeps too. If its call comes too late LIKES_MISSES times, no split phase ends before the call is
- *     made (`starving`).
- *   - A service without calls. After LIKES_QUIET_ROUNDS rounds without a call and without a seat that is held, a joined
- *     phase goes on, and the driver's thread sleeps until the next call wakes it (`is_resting`). No other thread begins
- *     such a rest. */
+ *   - A seat that nobody has locked. Whoever ends a phase does the seat's phase work, if the seat's lock is free.
+ *     Otherwise it leaves that to the thread that has the lock, which does the work when it gives the lock back
+ *     (likes_lock), and then makes the driver's turn. Those turns are passed on in the same way.
+ *   - A thread whose seat is between two phases tries again for LIKES_SPIN_TIME. Then it sleeps until the next phase
+ *     is released, and lends the seat meanwhile: others may do its phase work and read its last likes, and whoever
+ *     else wants the seat sleeps too. If its call comes too late LIKES_MISSES times, no split phase ends before the
+ *     call is made (`starving`).
+ *   - A service without calls. After LIKES_QUIET_ROUNDS rounds without a call and without a seat that is locked, a
+ *     joined phase goes on, and the driver's thread sleeps until the next call wakes it (`is_resting`). No other
+ *     thread begins such a rest. */
 #ifndef LIKES_SERVICE_INTERNAL_H
 #define LIKES_SERVICE_INTERNAL_H
 
@@ -38,7 +38,7 @@
 /* How many pulses a period has while writers are open. A row is kept for two of them. */
 #define LIKES_PULSES 3u
 
-/* How long likes_service_snapshot waits for a seat that a thread holds, in nanoseconds. */
+/* How long likes_service_snapshot waits for a seat that a thread has locked, in nanoseconds. */
 #define LIKES_MOMENT UINT64_C(100000000)
 
 struct likes_service {
@@ -60,8 +60,8 @@ struct likes_service {
     char apart_too[LIKES_LINES];
     uint32_t writers;  /* how many are open; atomic */
     uint32_t starving; /* how many threads have missed phases, and wait for the next one to make a call; atomic */
-    bool was_held;     /* a seat's lock was taken when somebody tried it, in this round; atomic */
-    bool has_holders;  /* a thread has held a seat; atomic */
+    bool was_locked;     /* a seat's lock was taken when somebody tried it, in this round; atomic */
+    bool has_lockers;  /* a thread has locked a seat; atomic */
     likes_lock driving;
     likes_driver driver;      /* used under `driving` */
     uint64_t pulses;          /* under `driving`: how many pulses there were */
@@ -93,26 +93,26 @@ static inline likes_place *likes_place_of(likes_service *service, uint32_t user)
 
 /* turns.c: the driver's turns, and the phase work of seats. */
 
-/* Makes a turn of the driver with `driving` held. */
+/* Makes a turn of the driver with `driving` locked. */
 uint32_t likes_service_turn(likes_service *service, uint32_t end);
 
-/* Whether the present phase, which is split, has to go on for threads that missed others. With `driving` held. */
+/* Whether the present phase, which is split, has to go on for threads that missed others. With `driving` locked. */
 bool likes_service_starves(const likes_service *service);
 
-/* Does the phase work of the seats that nobody holds. */
+/* Does the phase work of the seats that nobody has locked. */
 void likes_service_seats_work(likes_service *service);
 
 /* How many calls were made at all seats. */
 uint64_t likes_service_calls(const likes_service *service);
 
-/* Makes turns of the driver and of the seats that nobody holds, until nothing is left that can be done now. It gives
- * the last answer of the driver. */
+/* Makes turns of the driver and of the seats that nobody has locked, until nothing is left that can be done now. It
+ * gives the last answer of the driver. */
 uint32_t likes_service_advance(likes_service *service);
 
 /* Gives `driving` back, and makes the turn that others left. */
 void likes_service_give_driving(likes_service *service);
 
-/* Makes the next round count as one with a call, with `driving` held. So the next two split phases come. */
+/* Makes the next round count as one with a call, with `driving` locked. So the next two split phases come. */
 void likes_service_stir(likes_service *service);
 
 /* Makes a turn of the driver due at once. */
@@ -126,11 +126,11 @@ void likes_service_call(likes_service *service);
 
 /* waits.c: calls that wait for a phase. */
 
-/* Makes a request again until the seat isn't between two phases, with the place's lock held, or until a time. */
+/* Makes a request again until the seat isn't between two phases, with the place's lock taken, or until a time. */
 void likes_place_retry(likes_service *service, likes_place *place, const likes_request *request, uint64_t until,
                        likes_answer *answer);
 
-/* Runs requests with the place's lock held, through changes of phases, up to a look that has no room, and gives the
+/* Runs requests with the place's lock taken, through changes of phases, up to a look that has no room, and gives the
  * number of those done. */
 size_t likes_place_run(likes_service *service, likes_place *place, const likes_request *requests, size_t length,
                        likes_answer *answers);

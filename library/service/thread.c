@@ -9,9 +9,9 @@ void likes_service_call(likes_service *service) {
     pthread_cond_signal(&service->woken);
 }
 
-/* Whether no call was made since the last turn, with `driving` held. The service rests already: so who brings a seat
- * back sees that, or is seen by this turn. Other calls are made under a seat's lock: one was made before this thread has
- * had that lock, and is seen here, or it sees that the service rests. */
+/* Whether no call was made since the last turn, with `driving` locked. The service rests already: so who brings a seat
+ * back sees that, or is seen by this turn. Other calls are made under a seat's lock: one was made before this thread
+ * has had that lock, and is seen here, or it sees that the service rests. */
 static bool is_still_quiet(likes_service *service) {
     if (likes_service_turn(service, LIKES_NO_END) == LIKES_ENDED)
         return true;
@@ -56,7 +56,7 @@ static void sleep_until(likes_service *service, uint64_t until) {
 static uint64_t nap_of(likes_service *service, uint64_t now) {
     uint64_t left = likes_time_left(&service->due, now), most = LIKES_LONG_NAP;
     bool is_split = __atomic_load_n(&service->released, __ATOMIC_SEQ_CST) % 2 == 1;
-    if (is_split && __atomic_load_n(&service->has_holders, __ATOMIC_SEQ_CST))
+    if (is_split && __atomic_load_n(&service->has_lockers, __ATOMIC_SEQ_CST))
         most = LIKES_DRIVER_NAP;
     if (__atomic_load_n(&service->writers, __ATOMIC_SEQ_CST) > 0 && most > likes_time_left(&service->beat, now))
         most = likes_time_left(&service->beat, now);

@@ -1,5 +1,5 @@
 /* What a service tells of itself, and the pages that are proposed to it. */
-#include "held.h"
+#include "locked.h"
 
 uint32_t likes_service_fault(const likes_service *service) {
     if (service == NULL)

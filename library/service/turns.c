@@ -1,10 +1,10 @@
-/* The driver's turns, and the phase work of the seats that nobody holds. */
+/* The driver's turns, and the phase work of the seats that nobody has locked. */
 #include "service.h"
 
 void likes_service_seats_work(likes_service *service) {
     for (uint32_t i = 0; i < service->seats; i++)
         if (!likes_place_turn(&service->places[i]))
-            __atomic_store_n(&service->was_held, true, __ATOMIC_SEQ_CST);
+            __atomic_store_n(&service->was_locked, true, __ATOMIC_SEQ_CST);
 }
 
 uint64_t likes_service_calls(const likes_service *service) {
@@ -18,11 +18,11 @@ static bool is_quiet(const likes_service *service) {
     return service->quiet >= LIKES_QUIET_ROUNDS;
 }
 
-/* Ends a round, with `driving` held. */
+/* Ends a round, with `driving` locked. */
 static void end_round(likes_service *service) {
     uint64_t calls = likes_service_calls(service);
-    bool was_held = __atomic_exchange_n(&service->was_held, false, __ATOMIC_SEQ_CST);
-    service->quiet = calls != service->calls || was_held ? 0 : service->quiet + 1;
+    bool was_locked = __atomic_exchange_n(&service->was_locked, false, __ATOMIC_SEQ_CST);
+    service->quiet = calls != service->calls || was_locked ? 0 : service->quiet + 1;
     service->calls = calls;
 }
 
@@ -99,8 +99,8 @@ static uint32_t joined_turn(likes_service *service, uint64_t now, bool is_new) {
     return status;
 }
 
-/* Goes on to the next pulse, if that is due, with `driving` held. After a rest it goes on by two: what writers have kept
- * since before it is due. */
+/* Goes on to the next pulse, if that is due, with `driving` locked. After a rest it goes on by two: what writers have
+ * kept since before it is due. */
 static void pulse(likes_service *service, uint64_t now) {
     bool has_rested = __atomic_load_n(&service->pulse, __ATOMIC_RELAXED) == 0;
     bool is_due = has_rested || likes_time_left(&service->beat, now) == 0;
@@ -119,8 +119,8 @@ typedef struct outcome {
                       seat is back where all had left */
 } outcome;
 
-/* The driver's turn, with `driving` held. Threads that wait for a phase sleep on in a joined phase that ends at once,
- * and their seats are lent meanwhile. */
+/* The driver's turn, with `driving` locked. Threads that wait for a phase sleep on in a joined phase that ends at
+ * once, and their seats are lent meanwhile. */
 static uint32_t driver_turn(likes_service *service, outcome *of) {
     uint64_t now = likes_clock(), due = likes_time(&service->due);
     bool had_left = service->has_left;

@@ -19,8 +19,8 @@ static limits limits_until(uint64_t until) {
     return made;
 }
 
-/* Sleeps until the phase after one is released, for a while at most, with the place's lock held. The lock is given back
- * meanwhile. */
+/* Sleeps until the phase after one is released, for a while at most, with the place's lock taken. The lock is given
+ * back meanwhile. */
 static void lend(likes_service *service, likes_place *place, uint64_t phase, uint64_t until) {
     uint64_t nap = likes_clock() + LIKES_PHASE_NAP;
     place->is_lent = true;
@@ -34,7 +34,7 @@ static void lend(likes_service *service, likes_place *place, uint64_t phase, uin
     place->wakes |= LIKES_BACK;
 }
 
-/* Waits for the next phase, with the lock held of a place whose seat is between two phases. It may come back early.
+/* Waits for the next phase, with the lock taken of a place whose seat is between two phases. It may come back early.
  * False: it is too late. */
 static bool await_phase(likes_service *service, likes_place *place, limits of) {
     uint64_t phase = likes_seat_phase(&place->seat);

@@ -4,7 +4,7 @@
  * times in a period. A call that sees another one hands over the rows that were begun before the last one: so none is
  * kept for much longer than a period, as long as the writer is called, and a call reads no clock. While the service
  * rests, there is no pulse, and a call reads the clock. When it goes on, there are two pulses at once. */
-#include "held.h"
+#include "locked.h"
 
 #include <stdlib.h>
 
@@ -133,7 +133,7 @@ static void notice(likes_writer *writer) {
 static inline uint32_t fault_of(const likes_writer *writer) {
     if (writer == NULL)
         return LIKES_NOT_STARTED;
-    return likes_held != NULL && likes_holds_any(writer->service) ? (uint32_t)LIKES_HOLDS_SEAT : (uint32_t)LIKES_OK;
+    return likes_locked != NULL && likes_locks_any(writer->service) ? (uint32_t)LIKES_HOLDS_SEAT : (uint32_t)LIKES_OK;
 }
 
 uint32_t likes_writer_open(likes_service *service, likes_writer **writer) {
@@ -206,7 +206,7 @@ LIKES_SELDOM static uint32_t like_with_care(likes_writer *writer, uint32_t user,
 }
 
 uint32_t likes_writer_like(likes_writer *writer, uint32_t user, uint32_t page) {
-    if (writer == NULL || likes_held != NULL || user >= writer->open_users || page >= writer->pages ||
+    if (writer == NULL || likes_locked != NULL || user >= writer->open_users || page >= writer->pages ||
         !has_seen_pulse(writer))
         return like_with_care(writer, user, page);
     return keep(writer, likes_remainder(user, writer->inverse, writer->seats), user, page);
