@@ -1,7 +1,9 @@
 -- The last counts of a service are those of its store.
 use Rattle.std.proofs.Common.{◌≡◌, ℕ, ◌+◌, ◌==◌, Bool, true, false, cond, List, [], ◌∷◌, map, get_or, slice_get, sum_by, Some, ap, sym, ◌∙◌, refl, arith}
+use Rattle.like_board.specs.Seats.{board_numbers}
+use Rattle.like_core.specs.Post.{fresh, slices}
 use Rattle.like_core.specs.declared.opening.Opening.{Opening as CoreOpening}
-use Rattle.like_core.specs.Post.{slices}
+use Rattle.like_core.specs.declared.view.WorkerSeatView.{WorkerSeatView}
 use Rattle.like_requests.specs.Verdict.{home}
 use Rattle.like_serial.proofs.Totals.{same_in_all}
 use Rattle.like_serial.proofs.Weigh.{only, sum-weigh, weigh, weigh-append, weigh-filter}
@@ -15,6 +17,7 @@ use Rattle.like_live.specs.LiveView.{LiveView, tally}
 use Rattle.like_live.specs.History.{HasDone, IsUnused, Told, come_back, glance, like, like_told, look, retire, take_found, turn}
 use Rattle.like_live.specs.Deeds.{Deed, deed_found, deeds_of, deeds_of_call, found_by, glimpsed, own_deed, showed}
 use Rattle.like_live.specs.Driver.{DriverView, IsSameDriver}
+use Rattle.like_live.specs.Opening.{board_opening}
 use Rattle.like_live.specs.Service.{AreOpened, IsClosedService}
 use Rattle.like_live.specs.SerialService.{HasLastCounts, IsSerialService, SeatHistory, ServicesAreSerial, deeds_in, opened as store_opened}
 use Rattle.like_live.proofs.Closing.{sum-of-map}
@@ -82,7 +85,7 @@ last_counts_are o driver now hs counts serial opened same closed is page below =
     same_in_all (λ (d : Deed). home o.seats d.user) f number G serial hs
     (λ k. sym (weigh-filter (λ (d : Deed). home o.seats d.user == k) f serial) ∙ ap (weigh f) (is.own k)
     ∙ sym (ap (λ j. weigh (λ (h : SeatHistory). only (number h == j) (G h)) hs) (zero_and k)
-    ∙ at_number number G hs 0 (λ j h at. (seat j h at).worker ∙ zero_and j) (λ j. weigh f (deeds_at hs j))
+    ∙ at_number number G hs 0 (λ j h at. ap (λ (p : WorkerSeatView). p.worker) (seat j h at).at_post ∙ zero_and j) (λ j. weigh f (deeds_at hs j))
     (λ j h at. ap (weigh f) (deeds_there hs j h at)) (λ j past. ap (weigh f) (deeds_past hs j past)) k)) in
     closed.totals page below
     ∙ ap (λ (z : CoreOpening). get_or z.counts page 0 + sum_by (λ s. tally s page) (map (λ (h : SeatHistory). h.last) hs))
@@ -92,12 +95,13 @@ last_counts_are o driver now hs counts serial opened same closed is page below =
     ∙ sum-weigh (λ (h : SeatHistory). tally h.last page) hs
     ∙ alike_at (λ (h : SeatHistory). tally h.last page) G hs
     (λ i h at. tally_is h page (record {
-      post = h.first.station.post;
+      board = board_numbers driver.lead.board;
+      post = fresh (board_opening o opened.factor) i;
       share = share_of o.users o.seats o.seats i;
       lasts = o.lasts.items;
       room = o.room;
-      fresh = (seat i h at).fresh;
-      new = (seat i h at).new;
+      fresh = refl;
+      new = seat i h at;
     }))
     ∙ sym all ∙ sym (sum-weigh f serial))
     ∙ sym (count_is (store_opened o) serial page)
