@@ -37,6 +37,7 @@ impl<B: HoldsBoard> Post for PostAt<B> {
     ghost use Rattle.like_board.specs.Seats.{post_numbers, post_view};
 
     ghost view = { post_view };
+
     ghost board = { post_numbers };
 
     #[inline(always)]

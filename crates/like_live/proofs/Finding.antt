@@ -82,9 +82,9 @@ pub record Finding (v now : LiveView) : Type 0 where
   pub order : map (λ f. f.asked) found ++ waiting now ≡ waiting v
   pub shown : All (IsFoundAt v.station) found
   pub station : now.station ≡ record v.station {
-        post = record v.station.post { did = then_steps v.station.post.did (map (step_for v.station.post.worker) found) };
-        held = now.station.held;
-      }
+    post = record v.station.post { did = then_steps v.station.post.did (map (step_for v.station.post.worker) found) };
+    held = now.station.held;
+  }
   pub capacity : now.station.held.capacity ≡ v.station.held.capacity
   pub found_is : now.found ≡ v.found ++ found
 
@@ -200,7 +200,7 @@ Finding-room v now f =
 pub Finding-joined : (v now : LiveView) (s : StationView Asked) → Finding v now
     → RunsJoined v.station.post.state → s ≡ without_first now.station → RunsJoined s.post.state
 Finding-joined v now s f joined is =
-    subst (λ (p : WorkerSeatView). RunsJoined p.state) 
+    subst (λ (p : WorkerSeatView). RunsJoined p.state)
     (sym (ap (λ (t : StationView Asked). t.post) is ∙ ap (λ (t : StationView Asked). t.post) f.station)) joined
 
 -- the first that waits still is the seat's, once it is taken out

@@ -117,14 +117,17 @@ module _ {W C T : Type 0} (board there : List ℕ) (post looked : WorkerSeatView
           record {
             sight = sees;
             ending = ending;
-            looks = (mask, λ m. record (view_of board post t) {
-              board = (same ∙ here) m;
-              post = is_now m;
-              held = (e.rest m).held;
-              slice = slice m;
-              sliced = (e.rest m).sliced.likes;
-              last = (e.rest m).last;
-            });
+            looks = (
+              mask,
+              λ m. record (view_of board post t) {
+                board = (same ∙ here) m;
+                post = is_now m;
+                held = (e.rest m).held;
+                slice = slice m;
+                sliced = (e.rest m).sliced.likes;
+                last = (e.rest m).last;
+              },
+            );
             runs = λ _. subst (λ (p : WorkerSeatView). IsRunning p.state) (sym is_now)
                 (runs-after post.state sight sees goes);
             seat = keeps.seat;

@@ -12,8 +12,9 @@ use Rattle.like_seat.specs.SlicedLike.{SlicedLike}
 use Rattle.like_tables.specs.UserTable.{UserTable}
 use Rattle.like_tables.specs.Waiting.{IsWaiting, Waiting}
 
--- the numbers that tell its board from others; its post; what it holds, which is its stash in a split phase and its backlog in a joined one; its slice, a number for
--- each page; all likes that ever went into its slice, in order; and the last likes of its users
+-- the numbers that tell its board from others; its post; what it holds, which is its stash in a split phase and its
+-- backlog in a joined one; its slice, a number for each page; all likes that ever went into its slice, in order; and the
+-- last likes of its users
 pub record StationView (W : Type 0) : Type 0 where
   pub board : List ℕ
   pub post : WorkerSeatView

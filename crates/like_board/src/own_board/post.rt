@@ -63,6 +63,7 @@ impl Post for OwnPost {
     ghost use Rattle.like_board.specs.OwnPosts.{lent_numbers, lent_view};
 
     ghost view = { lent_view };
+
     ghost board = { lent_numbers };
 
     #[inline(always)]

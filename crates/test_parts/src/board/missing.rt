@@ -10,6 +10,7 @@ pub struct Missing<P: Post> {
 
 impl<P: Post> Post for Missing<P> {
     ghost view = { λ m. P.view m.post };
+
     ghost board = { λ m. P.board m.post };
 
     fn look(&mut self) -> Sight {
