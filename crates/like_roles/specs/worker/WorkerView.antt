@@ -17,11 +17,11 @@ use Rattle.like_promises.specs.declared.log.Added.{Added}
 use Rattle.like_promises.specs.declared.log.Ran.{Ran}
 use Rattle.like_promises.specs.declared.log.Took.{Took}
 
--- the numbers that tell its board from others; its post; the looks that it holds, which are its stash in a split phase and its backlog in a joined one; its slice, a
--- number for each page; all likes that ever went into its slice, in order; for each of its submitters by place, how
--- many requests of it were not taken yet and whether its end mark was taken; the place at which it looks for a
--- submitter next; the place of the submitter that it tries, if it tries one; the last likes of its users; what it took
--- and what it ran; whether it notes its additions, and those that it noted
+-- the numbers that tell its board from others; its post; the looks that it holds, which are its stash in a split phase
+-- and its backlog in a joined one; its slice, a number for each page; all likes that ever went into its slice, in
+-- order; for each of its submitters by place, how many requests of it were not taken yet and whether its end mark was
+-- taken; the place at which it looks for a submitter next; the place of the submitter that it tries, if it tries one;
+-- the last likes of its users; what it took and what it ran; whether it notes its additions, and those that it noted
 pub record WorkerView : Type 0 where
   pub board : List ℕ
   pub post : WorkerSeatView
