@@ -147,6 +147,8 @@ uint32_t likes_writer_open(likes_service *service, likes_writer **writer) {
     const size_t row = ROW * sizeof(kept_like);
     int error = errno;
     likes_writer *made = (likes_writer *)calloc(1, sizeof *made + (service->seats + 1) * row);
+    /* clang takes calloc to leave errno, and would drop the line below. */
+    __atomic_signal_fence(__ATOMIC_SEQ_CST);
     errno = error;
     if (made == NULL)
         return LIKES_NO_MEMORY;
