@@ -1,5 +1,6 @@
-use Rattle.std.proofs.Common.{◌++◌, ap, ◌∙◌}
+use Rattle.std.proofs.Common.{◌++◌, ap, ◌∙◌, refl, subst, sym}
 use Rattle.std.specs.Option.{option_to_list}
+use Rattle.like_core.specs.Post.{IsFresh}
 use Rattle.test_parts.proofs.Walk.{last_fresh}
 use Rattle.test_parts.proofs.board.last_post.Goals as goal
 
@@ -13,7 +14,8 @@ pub returns-clause-fresh : goal.returns-clause-fresh
 returns-clause-fresh g c =
     let left = c.pop.new.self.items in
     let popped = c.pop.ensures.items ∙ ap (λ o. left ++ option_to_list o) c.expect-seat.ensures in
-    rw (c.at.ensures.view, (last_fresh _ _ _ left c.expect-seat.result c.requires.fresh popped).1) refl
+    subst IsFresh
+    (sym (c.at.ensures.view ∙ (last_fresh _ _ _ left c.expect-seat.result c.requires.fresh popped).1)) refl
 
 pub returns-clause-limits : goal.returns-clause-limits
 returns-clause-limits g c =

@@ -1,9 +1,9 @@
-use Rattle.std.proofs.Common.{[], ◌∷◌, ◌++◌, length, sym, ap, ◌∙◌}
+use Rattle.std.proofs.Common.{[], ◌∷◌, ◌++◌, length, sym, ap, ◌∙◌, refl, subst}
 use Rattle.std.specs.List.{slice_get}
 use Rattle.std.specs.Option.{option_to_list}
 use Rattle.std.proofs.lemmas.Option.{slice_get_within}
 use Rattle.like_core.specs.Phase.{is_marked}
-use Rattle.like_core.specs.Post.{pages_of}
+use Rattle.like_core.specs.Post.{IsFresh, pages_of}
 use Rattle.like_board.specs.Seats.{board_numbers}
 use Rattle.like_promises.proofs.Lists.{slice_get-before}
 use Rattle.test_parts.proofs.Walk.{last_fresh}
@@ -19,7 +19,8 @@ pub new-requires-clause-fresh : goal.new-requires-clause-fresh
 new-requires-clause-fresh g c =
     let left = c.pop.new.self.items in
     let popped = c.pop.ensures.items ∙ ap (λ o. left ++ option_to_list o) c.expect-seat.ensures in
-    rw (c.at.ensures.view, (last_fresh _ _ _ left c.expect-seat.result c.requires.fresh popped).1) refl
+    subst IsFresh
+    (sym (c.at.ensures.view ∙ (last_fresh _ _ _ left c.expect-seat.result c.requires.fresh popped).1)) refl
 
 pub new-requires-clause-limits : goal.new-requires-clause-limits
 new-requires-clause-limits g c =
