@@ -12,7 +12,7 @@ use Rattle.like_live.proofs.Newly.{calls-keep-whole}
 
 turned : (v : DriverView) (a b : LiveView) → AreItsSeats v (a ∷ b ∷ []) → AreItsSeats v (b ∷ a ∷ [])
 turned v a b its =
-    let Here : LiveView → Type 0 = λ s. s.station.post.board ≡ board_numbers v.lead.board in
+    let Here : LiveView → Type 0 = λ s. s.station.board ≡ board_numbers v.lead.board in
     record {
       len = its.len;
       here = All-cons Here b (a ∷ []) (All-head Here b [] (All-tail Here a (b ∷ []) its.here))
