@@ -10,18 +10,30 @@ import tables
 import web
 from command import Fault, shown
 
+
 def judge_names(names, parser):
-    """Refuses logs that can't be there, before work begins."""
+    """Refuses logs that can't be there, and one that is named twice, before work begins."""
     if names.count("-") > 1:
         parser.error("only one LOG can be -, which is standard input")
-    for name in names:
-        if name != "-":
-            try:
-                is_folder = stat.S_ISDIR(os.stat(name).st_mode)
-            except OSError as error:
-                raise Fault(f"{name}: {error.strerror}") from None
-            if is_folder or not os.access(name, os.R_OK):
-                raise Fault(f"{name}: {'Is a directory' if is_folder else 'Permission denied'}")
+    seen = {}
+    for place, name in enumerate(names):
+        same = seen.setdefault(file_of(name), place)
+        if same != place:
+            raise Fault(f"{name} is {'named twice' if name == names[same] else f'the same file as {names[same]}'}")
+
+
+def file_of(name):
+    """What tells a file from others, if it can be read."""
+    if name == "-":
+        return name
+    try:
+        found = os.stat(name)
+    except OSError as error:
+        raise Fault(f"{name}: {error.strerror}") from None
+    is_folder = stat.S_ISDIR(found.st_mode)
+    if is_folder or not os.access(name, os.R_OK):
+        raise Fault(f"{name}: {'Is a directory' if is_folder else 'Permission denied'}")
+    return found.st_dev, found.st_ino
 
 
 def add_options(parser):

@@ -63,6 +63,9 @@ BINARY = {
     b"\x89PNG": "a picture",
 }
 
+# Where a tar archive has this word.
+TAR = slice(257, 262), b"ustar"
+
 # How many bytes of a file are judged, what text doesn't have, and how many of it make a file binary. NULs are skipped:
 # a log has them where it was cut off while a server wrote it.
 JUDGED, CONTROLS, FEW = 4096, re.compile(rb"[\x01-\x08\x0e-\x1a\x1c-\x1f\x7f]"), 0.05
@@ -91,6 +94,7 @@ def opened(name):
                 yield file, file.raw
             else:
                 with unpacked(name, file, packer) as data:
+                    judge_text(name, data.peek(JUDGED)[:JUDGED])
                     yield data, file.raw
     except OSError as error:
         raise Fault(f"{called(name)}: {error.strerror}") from None
@@ -99,6 +103,9 @@ def opened(name):
 def judge_text(name, front):
     """Stops at a file that is no text, by its first bytes."""
     what = next((BINARY[magic] for magic in BINARY if front.startswith(magic)), None)
+    place, word = TAR
+    if front[place] == word:
+        what = "a tar archive: unpack it first"
     if what is None and len(CONTROLS.findall(front)) > FEW * len(front.replace(b"\0", b"")):
         what = "binary data, not text"
     if what is not None:
