@@ -20,6 +20,9 @@ MOST = 3
 # How many pieces of a log are searched for its first time.
 UNTIMED = 64
 
+# By how many seconds times in a log fall back that is told, and how many lines of a piece are looked at for it.
+FAR, SOME = 3600, 16
+
 # How bytes that aren't UTF-8 are decoded: as they are escaped in addresses, such as %FF.
 ESCAPED = "percent"
 codecs.register_error(ESCAPED, lambda error: (rows.escaped(error.object[error.start : error.end]), error.end))
@@ -53,6 +56,7 @@ class Log:
         self.stamps = stamps.Stamps(words.by)
         self.left_out = {}  # why: how many lines, and the name, line and text of the first
         self.order = []  # the logs in the order in which they begin
+        self.latest, self.fallen = {}, {}  # by log: the latest time; the first line that is far before it, and how far
         self.has_requests = False
         self.idle = []  # what is said of patterns that match no request
         self.turn = self.sharers = 1  # which of the processes that share the log this is, and how many there are
@@ -94,6 +98,10 @@ class Log:
             yield f"taken in the order of their first times: {', '.join(self.names[place] for place in self.order)}"
         if len(self.names) > 1 and not self.has_times:
             yield "taken in the order in which the logs are named: --time COLUMN sorts them by time"
+        for place, (line, seconds) in sorted(self.fallen.items()):
+            hours = round(seconds / FAR)
+            back = f"{rows.called(self.names[place])}: the times fall back by {hours} hour{'s' * (hours > 1)}"
+            yield f"{back} before line {line}, so last likes may be old: name logs one by one to sort them"
         found = self.left_out.items()
         for why, (count, name, line, text) in sorted(found, key=lambda entry: self.place(entry[1][1:])):
             place = f"line {line}" + (f" of {rows.called(name)}" if len(self.names) > 1 else "")
@@ -109,6 +117,7 @@ class Log:
     def begin(self):
         """Begins to read."""
         self.left_out, self.has_requests = {}, False
+        self.latest, self.fallen = {}, {}
 
     def cut(self, block):
         """Cuts a block behind its last line."""
@@ -196,9 +205,22 @@ class Log:
                 if self.turn == 1:
                     self.leave_out(LONG, line, piece)
             elif next(turns) == self.turn:
-                batch = self.batch_of(*self.requests_in(line, piece))
+                columns = self.requests_in(line, piece)
+                if self.has_times:
+                    self.note_fall(place, columns[0], columns[3])
+                batch = self.batch_of(*columns)
                 self.has_requests = self.has_requests or bool(batch[0])
                 yield *batch, least, place
+
+    def note_fall(self, place, lines, times):
+        """Notes whether times in a log fall far back, as where the newest of several logs comes first in one."""
+        self.stamps.make_room()
+        some = slice(None, None, max(1, len(times) // SOME))
+        for line, time in zip(lines[some], times[some]):
+            at, latest = self.stamps[time][0], self.latest.get(place, -math.inf)
+            if -math.inf < at < latest - FAR:
+                self.fallen.setdefault(place, (line, latest - at))
+            self.latest[place] = max(latest, at)
 
     def batch_of(self, lines, numbers, users, times, texts):
         """A batch of what is kept of a piece."""
@@ -234,7 +256,7 @@ class Log:
 
     def found(self):
         """What was found when all is read, for a process that joins it."""
-        return {name: getattr(self, name) for name in ("left_out", "has_requests", "paths", "order")}
+        return {name: getattr(self, name) for name in ("left_out", "has_requests", "paths", "order", "fallen")}
 
     def join(self, found):
         """Takes what processes found that shared the log."""
@@ -243,6 +265,8 @@ class Log:
             self.has_requests = self.has_requests or part["has_requests"]
             self.paths.update(part["paths"])
             self.order = part["order"]
+            for place, fall in part["fallen"].items():
+                self.fallen[place] = min(fall, self.fallen.get(place, fall))
             for why, (count, *first) in part["left_out"].items():
                 more, *other = self.left_out.get(why, (0, *first))
                 self.left_out[why] = [count + more, *min(first, other, key=self.place)]

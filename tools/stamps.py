@@ -12,6 +12,8 @@ SERVER = re.compile(r"(\d\d)/([A-Z][a-z]{2})/(\d{4}):(\d\d):(\d\d):(\d\d)(\.\d+)
 ISO = re.compile(
     r"(\d{4})-(\d\d)-(\d\d)(?:[T ](\d\d):(\d\d)(?::(\d\d)(?:[.,](\d+))?)?)? ?(?:Z|UTC|([+-]\d\d):?(\d\d))?"
 )
+# A time of a spreadsheet, such as 27.11.2026 09:00.
+DOTTED = re.compile(r"(\d\d?)\.(\d\d?)\.(\d{4})(?: (\d\d?):(\d\d)(?::(\d\d))?)?")
 MONTHS = "Jan Feb Mar Apr May Jun Jul Aug Sep Oct Nov Dec".split()
 
 # Seconds since 1970, and from when on they are thousandths, millionths or billionths: as seconds, past the year 5000.
@@ -44,6 +46,9 @@ def read(text):
             return seconds_of((year, MONTHS.index(month) + 1, day), clock, (part or "")[1:], (hours, minutes))
         if found := ISO.fullmatch(text):
             return seconds_of(found.groups()[:3], found.groups()[3:6], found[7], found.groups()[7:])
+        if found := DOTTED.fullmatch(text):
+            day, month, year, *clock = found.groups()
+            return seconds_of((year, month, day), clock, None, (None, None))
         if NUMBER.fullmatch(text):
             seconds = float(text)
             while seconds >= PAST:

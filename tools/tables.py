@@ -18,7 +18,7 @@ NAMED = {"tab": "\t", "\\t": "\t"}
 BATCH = 4096
 
 # Why rows are left out.
-FEWER, MORE = "fewer fields than the header", "more fields than the header"
+FEWER, MORE, SHORT = "fewer fields than the header", "more fields than the header", "fewer fields than --columns"
 
 
 class Header:
@@ -113,7 +113,7 @@ class Table(reading.Log):
         """Leaves out a row, or stops at it."""
         text = header.delimiter.join(row)
         if header.lacks(row) or header.exceeds(row):
-            why = FEWER if header.lacks(row) else MORE
+            why = MORE if header.exceeds(row) else FEWER if header.names else SHORT
             fault = f"{len(row)} fields, not {len(header.names) or header.least}: {shown(text)}"
         elif row[header.places[0]] not in self.ops:
             why = self.wrong_op
@@ -143,7 +143,8 @@ def add_options(parser):
     columns = """the names of the three columns in the CSV file LOG, or their numbers from 1 if it has no header
         (default op,user,page)"""
     parser.add_argument("--columns", metavar="OP,USER,PAGE", help=columns)
-    time = "the column of a CSV file with the time, by which several files are sorted"
+    time = """the column of a CSV file with the time, by which several files are sorted: such as 2026-11-27 09:00,
+        27.11.2026 09:00, or seconds since 1970"""
     parser.add_argument("--time", metavar="COLUMN", help=time)
     separated = "what separates the fields of a CSV file: a character, or tab (default what the header has)"
     parser.add_argument("--delimiter", metavar="CHAR", type=delimiter, help=separated)

@@ -36,12 +36,18 @@ TIME = re.compile(rb"\[([0-9]{2}/[A-Z][a-z]{2}/[^][\n]{0,99})\]")
 BEHIND = re.compile(rf'[^"\n]*? {ASKED}')
 LIKE_ONE = re.compile(r'[^ \n]+ [^\n]*\[[^][\n]{0,99}\] "')
 
+# What a line has behind its time, and a line that has it behind two times: it was cut, and the next one was written
+# behind it.
+ASKS = '] "'
+TWO = re.compile(r'^[^\n]*?\[{0}\] "[^\n]*?\[{0}\] "[^\n]*'.format(r"[0-9]{2,4}[/-][^][\n]{9,99}"), re.M)
+
 # How a server escapes characters.
 ESCAPE = re.compile(rb"\\(?:x([0-9a-fA-F]{2})|(.))", re.S)
 LETTERS = {b"b": b"\b", b"n": b"\n", b"r": b"\r", b"t": b"\t", b"v": b"\v"}
 
-# What a server logs in place of an address or a name that it doesn't have.
-NOBODY = ("-", "", "unix:")
+# What servers and proxies write in place of a name, or of an address too, that they don't have.
+NAMELESS = ("-", "", '""')
+NOBODY = (*NAMELESS, "unix:", "unknown")
 
 # How many requests are cached with their meaning, before a batch adds its own.
 KEPT = 1 << 17
@@ -236,10 +242,15 @@ class Web(reading.Log):
         if self.has_escapes and "\\" in "".join(users):
             users = [without_escapes(user) if "\\" in user else user for user in users]
         if "," in "".join(addresses):
-            addresses = [re.split(", ?", several)[-1 if self.is_last else 0] for several in addresses]
-        if "-" in users or "" in users:
-            users = [address if user in ("-", "") else user for address, user in zip(addresses, users)]
+            addresses = [self.one_of(several) if "," in several else several for several in addresses]
+        if any(nobody in users for nobody in NAMELESS):
+            users = [address if user in NAMELESS else user for address, user in zip(addresses, users)]
         return [named.get(request) or user for request, user in zip(requests, users)] if named else users
+
+    def one_of(self, several):
+        """The first or the last of several addresses, without what stands in place of one."""
+        known = [address for address in re.split(", ?", several) if address not in NOBODY]
+        return known[-1 if self.is_last else 0] if known else ""
 
     def judge(self):
         """Stops if no request is left, or none matches the pattern of likes."""
@@ -274,12 +285,22 @@ class Combined(Web):
 
     def columns_of(self, text):
         front = re.match(rf"({SYSLOG})?({HOST})?", text)
-        return list(map(list, zip(*self.lines[bool(front[1]), bool(front[2])].findall(text))))
+        columns = list(map(list, zip(*self.lines[bool(front[1]), bool(front[2])].findall(text))))
+        *_, statuses, _, others = columns
+        if text.count(ASKS) > len(statuses) - statuses.count("") + "\n".join(others).count(ASKS):
+            for found in TWO.finditer(text):
+                at = text.count("\n", 0, found.start())
+                for column in columns:
+                    column[at] = ""
+                others[at] = found[0]
+        return columns
 
     def read_apart(self, columns, at, line):
         text = columns[-1][at]
         match = self.line.match(text)
-        if match and (match[2] == "-" or " - " not in f" {match[2]} "):
+        if text.count(ASKS) > 1 and TWO.match(text):
+            self.leave_out(TORN, line, text)
+        elif match and (match[2] == "-" or " - " not in f" {match[2]} "):
             for column, value in zip(columns, match.groups("")):
                 column[at] = value
         elif BEHIND.match(text):
@@ -297,18 +318,16 @@ class Json(Web):
 
     def __init__(self, words, patterns):
         super().__init__(words, patterns)
-        found = {name: text.split() for name, text in FIELDS.items()} | (words.fields or {})
-        self.fields = {name: [path.split(".") for path in paths] for name, paths in found.items()}
+        self.fields = {name: [path.split(".") for path in text.split()] for name, text in FIELDS.items()}
+        # A dot may also be in a field's name.
+        self.fields |= {name: [[path], path.split(".")] for name, path in (words.fields or {}).items()}
 
     def columns_of(self, text):
         return list(map(list, zip(*map(self.row_of, text.split("\n")[:-1]))))
 
     def row_of(self, line):
         """What columns have of a line."""
-        try:
-            found = json.loads(line)
-        except (ValueError, RecursionError):
-            found = None
+        found = json_of(line)
         if isinstance(found, dict):
             request = self.field(found, "request") or " ".join(self.field(found, name) for name in ("method", "uri"))
             status = self.field(found, "status")
@@ -331,13 +350,21 @@ class Json(Web):
 
     def read_apart(self, columns, at, line):
         text = columns[-1][at]
-        is_whole = text.startswith("{") and text.rstrip().endswith("}")
-        self.leave_out(NO_FIELD if is_whole else TORN if text.startswith("{") else NO_OBJECT, line, text)
+        is_object = isinstance(json_of(text), dict)
+        self.leave_out(NO_FIELD if is_object else TORN if text.lstrip().startswith("{") else NO_OBJECT, line, text)
 
     def time_of(self, block):
         lines = block[: reading.BLOCK >> 4].decode(errors=reading.ESCAPED).split("\n")
         times = (self.row_of(line)[2] for line in lines)
         return next((at for at in (self.stamps[time][0] for time in times if time) if at > -math.inf), -math.inf)
+
+
+def json_of(line):
+    """What a line of JSON says, or none if it is none."""
+    try:
+        return json.loads(line)
+    except (ValueError, RecursionError):
+        return None
 
 
 def fits(status, forms):
@@ -357,7 +384,7 @@ def fields(text):
     found = dict(part.partition("=")[::2] for part in text.split(","))
     if not all(name in FIELDS and value for name, value in found.items()):
         raise argparse.ArgumentTypeError(f"{shown(text)} is not NAME=FIELD,.. with names of {', '.join(FIELDS)}")
-    return {name: [value] for name, value in found.items()}
+    return found
 
 
 def expression(text):
@@ -384,7 +411,7 @@ def add_options(parser):
     from_json = "LOG has a JSON object in each line, as nginx, Caddy and Traefik write them"
     parser.add_argument("--from-json", action="store_true", help=from_json)
     names = f"""with --from-json, the names of fields, such as address=client.ip,user=login: of {", ".join(FIELDS)}.
-        A dot leads into an object (default the names that these servers give them)"""
+        A dot is in a name, or leads into an object (default the names that these servers give them)"""
     parser.add_argument("--fields", metavar="NAME=FIELD,..", type=fields, help=names)
     status = """of a web server's log, which statuses count, such as 2xx,304 (default 2xx: a redirect to a login page is
         no like)"""

@@ -59,6 +59,26 @@ CASES = {
         {"1.1.1.1": "/a"},
         ["left out 2, no user and no address: the first is line 1, ", f"left out 2, {NO_FRONT}: the first is line 3, "],
     ),
+    "nobody by other words": (
+        {
+            "a.log": line('1.1.1.1 - ""') + line("unknown, 1.1.1.2 - -") + line("-, 1.1.1.3 - -", "b")
+            + line("unknown - -") + line("-, unknown - -")
+        },
+        WEB,
+        {"/a": 2, "/b": 1},
+        {"1.1.1.1": "/a", "1.1.1.2": "/a", "1.1.1.3": "/b"},
+        ["left out 2, no user and no address: the first is line 4, "],
+    ),
+    "two in a line": (
+        {
+            "a.log": line("x - ann")[:-9] + line("x - bob", "b") + "cut\n" + line("x - Eve Lee")[:-1]
+            + line("x - bob", "b") + line("x - ann", "c", agent='[x] \\"y')
+        },
+        WEB,
+        {"/c": 1},
+        {"ann": "/c"},
+        ["left out 2, a log line that can't be read: the first is line 1, 'x - ann "],
+    ),
     "the newest first": (
         {
             "web.log": line("x - ann", "new", 7200),
@@ -69,6 +89,20 @@ CASES = {
         {"/new": 1, "/old": 1, "/oldest": 1},
         {"ann": "/new"},
         ["taken in the order of their first times: web.log.2, web.log.1, web.log\n"],
+    ),
+    "the newest first in one log": (
+        {"a.log": line("x - ann", "new", 7200) * 3000 + line("x - bob", "old", 3599) * 3000},
+        WEB,
+        {"/new": 3000, "/old": 3000},
+        {"ann": "/new", "bob": "/old"},
+        ["a.log: the times fall back by 1 hour before line 3", ", so last likes may be old: name logs one by one"],
+    ),
+    "seconds late": (
+        {"a.log": line("x - ann", "a", 3600) + line("x - ann", "b")},
+        WEB,
+        {"/a": 1, "/b": 1},
+        {"ann": "/b"},
+        ["pages 2 in 1 part, users 1\nrefused 0 of 2 requests\n"],
     ),
     "two servers": (
         {
@@ -84,6 +118,16 @@ CASES = {
         {
             "a.csv": "op;user;page;t\nlike;ann;new;2026-11-28 10:00\n",
             "b.csv": "op,user,page,t\nlike,ann,old,2026-11-28T09:00:00Z\n",
+        },
+        "--time t",
+        {"new": 1, "old": 1},
+        {"ann": "new"},
+        ["taken in the order of their first times: b.csv, a.csv\n"],
+    ),
+    "CSV by the time of a spreadsheet": (
+        {
+            "a.csv": "op;user;page;t\nlike;ann;new;1.12.2026 9:00\n",
+            "b.csv": "op;user;page;t\nlike;ann;old;27.11.2026\n",
         },
         "--time t",
         {"new": 1, "old": 1},
@@ -150,7 +194,13 @@ CASES = {
         {"ann": "/a,b"},
         ["left out 1, Was is not gefällt or gesehen: the first is line 4, '3;geteilt;ann;/c'\n"],
     ),
-    "tabs": ({"a.tsv": "1\tlike\tann\t/a\n2\tlook\n"}, "--columns 2,3,4", {"/a": 1}, {"ann": "/a"}, []),
+    "tabs": (
+        {"a.tsv": "1\tlike\tann\t/a\n2\tlook\n"},
+        "--columns 2,3,4",
+        {"/a": 1},
+        {"ann": "/a"},
+        ["left out 1, fewer fields than --columns: the first is line 2, "],
+    ),
     "a delimiter": ({"a.csv": "op:user:page\nlike:ann:a,b\n"}, "--delimiter :", {"a,b": 1}, {"ann": "a,b"}, []),
     "JSON": (
         {
@@ -160,20 +210,20 @@ CASES = {
             '"user_id": "ann", "status": 200}\n'
             '{"ClientHost": "3.3.3.3", "ClientUsername": "-", "RequestMethod": "POST", "RequestPath": "/like/%ff", '
             '"DownstreamStatus": 200}\n'
-            '{"status": 200}\n{"status":\nlog\n'
+            '{"status": 200}\n{"status":\nlog\n{"remote_user": "\\x22", "status": 200}\n'
         },
         JSON,
         {"/a": 1, "/café": 1, "/%FF": 1},
         {"1.1.1.1": "/a", "ann": "/café", "3.3.3.3": "/%FF"},
         [
             "no request or no status by these names of fields (--fields): the first is line 4",
-            "a log line that can't be read: the first is line 5",
+            "left out 2, a log line that can't be read: the first is line 5",
             "not a JSON object: the first is line 6",
         ],
     ),
     "JSON with other fields": (
-        {"a.log": '{"who": {"name": "ann"}, "line": "POST /like/a", "code": 201}\n'},
-        f"{JSON} --fields user=who.name,request=line,status=code",
+        {"a.log": '{"who": {"name": "ann"}, "http.line": "POST /like/a", "code": 201}\n'},
+        f"{JSON} --fields user=who.name,request=http.line,status=code",
         {"/a": 1},
         {"ann": "/a"},
         [],
