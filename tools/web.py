@@ -21,10 +21,13 @@ SYSLOG = (
 )
 
 # How a line of vhost_combined begins: the server's name and port, which an address never follows with a dash.
-HOST = r"(?:[^ :\n]+|\[[^] \n]+\]):[0-9]{1,5} (?!- )"
+HOST = r"(?:[^ :\n\0]+|\[[^] \n]+\]):[0-9]{1,5} (?!- )"
 
 # An address, or the list of those that forwarded the request.
 ADDRESSES = r"([^ ,\n\0]+(?:, ?[^ ,\n\0]+)*)"
+
+# An address with the port of a connection, which is none of the user's.
+PORTED = re.compile(r"([0-9.]+|\[[0-9a-fA-F:.%]+\]):[0-9]{1,5}")
 
 # A line of the combined or the common format from the time to the status: a request, and how it was answered. And what
 # follows up to the agent, if there is one.
@@ -241,16 +244,21 @@ class Web(reading.Log):
         """The users: those that requests name, those that the server logged, or else the addresses."""
         if self.has_escapes and "\\" in "".join(users):
             users = [without_escapes(user) if "\\" in user else user for user in users]
-        if "," in "".join(addresses):
-            addresses = [self.one_of(several) if "," in several else several for several in addresses]
+        # A text without these signs is one address without a port.
+        addresses = [
+            self.one_of(text) if "," in text or ":" in text and ("." in text or "[" in text) else text
+            for text in addresses
+        ]
         if any(nobody in users for nobody in NAMELESS):
             users = [address if user in NAMELESS else user for address, user in zip(addresses, users)]
         return [named.get(request) or user for request, user in zip(requests, users)] if named else users
 
     def one_of(self, several):
-        """The first or the last of several addresses, without what stands in place of one."""
+        """The first or the last of several addresses, without what stands in place of one, and without a port."""
         known = [address for address in re.split(", ?", several) if address not in NOBODY]
-        return known[-1 if self.is_last else 0] if known else ""
+        address = known[-1 if self.is_last else 0] if known else ""
+        ported = PORTED.fullmatch(address)
+        return ported[1].strip("[]") if ported else address
 
     def judge(self):
         """Stops if no request is left, or none matches the pattern of likes."""

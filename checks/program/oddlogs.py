@@ -53,11 +53,24 @@ CASES = {
         [],
     ),
     "nobody": (
-        {"a.log": "".join(map(line, ["- - -", "unix: - -", "1.1.1.1 frank bob", "x 1.1.1.1 - bob", "1.1.1.1 - -"]))},
+        {
+            "a.log": "".join(map(line, ["- - -", "unix: - -", "1.1.1.1 frank bob", "x 1.1.1.1 - bob"]))
+            + line("\0h.org:80 1.1.1.1 - bob") + line("1.1.1.1 - -")
+        },
         WEB,
         {"/a": 1},
         {"1.1.1.1": "/a"},
-        ["left out 2, no user and no address: the first is line 1, ", f"left out 2, {NO_FRONT}: the first is line 3, "],
+        ["left out 2, no user and no address: the first is line 1, ", f"left out 3, {NO_FRONT}: the first is line 3, "],
+    ),
+    "ports": (
+        {
+            "a.log": line("1.1.1.1:5678 - -") + line("[2001:db8::7]:443 - -") + line("h.org:443 [::1]:80, 9.9.9.9 - -")
+            + line("1.1.1.1:5679 - -", "b") + line("2001:db8::7:443 - -")
+        },
+        WEB,
+        {"/a": 4, "/b": 1},
+        {"1.1.1.1": "/b", "2001:db8::7": "/a", "::1": "/a", "2001:db8::7:443": "/a"},
+        [],
     ),
     "nobody by other words": (
         {
