@@ -23,6 +23,9 @@ UNTIMED = 64
 # By how many seconds times in a log fall back that is told, and how many lines of a piece are looked at for it.
 FAR, SOME = 3600, 16
 
+# How many logs are listed in their order, before the last one.
+LISTED = 7
+
 # How bytes that aren't UTF-8 are decoded: as they are escaped in addresses, such as %FF.
 ESCAPED = "percent"
 codecs.register_error(ESCAPED, lambda error: (rows.escaped(error.object[error.start : error.end]), error.end))
@@ -95,7 +98,9 @@ class Log:
     def told(self):
         """How several logs were taken, how many lines are left out, why, and the first of them; and what is idle."""
         if self.order != sorted(self.order):
-            yield f"taken in the order of their first times: {', '.join(self.names[place] for place in self.order)}"
+            names = [self.names[place] for place in self.order]
+            names[LISTED:-1] = [".."] * (len(names) > LISTED + 1)
+            yield f"taken in the order of their first times: {', '.join(names)}"
         if len(self.names) > 1 and not self.has_times:
             yield "taken in the order in which the logs are named: --time COLUMN sorts them by time"
         for place, (line, seconds) in sorted(self.fallen.items()):

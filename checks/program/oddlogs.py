@@ -103,6 +103,13 @@ CASES = {
         {"ann": "/new"},
         ["taken in the order of their first times: web.log.2, web.log.1, web.log\n"],
     ),
+    "many logs": (
+        {f"{number}.log": line("x - ann", str(number), 20 - number) for number in range(20)},
+        WEB,
+        {f"/{number}": 1 for number in range(20)},
+        {"ann": "/0"},
+        ["first times: 19.log, 18.log, 17.log, 16.log, 15.log, 14.log, 13.log, .., 0.log\n"],
+    ),
     "the newest first in one log": (
         {"a.log": line("x - ann", "new", 7200) * 3000 + line("x - bob", "old", 3599) * 3000},
         WEB,
