@@ -370,10 +370,11 @@ def try_many_users(folder):
 
 
 def try_reports(folder):
-    """What is wrong with the reports of an answer and their audit, which reads each run's options."""
+    """What is wrong with the reports of an answer and their audit, which reads each run's options, as it is told."""
     text = "op,user,page\n" + "".join(f"like,user {n % 3000},page {n % 1500}\n" for n in range(9000))
-    ended = asked(folder, {"a.csv": text}, "--reports --top 0")
-    audits = pages.shell("for report in small/parts/*/report*.csv; do tools/audit $report; done", folder)
+    asked(folder, {"a.csv": text}, "")
+    ended = pages.shell("tools/log a.csv --reports --top 0 --into 'with reports'", folder)
+    audits = pages.shell(ended.out.decode().partition("next: ")[2], folder)
     said = audits.out.decode().splitlines()
     if ended.status != 0 or len(said) != 2 or not all(row.startswith("all right: replies ") for row in said):
         yield f"reports: {ended.out[-300:]!r} and {audits.out[-500:]!r}"
