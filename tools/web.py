@@ -19,6 +19,7 @@ SYSLOG = (
     r"|[0-9]{4}-[0-9]{2}-[0-9]{2}[T ][0-9:.,]{8,18}(?:Z|[+-][0-9:]{4,5})?) "
     r"[^ \n]+ (?:[^ \n]+: |[^ \n]+ [^ \n]+ [^ \n]+ (?:-|\[[^\n]*?\]) )"
 )
+PREFIX = re.compile(SYSLOG)
 
 # How a line of vhost_combined begins: the server's name and port, which an address never follows with a dash.
 HOST = r"(?:[^ :\n\0]+|\[[^] \n]+\]):[0-9]{1,5} (?!- )"
@@ -368,9 +369,10 @@ class Json(Web):
 
 
 def json_of(line):
-    """What a line of JSON says, or none if it is none."""
+    """What a line of JSON says, with what syslog puts before it or without, or none if it is none."""
+    front = None if line.startswith("{") else PREFIX.match(line)
     try:
-        return json.loads(line)
+        return json.loads(line[front.end() :] if front else line)
     except (ValueError, RecursionError):
         return None
 
@@ -416,7 +418,8 @@ def add_options(parser):
     combined = """LOG is a web server's log in the combined, the common or the vhost_combined format, with what syslog
         puts before a line or without"""
     parser.add_argument("--combined", action="store_true", help=combined)
-    from_json = "LOG has a JSON object in each line, as nginx, Caddy and Traefik write them"
+    from_json = """LOG has a JSON object in each line, as nginx, Caddy and Traefik write them, with what syslog puts
+        before a line or without"""
     parser.add_argument("--from-json", action="store_true", help=from_json)
     names = f"""with --from-json, the names of fields, such as address=client.ip,user=login: of {", ".join(FIELDS)}.
         A dot is in a name, or leads into an object (default the names that these servers give them)"""

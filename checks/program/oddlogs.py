@@ -241,6 +241,16 @@ CASES = {
             "not a JSON object: the first is line 6",
         ],
     ),
+    "JSON behind syslog": (
+        {
+            "a.log": "".join(front.format(1) + '{"request": "POST /like/a", "user_id": "ann", "status": 200}\n'
+            for front in (SYSLOG, RFC))
+        },
+        JSON,
+        {"/a": 2},
+        {"ann": "/a"},
+        [],
+    ),
     "JSON with other fields": (
         {"a.log": '{"who": {"name": "ann"}, "http.line": "POST /like/a", "code": 201}\n'},
         f"{JSON} --fields user=who.name,request=http.line,status=code",
