@@ -7,8 +7,8 @@ use Rattle.like_requests.specs.declared.setup.Setup.{Setup}
 use Rattle.like_promises.specs.declared.answer.Answer.{Answer}
 use Rattle.like_promises.specs.declared.place.Place.{Place}
 use Rattle.like_promises.specs.declared.report.Report.{Report}
-use Rattle.like_promises.specs.EndToEnd.{IsRightReport}
 use Rattle.like_promises.specs.places.Tiling.{HasRightPlaces}
+use Rattle.like_promises.specs.RunReport.{IsReportOfOneThread}
 use Rattle.like_limits.specs.Limits.{max_requests}
 use Rattle.like_requests.specs.Pages.{Page}
 use Rattle.like_requests.proofs.Planned.{fits-run}
@@ -58,12 +58,12 @@ lengths (row ∷ rows) a = lengths rows (a + length row.items)
 -- the replies of a right report are no more than the requests that a run takes
 pub few_requests : (setup : Setup) (plans : List (List Request)) (report : Report)
     → IsWithinLimits setup plans
-    → IsRightReport setup plans report
+    → IsReportOfOneThread setup plans report
     → requests_in report.replies < 2 ^ 64
 few_requests setup plans report within right =
     let sizes : List ℕ = map length plans in
     let same : requests_in report.replies ≡ fold (λ s n. s + n) 0 sizes =
-    lengths report.replies.rows.items 0 ∙ ap (fold (λ (s n : ℕ). s + n) 0) right.replies.sized in
+    lengths report.replies.rows.items 0 ∙ ap (fold (λ (s n : ℕ). s + n) 0) right.1.one.answers.sized in
     let numbers = (fits-run setup plans within).numbers in
     omega (arith, same, sum-≤ sizes 0 numbers.small, numbers.submitters.1)
 

@@ -1,14 +1,14 @@
 -- A report that is right end to end shows pages that are there and replies that can be shown.
-use Rattle.std.proofs.Common.{◌≡◌, ℕ, zero, suc, ◌+◌, ◌<◌, Bool, true, false, List, [], ◌∷◌, ◌++◌, length, map, take, get_or, cond, eqb, Option, None, Some, All, refl, sym, ap, ◌∙◌, subst, arith, zero-add}
+use Rattle.std.proofs.Common.{◌≡◌, ℕ, zero, suc, ◌<◌, Bool, true, false, List, [], ◌∷◌, length, map, take, get_or, cond, eqb, Option, None, Some, All, refl, sym, ap, ◌∙◌, subst, arith, zero-add}
 use Rattle.std.proofs.lemmas.List.Elements.{All-from_recursion}
 use Rattle.std.proofs.lemmas.List.FromFn.{get_or-map-range_with_len, length-map-range_with_len}
 use Rattle.std.proofs.lemmas.Option.{get_or_from_slice_get, slice_get_within}
 use Rattle.std.specs.Prelude.{IsSomeAnd}
-use Rattle.std.specs.List.{AllByRecursion, cons_option, filter, flat_map, slice_get}
+use Rattle.std.specs.List.{AllByRecursion, cons_option, filter, slice_get}
 use Rattle.std.specs.Option.{ForSome, option_and_then, option_to_list}
 use Rattle.like_requests.specs.Pages.{Page}
 use Rattle.like_requests.specs.Setup.{IsPlan, IsThere}
-use Rattle.like_requests.specs.Verdict.{home, is_accepted}
+use Rattle.like_requests.specs.Verdict.{is_accepted}
 use Rattle.like_requests.specs.declared.request.Op.{Op}
 use Rattle.like_requests.specs.declared.request.Op.TheVariants.{Like, Look}
 use Rattle.like_requests.specs.declared.request.PageRef.{PageRef}
@@ -18,20 +18,20 @@ use Rattle.like_promises.proofs.RequestAt.{request_at-plan}
 use Rattle.like_promises.specs.Accepted.{AcceptedRequest}
 use Rattle.like_promises.proofs.Accepted.{accepted_like, like_of, like_ran-tests}
 use Rattle.like_promises.specs.declared.log.Ran.{Ran}
-use Rattle.like_promises.specs.declared.log.WorkerLog.{WorkerLog}
 use Rattle.like_promises.specs.declared.reply.Reply.{Reply}
 use Rattle.like_promises.specs.declared.reply.Reply.TheVariants.{Liked, Seen, Refused}
-use Rattle.like_promises.specs.Likes.{initial_count, last_like, likes, likes_ran}
+use Rattle.like_promises.specs.Likes.{last_like, likes_ran}
 use Rattle.like_promises.specs.Replies.{HasRightAnswers, IsReplyTo, IsRightAnswer}
 use Rattle.like_promises.specs.Workload.{Workload, nth, request_at, request_of, submitters}
 use Rattle.like_promises.specs.declared.answer.Answer.{Answer}
 use Rattle.like_promises.specs.declared.report.Report.{Report}
-use Rattle.like_promises.specs.Collected.{answer_at, rows_of, answer_of, entries_in, entries_of}
+use Rattle.like_promises.specs.Collected.{answer_at, rows_of, answer_of, entries_of}
 use Rattle.like_collection.specs.Entries.{is_of}
 use Rattle.like_replies.specs.Reported.{reported}
 use Rattle.like_replies.specs.Rows.{IsShowable, IsWritable}
-use Rattle.like_tables.specs.Share.{worker_of}
-use Rattle.like_promises.specs.EndToEnd.{IsEndToEnd, runs_of}
+use Rattle.like_promises.specs.OneThread.{store_after}
+use Rattle.like_promises.specs.RunReport.{IsRunOf}
+use Rattle.like_serial.proofs.OneThread.{last_like_is, serial_in}
 
 -- what holds of each element by its place holds of all
 all_from_get : {X : Type 0} (P : X → Type 0) (xs : List X)
@@ -48,13 +48,6 @@ all_get : {X : Type 0} (P : X → Type 0) (xs : List X) (i : ℕ) (x : X)
 all_get P [] i x all h = absurd (let no : None ≡ Some x = h in cc no)
 all_get P (y ∷ ys) zero x all h = let same : y ≡ x = cc h in subst P same all.0
 all_get P (y ∷ ys) (suc i) x all h = all_get P ys i x all.1 h
-
-all_both : {X : Type 0} (P : X → Type 0) (xs ys : List X)
-    → AllByRecursion P xs
-    → AllByRecursion P ys
-    → AllByRecursion P (xs ++ ys)
-all_both P [] ys h k = k
-all_both P (x ∷ xs) ys h k = (h.0, all_both P xs ys h.1 k)
 
 kept : {X : Type 0} (P : X → Type 0) (b : Bool) (x : X) (rest : List X)
     → P x
@@ -75,12 +68,6 @@ all_map : {X Y : Type 0} (f : X → Y) (P : Y → Type 0) (xs : List X)
     → AllByRecursion P (map f xs)
 all_map f P [] all = tt
 all_map f P (x ∷ xs) all = (all.0, all_map f P xs all.1)
-
-all_flat : {X Y : Type 0} (f : X → List Y) (P : Y → Type 0) (xs : List X)
-    → AllByRecursion (λ x. AllByRecursion P (f x)) xs
-    → AllByRecursion P (flat_map f xs)
-all_flat f P [] all = tt
-all_flat f P (x ∷ xs) all = all_both P (f x) (flat_map f xs) all.0 (all_flat f P xs all.1)
 
 -- a like of a page that is there
 abbrev LikesThere : List Page → AcceptedRequest → Type 0
@@ -169,26 +156,20 @@ module _ (workload : Workload) (planned : All (IsPlan workload.pages) workload.p
       all_from_get (λ (e : Ran). IsShowable workload.pages e.reply) ran
       (λ i e at. entry_shows (take i ran) e (right i e at))
 
-  module _ (workers : ℕ) (r : Report) (h : IsEndToEnd workload workers r) where
+  module _ (workers : ℕ) (r : Report) (serial : List Ran) (h : IsRunOf workload workers r serial) where
     -- all entries can be shown
-    all_show : AllByRecursion (λ (e : Ran). IsShowable workload.pages e.reply) (entries_in r.logs.items)
-    all_show =
-        all_flat (λ (log : WorkerLog). log.ran.items) (λ (e : Ran). IsShowable workload.pages e.reply) r.logs.items
-        (all_from_get
-        (λ (log : WorkerLog). AllByRecursion (λ (e : Ran). IsShowable workload.pages e.reply) log.ran.items)
-        r.logs.items
-        (λ worker log at. list_shows log.ran.items (h.logs worker log at).0.answers))
+    all_show : AllByRecursion (λ (e : Ran). IsShowable workload.pages e.reply) serial
+    all_show = list_shows serial (serial_in workload workers r serial h.one).answers
 
     -- so can each answer, which is that of an entry
     answer_shows : (submitter place : ℕ) (a : Answer) → answer_at (rows_of r.replies) submitter (suc place) ≡ Some a
         → IsShowable workload.pages a.reply
     answer_shows submitter place a at =
-        let one : map answer_of (entries_of submitter (suc place) (entries_in r.logs.items)) ≡ a ∷ [] =
-        h.replies.each submitter (suc place) ∙ ap option_to_list at in
+        let one : map answer_of (entries_of submitter (suc place) serial) ≡ a ∷ [] =
+        h.one.answers.each submitter (suc place) ∙ ap option_to_list at in
         let shown = all_map answer_of (λ (x : Answer). IsShowable workload.pages x.reply)
-        (entries_of submitter (suc place) (entries_in r.logs.items))
-        (all_filter (λ (e : Ran). IsShowable workload.pages e.reply) (is_of submitter (suc place))
-        (entries_in r.logs.items) all_show) in
+        (entries_of submitter (suc place) serial)
+        (all_filter (λ (e : Ran). IsShowable workload.pages e.reply) (is_of submitter (suc place)) serial all_show) in
         (subst (AllByRecursion (λ (x : Answer). IsShowable workload.pages x.reply)) one shown).0
 
     row_shows : (submitter : ℕ) (row : List Answer) → slice_get (rows_of r.replies) submitter ≡ Some row
@@ -199,24 +180,22 @@ module _ (workload : Workload) (planned : All (IsPlan workload.pages) workload.p
         answer_shows submitter place a
         (ap (λ xs. slice_get xs place) (get_or_from_slice_get (rows_of r.replies) submitter row [] at) ∙ there)))
 
-    -- each user's last like is that of its worker's run list
+    -- each user's last like is the store's at the end
     abbrev last_of_user : ℕ → Option ℕ
-    last_of_user user =
-        last_like workload user
-        (get_or (runs_of r.logs.items) (worker_of workers (home (submitters workload) user)) [])
+    last_of_user user = (store_after workload serial).last user
 
     user_shows : (user : ℕ) (last : Option ℕ) → slice_get r.last.items user ≡ Some last
         → ForSome last (λ page. page < length workload.pages)
     user_shows user last at =
-        let sized = ap (λ (xs : List (Option ℕ)). length xs) h.last
+        let sized = ap (λ (xs : List (Option ℕ)). length xs) h.one.last
         ∙ length-map-range_with_len last_of_user 0 workload.users in
         let known : user < workload.users = omega (arith, slice_get_within r.last.items user last at, sized) in
-        let is : last_of_user user ≡ last =
-        sym (ap (λ (xs : List (Option ℕ)). get_or xs user None) h.last
+        let is : last_like workload user serial ≡ last =
+        sym (last_like_is workload user serial)
+        ∙ sym (ap (λ (xs : List (Option ℕ)). get_or xs user None) h.one.last
         ∙ get_or-map-range_with_len last_of_user 0 workload.users user user None known (zero-add user))
         ∙ get_or_from_slice_get r.last.items user last None at in
-        subst (λ x. ForSome x (λ page. page < length workload.pages)) is
-        (last_there user (get_or (runs_of r.logs.items) (worker_of workers (home (submitters workload) user)) []))
+        subst (λ x. ForSome x (λ page. page < length workload.pages)) is (last_there user serial)
 
     -- so the report may be written
     pub IsWritable-end_to_end : IsWritable workload.pages (reported r)
@@ -225,10 +204,8 @@ module _ (workload : Workload) (planned : All (IsPlan workload.pages) workload.p
         let Q : Option ℕ → Type 0 = λ last. ForSome last (λ page. page < length workload.pages) in
         record {
           counted =
-              ap (λ (xs : List ℕ). length xs) h.counts
-              ∙ length-map-range_with_len
-              (λ page. initial_count workload.pages page + likes workload page (runs_of r.logs.items)) 0
-              (length workload.pages);
+              ap (λ (xs : List ℕ). length xs) h.one.counts
+              ∙ length-map-range_with_len (store_after workload serial).count 0 (length workload.pages);
           shown = All-from_recursion P (rows_of r.replies) (all_from_get P (rows_of r.replies) row_shows);
           liked = All-from_recursion Q r.last.items (all_from_get Q r.last.items user_shows);
         }

@@ -50,7 +50,8 @@ pub record IsSerialService (o : Opening) (deeds : List (List Deed)) (serial : Li
 -- deeds of the phase and of earlier ones
 abbrev pub SnapshotsStand : Opening → List PageCount → List Deed → Type 0
 SnapshotsStand o counted serial =
-    All (λ r. r.count ≡ (store_after (opened o) (filter (λ d. nat_lt d.phase (r.phase + 1)) serial)).count r.page) counted
+    All (λ r. r.count ≡ (store_after (opened o) (filter (λ d. nat_lt d.phase (r.phase + 1)) serial)).count r.page)
+    counted
 
 -- the last counts are the store's after all deeds
 abbrev pub HasLastCounts : Opening → List ℕ → List Deed → Type 0

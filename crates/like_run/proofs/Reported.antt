@@ -5,6 +5,7 @@ use Rattle.like_requests.specs.declared.setup.Setup.{Setup}
 use Rattle.like_promises.specs.EndToEnd.{IsRightReport}
 use Rattle.like_promises.specs.declared.report.Report.{Report}
 use Rattle.like_promises.specs.places.Tiling.{HasNoPlaces, HasRightPlaces}
+use Rattle.like_serial.proofs.Reports.{right_is_one_thread}
 use Rattle.like_run.specs.Report.{IsReportOf}
 
 -- a right report of the lists that were kept, at a site whose workers note as they were asked
@@ -16,7 +17,7 @@ pub is-report : (setup : Setup) (kept plans : List (List Request)) (noting notes
     → (noting ≡ false → HasNoPlaces r)
     → IsReportOf setup plans notes r
 is-report setup kept plans noting notes r same asked right places none = record {
-  right = subst (λ lists. IsRightReport setup lists r) same right;
+  right = right_is_one_thread setup plans r (subst (λ lists. IsRightReport setup lists r) same right);
   places = λ notes_are. subst (λ lists. HasRightPlaces setup lists r) same (places (asked ∙ notes_are));
   none = λ notes_are. none (asked ∙ notes_are);
 }

@@ -1,8 +1,8 @@
 use Rattle.std.proofs.Common.{inr, refl}
 use Rattle.std.proofs.lemmas.Result.{err_from_is_err_and}
 use Rattle.like_requests.proofs.Planned.{fits-run, plans-within}
-use Rattle.like_promises.specs.WorkloadOf.{workload_of_run, lists_of}
-use Rattle.like_promises.specs.EndToEnd.{runs_of}
+use Rattle.like_promises.specs.WorkloadOf.{lists_of}
+use Rattle.like_promises.specs.RunReport.{workload_by}
 use Rattle.like_files.proofs.Ended.{few_requests, not-before, one_list_a_page, replay-refused, replay-unwritten}
 use Rattle.like_files.proofs.Writable.{IsWritable-end_to_end}
 use Rattle.like_files.proofs.replay.replay_lists.Goals as goal
@@ -10,9 +10,10 @@ use Rattle.like_files.proofs.replay.replay_lists.Goals as goal
 pub new-requires : goal.new-requires
 new-requires g c = record {
   writable = IsWritable-end_to_end
-      (workload_of_run c.args.setup.now (lists_of c.args.plans.items) (runs_of c.in_ok-report.report.logs.items))
+      (workload_by c.args.setup.now (lists_of c.args.plans.items) c.in_ok-report.ensures.report.right.0)
       (plans-within _ _ (fits-run _ _ c.in_ok-report.ensures.fits.within))
-      c.args.setup.now.workers c.in_ok-report.report c.in_ok-report.ensures.report.right;
+      c.args.setup.now.workers c.in_ok-report.report c.in_ok-report.ensures.report.right.0
+      c.in_ok-report.ensures.report.right.1;
   placed = λ wanted. one_list_a_page c.args.setup.now (lists_of c.args.plans.items) c.in_ok-report.report
       (c.in_ok-report.ensures.report.places (rw c.extent_of.ensures at wanted));
 }
