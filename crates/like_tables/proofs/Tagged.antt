@@ -5,11 +5,11 @@ use Rattle.std.proofs.lemmas.Bool.{cases_lt, cases_eq, eqb-true, eqb-false, eq-e
 use Rattle.std.proofs.lemmas.List.{get_or_past, get_or-replicate, length-replicate, same_lists}
 use Rattle.std.proofs.lemmas.List.FromFn.{get_or-map-range_with_len, length-map-range_with_len}
 use Rattle.std.proofs.lemmas.Nat.Bits.{bit_at-zero}
-use Rattle.std.specs.Int.{bit_at, div_ceil}
+use Rattle.std.specs.Int.{bit_at}
 use Rattle.like_limits.specs.Buckets.{bucket, buckets}
 use Rattle.like_tables.specs.PageSet.{HasNone, IsNextIn, SetsBit, bit_of}
 use Rattle.like_tables.specs.SplitPages.{AreSplitPages, HoldNone, IsNextSplit, SplitPages, is_page, is_split, none_split, page_in, with_page}
-use Rattle.like_tables.specs.Tags.{AreTags, empty_tag, empty_tags, is_taken, page_at, table_by}
+use Rattle.like_tables.specs.Tags.{AreTags, empty_tag, is_taken, page_at, table_by}
 
 -- a page's bucket is there
 pub bucket-lt : (factor page : ℕ) → bucket factor page < buckets
@@ -224,41 +224,6 @@ AreTags-emptied factor tags used used' b t there sets =
     let empty = untaken-empty factor (set tags b (empty_tag b)) b t.least t.below same in
     AreTags-set factor tags used used' b (empty_tag b) 0 t there sets
     (sym (ap (λ x. cond x 1 0) (ap (λ w. eqb (bucket factor w) b) (sym same) ∙ empty)))
-
--- the numbers of new buckets are those of empty ones
-get_or-empty_tags : (b : ℕ) → b < buckets → get_or empty_tags b 0 ≡ empty_tag b
-get_or-empty_tags b less =
-    let zeros : List ℕ = replicate buckets 0 in
-    elim (cases_eq b 0) [
-      | inl first ↦
-          ap (λ k. get_or (set zeros 0 1) k 0) first
-          ∙ get_or-set_same zeros 0 1 0 (omega (arith, length-replicate {A = ℕ} buckets 0))
-          ∙ sym (ap (λ t. cond t 1 0) (eq-eqb b 0 first))
-      | inr later ↦
-          get_or-set_other zeros 0 b 1 0 later
-          ∙ get_or-replicate buckets b 0 0 less
-          ∙ sym (ap (λ t. cond t 1 0) (ne_eqb b 0 later))
-    ]
-
--- in a new table no page is split
-pub table_by-new : (factor : ℕ) → 2 ^ 22 ≤ factor → factor < 2 ^ 32 → table_by factor empty_tags ≡ none_split factor
-table_by-new factor least below =
-    table_by-none factor empty_tags (length-set {A = ℕ} (replicate buckets 0) 0 1 ∙ length-replicate {A = ℕ} buckets 0)
-    (λ b less. untaken-empty factor empty_tags b least below (get_or-empty_tags b less))
-
--- and no bucket is in the set
-pub AreTags-new : (factor : ℕ) → 2 ^ 22 ≤ factor → factor < 2 ^ 32
-    → AreTags factor empty_tags (replicate (div_ceil buckets 64) 0)
-AreTags-new factor least below = record {
-  least = least;
-  below = below;
-  all = length-set {A = ℕ} (replicate buckets 0) 0 1 ∙ length-replicate {A = ℕ} buckets 0;
-  room = ap (λ n. 64 * n) (length-replicate {A = ℕ} (div_ceil buckets 64) 0);
-  taken = λ b less.
-      ap (λ w. bit_at w (b % 64)) (get_or-replicate (div_ceil buckets 64) (b / 64) 0 0 (omega arith))
-      ∙ bit_at-zero (b % 64)
-      ∙ sym (ap (λ t. cond t 1 0) (untaken-empty factor empty_tags b least below (get_or-empty_tags b less)));
-}
 
 -- where no bucket is left in the set, no page is split
 pub table_by-cleared : (factor : ℕ) (tags used : List ℕ) (from : ℕ) → AreTags factor tags used

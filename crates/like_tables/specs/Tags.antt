@@ -1,5 +1,5 @@
 -- How the split pages are kept: as a number for each bucket, and the set of the buckets that hold a page.
-use Rattle.std.specs.Prelude.{◌≡◌, ℕ, ◌*◌, ◌^◌, ◌<◌, ◌≤◌, ◌==◌, if◌then◌else◌, Bool, List, length, map, replicate, slice_index, slice_set, Option, Some, None}
+use Rattle.std.specs.Prelude.{◌≡◌, ℕ, ◌*◌, ◌^◌, ◌<◌, ◌≤◌, ◌==◌, if◌then◌else◌, Bool, List, length, map, slice_index, Option, Some, None}
 use Rattle.std.specs.List.{range_with_len}
 use Rattle.like_limits.specs.Buckets.{bucket, buckets}
 use Rattle.like_tables.specs.PageSet.{bit_of}
@@ -16,10 +16,6 @@ page_at factor tags b = if is_taken factor tags b then Some (slice_index tags b)
 -- the number of an empty bucket: page 0 is in bucket 0, and page 1 is not
 abbrev pub empty_tag : ℕ → ℕ
 empty_tag b = if b == 0 then 1 else 0
-
--- the numbers of buckets that are all empty
-abbrev pub empty_tags : List ℕ
-empty_tags = slice_set (replicate buckets 0) 0 1
 
 -- the table that the numbers make
 abbrev pub table_by : ℕ → List ℕ → SplitPages

@@ -1,7 +1,6 @@
 ghost use Rattle.std.specs.Prelude.{◌≡◌, ◌+◌, ◌^◌, ◌<◌, ◌≤◌, List, ℕ, IfNone, IfSome, length, replicate, slice_index, slice_set, sum};
 ghost use Rattle.like_limits.specs.Buckets.{buckets};
 
-use crate::bucket_tags::BucketTags;
 use crate::buckets::BUCKETS;
 use crate::counts::Counts;
 use crate::split_pages::SplitPages;
@@ -52,7 +51,7 @@ impl Counts for BucketCounts {
     }
 
     // It goes over the split pages.
-    fn next_page<T: BucketTags>(&self, splits: &SplitPages<T>, from: u32) -> Option<u32> {
+    fn next_page(&self, splits: &SplitPages, from: u32) -> Option<u32> {
         let mut place = from;
         while let Some(page) = splits.next(place) {
             let bucket = splits.bucket(page);

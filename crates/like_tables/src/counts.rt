@@ -2,7 +2,6 @@ ghost use Rattle.std.specs.Prelude.{◌≡◌, ◌+◌, ◌^◌, ◌<◌, ◌≤
 ghost use Rattle.like_limits.specs.Buckets.{buckets};
 ghost use Rattle.like_tables.specs.SplitSlice.{AreUnsliced, IsNextSliced, IsSplitSlice, slice_by};
 
-use crate::bucket_tags::BucketTags;
 use crate::split_pages::SplitPages;
 
 /// The likes of a slice, as numbers: how many it has of the page in each bucket.
@@ -30,7 +29,7 @@ pub trait Counts: Drop {
         ensures total { sum (view self.new) + result ≡ sum (view self.old) };
 
     /// The page in the first bucket from `from` on whose page has a like, of these split pages.
-    fn next_page<T: BucketTags>(&self, splits: &SplitPages<T>, from: u32) -> Option<u32>
+    fn next_page(&self, splits: &SplitPages, from: u32) -> Option<u32>
         requires slice { IsSplitSlice (slice_by splits.now (view self.now)) }
         requires within { from ≤ buckets }
         ensures next { IfSome result (IsNextSliced (slice_by splits.now (view self.now)) from) }

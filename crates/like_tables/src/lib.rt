@@ -3,7 +3,6 @@
 #![tactic(auto)]
 
 mod bucket_counts;
-mod bucket_tags;
 mod buckets;
 mod counts;
 mod held;
@@ -19,7 +18,6 @@ mod stash;
 mod users;
 
 pub use bucket_counts::BucketCounts;
-pub use bucket_tags::{BucketTags, RunTags, ServiceTags};
 pub use buckets::{BUCKETS, bucket, factor_for};
 pub use counts::Counts;
 pub use held::Held;

@@ -1,7 +1,6 @@
 ghost use Rattle.std.specs.Prelude.{◌≡◌, ◌+◌, ◌^◌, ◌<◌, ◌≤◌, ◌↔◌, ℕ, List, All, IfNone, IfOk, IfSome, IsTrue, length, replicate, slice_index, slice_set, sum};
 ghost use Rattle.like_tables.specs.Liked.{AreUnliked, IsNextLiked};
 
-use crate::bucket_tags::BucketTags;
 use crate::counts::Counts;
 use crate::page_set::PageSet;
 use crate::split_pages::SplitPages;
@@ -126,7 +125,7 @@ impl Counts for Slice {
     }
 
     // It goes by the bits that tell which numbers are not 0.
-    fn next_page<T: BucketTags>(&self, splits: &SplitPages<T>, from: u32) -> Option<u32> {
+    fn next_page(&self, splits: &SplitPages, from: u32) -> Option<u32> {
         if from as usize > self.counts.len() {
             return None;
         }

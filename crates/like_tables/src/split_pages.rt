@@ -1,9 +1,8 @@
-ghost use Rattle.std.specs.Prelude.{◌≡◌, ◌^◌, ◌<◌, ◌≤◌, IfNone, IfOk, IfSome};
+ghost use Rattle.std.specs.Prelude.{◌≡◌, ◌^◌, ◌<◌, ◌≤◌, ℕ, IfNone, IfOk, IfSome, length, slice_index};
 ghost use Rattle.like_limits.specs.Buckets.{bucket, buckets};
 ghost use Rattle.like_tables.specs.SplitPages.{AreSplitPages, HoldNone, IsNextSplit, MayPut, is_split, none_split, page_in, with_page};
 ghost use Rattle.like_tables.specs.Tags.{empty_tag};
 
-use crate::bucket_tags::BucketTags;
 use crate::buckets::{BUCKETS, bucket};
 use crate::page_set::PageSet;
 use std::alloc::{AllocError, Global};
@@ -13,23 +12,23 @@ use std::marker::Model;
 ///
 /// A page is split if its bucket holds it. So one comparison tells that, and that the page exists.
 #[derive(Drop)]
-pub struct SplitPages<T: BucketTags> {
+pub struct SplitPages {
     factor: u32,
     // By bucket: the page that it holds. An empty one has a number that belongs in another.
-    tags: T,
+    tags: [u32; BUCKETS],
     // The buckets that hold a page.
     used: PageSet,
 }
 
-impl<T: BucketTags> Model for SplitPages<T> {
+impl Model for SplitPages {
     ghost use Rattle.like_tables.specs.SplitPages.{SplitPages};
     ghost use Rattle.like_tables.specs.Tags.{AreTags, table_by};
 
     ghost Value = { SplitPages };
 
-    ghost view = { λ s. table_by s.factor (T.view s.tags) };
+    ghost view = { λ s. table_by s.factor s.tags };
 
-    ghost invariant = { λ s. AreTags s.factor (T.view s.tags) s.used };
+    ghost invariant = { λ s. AreTags s.factor s.tags s.used };
 }
 
 // The number in a bucket that is empty: page 0 is in bucket 0, and page 1 is not.
@@ -39,7 +38,19 @@ fn empty_tag(bucket: u32) -> u32
     if bucket == 0 { 1 } else { 0 }
 }
 
-impl<T: BucketTags> SplitPages<T> {
+// The numbers of buckets that are all empty.
+fn empty_tags() -> [u32; BUCKETS]
+    ensures all { length result ≡ buckets }
+    ensures each { (b : ℕ) → b < buckets → slice_index result b ≡ empty_tag b }
+{
+    let mut tags = [0; BUCKETS];
+    for bucket in 0..BUCKETS {
+        tags[bucket] = empty_tag(bucket as u32);
+    }
+    tags
+}
+
+impl SplitPages {
     /// A table in which no page is split. With the factor page 1 is not in bucket 0.
     pub fn new(alloc: Global, factor: u32) -> Result<Self, AllocError>
         requires { 2 ^ 22 ≤ factor }
@@ -47,7 +58,7 @@ impl<T: BucketTags> SplitPages<T> {
     {
         Ok(SplitPages {
             factor,
-            tags: T::empty(alloc)?,
+            tags: empty_tags(),
             used: PageSet::new(alloc, BUCKETS as u32)?,
         })
     }
@@ -67,7 +78,7 @@ impl<T: BucketTags> SplitPages<T> {
         ensures { result ≡ is_split self.now page }
     {
         let bucket = self.bucket(page);
-        self.tags.get(bucket) == page
+        self.tags[bucket as usize] == page
     }
 
     /// The page that a bucket holds, if any.
@@ -75,7 +86,7 @@ impl<T: BucketTags> SplitPages<T> {
         requires { place < buckets }
         ensures { result ≡ page_in self.now place }
     {
-        let page = self.tags.get(place);
+        let page = self.tags[place as usize];
         if bucket(self.factor, page) == place {
             Some(page)
         } else {
@@ -89,7 +100,7 @@ impl<T: BucketTags> SplitPages<T> {
         ensures none { IfNone result (HoldNone self.now from buckets) }
     {
         let bucket = self.used.next(from)?;
-        Some(self.tags.get(bucket))
+        Some(self.tags[bucket as usize])
     }
 
     /// Splits the page. No other page may be in its bucket.
@@ -98,7 +109,7 @@ impl<T: BucketTags> SplitPages<T> {
         ensures { self.new ≡ with_page self.old page }
     {
         let bucket = bucket(self.factor, page);
-        self.tags.set(bucket, page);
+        self.tags[bucket as usize] = page;
         self.used.insert(bucket);
     }
 
@@ -109,7 +120,7 @@ impl<T: BucketTags> SplitPages<T> {
         let mut from = 0;
         while let Some(bucket) = self.used.next(from) {
             self.used.remove(bucket);
-            self.tags.set(bucket, empty_tag(bucket));
+            self.tags[bucket as usize] = empty_tag(bucket);
             from = bucket + 1;
         }
     }

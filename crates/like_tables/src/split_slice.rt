@@ -4,7 +4,6 @@ ghost use Rattle.like_tables.specs.SplitPages.{MayPut};
 ghost use Rattle.like_tables.specs.SplitSlice.{AreUnsliced, IsNextSliced, IsSplitSlice, bucket_in, has_split, likes_in, no_slice, with_likes, with_split};
 
 use crate::bucket_counts::BucketCounts;
-use crate::bucket_tags::{BucketTags, RunTags, ServiceTags};
 use crate::counts::Counts;
 use crate::slice::Slice;
 use crate::split_pages::SplitPages;
@@ -17,14 +16,14 @@ const RUN_FACTOR: u32 = 1 << 22;
 /// A worker's slice of its split pages: which pages are split in its phase, and how many likes of each it has counted
 /// and not merged yet.
 ///
-/// A run's keeps the likes in a `Slice`, a service's in `BucketCounts`. `T` keeps the numbers of the buckets.
+/// A run's keeps the likes in a `Slice`, a service's in `BucketCounts`.
 #[derive(Drop)]
-pub struct SplitSlice<C: Counts, T: BucketTags> {
-    splits: SplitPages<T>,
+pub struct SplitSlice<C: Counts> {
+    splits: SplitPages,
     counts: C,
 }
 
-impl<C: Counts, T: BucketTags> Model for SplitSlice<C, T> {
+impl<C: Counts> Model for SplitSlice<C> {
     ghost use Rattle.like_tables.specs.SplitSlice.{IsSplitSlice, SplitSlice};
 
     ghost Value = { SplitSlice };
@@ -34,7 +33,7 @@ impl<C: Counts, T: BucketTags> Model for SplitSlice<C, T> {
     ghost invariant = { λ s. IsSplitSlice (record { splits = s.splits; counts = C.view s.counts }) };
 }
 
-impl SplitSlice<Slice, RunTags> {
+impl SplitSlice<Slice> {
     /// A slice of a run, which has a number for each of so many pages. No page is split.
     pub fn of_run(alloc: Global, pages: u32) -> Result<Self, AllocError>
         ensures slice { IfOk result (λ slice. slice ≡ no_slice run_factor pages) }
@@ -47,7 +46,7 @@ impl SplitSlice<Slice, RunTags> {
     }
 }
 
-impl SplitSlice<BucketCounts, ServiceTags> {
+impl SplitSlice<BucketCounts> {
     /// A slice of a service, which has a number for each bucket. No page is split. With the factor page 1 is not in
     /// bucket 0.
     pub fn of_service(alloc: Global, factor: u32) -> Result<Self, AllocError>
@@ -62,7 +61,7 @@ impl SplitSlice<BucketCounts, ServiceTags> {
     }
 }
 
-impl<C: Counts, T: BucketTags> SplitSlice<C, T> {
+impl<C: Counts> SplitSlice<C> {
     /// The bucket of a page.
     #[inline(always)]
     pub fn bucket(&self, page: u32) -> u32

@@ -6,14 +6,14 @@ use Rattle.like_tables.proofs.Tagged.{bucket-lt}
 use Rattle.like_tables.proofs.bucket_counts.BucketCountsCounts.next_page.Goals as goal
 
 pub loop-page-init : goal.loop-page-init
-loop-page-init g c = record {
+loop-page-init c = record {
   after = omega arith;
   within = c.requires.within;
   none = λ page after before. absurd (omega (arith, after, before));
 }
 
 pub returns-then-self-bucket-ne0-clause-next : goal.returns-then-self-bucket-ne0-clause-next
-returns-then-self-bucket-ne0-clause-next g c =
+returns-then-self-bucket-ne0-clause-next c =
     let s : SplitSlice = slice_by c.args.splits.now c.self.inside.counts in
     let some : get_or s.counts (bucket_in s c.in-Some.page) 0 ≢ 0 =
     λ e. c.if-self-bucket-ne0.true (ap (λ b. get_or s.counts b 0) c.bucket-bucket.ensures.bucket ∙ e) in
@@ -22,13 +22,13 @@ returns-then-self-bucket-ne0-clause-next g c =
     c.loop-page.invariant.none c.in-Some.ensures.next some)
 
 pub loop-page-smaller : goal.loop-page-smaller
-loop-page-smaller g c =
+loop-page-smaller c =
     let s : SplitSlice = slice_by c.args.splits.now c.self.inside.counts in
     let below : bucket_in s c.in-Some.page < buckets = bucket-lt s.splits.factor c.in-Some.page in
     omega (arith, c.bucket-bucket.ensures.bucket, below, c.in-Some.ensures.next.after)
 
 pub loop-page-preserved : goal.loop-page-preserved
-loop-page-preserved g c =
+loop-page-preserved c =
     let s : SplitSlice = slice_by c.args.splits.now c.self.inside.counts in
     let at : c.bucket-bucket.result ≡ bucket_in s c.in-Some.page = c.bucket-bucket.ensures.bucket in
     let below : bucket_in s c.in-Some.page < buckets = bucket-lt s.splits.factor c.in-Some.page in
@@ -41,7 +41,7 @@ loop-page-preserved g c =
     }
 
 pub returns-clause-none : goal.returns-clause-none
-returns-clause-none g c =
+returns-clause-none c =
     let s : SplitSlice = slice_by c.args.splits.now c.self.inside.counts in
     subst (λ (xs : List ℕ). AreUnsliced (slice_by c.args.splits.now xs) c.args.from buckets) c.self.view_is
     (AreUnsliced-on s c.args.from c.loop-page.place buckets c.loop-page.invariant.none c.in_default.ensures.none)

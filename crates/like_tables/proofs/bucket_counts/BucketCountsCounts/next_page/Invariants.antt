@@ -4,11 +4,11 @@ use Rattle.like_tables.specs.SplitSlice.{AreUnsliced, slice_by}
 use Rattle.like_tables.proofs.bucket_counts.BucketCountsCounts.next_page.Given as goal
 
 abbrev pub invariant-loop-page : goal.invariant-loop-page
-invariant-loop-page g l = record {
+invariant-loop-page l = record {
   after : l.from ≤ l.place;
   within : l.place ≤ buckets;
   none : AreUnsliced (slice_by l.splits l.self-inside.counts) l.from l.place;
 }
 
 abbrev pub decreases-loop-page : goal.decreases-loop-page
-decreases-loop-page g l = buckets - l.place
+decreases-loop-page l = buckets - l.place
