@@ -7,6 +7,7 @@ pub mod Closed
 pub mod NewViews
 pub mod Own
 pub mod Lent
-pub mod OwnPosts
+pub mod Lending
+pub mod LentPost
 pub mod OwnClosed
 pub mod Led

@@ -22,6 +22,6 @@ pub use board::Board;
 pub use coord_seat::CoordSeat;
 pub use holder::HoldsBoard;
 pub use led_board::{LeadSeat, LeadsAt};
-pub use own_board::{OwnBoard, OwnCoordSeat, OwnPost, OwnWorkerSeat};
+pub use own_board::{LentPost, OwnBoard, OwnCoordSeat, OwnWorkerSeat};
 pub use post::{BoardPost, PostAt, SharedPost};
 pub use worker_seat::WorkerSeat;

@@ -8,12 +8,12 @@ ghost use Rattle.like_board.specs.Rule.{opening_of};
 mod answer;
 mod close;
 mod coord_seat;
-mod post;
+mod lent_post;
 mod seats;
 mod worker_seat;
 
 pub use self::coord_seat::OwnCoordSeat;
-pub use self::post::OwnPost;
+pub use self::lent_post::LentPost;
 pub use self::worker_seat::OwnWorkerSeat;
 use crate::first_pages::FirstPages;
 use crate::key::Key;

@@ -1,18 +1,14 @@
 use Rattle.std.proofs.Common.{ap}
 use Rattle.like_core.specs.declared.view.WorkerSeatView.{WorkerSeatView}
-use Rattle.like_board.proofs.LentPosts.{here_after, looked_after, numbers_after}
-use Rattle.like_board.proofs.own_board.post.OwnPostPost.retire.Goals as goal
+use Rattle.like_board.proofs.LentPosts.{lent_after, numbers_after}
+use Rattle.like_board.proofs.own_board.lent_post.LentPostPost.retire.Goals as goal
 
 pub invariant_of-self : goal.invariant_of-self
 invariant_of-self c =
-    let p = c.args.self.now in
-    let b = c.retire.new.board in
-    let s = c.retire.new.self in
     let told = c.retire.ensures in
     record {
-      here = here_after p b s told.place told.board;
-      knew = p.knew;
-      looked = looked_after p b s told.place told.board (ap (λ (v : WorkerSeatView). v.looks) told.view);
+      lent = lent_after c.args.self.now c.retire.new.board c.retire.new.self told.place told.board
+          (ap (λ (v : WorkerSeatView). v.looks) told.view);
     }
 
 pub returns-clause-board : goal.returns-clause-board

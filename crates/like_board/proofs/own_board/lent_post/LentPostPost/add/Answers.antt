@@ -1,0 +1,17 @@
+use Rattle.std.proofs.Common.{ap}
+use Rattle.like_core.specs.declared.view.WorkerSeatView.{WorkerSeatView}
+use Rattle.like_board.proofs.LentPosts.{lent_after, numbers_after}
+use Rattle.like_board.proofs.own_board.lent_post.LentPostPost.add.Goals as goal
+
+pub invariant_of-self : goal.invariant_of-self
+invariant_of-self c =
+    let told = c.add.ensures in
+    record {
+      lent = lent_after c.args.self.now c.add.new.board c.add.new.self told.place told.board
+          (ap (λ (v : WorkerSeatView). v.looks) told.view);
+    }
+
+pub returns-clause-board : goal.returns-clause-board
+returns-clause-board c =
+    let told = c.add.ensures in
+    numbers_after c.args.self.now c.add.new.board c.add.new.self told.place told.board
