@@ -1,5 +1,5 @@
 -- A seat that enters the next phase.
-use Rattle.std.proofs.Common.{◌≡◌, ℕ, ◌+◌, ◌%◌, ◌==◌, ◌<◌, ◌≤◌, ◌⊎◌, ◌&&◌, ◌||◌, nat_lt, Bool, true, false, cond, List, [], ◌∷◌, length, get_or, sum, Some, inl, inr, refl, sym, ap, subst, ◌∙◌, arith}
+use Rattle.std.proofs.Common.{◌≡◌, ℕ, ◌+◌, ◌%◌, ◌==◌, ◌<◌, ◌≤◌, ◌⊎◌, ◌&&◌, ◌||◌, nat_lt, Bool, true, false, cond, List, [], ◌∷◌, length, get_or, sum, inl, inr, refl, sym, ap, subst, ◌∙◌, arith}
 use Rattle.std.specs.List.{list_any}
 use Rattle.std.proofs.lemmas.Bool.{and_from, and_parts, cases_eq, cond-true, eq-eqb, lt-ltb, ltb-false, ltb-true, or_right}
 use Rattle.like_core.specs.declared.sight.Sight.{Sight}
@@ -10,7 +10,7 @@ use Rattle.like_core.specs.declared.worker_state.WorkerState.TheVariants.{Answer
 use Rattle.like_core.specs.Additions.{all_added}
 use Rattle.like_core.specs.Phase.{IsJoined, IsSplit, is_hot_by, is_marked}
 use Rattle.like_core.specs.Functions.{has_bit}
-use Rattle.like_core.specs.OpeningLimits.{AreLimits, has_slots}
+use Rattle.like_core.specs.OpeningLimits.{AreLimits}
 use Rattle.like_core.specs.PhaseMasks.{HasMask, mask_of}
 use Rattle.like_core.specs.Slots.{IsChoice, mask_of_slots}
 use Rattle.like_core.proofs.Slots.{slots_tell}
@@ -54,7 +54,7 @@ pub ran-returned : (post looked : WorkerSeatView) (phase : ℕ) → looked ≡ r
 ran-returned post looked phase back = subst (λ (p : WorkerSeatView). p ≡ ran post p phase) (sym back) refl
 
 -- who ran no split phase may enter the phase that it runs
-pub MayEnter-kept : {W C T : Type 0} (post looked : WorkerSeatView) (t : Tables W C T) (phase : ℕ) → IsKept post t
+pub MayEnter-kept : {W C : Type 0} (post looked : WorkerSeatView) (t : Tables W C) (phase : ℕ) → IsKept post t
     → (RunsSplit post.state → ⊥) → looked ≡ ran post looked phase → MayEnter looked t.slice phase
 MayEnter-kept post looked t phase kept idle look =
     let may : MayEnter (ran post looked phase) t.slice phase = record {
@@ -117,7 +117,7 @@ filled-service post slots word s after service limits few choice f = record {
 }
 
 -- a slice with these numbers, of which no page was split, has no like
-empty : {W C T : Type 0} (post : WorkerSeatView) (t : Tables W C T) (s : SplitSlice) → IsKept post t → (RunsSplit post.state → ⊥)
+empty : {W C : Type 0} (post : WorkerSeatView) (t : Tables W C) (s : SplitSlice) → IsKept post t → (RunsSplit post.state → ⊥)
     → s.counts ≡ t.slice.counts → by_page s (pages_of post) ≡ by_page t.slice (pages_of post)
 empty post t s kept idle same =
     let n : ℕ = pages_of post in
@@ -174,7 +174,7 @@ pub record IsEntered (post : WorkerSeatView) (s s' : SplitSlice) : Type 0 where
   pub counts : s'.counts ≡ s.counts
   pub splits : SplitsPages post s'
 
-entered-slice : {W C T : Type 0} (post looked now : WorkerSeatView) (t after : Tables W C T) (phase mask : ℕ)
+entered-slice : {W C : Type 0} (post looked now : WorkerSeatView) (t after : Tables W C) (phase mask : ℕ)
     → IsKept post t → (RunsSplit post.state → ⊥) → looked ≡ ran post looked phase → EntersBy looked phase mask now t after
     → IsEntered (entered post looked phase mask) t.slice after.slice
 entered-slice {W} {C} post looked now t after phase mask kept idle look e = elim (parity phase) [
@@ -205,7 +205,7 @@ entered-slice {W} {C} post looked now t after phase mask kept idle look e = elim
       }
 ]
 
-module _ {W C T : Type 0} (post looked now : WorkerSeatView) (t after : Tables W C T) (phase mask : ℕ)
+module _ {W C : Type 0} (post looked now : WorkerSeatView) (t after : Tables W C) (phase mask : ℕ)
     (kept : IsKept post t) (idle : RunsSplit post.state → ⊥)
     (look : looked ≡ ran post looked phase) (e : EntersBy looked phase mask now t after) where
   -- its post now
@@ -225,7 +225,7 @@ module _ {W C T : Type 0} (post looked now : WorkerSeatView) (t after : Tables W
       let n : ℕ = pages_of post in
       let same = empty post t after.slice kept idle s.counts in
       let at : WorkerSeatView = entered post looked phase mask in
-      let tables : Tables W C T = record t { state = Runs phase; slice = after.slice } in
+      let tables : Tables W C = record t { state = Runs phase; slice = after.slice } in
       let likes : t.likes.likes ≡ all_added (additions_among post.did) + sum (by_page after.slice n) =
       kept.likes ∙ ap (λ (xs : List ℕ). all_added (additions_among post.did) + sum xs) (sym same) in
       let keeps : IsKept at tables = record {
@@ -252,7 +252,7 @@ module _ {W C T : Type 0} (post looked now : WorkerSeatView) (t after : Tables W
           waiting = kept.seat.waiting;
         };
       } in
-      subst (λ (p : WorkerSeatView). IsKept p after) (sym now-entered) (subst (λ (x : Tables W C T). IsKept at x) (sym e.rest) keeps)
+      subst (λ (p : WorkerSeatView). IsKept p after) (sym now-entered) (subst (λ (x : Tables W C). IsKept at x) (sym e.rest) keeps)
 
 -- who has not answered stays in its phase
 pub stays : (s : WorkerState) (sight : Sight) → ((k : ℕ) → s ≡ Answered k → ⊥) → seen s sight ≡ s
@@ -261,7 +261,7 @@ stays (state.Answered k) sight runs = absurd (runs k refl)
 stays state.Gone sight runs = refl
 
 -- a look that leaves the phase
-pub IsKept-looked : {W C T : Type 0} (post now : WorkerSeatView) (t : Tables W C T) (sight : Sight) → IsKept post t
+pub IsKept-looked : {W C : Type 0} (post now : WorkerSeatView) (t : Tables W C) (sight : Sight) → IsKept post t
     → now ≡ looked_at post sight → seen post.state sight ≡ post.state → IsKept now t
 IsKept-looked {W} {C} post now t sight k look same =
     let at : WorkerSeatView = record (looked_at post sight) { state = post.state } in

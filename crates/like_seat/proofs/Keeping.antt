@@ -1,5 +1,5 @@
 -- The slice that a seat keeps, and what is true of it after each step.
-use Rattle.std.proofs.Common.{◌≡◌, ◌≢◌, ◌↔◌, ℕ, ◌+◌, ◌%◌, ◌==◌, ◌^◌, ◌<◌, ◌≤◌, ◌||◌, Bool, true, false, List, [], length, get_or, replicate, sum, inl, inr, refl, sym, ap, subst, ◌∙◌, arith}
+use Rattle.std.proofs.Common.{◌≡◌, ◌≢◌, ◌↔◌, ℕ, ◌+◌, ◌%◌, ◌==◌, ◌^◌, ◌<◌, ◌≤◌, ◌||◌, true, false, List, [], length, get_or, replicate, sum, inl, inr, refl, sym, ap, subst, ◌∙◌, arith}
 use Rattle.std.proofs.lemmas.Bool.{and_parts, cases_lt, eqb-true, false_from_ne_true}
 use Rattle.std.proofs.lemmas.List.{get_or_past}
 use Rattle.std.proofs.lemmas.List.Folds.{sum_by-replicate}
@@ -139,8 +139,8 @@ pub sum-zeros : (n : ℕ) → sum (replicate n 0) ≡ 0
 sum-zeros n = sum_by-replicate (λ x. x) n 0 ∙ omega arith
 
 -- the tables of a post that made a step in its phase, which leaves the split pages
-pub Kept-written : {W C T : Type 0} (post : WorkerSeatView) (d : List PageStep)
-    (t after : Tables W C T)
+pub Kept-written : {W C : Type 0} (post : WorkerSeatView) (d : List PageStep)
+    (t after : Tables W C)
     → IsKept post t
     → after.marks.items ≡ t.marks.items → after.state ≡ t.state → after.held ≡ t.held
     → after.slice.splits ≡ t.slice.splits → length after.slice.counts ≡ length t.slice.counts → IsSplitSlice after.slice
@@ -178,7 +178,7 @@ Kept-written {W} {C} post d t after k marks state_is held splits long is sums li
     }
 
 -- the tables of a post that read or glanced
-pub Kept-read : {W C T : Type 0} (post now : WorkerSeatView) (d : List PageStep) (t : Tables W C T)
+pub Kept-read : {W C : Type 0} (post now : WorkerSeatView) (d : List PageStep) (t : Tables W C)
     → IsKept post t → now ≡ record post { did = d } → additions_among d ≡ additions_among post.did
     → IsKept now t
 Kept-read {W} {C} post now d t k is same =
@@ -188,7 +188,7 @@ Kept-read {W} {C} post now d t k is same =
     (omega (arith, k.likes, k.seat.few)))
 
 -- the tables hold other requests that wait
-pub Kept-holding : {W C T : Type 0} (post : WorkerSeatView) (t : Tables W C T) (held : Waiting W) → IsKept post t → IsWaiting held
+pub Kept-holding : {W C : Type 0} (post : WorkerSeatView) (t : Tables W C) (held : Waiting W) → IsKept post t → IsWaiting held
     → IsKept post (record t { held = held })
 Kept-holding {W} {C} post t held k waits = record {
   run = k.run;
@@ -220,12 +220,12 @@ joined-unsplit (state.Answered k) joined split = split
 joined-unsplit state.Gone joined split = split
 
 -- the tables of a post that left a joined phase: it is in this state, in which it runs none
-pub Kept-left : {W C T : Type 0} (post now : WorkerSeatView) (t : Tables W C T) (s : WorkerState) → IsKept post t
+pub Kept-left : {W C : Type 0} (post now : WorkerSeatView) (t : Tables W C) (s : WorkerState) → IsKept post t
     → RunsJoined post.state → (RunsSplit s → ⊥) → phase_of s ≤ phase_of post.state → now ≡ record post { state = s; slots = [] }
     → IsKept now (record t { state = s })
-Kept-left {W} {C} {T} post now t s k joined idle within is =
+Kept-left {W} {C} post now t s k joined idle within is =
     let at : WorkerSeatView = record post { state = s; slots = [] } in
-    let left : Tables W C T = record t { state = s } in
+    let left : Tables W C = record t { state = s } in
     let unsplit = joined-unsplit post.state joined in
     let keeps : IsKept at left = record {
       run = k.run;
@@ -251,7 +251,7 @@ Kept-left {W} {C} {T} post now t s k joined idle within is =
     } in subst (λ (p : WorkerSeatView). IsKept p left) (sym is) keeps
 
 -- and those of one that stopped at the end of it
-pub Kept-answered : {W C T : Type 0} (post now : WorkerSeatView) (t : Tables W C T) (n : ℕ) → IsKept post t → RunsJoined post.state
+pub Kept-answered : {W C : Type 0} (post now : WorkerSeatView) (t : Tables W C) (n : ℕ) → IsKept post t → RunsJoined post.state
     → n ≡ phase_of t.state → now ≡ answered post → IsKept now (record t { state = state.Answered n })
 Kept-answered {W} {C} post now t n k joined is answer =
     let same : phase_of post.state ≡ n = ap phase_of k.state ∙ sym is in
@@ -259,7 +259,7 @@ Kept-answered {W} {C} post now t n k joined is answer =
     (answer ∙ (λ i. record post { state = state.Answered (same i); slots = [] }))
 
 -- the tables of a post that never looked, or answered: no page is split
-pub Kept-unsplit : {W C T : Type 0} (post : WorkerSeatView) (t : Tables W C T) (factor many : ℕ)
+pub Kept-unsplit : {W C : Type 0} (post : WorkerSeatView) (t : Tables W C) (factor many : ℕ)
     → (RunsSplit post.state → ⊥) → t.slice ≡ no_slice factor many → factor ≡ post.opening.factor → factor < 2 ^ 32
     → HasNumbers (no_slice factor many) (pages_of post)
     → (has_slots post.opening.limits ≡ false → IsOfRun post.opening t.marks.items)

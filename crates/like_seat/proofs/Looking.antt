@@ -1,5 +1,5 @@
 -- What a look leaves true of a seat.
-use Rattle.std.proofs.Common.{◌≡◌, ℕ, ◌+◌, ◌%◌, ◌==◌, ◌≤◌, ◌||◌, Bool, true, false, cond, List, ◌∷◌, Some, ap, sym, ◌∙◌, subst, refl, eq-eqb, arith}
+use Rattle.std.proofs.Common.{◌≡◌, ℕ, ◌+◌, ◌%◌, ◌==◌, ◌≤◌, ◌||◌, Bool, true, false, cond, List, ◌∷◌, ap, sym, ◌∙◌, subst, refl, eq-eqb, arith}
 use Rattle.std.specs.List.{list_any}
 use Rattle.std.proofs.lemmas.Bool.{cond-false, cond-true, ne_eqb}
 use Rattle.like_core.specs.declared.sight.Sight.{Sight}
@@ -66,7 +66,7 @@ saw-next post sight mask k is goes =
     ∙ ap (λ (n : ℕ). masks_entered post.masks n mask) number in
     λ m. record (looked_at post sight) { masks = masks m }
 
-module _ {W C T : Type 0} (board there : List ℕ) (post looked : WorkerSeatView) (t : Tables W C T) (sight : Sight)
+module _ {W C : Type 0} (board there : List ℕ) (post looked : WorkerSeatView) (t : Tables W C) (sight : Sight)
     (kept : IsKept post t) (here : there ≡ board) (sees : IsSightOf post.state sight)
     (ending : SeesEndingStill post.state post.last sight) (look : looked ≡ looked_at post sight) where
   -- a seat looks, and stays in its phase
@@ -94,7 +94,7 @@ module _ {W C T : Type 0} (board there : List ℕ) (post looked : WorkerSeatView
     may-enter = MayEnter-kept post looked t (k + 1) kept (idle-answered post.state k is) next
 
     -- and enters it
-    pub looks-entered : (place : List ℕ) (now : WorkerSeatView) (after : Tables W C T)
+    pub looks-entered : (place : List ℕ) (now : WorkerSeatView) (after : Tables W C)
         → phase_of (seen post.state sight) ≤ post.opening.limits.last_phase
         → place ≡ there → Enters looked (k + 1) now t after
         → IsKept now after × LooksAndEnters (view_of board post t) sight (view_of place now after)

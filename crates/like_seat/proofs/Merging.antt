@@ -16,7 +16,7 @@ use Rattle.like_seat.proofs.Keeping.{Kept-unsplit, Kept-written, by_page-no_slic
 use Rattle.like_seat.proofs.MergedLikes.{all_added-push}
 
 -- a seat that has merged its slice may answer
-pub IsKept-reported : {W C T : Type 0} (post : WorkerSeatView) (t : Tables W C T) (phase : ℕ)
+pub IsKept-reported : {W C : Type 0} (post : WorkerSeatView) (t : Tables W C) (phase : ℕ)
     → IsKept post t
     → ((page : ℕ) → likes_in t.slice page ≡ 0)
     → phase ≡ phase_of t.state
@@ -35,7 +35,7 @@ IsKept-reported post t phase k none is =
     (omega (arith, k.likes, k.seat.few)) k.seat.few_pages k.seat.limits k.seat.within k.seat.waiting
 
 -- a page's likes were added to its count, and taken out of the slice
-pub IsKept-merged : {W C T : Type 0} (post : WorkerSeatView) (t : Tables W C T) (page old likes : ℕ) (after : SplitSlice)
+pub IsKept-merged : {W C : Type 0} (post : WorkerSeatView) (t : Tables W C) (page old likes : ℕ) (after : SplitSlice)
     → IsKept post t
     → has_split t.slice page ≡ true
     → likes ≡ likes_in t.slice page
@@ -61,7 +61,7 @@ split-runs (Answered k) odd = absurd odd
 split-runs Gone odd = absurd odd
 
 -- all likes of a page in the slice may be added to its count, once the end of the phase was seen
-pub may-merge : {W C T : Type 0} (post : WorkerSeatView) (t : Tables W C T) (page likes : ℕ) (after : SplitSlice)
+pub may-merge : {W C : Type 0} (post : WorkerSeatView) (t : Tables W C) (page likes : ℕ) (after : SplitSlice)
     → IsKept post t
     → has_split t.slice page ≡ true
     → likes_in t.slice page ≢ 0

@@ -1,5 +1,5 @@
 -- What a moment of a board tells of its posts.
-use Rattle.std.proofs.Common.{◌≡◌, ℕ, List, slice_index, ap, sym, ◌∙◌, refl, inl, inr}
+use Rattle.std.proofs.Common.{◌≡◌, ℕ, List, slice_index, ◌∙◌, refl, inl, inr}
 use Rattle.std.proofs.lemmas.Bool.{cases_eq}
 use Rattle.like_core.specs.declared.opening.Opening.{Opening}
 use Rattle.like_core.specs.declared.view.View.TheVariants.{Worker}

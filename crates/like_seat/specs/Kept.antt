@@ -6,7 +6,7 @@ use Rattle.like_core.specs.Additions.{all_added}
 use Rattle.like_core.specs.PageSteps.{additions_among}
 use Rattle.like_core.specs.OpeningLimits.{AreLimits, has_slots}
 use Rattle.like_core.specs.Phase.{IsJoined, IsSplit, is_hot, is_hot_by, is_marked}
-use Rattle.like_core.specs.Post.{pages_of, slices}
+use Rattle.like_core.specs.Post.{IsFresh, pages_of, slices}
 use Rattle.like_core.specs.Slots.{IsInSlot}
 use Rattle.like_core.specs.WorkerState.{RunsSplit}
 use Rattle.like_core.specs.declared.view.WorkerSeatView.{WorkerSeatView}
@@ -20,7 +20,7 @@ use Rattle.like_seat.specs.Steps.{masks_entered}
 use Rattle.like_seat.specs.declared.tables.Tables.{Tables}
 
 -- the seat of a post and what is kept beside it
-abbrev pub view_of : {W C T : Type 0} → List ℕ → WorkerSeatView → Tables W C T → StationView W
+abbrev pub view_of : {W C : Type 0} → List ℕ → WorkerSeatView → Tables W C → StationView W
 view_of board post t = record {
   board = board;
   post = post;
@@ -44,13 +44,20 @@ pub record IsOfRun (z : Opening) (its : List Bool) : Type 0 where
   pub small : length z.marks ≤ buckets
   pub factor : z.factor ≡ run_factor
 
+-- a new post of a board of a run, with these marks
+pub record IsNewOfRun (marks : List Bool) (post : WorkerSeatView) : Type 0 where
+  pub fresh : IsFresh post
+  pub limits : AreLimits post.opening.limits
+  pub few_pages : pages_of post ≤ post.opening.limits.pages
+  pub run : IsOfRun post.opening marks
+
 -- a board of a service: no page is marked there
 pub record IsOfService (z : Opening) : Type 0 where
   pub slotted : has_slots z.limits ≡ true
   pub unmarked : (page : ℕ) → is_marked z.marks page ≡ false
 
 -- the tables are those of this post
-pub record IsKept {W C T : Type 0} (post : WorkerSeatView) (t : Tables W C T) : Type 0 where
+pub record IsKept {W C : Type 0} (post : WorkerSeatView) (t : Tables W C) : Type 0 where
   pub run : has_slots post.opening.limits ≡ false → IsOfRun post.opening t.marks.items
   pub service : has_slots post.opening.limits ≡ true → IsOfService post.opening
   pub state : post.state ≡ t.state
@@ -62,8 +69,10 @@ pub record IsKept {W C T : Type 0} (post : WorkerSeatView) (t : Tables W C T) : 
   pub likes : t.likes.likes ≡ all_added (additions_among post.did) + sum (by_page t.slice (pages_of post))
   pub seat : IsStationOf post t.held (by_page t.slice (pages_of post))
 
--- the tables of a seat that has done nothing yet, with this slice, which is empty
-pub record AreNew {W C T : Type 0} (empty : SplitSlice) (room : ℕ) (users : UserTable) (t : Tables W C T) : Type 0 where
+-- the tables of a seat that has done nothing yet, with these marks and this slice, which is empty
+pub record AreNew {W C : Type 0} (marks : List Bool) (empty : SplitSlice) (room : ℕ) (users : UserTable) (t : Tables W C)
+    : Type 0 where
+  pub marks_are : t.marks.items ≡ marks
   pub state : t.state ≡ Runs 0
   pub held : t.held ≡ record { held = []; capacity = room }
   pub slice : t.slice ≡ empty
@@ -121,11 +130,11 @@ pub record MayEnter (post : WorkerSeatView) (s : SplitSlice) (phase : ℕ) : Typ
   pub numbers : HasNumbers s (pages_of post)
 
 -- it runs the phase that its post runs. Of a split one the mask was read, which is this, and its slice is filled
-pub record EntersBy {W C T : Type 0} (post : WorkerSeatView) (phase mask : ℕ) (now : WorkerSeatView) (t after : Tables W C T) : Type 0 where
+pub record EntersBy {W C : Type 0} (post : WorkerSeatView) (phase mask : ℕ) (now : WorkerSeatView) (t after : Tables W C) : Type 0 where
   pub at_post : now ≡ record post { masks = masks_entered post.masks phase mask }
   pub rest : after ≡ record t { state = Runs phase; slice = after.slice }
   pub split : IsSplit phase → IsFilled t.slice (pages_of post) (is_split_by post mask) after.slice
   pub joined : IsJoined phase → after.slice ≡ t.slice
 
-abbrev pub Enters : {W C T : Type 0} → WorkerSeatView → ℕ → WorkerSeatView → Tables W C T → Tables W C T → Type 0
+abbrev pub Enters : {W C : Type 0} → WorkerSeatView → ℕ → WorkerSeatView → Tables W C → Tables W C → Type 0
 Enters post phase now t after = (mask : ℕ) × EntersBy post phase mask now t after

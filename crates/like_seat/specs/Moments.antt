@@ -1,5 +1,5 @@
 -- Posts at a moment of their board, which is between any two atomic steps.
-use Rattle.std.specs.Prelude.{◌≡◌, ℕ, List, [], slice_index}
+use Rattle.std.specs.Prelude.{◌≡◌, ℕ, List, slice_index}
 use mathlib.Core.Option.{some}
 use lib.ListN.{get_elem?}
 use Rattle.like_core.specs.declared.opening.Opening.{Opening}

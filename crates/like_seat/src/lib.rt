@@ -19,5 +19,5 @@ pub use laws::posts_are_exclusive;
 pub use lead::{Lead, LeadOf, NoLead};
 pub use merged::Merged;
 pub use seen::Seen;
-pub use station::{NoStation, RunStation, ServiceStation, Station, come_back};
+pub use station::{NoStation, ServiceStation, Station, come_back};
 pub use tables::Tables;

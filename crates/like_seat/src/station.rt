@@ -10,33 +10,28 @@ ghost use Rattle.like_seat.specs.Steps.{IsNewStation};
 mod answers;
 mod looks;
 mod merges;
-mod parts;
 mod service;
 mod waits;
 
 pub use self::service::come_back;
 use crate::tables::Tables;
-use like_core::{Post, WorkerState};
-use like_tables::{BucketCounts, BucketTags, Counts, RunTags, ServiceTags, Slice, Users};
-use std::alloc::Global;
+use like_core::Post;
+use like_tables::{BucketCounts, Counts, Users};
 use std::marker::Model;
 
 /// A worker's station: its post at a board, and what it keeps beside it.
 ///
 /// `W` is what waits for the next joined phase. `C` has the likes of its slice, and `T` the numbers of their buckets.
 #[derive(Drop)]
-pub struct Station<P: Post, W: Copy, C: Counts, T: BucketTags> {
+pub struct Station<P: Post, W: Copy, C: Counts> {
     post: P,
-    tables: Tables<W, C, T>,
+    tables: Tables<W, C>,
 }
 
-/// A station of a run.
-pub type RunStation<P, W> = Station<P, W, Slice, RunTags>;
-
 /// A station of a service.
-pub type ServiceStation<P, W> = Station<P, W, BucketCounts, ServiceTags>;
+pub type ServiceStation<P, W> = Station<P, W, BucketCounts>;
 
-impl<P: Post, W: Copy, C: Counts, T: BucketTags> Model for Station<P, W, C, T> {
+impl<P: Post, W: Copy, C: Counts> Model for Station<P, W, C> {
     ghost use Rattle.like_seat.specs.StationView.{StationView};
 
     ghost Value = { StationView W };
@@ -54,33 +49,7 @@ pub struct NoStation<P: Post> {
     pub post: P,
 }
 
-impl<P: Post, W: Copy> Station<P, W, Slice, RunTags> {
-    /// A new seat of a run, with these marks of split pages, room for `room` that wait, and these last likes. All
-    /// memory is taken here, and none by its steps.
-    pub fn new(
-        alloc: Global,
-        post: P,
-        marks: Vec<bool>,
-        room: u32,
-        last: Users,
-    ) -> Result<Self, NoStation<P>>
-        requires fresh { IsFresh (P.view post) }
-        requires limits { AreLimits (P.view post).opening.limits }
-        requires few_pages { pages_of (P.view post) ≤ (P.view post).opening.limits.pages }
-        requires run { IsOfRun (P.view post).opening marks.items }
-        requires some { 1 ≤ room }
-        requires few { room ≤ max_stash }
-        ensures new { IfOk result (IsNewStation (P.board post) (P.view post) room last) }
-        ensures post { IfErr result (λ refused. refused.post ≡ post) }
-    {
-        match Tables::of_run(alloc, marks, room, last) {
-            Ok(tables) => Ok(Station { post, tables }),
-            Err(_) => Err(NoStation { post }),
-        }
-    }
-}
-
-impl<P: Post, W: Copy, C: Counts, T: BucketTags> Station<P, W, C, T> {
+impl<P: Post, W: Copy, C: Counts> Station<P, W, C> {
     /// The phase that it runs or has answered, and 0 once it is gone.
     #[inline(always)]
     pub fn phase(&self) -> u64
@@ -95,7 +64,7 @@ impl<P: Post, W: Copy, C: Counts, T: BucketTags> Station<P, W, C, T> {
     pub fn is_gone(&self) -> bool
         ensures { IsTrue result ↔ (self.now.post.state ≡ Gone) }
     {
-        matches!(self.tables.state, WorkerState::Gone)
+        self.tables.is_gone()
     }
 
     /// How many likes it has counted: what it has added on the board, and its slice.
@@ -138,17 +107,5 @@ impl<P: Post, W: Copy, C: Counts, T: BucketTags> Station<P, W, C, T> {
     {
         let Station { post, .. } = self;
         post
-    }
-
-    /// Takes it apart: its post, and its users' last likes.
-    pub fn finish(self) -> (P, Users)
-        ensures board { P.board result.0 ≡ self.board }
-        ensures post { P.view result.0 ≡ self.post }
-        ensures last { result.1 ≡ self.last }
-        ensures seat { IsStation self }
-    {
-        let Station { post, tables } = self;
-        let Tables { last, .. } = tables;
-        (post, last)
     }
 }

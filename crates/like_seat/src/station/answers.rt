@@ -9,9 +9,9 @@ ghost use Rattle.like_seat.specs.Steps.{CountsLike, CountsOnBoard, Glances, Read
 use crate::seen::Seen;
 use crate::station::Station;
 use like_core::{Glances, Post};
-use like_tables::{BucketTags, Counts, Placed};
+use like_tables::{Counts, Placed};
 
-impl<P: Post, W: Copy, C: Counts, T: BucketTags> Station<P, W, C, T> {
+impl<P: Post, W: Copy, C: Counts> Station<P, W, C> {
     /// Whether a page is split in the phase that it runs. A page that the board doesn't have is not.
     #[inline(always)]
     pub fn is_sliced(&self, page: u32) -> bool
@@ -19,25 +19,11 @@ impl<P: Post, W: Copy, C: Counts, T: BucketTags> Station<P, W, C, T> {
         ensures there { IsTrue result → page < pages_of self.now.post }
         ensures sliced { page < pages_of self.now.post → result ≡ slices self.now.post page }
     {
-        self.tables.slice.has(page)
+        self.tables.is_sliced(page)
     }
 
-    /// Counts a user's like of a page, and remembers it as the user's last. Of a sliced page it goes into the slice. Else
-    /// it is added to the page's count, and the answer is the count before.
-    #[inline(always)]
-    pub fn count_like(&mut self, user: u32, page: u32) -> Option<u64>
-        requires running { IsRunning self.old.post.state }
-        requires there { page < pages_of self.old.post }
-        requires owned { IsTrue (owns self.old.last.share user) }
-        requires room { likes_of self.old < self.old.post.opening.limits.likes }
-        ensures counts { CountsLike self.old user page result self.new }
-        ensures seat { IsStation self.new }
-    {
-        let placed = self.users().placed(user);
-        self.count_like_at(placed, page)
-    }
-
-    /// Counts a like of a user whose place is known, as `count_like` does.
+    /// Counts a like of a page, and remembers it as its user's last. Of a sliced page it goes into the slice. Else it is
+    /// added to the page's count, and the answer is the count before.
     #[inline(always)]
     pub fn count_like_at(&mut self, placed: Placed, page: u32) -> Option<u64>
         requires running { IsRunning self.old.post.state }
@@ -47,16 +33,7 @@ impl<P: Post, W: Copy, C: Counts, T: BucketTags> Station<P, W, C, T> {
         ensures counts { CountsLike self.old placed.user page result self.new }
         ensures seat { IsStation self.new }
     {
-        if self.is_sliced(page) {
-            self.tables.slice.add(page);
-            self.tables.sliced = self.tables.sliced.then(&self.post, page);
-            self.tables.last.set_at(placed, page);
-            self.tables.likes.count();
-            return None;
-        }
-        self.tables.last.set_at(placed, page);
-        self.tables.likes.count();
-        Some(self.post.add(page, 1))
+        self.tables.count_like_at(&mut self.post, placed, page)
     }
 
     /// Counts a like of a sliced page where there is room for it, which was given. Says whether it did.
@@ -112,8 +89,7 @@ impl<P: Post, W: Copy, C: Counts, T: BucketTags> Station<P, W, C, T> {
         ensures reads { Reads self.old user page result self.new }
         ensures seat { IsStation self.new }
     {
-        let placed = self.users().placed(user);
-        self.read_at(placed, page)
+        self.tables.read_for(&mut self.post, user, page)
     }
 
     /// Reads a page's count for a look of a user whose place is known.
@@ -126,14 +102,11 @@ impl<P: Post, W: Copy, C: Counts, T: BucketTags> Station<P, W, C, T> {
         ensures reads { Reads self.old placed.user page result self.new }
         ensures seat { IsStation self.new }
     {
-        Seen {
-            last: self.tables.last.last_at(placed),
-            count: self.post.read(page),
-        }
+        self.tables.read_at(&mut self.post, placed, page)
     }
 }
 
-impl<P: Glances, W: Copy, C: Counts, T: BucketTags> Station<P, W, C, T> {
+impl<P: Glances, W: Copy, C: Counts> Station<P, W, C> {
     /// Shows a user at once what the seat knows of a sliced page: the page's count with the seat's own slice of it. It
     /// lacks what the slices of others have.
     #[inline(always)]

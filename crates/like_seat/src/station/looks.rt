@@ -1,6 +1,4 @@
-ghost use Rattle.std.specs.Prelude.{◌≡◌, ◌≢◌, ◌↔◌, IsTrue, false};
-ghost use Rattle.like_core.specs.declared.worker_state.WorkerState.TheVariants.{Gone};
-ghost use Rattle.like_core.specs.OpeningLimits.{has_slots};
+ghost use Rattle.std.specs.Prelude.{◌≡◌, ◌↔◌, IsTrue, false};
 ghost use Rattle.like_core.specs.Post.{answered, retired};
 ghost use Rattle.like_core.specs.WorkerState.{IsRunning, RunsJoined, SawEnding};
 ghost use Rattle.like_seat.specs.StationView.{IsStation};
@@ -8,26 +6,9 @@ ghost use Rattle.like_seat.specs.Steps.{LooksAndEnters};
 
 use crate::station::Station;
 use like_core::{Post, Sight, WorkerState};
-use like_tables::{BucketTags, Counts};
+use like_tables::Counts;
 
-impl<P: Post, W: Copy, C: Counts, T: BucketTags> Station<P, W, C, T> {
-    /// Looks at the phase word, in a run. If the next phase was released, it enters that, and reads the mask of a split
-    /// one.
-    #[inline(always)]
-    pub fn look(&mut self) -> Sight
-        requires here { self.old.post.state ≢ Gone }
-        requires plain { has_slots self.old.post.opening.limits ≡ false }
-        ensures { LooksAndEnters self.old result self.new }
-    {
-        let sight = self.post.look();
-        if let WorkerState::Answered(phase) = self.tables.state {
-            if !sight.waits {
-                self.tables.enter(&mut self.post, phase + 1);
-            }
-        }
-        sight
-    }
-
+impl<P: Post, W: Copy, C: Counts> Station<P, W, C> {
     /// Whether it runs a phase.
     #[inline(always)]
     pub fn runs(&self) -> bool
@@ -57,8 +38,7 @@ impl<P: Post, W: Copy, C: Counts, T: BucketTags> Station<P, W, C, T> {
         ensures stops { self.new ≡ record self.old { post = answered self.old.post } }
         ensures seat { IsStation self.new }
     {
-        self.tables.state = WorkerState::Answered(self.tables.phase());
-        self.post.acknowledge();
+        self.tables.acknowledge(&mut self.post);
     }
 
     /// Ends the worker's part, in a joined phase. No step may follow but `come_back`.
@@ -67,7 +47,6 @@ impl<P: Post, W: Copy, C: Counts, T: BucketTags> Station<P, W, C, T> {
         ensures ends { self.new ≡ record self.old { post = retired self.old.post } }
         ensures seat { IsStation self.new }
     {
-        self.tables.state = WorkerState::Gone;
-        self.post.retire();
+        self.tables.retire(&mut self.post);
     }
 }

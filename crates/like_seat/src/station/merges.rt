@@ -9,25 +9,19 @@ ghost use Rattle.like_seat.specs.Steps.{MergesNext};
 
 use crate::merged::Merged;
 use crate::station::Station;
-use like_core::{Post, WorkerState};
-use like_tables::{BucketTags, Counts};
+use like_core::Post;
+use like_tables::Counts;
 
-impl<P: Post, W: Copy, C: Counts, T: BucketTags> Station<P, W, C, T> {
-    /// Adds the slice of the next page that has a like to the page's count, and empties it. The pages go by their buckets,
-    /// from `from` on.
-    pub fn merge_next(&mut self, from: u32) -> Option<Merged>
+impl<P: Post, W: Copy, C: Counts> Station<P, W, C> {
+    // Adds the slice of the next page that has a like to the page's count.
+    fn merge_next(&mut self, from: u32) -> Option<Merged>
         requires split { RunsSplit self.old.post.state }
         requires ending { SawEnding self.old.post.last }
         requires within { from ≤ buckets }
         ensures merges { MergesNext self.old from result self.new }
         ensures seat { IsStation self.new }
     {
-        let Some(page) = self.tables.slice.next(from) else {
-            return None;
-        };
-        let likes = self.tables.slice.take(page);
-        let old = self.post.add(page, likes);
-        Some(Merged { page, old, likes })
+        self.tables.merge_next(&mut self.post, from)
     }
 
     // The bucket of a page.
@@ -69,16 +63,14 @@ impl<P: Post, W: Copy, C: Counts, T: BucketTags> Station<P, W, C, T> {
         self.report();
     }
 
-    /// Stops at the end of a split phase, once its slice is merged, and waits for the release of the next.
-    pub fn report(&mut self)
+    // Stops at the end of a split phase, once its slice is merged.
+    fn report(&mut self)
         requires runs { RunsSplit self.old.post.state }
         requires ending { SawEnding self.old.post.last }
         requires merged { AreUnliked self.old.slice 0 (length self.old.slice) }
         ensures stops { self.new ≡ record self.old { post = answered self.old.post } }
         ensures seat { IsStation self.new }
     {
-        self.tables.state = WorkerState::Answered(self.tables.phase());
-        self.tables.slice.clear();
-        self.post.report();
+        self.tables.report(&mut self.post);
     }
 }

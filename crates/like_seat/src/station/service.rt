@@ -12,10 +12,10 @@ ghost use Rattle.like_seat.specs.Steps.{ComesBack, IsNewStation, LooksAndEnters}
 use crate::station::{NoStation, Station};
 use crate::tables::Tables;
 use like_core::{Post, Returns, Sight, SlotPost, WorkerState};
-use like_tables::{BucketCounts, BucketTags, Counts, ServiceTags, Users};
+use like_tables::{BucketCounts, Counts, Users};
 use std::alloc::Global;
 
-impl<P: Post, W: Copy> Station<P, W, BucketCounts, ServiceTags> {
+impl<P: Post, W: Copy> Station<P, W, BucketCounts> {
     /// A seat of a service that has done nothing yet, at a board with this factor for buckets.
     pub fn of_service(
         alloc: Global,
@@ -42,7 +42,7 @@ impl<P: Post, W: Copy> Station<P, W, BucketCounts, ServiceTags> {
     }
 }
 
-impl<P: SlotPost, W: Copy, C: Counts, T: BucketTags> Station<P, W, C, T> {
+impl<P: SlotPost, W: Copy, C: Counts> Station<P, W, C> {
     /// Looks at the phase word, in a service. If the next phase was released, it enters that, and reads the slots of a
     /// split one.
     #[inline(always)]
@@ -81,7 +81,7 @@ pub fn come_back<P: Returns>(post: &mut P) -> Option<u64>
     None
 }
 
-impl<P: SlotPost + Returns, W: Copy, C: Counts, T: BucketTags> Station<P, W, C, T> {
+impl<P: SlotPost + Returns, W: Copy, C: Counts> Station<P, W, C> {
     /// Brings a seat that is gone back into the present phase, which it then runs, a split one with its slots read.
     /// `false`, with nothing done, if that phase is ending or others changed the phase word at each of 64 tries.
     pub fn come_back(&mut self) -> bool

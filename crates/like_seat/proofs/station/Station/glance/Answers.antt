@@ -1,8 +1,7 @@
-use Rattle.std.proofs.Common.{◌≡◌, true, ℕ, ◌+◌, ◌<◌, get_or, sym, refl, ap, subst, ◌∙◌, arith}
+use Rattle.std.proofs.Common.{◌≡◌, true, ℕ, ◌+◌, ◌<◌, get_or, sym, refl, subst, ◌∙◌, arith}
 use Rattle.std.proofs.lemmas.List.Sums.{get_or-le-sum_by}
 use Rattle.like_core.specs.Post.{has_glanced, pages_of, slices}
 use Rattle.like_core.specs.WorkerState.{IsRunning}
-use Rattle.like_core.specs.declared.view.WorkerSeatView.{WorkerSeatView}
 use Rattle.like_tables.specs.Placed.{IsPlaced}
 use Rattle.like_tables.specs.SplitSlice.{by_page}
 use Rattle.like_tables.proofs.ByPage.{get_or-by_page}
