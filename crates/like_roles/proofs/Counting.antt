@@ -1,6 +1,5 @@
 -- A like that a worker counts, and an addition that it notes.
-use Rattle.std.proofs.Common.{◌≡◌, ℕ, ◌+◌, ◌<◌, ◌≤◌, Bool, true, cond, [], ◌∷◌, ◌++◌, length, get_or, sum, Some, None, refl, ap, sym, ◌∙◌, arith, subst, vec_len, vec_capacity}
-use Rattle.std.specs.List.{All}
+use Rattle.std.proofs.Common.{◌≡◌, ℕ, ◌+◌, ◌<◌, ◌≤◌, Bool, cond, [], ◌∷◌, ◌++◌, length, get_or, sum, Some, None, refl, ap, sym, ◌∙◌, arith, subst}
 use Rattle.std.proofs.lemmas.List.Sums.{sum_by-set}
 use Rattle.like_core.specs.Additions.{all_added}
 use Rattle.like_core.specs.Post.{has_read, pages_of}
@@ -12,22 +11,13 @@ use Rattle.like_seat.specs.declared.merged.Merged.{Merged}
 use Rattle.like_seat.specs.Steps as steps
 use Rattle.like_seat.specs.Steps.{CountsLike, MergesPage, liked_last, sliced, with_addition}
 use Rattle.like_roles.specs.declared.worker.desk.Desk.{Desk}
-use Rattle.like_roles.specs.worker.Desk.{HasRoom, HasRoomForOne, HasRoomToNote, IsOwn, IsSettled, view_of}
+use Rattle.like_roles.specs.worker.Desk.{HasNoted, HasRoomForOne, HasRoomToNote, IsSettled, view_of}
 use Rattle.like_roles.specs.worker.Serve as serve
 use Rattle.like_roles.specs.worker.Serve.{Likes, noted_if}
 use Rattle.like_seat.proofs.MergedLikes.{all_added-push, merged_page-likes}
-use Rattle.like_roles.proofs.Held.{AreOwn-moved, settled-after}
+use Rattle.like_roles.proofs.Held.{settled-still}
 
--- an addition in a phase was noted, where additions are
-pub record HasNoted (d e : Desk) (phase page old n : ℕ) : Type 0 where
-  pub noted : e.adds.items
-      ≡ d.adds.items
-      ++ noted_if d.notes (length d.ran.items) (record { phase = phase; page = page; old = old; likes = n } ∷ [])
-  pub len : d.notes ≡ true → vec_len e.adds ≡ vec_len d.adds + 1
-  pub capacity : vec_capacity e.adds ≡ vec_capacity d.adds
-  pub rest : e ≡ record d { adds = e.adds }
-
--- so it was by the worker
+-- an addition that was noted is the worker's
 pub noting-view : (t : StationView Held) (d e : Desk) (phase page old n : ℕ)
     → HasNoted d e phase page old n
     → phase ≡ phase_at t
@@ -56,24 +46,14 @@ liked-slice s t d user page is room seat there c =
     let more : sum now.slice ≡ sum s.slice + 1 =
     omega (arith, sum_by-set (λ x. x) s.slice page (get_or s.slice page 0 + 1) 0 inside) in
     let before = is.sound.room in (
-      settled-after s t d d is seat (ap (λ (x : StationView Held). x.post.opening.limits) c.1)
-          (ap (λ (x : StationView Held). x.post.last) c.1) (ap (λ (x : StationView Held). x.last.share) c.1)
-          (subst (λ xs. All (IsOwn t) xs) (sym (ap (λ (x : StationView Held). x.held.held) c.1))
-          (AreOwn-moved s t s.held.held (ap (λ (x : StationView Held). x.last.share) c.1)
-          (ap (λ (x : StationView Held). x.post.opening.marks) c.1) is.sound.held))
-          (subst (λ x. HasRoom x d) (sym c.1)
-          (record {
-            taken =
-                before.taken;
-            ran =
-                before.ran;
-            few_ran =
-                before.few_ran;
-            adds = λ n. omega (arith, room.adds n, more);
-            few = omega (arith, room.few, more);
-          }))
-          refl,
-      subst (λ x. HasRoomToNote x d) (sym c.1) (record { ran = room.ran }),
+      settled-still s t now d d is seat c.1 refl refl refl refl (record {
+        taken = before.taken;
+        ran = before.ran;
+        few_ran = before.few_ran;
+        adds = λ n. omega (arith, room.adds n, more);
+        few = omega (arith, room.few, more);
+      }) refl,
+      subst (λ x. HasRoomToNote x d) (sym c.1) room.ran,
       (
         0,
         ap (λ x. view_of x d) c.1
@@ -100,23 +80,16 @@ liked-board s t d e user page phase count is room seat c phase_is h =
     all_added-push (additions_among s.post.did) (record { phase = phase_at s; page = page; old = count; likes = 1 }) in
     let before = is.sound.room in
     let noted : view_of now e ≡ serve.noting (view_of now d) page count 1 =
-    noting-view now d e phase page count 1 h phase_is in
-    let all : IsSettled now e → IsSettled t e = subst (λ x. IsSettled x e) (sym c.1) in (
-      settled-after s t d e is seat (ap (λ (x : StationView Held). x.post.opening.limits) c.1)
-          (ap (λ (x : StationView Held). x.post.last) c.1) (ap (λ (x : StationView Held). x.last.share) c.1)
-          (subst (λ xs. All (IsOwn t) xs) (sym (ap (λ (x : StationView Held). x.held.held) c.1))
-          (AreOwn-moved s t s.held.held (ap (λ (x : StationView Held). x.last.share) c.1)
-          (ap (λ (x : StationView Held). x.post.opening.marks) c.1) is.sound.held))
-          (subst (λ x. HasRoom x e) (sym c.1) (subst (λ x. HasRoom now x) (sym h.rest) (record {
-            taken = before.taken;
-            ran = before.ran;
-            few_ran = before.few_ran;
-            adds = λ n. omega (arith, room.adds n, h.len n, h.capacity);
-            few = omega (arith, room.few, more);
-          })))
-          h.rest,
+    noting-view now d e phase page count 1 h phase_is in (
+      settled-still s t now d e is seat c.1 refl refl refl refl (record {
+        taken = before.taken;
+        ran = before.ran;
+        few_ran = before.few_ran;
+        adds = λ n. omega (arith, room.adds n, h.len n, h.capacity);
+        few = omega (arith, room.few, more);
+      }) h.rest,
       subst (λ x. HasRoomToNote x e) (sym c.1)
-          (subst (λ x. HasRoomToNote now x) (sym h.rest) (record { ran = room.ran })),
+          (subst (λ x. HasRoomToNote now x) (sym h.rest) room.ran),
       (
         count,
         ap (λ x. view_of x e) c.1
@@ -132,22 +105,8 @@ pub read-settled : (s t : StationView Held) (d : Desk) (page count : ℕ)
     → t ≡ record s { post = has_read s.post page count }
     → IsSettled t d
 read-settled s t d page count is seat e =
-    let before = is.sound.room in
-    settled-after s t d d is seat (ap (λ (x : StationView Held). x.post.opening.limits) e)
-    (ap (λ (x : StationView Held). x.post.last) e) (ap (λ (x : StationView Held). x.last.share) e)
-    (subst (λ xs. All (IsOwn t) xs) (sym (ap (λ (x : StationView Held). x.held.held) e))
-    (AreOwn-moved s t s.held.held (ap (λ (x : StationView Held). x.last.share) e)
-    (ap (λ (x : StationView Held). x.post.opening.marks) e) is.sound.held))
-    (subst (λ x. HasRoom x d) (sym e)
-    (record {
-      taken =
-          before.taken;
-      ran = before.ran;
-      few_ran = before.few_ran;
-      adds = before.adds;
-      few = before.few;
-    }))
-    refl
+    let now = record s { post = has_read s.post page count } in
+    settled-still s t now d d is seat e refl refl refl refl is.sound.room refl
 
 -- a page that was merged, and noted, leaves room
 pub merged-settled : (s t : StationView Held) (d e : Desk) (from phase : ℕ) (m : Merged)
@@ -166,16 +125,10 @@ merged-settled s t d e from phase m is seat merges h =
     omega (arith, sum_by-set (λ x. x) s.slice page 0 0 merges.next.there) in
     let same = merged_page-likes s page m.old merges.next.there in
     let before = is.sound.room in
-    settled-after s t d e is seat (ap (λ (x : StationView Held). x.post.opening.limits) merges.merged)
-    (ap (λ (x : StationView Held). x.post.last) merges.merged) (ap (λ (x : StationView Held). x.last.share) merges.merged)
-    (subst (λ xs. All (IsOwn t) xs) (sym (ap (λ (x : StationView Held). x.held.held) merges.merged))
-    (AreOwn-moved s t s.held.held (ap (λ (x : StationView Held). x.last.share) merges.merged)
-    (ap (λ (x : StationView Held). x.post.opening.marks) merges.merged) is.sound.held))
-    (subst (λ x. HasRoom x e) (sym merges.merged) (subst (λ x. HasRoom now x) (sym h.rest) (record {
+    settled-still s t now d e is seat merges.merged refl refl refl refl (record {
       taken = before.taken;
       ran = before.ran;
       few_ran = before.few_ran;
       adds = λ n. omega (arith, before.adds n, h.len n, h.capacity, less, some);
       few = omega (arith, before.few, same);
-    })))
-    h.rest
+    }) h.rest

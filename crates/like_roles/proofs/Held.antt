@@ -11,6 +11,7 @@ use Rattle.like_requests.specs.Verdict.{is_accepted}
 use Rattle.like_requests.specs.declared.request.Numbered.{Numbered}
 use Rattle.like_requests.specs.declared.request.Request.{Request}
 use Rattle.like_requests.specs.Setup.{IsThere}
+use Rattle.like_core.specs.declared.opening.Opening.{Opening}
 use Rattle.like_core.specs.Phase.{IsJoined, IsSplit, is_marked}
 use Rattle.like_core.specs.PhaseMasks.{mask_of}
 use Rattle.like_core.specs.Post.{pages_of, slices}
@@ -20,14 +21,15 @@ use Rattle.like_core.proofs.core.InPhase.{split-IsSplit}
 use Rattle.like_core.specs.declared.view.WorkerSeatView.{WorkerSeatView}
 use Rattle.like_tables.specs.Share.{submitter_of}
 use Rattle.like_tables.specs.declared.held.Held.{Held}
+use Rattle.like_tables.specs.Waiting.{Waiting}
 use Rattle.like_seat.specs.StationView.{IsStation, StationView}
 use Rattle.like_seat.specs.Steps.{holding, without_first}
 use Rattle.like_roles.specs.declared.worker.desk.Desk.{Desk}
-use Rattle.like_roles.specs.worker.WorkerView.{is_look_at_sliced}
+use Rattle.like_roles.specs.worker.WorkerView.{is_look_at_sliced, waits_at}
 use Rattle.like_promises.specs.Looks.{page_looked_at}
-use Rattle.like_roles.specs.declared.worker.desk.judged.Judged.{Judged}
+use Rattle.like_roles.specs.declared.worker.judged.Judged.{Judged}
 use Rattle.like_roles.specs.worker.Judged.{IsJudged}
-use Rattle.like_roles.specs.worker.Desk.{CanServe, HasRoom, HasRoomForOne, HasRoomToNote, HasSubmitters, IsOwn, IsSettled, IsSound, IsTried, view_of}
+use Rattle.like_roles.specs.worker.Desk.{CanServe, HasNotedTaken, HasRoom, HasRoomForOne, HasRoomToNote, HasSubmitters, IsOwn, IsSettled, IsSound, IsTried, view_of}
 use Rattle.like_roles.specs.worker.Turns.{trying, with_taken}
 use Rattle.like_roles.proofs.InBlocks.{runs-phase, runs-weaker}
 
@@ -85,6 +87,25 @@ settled-after s t d e is seat limits last share own room rest =
       untried = ap (λ (x : Desk). x.pending) rest ∙ is.untried;
     }
 
+-- so it does where it holds the same
+pub settled-still : (s t now : StationView Held) (d e : Desk)
+    → IsSettled s d
+    → IsStation t
+    → t ≡ now
+    → now.post.opening ≡ s.post.opening
+    → now.post.last ≡ s.post.last
+    → now.last.share ≡ s.last.share
+    → now.held ≡ s.held
+    → HasRoom now (record d { adds = e.adds })
+    → e ≡ record d { adds = e.adds }
+    → IsSettled t e
+settled-still s t now d e is seat same opening last share held room rest =
+    let marks = ap (λ (z : Opening). z.marks) opening in
+    let own = AreOwn-moved s now s.held.held share marks is.sound.held in
+    subst (λ x. IsSettled x e) (sym same)
+    (settled-after s now d e is (subst IsStation same seat) (ap (λ (z : Opening). z.limits) opening) last share
+    (subst (λ (w : Waiting Held). All (IsOwn now) w.held) (sym held) own) (subst (HasRoom now) (sym rest) room) rest)
+
 -- a worker stays sound where its post answers a phase or leaves, which changes the post's state, and no more that is asked of it
 pub sound-stopped : (s t : StationView Held) (d : Desk) (w : WorkerState)
     → IsSettled s d
@@ -92,19 +113,8 @@ pub sound-stopped : (s t : StationView Held) (d : Desk) (w : WorkerState)
     → t ≡ record s { post = record s.post { state = w; slots = [] } }
     → IsSound t d
 sound-stopped s t d w is seat e =
-    let share = ap (λ (x : StationView Held). x.last.share) e in
-    let own = AreOwn-moved s t s.held.held share (ap (λ (x : StationView Held). x.post.opening.marks) e) is.sound.held in
-    let room = is.sound.room in
-    (settled-after s t d d is seat (ap (λ (x : StationView Held). x.post.opening.limits) e)
-    (ap (λ (x : StationView Held). x.post.last) e) share
-    (subst (λ xs. All (IsOwn t) xs) (sym (ap (λ (x : StationView Held). x.held.held) e)) own)
-    (subst (λ x. HasRoom x d) (sym e) (record {
-      taken = room.taken;
-      ran = room.ran;
-      few_ran = room.few_ran;
-      adds = room.adds;
-      few = room.few;
-    })) refl).sound
+    let now = record s { post = record s.post { state = w; slots = [] } } in
+    (settled-still s t now d d is seat e refl refl refl refl is.sound.room refl).sound
 
 -- in a joined phase the submitter at a place may be tried where nothing is held
 pub tried-joined : (s : StationView Held) (d : Desk) (place : ℕ)
@@ -173,34 +183,37 @@ sound-tried s d e place is at rest =
           same (record { there = at.there; running = at.running; joined = at.joined; split = at.split });
     })
 
--- and one that tries nobody any more, also where it took an end mark
-pub sound-untried : (s : StationView Held) (d e : Desk)
+-- and one that tries nobody any more is settled, also where it took an end mark
+pub settled-untried : (s : StationView Held) (d e : Desk)
     → IsSound s d
     → vec_len e.ended ≡ vec_len d.ended
     → e ≡ record d { pending = None; ended = e.ended }
-    → IsSound s e
-sound-untried s d e is sized rest =
+    → IsSettled s e
+settled-untried s d e is sized rest =
     let places = is.places in
     let room = is.room in
-    subst (IsSound s) (sym rest) (record {
-      seat = is.seat;
-      run = is.run;
-      started = is.started;
-      places = record {
-        is_worker = places.is_worker;
-        sized = places.sized ∙ sym sized;
-        submitters = λ place inside. places.submitters place (omega (arith, inside, sized));
-        cursor = omega (arith, places.cursor, sized);
+    subst (IsSettled s) (sym rest) (record {
+      sound = record {
+        seat = is.seat;
+        run = is.run;
+        started = is.started;
+        places = record {
+          is_worker = places.is_worker;
+          sized = places.sized ∙ sym sized;
+          submitters = λ place inside. places.submitters place (omega (arith, inside, sized));
+          cursor = omega (arith, places.cursor, sized);
+        };
+        room = record {
+          taken = room.taken;
+          ran = room.ran;
+          few_ran = room.few_ran;
+          adds = room.adds;
+          few = room.few;
+        };
+        held = is.held;
+        tried = λ place tries. cc tries;
       };
-      room = record {
-        taken = room.taken;
-        ran = room.ran;
-        few_ran = room.few_ran;
-        adds = room.adds;
-        few = room.few;
-      };
-      held = is.held;
-      tried = λ place tries. cc tries;
+      untried = refl;
     })
 
 -- a worker stays settled that noted a request that it ran
@@ -227,7 +240,7 @@ settled-ran s d e is one len capacity rest =
         };
         room = record {
           taken = room.taken;
-          ran = omega (arith, one.ran, len, capacity);
+          ran = omega (arith, one, len, capacity);
           few_ran = omega (arith, room.few_ran, capacity);
           adds = room.adds;
           few = room.few;
@@ -310,21 +323,19 @@ pub sum-less : (xs : List ℕ) (i : ℕ) → i < length xs → 1 ≤ get_or xs i
 sum-less xs i h some = omega (arith, sum_by-set (λ x. x) xs i (get_or xs i 0 - 1) 0 h)
 
 -- a request was taken from the submitter at a place
-pub settled-taken : (s : StationView Held) (d n : Desk) (place : ℕ)
+pub settled-taken : (s : StationView Held) (d n : Desk) (phase place : ℕ) (h : Held)
     → IsSound s d
     → d.pending ≡ None
-    → place < length d.left.items
+    → place < vec_len d.ended
     → 1 ≤ get_or d.left.items place 0
-    → n.left.items ≡ set d.left.items place (get_or d.left.items place 0 - 1)
-    → vec_len n.taken ≡ vec_len d.taken + 1
-    → vec_capacity n.taken ≡ vec_capacity d.taken
-    → n ≡ record d { left = n.left; taken = n.taken } → IsSettled s n × HasRoomForOne s n
-settled-taken s d n place is none there some left taken capacity rest =
-    let m : Desk = record d { left = n.left; taken = n.taken } in
-    let less : sum n.left.items + 1 ≡ sum d.left.items = rw left (sum-less d.left.items place there some) in
+    → HasNotedTaken d n phase place h
+    → IsSettled s n × HasRoomForOne s n
+settled-taken s d n phase place h is none there some taken =
+    let here : place < length d.left.items = omega (arith, there, is.places.sized, d.left.ok.0) in
+    let less : sum n.left.items + 1 ≡ sum d.left.items = rw taken.left (sum-less d.left.items place here some) in
     let sized : length n.left.items ≡ length d.left.items =
-    ap length left ∙ length-set d.left.items place (get_or d.left.items place 0 - 1) in
-    subst (λ x. IsSettled s x × HasRoomForOne s x) (sym rest) (
+    ap length taken.left ∙ length-set d.left.items place (get_or d.left.items place 0 - 1) in
+    subst (λ x. IsSettled s x × HasRoomForOne s x) (sym taken.rest) (
       record {
         sound = record {
           seat = is.seat;
@@ -341,7 +352,7 @@ settled-taken s d n place is none there some left taken capacity rest =
           };
           room = record {
             taken =
-                omega (arith, is.room.taken);
+                omega (arith, is.room.taken, taken.len, taken.capacity);
             ran =
                 omega (arith, is.room.ran);
             few_ran =
@@ -391,24 +402,21 @@ IsOwn-taken s place submitter ask is_worker at there =
     }
 
 -- and may be answered now, where it need not wait
-pub CanServe-taken : (s : StationView Held) (d : Desk) (place : ℕ) (h : Held) (j : Judged) (waits : Bool)
+pub CanServe-taken : (s : StationView Held) (place : ℕ) (h : Held) (j : Judged) (waits : Bool)
     → s.last.share.worker < s.last.share.workers
     → h.submitter ≡ submitter_of s.last.share.workers s.last.share.worker place
     → IsThere (pages_of s.post) h.ask.request.page
     → IsJudged s.last.share h j
     → IsRunning s.post.state
-    → waits ≡ is_look_at_sliced s.last.share.users s.last.share.submitters (slices s.post) h.submitter h.ask.request
+    → waits ≡ waits_at s.post s.last.share h.submitter h.ask.request
     → waits ≡ false
-    → CanServe s d h j
-CanServe-taken s d place h j waits is_worker at there judged run is prompt =
-    let t = s.last.share in
-    record {
-      running = run;
-      served = ap (λ y. y % t.workers) at ∙ place-served t.worker t.workers place is_worker;
-      there = there;
-      judged = judged;
-      prompt = sym is ∙ prompt;
-    }
+    → CanServe s h j
+CanServe-taken s place h j waits is_worker at there judged run is prompt = record {
+  running = run;
+  own = IsOwn-taken s place h.submitter h.ask is_worker at there;
+  judged = judged;
+  prompt = sym is ∙ prompt;
+}
 
 -- a desk that tries the submitter at a place, after a look for held requests that found none
 pub view_of-tried : (s t : StationView Held) (d e : Desk) (place : ℕ)
@@ -419,15 +427,13 @@ view_of-tried s t d e place is same = (λ m. view_of (same m) (is m))
 
 -- and one that took a request from the submitter at a place
 pub view_of-taken : (s : StationView Held) (d n : Desk) (place phase submitter : ℕ) (ask : Numbered)
-    → n.left.items ≡ set d.left.items place (get_or d.left.items place 0 - 1)
-    → n.taken.items ≡ d.taken.items ++ record { phase = phase; submitter = submitter; number = ask.number } ∷ []
-    → n ≡ record d { left = n.left; taken = n.taken }
+    → HasNotedTaken d n phase place (record { submitter = submitter; ask = ask })
     → phase ≡ phase_of s.post.state
     → submitter ≡ submitter_of s.last.share.workers s.last.share.worker place
     → view_of s n ≡ with_taken (view_of s d) place ask
-view_of-taken s d n place phase submitter ask left taken rest phase_is submitter_is =
-    ap (view_of s) rest
-    ∙ (λ m. record (view_of s d) { left = left m; taken = taken m })
+view_of-taken s d n place phase submitter ask noted phase_is submitter_is =
+    ap (view_of s) noted.rest
+    ∙ (λ m. record (view_of s d) { left = noted.left m; taken = noted.taken m })
     ∙ (λ m. record (view_of s d) {
       left = set d.left.items place (get_or d.left.items place 0 - 1);
       taken =

@@ -14,6 +14,5 @@ pub mod counts
 pub mod notes
 pub mod Started
 pub mod choice
-pub mod Moved
 pub mod Rooms
 pub mod Moments

@@ -10,10 +10,9 @@ use Rattle.like_core.specs.Post.{pages_of}
 use Rattle.like_roles.proofs.PageOrder.{merge_of}
 use Rattle.like_promises.specs.declared.log.Added.{Added}
 use Rattle.like_roles.specs.declared.worker.desk.Desk.{Desk}
-use Rattle.like_roles.specs.worker.Desk.{view_of}
+use Rattle.like_roles.specs.worker.Desk.{HasNoted, view_of}
 use Rattle.like_roles.specs.worker.Serve.{noted_at, noted_if}
 use Rattle.like_roles.specs.worker.Turns.{IsMerged}
-use Rattle.like_roles.proofs.Counting.{HasNoted}
 
 -- no addition leaves what was noted
 noted-none : (notes : Bool) (at : ℕ) (xs : List Added) → xs ++ noted_if notes at [] ≡ xs

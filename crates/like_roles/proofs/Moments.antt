@@ -16,8 +16,8 @@ use Rattle.like_core.specs.Functions.{times, update}
 use Rattle.like_core.specs.PageSteps.{additions_among}
 use Rattle.like_core.specs.OpeningLimits.{run_limits}
 use Rattle.like_core.specs.Phase.{IsSplit}
-use Rattle.like_core.specs.Post.{KnowsSlices, slices}
-use Rattle.like_core.specs.WorkerState.{IsRunning, RunsSplit}
+use Rattle.like_core.specs.Post.{KnowsSlices}
+use Rattle.like_core.specs.WorkerState.{IsRunning}
 use Rattle.like_core.specs.core.Likes.{MayLike, given}
 use Rattle.like_core.specs.core.Moves.{LetsReturn}
 use Rattle.like_core.specs.core.Numbers.{total}

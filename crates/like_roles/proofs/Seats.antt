@@ -3,7 +3,6 @@ use Rattle.std.proofs.Common.{◌≡◌, List, refl, subst, sym}
 use Rattle.like_limits.specs.Buckets.{run_factor}
 use Rattle.like_requests.specs.Pages.{Page, marks_of}
 use Rattle.like_core.specs.declared.opening.Opening.{Opening}
-use Rattle.like_core.specs.declared.view.WorkerSeatView.{WorkerSeatView}
 use Rattle.like_core.specs.OpeningLimits.{run_limits}
 use Rattle.like_board.specs.declared.worker_seat.WorkerSeat.{WorkerSeat}
 use Rattle.like_board.specs.Seats.{AreFresh, BoardId}

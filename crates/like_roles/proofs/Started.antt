@@ -31,12 +31,12 @@ use Rattle.like_seat.proofs.MergedLikes.{cond_same, same_everywhere}
 use Rattle.like_roles.proofs.notes.NotedMerge.{noted-nothing, one-of_likes}
 
 -- a new worker follows the plans
-pub follows-new : (s : Setup) (sizes : List ℕ) (worker : ℕ) (board : List ℕ) (post : WorkerSeatView) (notes : Bool) (v : WorkerView)
+pub follows-new : (s : Setup) (sizes : List ℕ) (worker : ℕ) (post : WorkerSeatView) (notes : Bool) (v : WorkerView)
     (workload : Workload)
     → IsPostOf worker s.pages post
-    → IsNew s sizes worker board post notes v
+    → IsNew s sizes worker post notes v
     → IsWorkloadOf s sizes workload → Follows workload v
-follows-new s sizes worker board post notes v workload p new same =
+follows-new s sizes worker post notes v workload p new same =
     let marks_are : v.post.opening.marks ≡ marks_of workload.pages =
     ap (λ x. x.opening.marks) new.at_post ∙ p.opening.marks ∙ ap (map (λ q. q.split)) (sym same.pages_are) in
     let pages : pages_of v.post ≡ length s.pages =

@@ -8,5 +8,6 @@ pub mod New
 pub mod Judged
 pub mod Desk
 pub mod Follows
-pub mod Suspended
+pub mod Posted
+pub mod Work
 pub mod Moments

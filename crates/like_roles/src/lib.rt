@@ -17,4 +17,4 @@ pub use laws::workers_are_exclusive;
 pub use like_promises::{Added, Chosen, Ran, Reply, Took, WorkerLog};
 pub use like_requests::{Gate, NoGate};
 pub use turn::Turn;
-pub use worker::{NoWorker, SuspendedWorker, Worker};
+pub use worker::{NoWorker, Work, Worker};

@@ -24,14 +24,6 @@ limited-le chosen m =
 limited-none : (chosen : List Chosen) → within_limit chosen 0 ≡ 0
 limited-none chosen = let le = limited-le chosen 0 in omega arith
 
--- a mask of some page within the limit has room
-pub limited-room : (chosen : List Chosen) (m : ℕ) → 0 < within_limit chosen m → length chosen < max_chosen
-limited-room chosen m some = elim (cases_lt (length chosen) max_chosen) [
-  | inl below ↦ below
-  | inr past ↦ let none : within_limit chosen m ≡ 0 = ap (λ b. cond b m 0) (le-ltb (length chosen) max_chosen past) in
-      absurd (omega (arith, some, none))
-]
-
 -- the counts that were read are the totals, as those before them are
 pub totals-from : (total : ℕ → ℕ → ℕ) (c : CoordSeatView) (page : ℕ) (counts : List ℕ)
     → AreTotals total (counted_from c page counts).counted

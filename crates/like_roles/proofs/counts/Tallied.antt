@@ -28,7 +28,6 @@ use Rattle.like_promises.proofs.Accepted.{accepted_like, accepted_look, like_ran
 use Rattle.like_promises.specs.declared.log.Ran.{Ran}
 use Rattle.like_promises.specs.declared.reply.Reply.{Reply}
 use Rattle.like_promises.specs.declared.reply.Reply.TheVariants as reply
-use Rattle.like_core.specs.PhaseMasks.{AreMasksOf}
 use Rattle.like_roles.specs.worker.Follows.{ArePlainReads, IsAsked, IsServed, IsSized, IsTallied}
 use Rattle.like_promises.specs.Likes.{last_in, like_ran, likes_among, likes_ran, likes_within}
 use Rattle.like_promises.specs.Looks.{look_ran, page_looked_at}

@@ -1,26 +1,28 @@
 -- What a worker keeps, beside its seat.
-use Rattle.std.specs.Prelude.{◌≡◌, ℕ, ◌+◌, ◌<◌, ◌≤◌, Bool, true, false, List, [], length, sum, All, Some, None, is_some, replicate, vec_len, vec_capacity, if◌then◌else◌}
+use Rattle.std.specs.Prelude.{◌≡◌, ℕ, ◌+◌, ◌-◌, ◌<◌, ◌≤◌, Bool, true, false, List, [], ◌∷◌, ◌++◌, length, sum, All, Some, None, is_some, replicate, slice_index, slice_set, vec_len, vec_capacity, if◌then◌else◌}
 use Rattle.like_requests.specs.declared.setup.Setup.{Setup}
 use Rattle.like_requests.specs.Setup.{IsThere}
 use Rattle.like_core.specs.OpeningLimits.{run_limits}
 use Rattle.like_core.specs.Phase.{IsJoined, IsSplit}
 use Rattle.like_core.specs.Post.{pages_of}
-use Rattle.like_core.specs.WorkerState.{IsRunning}
+use Rattle.like_core.specs.WorkerState.{IsRunning, phase_of}
+use Rattle.like_core.specs.Additions.{all_added}
+use Rattle.like_core.specs.PageSteps.{additions_among}
+use Rattle.like_core.specs.declared.view.WorkerSeatView.{WorkerSeatView}
 use Rattle.like_tables.specs.declared.held.Held.{Held}
 use Rattle.like_limits.specs.Limits.{max_likes}
 use Rattle.like_tables.specs.Share.{Share, dealt, submitter_of, worker_of}
-use Rattle.like_seat.specs.StationView.{IsStation, StationView, likes_of, phase_at}
-use Rattle.like_roles.specs.declared.turn.Turn.{Turn}
+use Rattle.like_seat.specs.StationView.{IsStationOf, StationView, likes_of}
+use Rattle.like_tables.specs.Waiting.{Waiting}
 use Rattle.like_roles.specs.declared.worker.desk.Desk.{Desk}
-use Rattle.like_roles.specs.declared.worker.desk.judged.Judged.{Judged}
+use Rattle.like_roles.specs.declared.worker.judged.Judged.{Judged}
 use Rattle.like_roles.specs.worker.Judged.{IsJudged}
-use Rattle.like_roles.specs.worker.Turns.{Works}
-use Rattle.like_roles.specs.worker.WorkerView.{WorkerView, has_to_wait}
+use Rattle.like_roles.specs.worker.Serve.{noted_if}
+use Rattle.like_roles.specs.worker.WorkerView.{WorkerView, waits_at}
 
 -- the worker of a seat and what is kept beside it
 abbrev pub view_of : StationView Held → Desk → WorkerView
 view_of s d = record {
-  board = s.board;
   post = s.post;
   held = s.held;
   slice = s.slice;
@@ -36,17 +38,23 @@ view_of s d = record {
   adds = d.adds.items;
 }
 
--- a request that the worker may hold: of one of its submitters, and of a page that is there
-pub record IsOwn (s : StationView Held) (h : Held) : Type 0 where
-  pub served : worker_of s.last.share.workers h.submitter ≡ s.last.share.worker
-  pub there : IsThere (pages_of s.post) h.ask.request.page
+-- a request that a worker of these users may hold: of one of its submitters, and of a page that is there
+pub record IsOwnOf (post : WorkerSeatView) (users : Share) (h : Held) : Type 0 where
+  pub served : worker_of users.workers h.submitter ≡ users.worker
+  pub there : IsThere (pages_of post) h.ask.request.page
+
+abbrev pub IsOwn : StationView Held → Held → Type 0
+IsOwn s h = IsOwnOf s.post s.last.share h
 
 -- the submitter at a place is tried: it has not ended, and there is room for a look that waits
-pub record IsTried (s : StationView Held) (d : Desk) (place : ℕ) : Type 0 where
+pub record IsTriedAt (post : WorkerSeatView) (held : Waiting Held) (d : Desk) (place : ℕ) : Type 0 where
   pub there : place < vec_len d.ended
-  pub running : IsRunning s.post.state
-  pub joined : IsJoined (phase_at s) → s.held.held ≡ []
-  pub split : IsSplit (phase_at s) → length s.held.held < s.held.capacity
+  pub running : IsRunning post.state
+  pub joined : IsJoined (phase_of post.state) → held.held ≡ []
+  pub split : IsSplit (phase_of post.state) → length held.held < held.capacity
+
+abbrev pub IsTried : StationView Held → Desk → ℕ → Type 0
+IsTried s d place = IsTriedAt s.post s.held d place
 
 -- the submitters by place
 pub record HasSubmitters (s : Share) (d : Desk) : Type 0 where
@@ -58,51 +66,79 @@ pub record HasSubmitters (s : Share) (d : Desk) : Type 0 where
 
 -- there is room to take and to run what was not taken yet, and to run what is held; and, if additions are noted, to
 -- note one for each like that was not added yet: at most one for each of these requests and for each like in the slice
-pub record HasRoom (s : StationView Held) (d : Desk) : Type 0 where
+pub record HasRoomFor (likes sliced held : ℕ) (d : Desk) : Type 0 where
   pub taken : vec_len d.taken + sum d.left.items ≤ vec_capacity d.taken
-  pub ran : vec_len d.ran + length s.held.held + sum d.left.items ≤ vec_capacity d.ran
+  pub ran : vec_len d.ran + held + sum d.left.items ≤ vec_capacity d.ran
   pub few_ran : vec_capacity d.ran ≤ max_likes
-  pub adds : d.notes ≡ true
-      → vec_len d.adds + sum s.slice + length s.held.held + sum d.left.items ≤ vec_capacity d.adds
-  pub few : likes_of s + length s.held.held + sum d.left.items ≤ max_likes
+  pub adds : d.notes ≡ true → vec_len d.adds + sliced + held + sum d.left.items ≤ vec_capacity d.adds
+  pub few : likes + held + sum d.left.items ≤ max_likes
+
+abbrev pub HasRoom : StationView Held → Desk → Type 0
+HasRoom s d = HasRoomFor (likes_of s) (sum s.slice) (length s.held.held) d
 
 -- and there is room to run one more request
-pub record HasRoomForOne (s : StationView Held) (d : Desk) : Type 0 where
-  pub ran : vec_len d.ran + length s.held.held + sum d.left.items < vec_capacity d.ran
-  pub adds : d.notes ≡ true
-      → vec_len d.adds + sum s.slice + length s.held.held + sum d.left.items < vec_capacity d.adds
-  pub few : likes_of s + length s.held.held + sum d.left.items < max_likes
+pub record HasRoomForMore (likes sliced held : ℕ) (d : Desk) : Type 0 where
+  pub ran : vec_len d.ran + held + sum d.left.items < vec_capacity d.ran
+  pub adds : d.notes ≡ true → vec_len d.adds + sliced + held + sum d.left.items < vec_capacity d.adds
+  pub few : likes + held + sum d.left.items < max_likes
+
+abbrev pub HasRoomForOne : StationView Held → Desk → Type 0
+HasRoomForOne s d = HasRoomForMore (likes_of s) (sum s.slice) (length s.held.held) d
 
 -- there is room to note one more request that was run
-pub record HasRoomToNote (s : StationView Held) (d : Desk) : Type 0 where
-  pub ran : vec_len d.ran + length s.held.held + sum d.left.items < vec_capacity d.ran
+abbrev pub HasRoomToNote : StationView Held → Desk → Type 0
+HasRoomToNote s d = vec_len d.ran + length s.held.held + sum d.left.items < vec_capacity d.ran
+
+-- a request was noted as taken in a phase from the submitter at a place, which has one less left
+pub record HasNotedTaken (d e : Desk) (phase place : ℕ) (h : Held) : Type 0 where
+  pub left : e.left.items ≡ slice_set d.left.items place (slice_index d.left.items place - 1)
+  pub taken : e.taken.items
+      ≡ d.taken.items ++ record { phase = phase; submitter = h.submitter; number = h.ask.number } ∷ []
+  pub len : vec_len e.taken ≡ vec_len d.taken + 1
+  pub capacity : vec_capacity e.taken ≡ vec_capacity d.taken
+  pub rest : e ≡ record d { left = e.left; taken = e.taken }
+
+-- an addition to a page in a phase was noted, where additions are
+pub record HasNoted (d e : Desk) (phase page old n : ℕ) : Type 0 where
+  pub noted : e.adds.items
+      ≡ d.adds.items
+      ++ noted_if d.notes (length d.ran.items) (record { phase = phase; page = page; old = old; likes = n } ∷ [])
+  pub len : d.notes ≡ true → vec_len e.adds ≡ vec_len d.adds + 1
+  pub capacity : vec_capacity e.adds ≡ vec_capacity d.adds
+  pub rest : e ≡ record d { adds = e.adds }
 
 -- what is true of a worker between two calls: its board has the limits of a run, and it has started once its post looked
-pub record IsSound (s : StationView Held) (d : Desk) : Type 0 where
-  pub seat : IsStation s
-  pub run : s.post.opening.limits ≡ run_limits
-  pub started : d.started ≡ is_some s.post.last
-  pub places : HasSubmitters s.last.share d
-  pub room : HasRoom s d
-  pub held : All (IsOwn s) s.held.held
-  pub tried : (place : ℕ) → d.pending ≡ Some place → IsTried s d place
+pub record IsSoundAt (post : WorkerSeatView) (waiting : Waiting Held) (slice : List ℕ) (users : Share) (d : Desk)
+    : Type 0 where
+  pub seat : IsStationOf post waiting slice
+  pub run : post.opening.limits ≡ run_limits
+  pub started : d.started ≡ is_some post.last
+  pub places : HasSubmitters users d
+  pub room : HasRoomFor (all_added (additions_among post.did) + sum slice) (sum slice) (length waiting.held) d
+  pub held : All (IsOwnOf post users) waiting.held
+  pub tried : (place : ℕ) → d.pending ≡ Some place → IsTriedAt post waiting d place
+
+abbrev pub IsSound : StationView Held → Desk → Type 0
+IsSound s d = IsSoundAt s.post s.held s.slice s.last.share d
 
 -- and no submitter is tried
-pub record IsSettled (s : StationView Held) (d : Desk) : Type 0 where
-  pub sound : IsSound s d
+pub record IsSettledAt (post : WorkerSeatView) (waiting : Waiting Held) (slice : List ℕ) (users : Share) (d : Desk)
+    : Type 0 where
+  pub sound : IsSoundAt post waiting slice users d
   pub untried : d.pending ≡ None
 
--- what the worker does that has looked and runs a phase, by its seat and its desk before and after
-abbrev pub WorksAt : StationView Held → Desk → Bool → Turn → StationView Held → Desk → Type 0
-WorksAt s d ending answer t e = Works (view_of s d) ending answer (view_of t e)
+abbrev pub IsSettled : StationView Held → Desk → Type 0
+IsSettled s d = IsSettledAt s.post s.held s.slice s.last.share d
 
 -- a judged request of the worker that may be answered now
-pub record CanServe (s : StationView Held) (d : Desk) (h : Held) (j : Judged) : Type 0 where
-  pub running : IsRunning s.post.state
-  pub served : worker_of s.last.share.workers h.submitter ≡ s.last.share.worker
-  pub there : IsThere (pages_of s.post) h.ask.request.page
-  pub judged : IsJudged s.last.share h j
-  pub prompt : has_to_wait (view_of s d) h.submitter h.ask.request ≡ false
+pub record CanServeAt (post : WorkerSeatView) (users : Share) (h : Held) (j : Judged) : Type 0 where
+  pub running : IsRunning post.state
+  pub own : IsOwnOf post users h
+  pub judged : IsJudged users h j
+  pub prompt : waits_at post users h.submitter h.ask.request ≡ false
+
+abbrev pub CanServe : StationView Held → Held → Judged → Type 0
+CanServe s h j = CanServeAt s.post s.last.share h j
 
 -- what a worker keeps at first; it has room for additions only if it notes them
 pub record IsNewDesk (s : Setup) (sizes : List ℕ) (worker : ℕ) (notes : Bool) (d : Desk) : Type 0 where

@@ -8,8 +8,8 @@ use Rattle.like_requests.specs.declared.verdict.Verdict.{Verdict}
 use Rattle.like_requests.specs.declared.verdict.Verdict.TheVariants.{Accepted}
 use Rattle.like_tables.specs.Share.{Share}
 use Rattle.like_tables.specs.declared.held.Held.{Held}
-use Rattle.like_roles.specs.declared.worker.desk.judged.Judged.{Judged}
-use Rattle.like_roles.specs.declared.worker.desk.judged.Judged.TheVariants as judged
+use Rattle.like_roles.specs.declared.worker.judged.Judged.{Judged}
+use Rattle.like_roles.specs.declared.worker.judged.Judged.TheVariants as judged
 
 -- the verdict on a request of a submitter
 abbrev pub verdict_on : Share → Held → Verdict

@@ -11,6 +11,7 @@ use Rattle.like_board.specs.Seats.{BoardId, seat_board, seat_view}
 use Rattle.like_core.specs.declared.view.WorkerSeatView.{WorkerSeatView}
 use Rattle.like_tables.specs.Share.{dealt, share_of}
 use Rattle.like_tables.specs.UserTable.{table_without_likes}
+use Rattle.like_roles.specs.worker.Posted.{PostedWorker}
 use Rattle.like_roles.specs.worker.WorkerView.{WorkerView}
 
 -- a board of a run with these pages, where page i has bucket i
@@ -32,9 +33,8 @@ AreNewSeats board pages seats =
     → (seat_board seat ≡ board) × IsPostOf worker pages (seat_view seat)
 
 -- a worker that has done nothing yet, and notes its additions or does not
-pub record IsNew (s : Setup) (sizes : List ℕ) (worker : ℕ) (board : List ℕ) (post : WorkerSeatView) (notes : Bool)
-    (v : WorkerView) : Type 0 where
-  pub at_board : v.board ≡ board
+pub record IsNew (s : Setup) (sizes : List ℕ) (worker : ℕ) (post : WorkerSeatView) (notes : Bool) (v : WorkerView)
+    : Type 0 where
   pub at_post : v.post ≡ post
   pub held : v.held ≡ record { held = []; capacity = s.stash }
   pub slice : v.slice ≡ replicate (length s.pages) 0
@@ -48,3 +48,9 @@ pub record IsNew (s : Setup) (sizes : List ℕ) (worker : ℕ) (board : List ℕ
   pub ran : v.ran ≡ []
   pub notes_are : v.notes ≡ notes
   pub adds : v.adds ≡ []
+
+-- a new worker at a post of a board with these numbers
+pub record IsNewAt (s : Setup) (sizes : List ℕ) (worker : ℕ) (board : List ℕ) (post : WorkerSeatView) (notes : Bool)
+    (v : PostedWorker) : Type 0 where
+  pub at_board : v.board ≡ board
+  pub new : IsNew s sizes worker post notes v.worker

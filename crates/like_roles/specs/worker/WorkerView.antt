@@ -1,5 +1,5 @@
 -- What a worker is, as contracts see it.
-use Rattle.std.specs.Prelude.{◌≡◌, ℕ, ◌+◌, ◌-◌, ◌<◌, ◌&&◌, nat_le, if◌then◌else◌, Bool, true, false, List, length, slice_index_or, Option}
+use Rattle.std.specs.Prelude.{◌≡◌, ℕ, ◌+◌, ◌-◌, ◌<◌, ◌&&◌, nat_le, if◌then◌else◌, Bool, true, false, List, [], length, slice_index_or, Option}
 use Rattle.std.specs.Option.{option_map_or}
 use Rattle.like_requests.specs.Verdict.{is_accepted}
 use Rattle.like_requests.specs.declared.request.Request.{Request}
@@ -9,7 +9,7 @@ use Rattle.like_core.specs.Post.{slices}
 use Rattle.like_core.specs.declared.view.WorkerSeatView.{WorkerSeatView}
 use Rattle.like_seat.specs.StationView.{StationView}
 use Rattle.like_seat.specs.SlicedLike.{SlicedLike}
-use Rattle.like_tables.specs.Share.{submitter_of}
+use Rattle.like_tables.specs.Share.{Share, submitter_of}
 use Rattle.like_tables.specs.declared.held.Held.{Held}
 use Rattle.like_tables.specs.UserTable.{UserTable}
 use Rattle.like_tables.specs.Waiting.{Waiting}
@@ -17,13 +17,12 @@ use Rattle.like_promises.specs.declared.log.Added.{Added}
 use Rattle.like_promises.specs.declared.log.Ran.{Ran}
 use Rattle.like_promises.specs.declared.log.Took.{Took}
 
--- the numbers that tell its board from others; its post; the looks that it holds, which are its stash in a split phase
--- and its backlog in a joined one; its slice, a number for each page; all likes that ever went into its slice, in
--- order; for each of its submitters by place, how many requests of it were not taken yet and whether its end mark was
--- taken; the place at which it looks for a submitter next; the place of the submitter that it tries, if it tries one;
--- the last likes of its users; what it took and what it ran; whether it notes its additions, and those that it noted
+-- its post; the looks that it holds, which are its stash in a split phase and its backlog in a joined one; its slice, a
+-- number for each page; all likes that ever went into its slice, in order; for each of its submitters by place, how many
+-- requests of it were not taken yet and whether its end mark was taken; the place at which it looks for a submitter next;
+-- the place of the submitter that it tries, if it tries one; the last likes of its users; what it took and what it ran;
+-- whether it notes its additions, and those that it noted
 pub record WorkerView : Type 0 where
-  pub board : List ℕ
   pub post : WorkerSeatView
   pub held : Waiting Held
   pub slice : List ℕ
@@ -38,15 +37,13 @@ pub record WorkerView : Type 0 where
   pub notes : Bool
   pub adds : List Added
 
--- the seat of a worker
+-- the seat of a worker, whichever board it is at
 abbrev pub seat_of : WorkerView → StationView Held
-seat_of v =
-    record { board = v.board; post = v.post; held = v.held; slice = v.slice; sliced = v.sliced; last = v.last }
+seat_of v = record { board = []; post = v.post; held = v.held; slice = v.slice; sliced = v.sliced; last = v.last }
 
 -- with its seat like this, and all else the same
 abbrev pub with_seat : WorkerView → StationView Held → WorkerView
-with_seat v s =
-    record v { board = s.board; post = s.post; held = s.held; slice = s.slice; sliced = s.sliced; last = s.last }
+with_seat v s = record v { post = s.post; held = s.held; slice = s.slice; sliced = s.sliced; last = s.last }
 
 -- the phase that it runs or has answered
 abbrev pub phase_at : WorkerView → ℕ
@@ -78,7 +75,9 @@ is_look_at_sliced users submitters is_sliced submitter r =
     is_accepted users submitters submitter r
     && option_map_or is_sliced (page_looked_at r.op r.page) false
 
--- whether a request of a submitter has to wait for the next joined phase
+-- whether a request of a submitter has to wait for the next joined phase, of a worker at this post with these users
+abbrev pub waits_at : WorkerSeatView → Share → ℕ → Request → Bool
+waits_at post users submitter r = is_look_at_sliced users.users users.submitters (slices post) submitter r
+
 abbrev pub has_to_wait : WorkerView → ℕ → Request → Bool
-has_to_wait v submitter r =
-    is_look_at_sliced v.last.share.users v.last.share.submitters (slices v.post) submitter r
+has_to_wait v submitter r = waits_at v.post v.last.share submitter r

@@ -1,18 +1,6 @@
-ghost use Rattle.std.specs.Prelude.{◌≡◌};
-ghost use Rattle.like_core.specs.OpeningLimits.{run_limits};
-ghost use Rattle.like_seat.specs.StationView.{phase_at};
-
-mod additions;
-mod judged;
 mod new_desk;
-mod request;
-mod taken;
-mod turns;
 
-use like_core::Post;
 use like_promises::{Added, Ran, Took};
-use like_seat::RunStation;
-use like_tables::Held;
 
 /// What a worker keeps beside its seat, of its submitters' plans and of what it has done.
 #[derive(Drop)]
@@ -32,12 +20,4 @@ pub(crate) struct Desk {
     /// Whether it notes its additions.
     pub notes: bool,
     pub adds: Vec<Added>,
-}
-
-// The phase that a worker runs or has answered, which in a run is below 2^24.
-pub(crate) fn phase_of_run<P: Post>(seat: &RunStation<P, Held>) -> u32
-    requires { seat.now.post.opening.limits ≡ run_limits }
-    ensures { result ≡ phase_at seat.now }
-{
-    seat.phase() as u32
 }

@@ -1,4 +1,4 @@
-ghost use Rattle.std.specs.Prelude.{◌≡◌, ◌<◌, ◌≤◌, ℕ, true, false, slice_index_or, MatchOption, length};
+ghost use Rattle.std.specs.Prelude.{◌≡◌, ◌<◌, ◌≤◌, ℕ, true, slice_index_or, MatchOption, length};
 ghost use Rattle.like_roles.specs.worker.WorkerView.{IsNextPlace};
 ghost use Rattle.like_roles.specs.worker.Places.{IsFirstOpen};
 

@@ -1,4 +1,4 @@
-ghost use Rattle.std.specs.Prelude.{◌≡◌, ℕ, ◌<◌, ◌≤◌, ◌^◌, All, IfOk, length, replicate, sum, vec_len, vec_capacity, false, [], None};
+ghost use Rattle.std.specs.Prelude.{◌≡◌, ℕ, ◌<◌, ◌≤◌, All, IfOk, length, sum, false, None};
 ghost use Rattle.like_limits.specs.Limits.{max_likes, max_requests, max_submitters, max_workers};
 ghost use Rattle.like_tables.specs.Share.{dealt, submitter_of};
 ghost use Rattle.like_requests.specs.Setup.{IsWithin};

@@ -1,4 +1,4 @@
-use Rattle.std.proofs.Common.{◌≡◌, ◌++◌, ◌∷◌, [], Bool, length, ap, sym, ◌∙◌, rules}
+use Rattle.std.proofs.Common.{◌≡◌, ◌++◌, ◌∷◌, [], Bool, length, ap, refl, sym, ◌∙◌, rules}
 use Rattle.like_core.specs.declared.view.Addition.{Addition}
 use Rattle.like_promises.specs.declared.log.Added.{Added}
 use Rattle.like_roles.specs.worker.Serve.{noted_if}
@@ -7,8 +7,8 @@ use Rattle.like_roles.proofs.worker.desk.Desk.note_addition.Goals as goal
 pub push_reserved-requires : goal.push_reserved-requires
 push_reserved-requires c = c.requires.room c.if-self.true
 
-pub returns-then-self-clause-noted : goal.returns-then-self-clause-noted
-returns-then-self-clause-noted c =
+pub returns-then-self : goal.returns-then-self
+returns-then-self c =
     let had = c.args.self.now.adds.items in
     let ran = c.args.self.now.ran.items in
     let at : c.len.result ≡ length ran = search rules in
@@ -16,9 +16,12 @@ returns-then-self-clause-noted c =
     record { phase = c.args.phase; page = c.args.page; old = c.args.old; likes = c.args.n } in
     let note : Added =
     record { page = c.args.page; phase = c.args.phase; at = c.len.result; old = c.args.old; n = c.args.n } in
-    c.push_reserved.ensures.items
-    ∙ (λ i. had ++ record note { at = at i } ∷ [])
-    ∙ ap (λ (notes : Bool). had ++ noted_if notes (length ran) (one ∷ [])) (sym c.if-self.true)
-
-pub returns-then-self-clause-len : goal.returns-then-self-clause-len
-returns-then-self-clause-len c = λ _. c.push_reserved.ensures.len
+    let push = c.push_reserved.ensures in
+    record {
+      noted = push.items
+          ∙ (λ i. had ++ record note { at = at i } ∷ [])
+          ∙ ap (λ (notes : Bool). had ++ noted_if notes (length ran) (one ∷ [])) (sym c.if-self.true);
+      len = λ _. push.len;
+      capacity = push.capacity;
+      rest = refl;
+    }

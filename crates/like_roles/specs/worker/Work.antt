@@ -1,0 +1,28 @@
+-- A worker's work, at a post.
+use Rattle.std.specs.Prelude.{[]}
+use Rattle.like_core.specs.declared.view.WorkerSeatView.{WorkerSeatView}
+use Rattle.like_seat.specs.Kept as kept
+use Rattle.like_seat.specs.Kept.{IsKept}
+use Rattle.like_seat.specs.StationView.{StationView}
+use Rattle.like_tables.specs.declared.held.Held.{Held}
+use Rattle.like_roles.specs.declared.worker.work.Work.{Work}
+use Rattle.like_roles.specs.worker.Desk.{IsSettled, IsSound, view_of}
+use Rattle.like_roles.specs.worker.WorkerView.{WorkerView}
+
+-- its station at a post whose seat knows this; which board that is at is told apart
+abbrev pub seat_at : WorkerSeatView → Work → StationView Held
+seat_at post w = kept.view_of [] post w.tables
+
+-- the worker at such a post
+abbrev pub worker_at : WorkerSeatView → Work → WorkerView
+worker_at post w = view_of (seat_at post w) w.desk
+
+-- the work is that of such a post, and holds what is true of a worker between two calls
+pub record IsReady (post : WorkerSeatView) (w : Work) : Type 0 where
+  pub kept : IsKept post w.tables
+  pub sound : IsSound (seat_at post w) w.desk
+
+-- and no submitter is tried
+pub record IsIdle (post : WorkerSeatView) (w : Work) : Type 0 where
+  pub kept : IsKept post w.tables
+  pub settled : IsSettled (seat_at post w) w.desk
