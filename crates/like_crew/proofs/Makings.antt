@@ -77,7 +77,7 @@ pub is-server : (setup : Setup) (sizes : List ℕ) (worker : ℕ) (inboxes own :
     → sizes ≡ map length (plans_of inboxes)
     → own ≡ dealt setup.workers worker inboxes
     → IsPostOf worker setup.pages post
-    → s.worker.board ≡ board
+    → s.board ≡ board
     → s.worker.last.share ≡ share_of setup.users (length sizes) setup.workers worker
     → s.worker.post ≡ post → s.worker.notes ≡ notes
     → ((workload : Workload) → IsWorkloadOf setup sizes workload → AreOwnPlans workload setup.workers worker own

@@ -4,3 +4,4 @@ pub mod Stepped
 pub mod Sums
 pub mod Deals
 pub mod Dealt
+pub mod Mapped

@@ -8,6 +8,8 @@ pub mod Agreeing
 pub mod Later
 pub mod Opened
 pub mod OnlyOpen
+pub mod Boards
+pub mod Trying
 pub mod Finishing
 pub mod Leaving
 pub mod Making
@@ -15,6 +17,5 @@ pub mod Modelled
 pub mod Turning
 pub mod Owned
 pub mod Seated
-pub mod Exchanged
 pub mod OwnMaking
 pub mod OwnFinishing

@@ -21,7 +21,7 @@ use Rattle.like_crew.specs.Servers.{AreServers}
 
 -- the seat that a server leaves: at its board, it knows what the server's post does
 pub record IsSeatOf (s : ServerView) (seat : WorkerSeat) : Type 0 where
-  pub board : board_numbers (seat_board seat) ≡ s.worker.board
+  pub board : board_numbers (seat_board seat) ≡ s.board
   pub view : seat_view seat ≡ s.worker.post
 
 -- a server went on from this one until its worker was gone, and left this log and this seat

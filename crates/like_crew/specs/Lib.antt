@@ -9,5 +9,6 @@ pub mod Progress
 pub mod Server
 pub mod ServerTurns
 pub mod Servers
+pub mod Serving
 pub mod Site
 pub mod Steps

@@ -21,8 +21,10 @@ use Rattle.like_roles.specs.worker.WorkerView.{WorkerView, phase_at}
 use Rattle.like_promises.specs.Log.{IsLog, numbers_taken}
 use Rattle.like_serial.specs.StepsTold.{plain_told, steps_ran}
 
--- the worker, the inboxes of its submitters by place, and how many items of each are open to it
+-- the numbers that tell its board from others, the worker, the inboxes of its submitters by place, and how many items of
+-- each are open to it
 pub record ServerView : Type 0 where
+  pub board : List ℕ
   pub worker : WorkerView
   pub inboxes : List InboxView
   pub opened : List ℕ
@@ -107,7 +109,7 @@ pub record ServerGoesOn (s t : ServerView) : Type 0 where
   pub share : t.worker.last.share ≡ s.worker.last.share
   pub notes : t.worker.notes ≡ s.worker.notes
   pub whose : t.worker.post.worker ≡ s.worker.post.worker
-  pub board : t.worker.board ≡ s.worker.board
+  pub board : t.board ≡ s.board
   pub inboxes : length t.inboxes ≡ length s.inboxes
   pub works : (workload : Workload) → WorksFor workload s → WorksFor workload t
 

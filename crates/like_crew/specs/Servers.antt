@@ -14,7 +14,7 @@ pub record IsServer (workload : Workload) (workers : ℕ) (board : List ℕ) (no
     (s : ServerView) : Type 0 where
   pub share : s.worker.last.share ≡ share_of workload.users (submitters workload) workers worker
   pub whose : s.worker.post.worker ≡ worker
-  pub board_is : s.worker.board ≡ board
+  pub board_is : s.board ≡ board
   pub notes_are : s.worker.notes ≡ notes
   pub works : (hot : ℕ → ℕ) → WorksFor (record workload { hot = hot }) s
 
@@ -28,7 +28,7 @@ AreServers workload workers board notes servers =
 pub record IsNewServer (setup : Setup) (plans : List (List Request)) (notes : Bool) (worker : ℕ) (s : ServerView)
     : Type 0 where
   pub post : IsPostOf worker setup.pages s.worker.post
-  pub new : IsNew setup (map length plans) worker s.worker.board s.worker.post notes s.worker
+  pub new : IsNew setup (map length plans) worker s.worker.post notes s.worker
   pub inboxes : s.inboxes ≡ map untouched (dealt setup.workers worker plans)
   pub closed : s.opened ≡ replicate (length s.inboxes) 0
 

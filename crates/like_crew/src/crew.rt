@@ -21,10 +21,11 @@ mod own_crew;
 mod own_servers;
 mod run_coordinator;
 mod server;
+mod serving;
 
 pub use coordinator_at::CoordinatorAt;
 pub use own_crew::OwnCrew;
-pub use server::{OwnServer, OwnTurn, Server};
+pub use server::{OwnServer, Server};
 
 /// The crew of a run: the coordinator at its board, and for each worker, in order, its server, which takes from inboxes
 /// of one kind.

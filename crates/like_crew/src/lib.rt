@@ -8,7 +8,7 @@ mod outcome;
 mod report;
 mod site;
 
-pub use crew::{CoordinatorAt, Crew, OwnCrew, OwnServer, OwnTurn, Server};
+pub use crew::{CoordinatorAt, Crew, OwnCrew, OwnServer, Server};
 pub use ended::Ended;
 pub use outcome::Outcome;
 pub use report::{report_in_parallel, report_of};

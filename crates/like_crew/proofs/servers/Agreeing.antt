@@ -9,7 +9,7 @@ use Rattle.like_requests.specs.declared.request.Numbered.{Numbered}
 use Rattle.like_requests.specs.declared.request.Request.{Request}
 use Rattle.like_requests.specs.declared.request.Taken.{Taken}
 use Rattle.like_requests.specs.declared.request.Taken.TheVariants as taken
-use Rattle.like_core.specs.PhaseMasks.{AreMasksOf, KeepsMasks}
+use Rattle.like_core.specs.PhaseMasks.{KeepsMasks}
 use Rattle.like_core.specs.Post.{pages_of}
 use Rattle.like_core.proofs.PhaseMasks.{masks-before}
 use Rattle.like_queue.specs.Inbox.{HandsOver, InboxView, item_count}
@@ -24,7 +24,7 @@ use Rattle.like_roles.specs.worker.Turns.{CanGive, Gives, HasTaken, IsNext, Pend
 use Rattle.like_requests.specs.Setup.{IsThere}
 use Rattle.like_roles.specs.worker.WorkerView.{WorkerView, phase_at, submitter_at}
 use Rattle.like_promises.specs.Log.{numbers_taken}
-use Rattle.like_crew.specs.Server.{Agree, AgreesAt, AreOwnPlans, IsRising, WorksFor, numbers_given, plans_of, requests_taken}
+use Rattle.like_crew.specs.Server.{Agree, AgreesAt, AreOwnPlans, IsRising, ReadMasksOf, ServerView, WorksFor, numbers_given, plans_of, requests_taken}
 use Rattle.like_crew.proofs.lists.Stepped.{slice_get-set_other, slice_get-set_same}
 use Rattle.like_crew.proofs.servers.Numbers.{count-taken, given-own, numbers-next, numbers-same}
 use Rattle.like_crew.proofs.servers.Shares.{plan-at}
@@ -58,28 +58,29 @@ agree-turn v w inboxes answer turns k a =
       unnoted = λ n. let was : v.notes ≡ false = sym k.notes ∙ n in turns-adds v answer w was turns ∙ a.unnoted was;
     }
 
--- a worker of the same run, with inboxes of the same plans, that follows the plans too
-serves-on : (workload : Workload) (v w : WorkerView) (before after : List InboxView)
-    → w.last.share ≡ v.last.share
-    → plans_of after ≡ plans_of before
-    → (AreMasksOf workload.hot w.post.masks → Follows workload w)
-    → (opened more : List ℕ)
-    → WorksFor workload (record { worker = v; inboxes = before; opened = opened })
-    → WorksFor workload (record { worker = w; inboxes = after; opened = more })
-serves-on workload v w before after share plans follows opened more h = record {
-  plans = plans ∙ h.plans ∙ ap (λ (s : Share). dealt s.workers s.worker workload.plans) (sym share);
+-- a server of the same run, with inboxes of the same plans, whose worker follows the plans too
+pub works-on : (workload : Workload) (s t : ServerView)
+    → t.worker.last.share ≡ s.worker.last.share
+    → plans_of t.inboxes ≡ plans_of s.inboxes
+    → (ReadMasksOf workload t → Follows workload t.worker)
+    → WorksFor workload s
+    → WorksFor workload t
+works-on workload s t share plans follows h = record {
+  plans = plans ∙ h.plans ∙ ap (λ (x : Share). dealt x.workers x.worker workload.plans) (sym share);
   follows = follows;
 }
 
-pub serves-turn : (workload : Workload) (v w : WorkerView) (inboxes : List InboxView) (opened : List ℕ)
-    → TakesNothing v w
-    → (AreMasksOf workload.hot w.post.masks → Follows workload v → Follows workload w)
-    → WorksFor workload (record { worker = v; inboxes = inboxes; opened = opened })
-    → WorksFor workload (record { worker = w; inboxes = inboxes; opened = opened })
-serves-turn workload v w inboxes opened k follows h =
-    serves-on workload v w inboxes inboxes k.share refl
-    (λ right. follows right (h.follows (masks-before workload.hot v.post.masks w.post.masks k.masks right))) opened
-    opened h
+-- a turn that takes nothing
+pub works-turn : (workload : Workload) (s t : ServerView)
+    → TakesNothing s.worker t.worker
+    → (ReadMasksOf workload t → Follows workload s.worker → Follows workload t.worker)
+    → t.inboxes ≡ s.inboxes
+    → WorksFor workload s
+    → WorksFor workload t
+works-turn workload s t k follows same h =
+    works-on workload s t k.share (ap plans_of same)
+    (λ right. follows right
+    (h.follows (masks-before workload.hot s.worker.post.masks t.worker.post.masks k.masks right))) h
 
 -- what was taken from the inbox at a place, in the worker's own words
 record Changes (v w : WorkerView) (place left : ℕ) (ended : Bool) : Type 0 where
@@ -301,20 +302,20 @@ module _ (v : WorkerView) (inboxes : List InboxView) (place : ℕ) (i j : InboxV
         (subst IsRising (sym k.taken) a.rising) seen (none-noted taken.Nothing gives has))
 
   -- and the worker follows the plans on
-  pub serves-give : (workload : Workload) (w : WorkerView) (took : Taken) → HandsOver i took j → HasTaken v took w
+  pub works-given : (workload : Workload) (w : WorkerView) (took : Taken) (board opened more : List ℕ) → HandsOver i took j
+      → HasTaken v took w
       → (IsAskedBy workload v took → Follows workload v → Follows workload w)
-      → (opened more : List ℕ)
-      → WorksFor workload (record { worker = v; inboxes = inboxes; opened = opened })
-      → WorksFor workload (record { worker = w; inboxes = set inboxes place j; opened = more })
-  serves-give workload w took t has follows opened more h =
+      → WorksFor workload (record { board = board; worker = v; inboxes = inboxes; opened = opened })
+      → WorksFor workload (record { board = board; worker = w; inboxes = set inboxes place j; opened = more })
+  works-given workload w took board opened more t has follows h =
       let plans : plans_of (set inboxes place j) ≡ plans_of inboxes =
       map-set_same (λ (x : InboxView). x.plan) inboxes place j i
       (plan-taken i j took t
       ∙ ap (λ (x : InboxView). x.plan) (sym (get_or_from_slice_get inboxes place i i here))) in
-      serves-on workload v w inboxes (set inboxes place j) (share-given v w place took trying has) plans
+      works-on workload _ _ (share-given v w place took trying has) plans
       (λ right. follows (asks took t)
       (h.follows (masks-before workload.hot v.post.masks w.post.masks
-      (masks-given v w place took trying has) right))) opened more h where
+      (masks-given v w place took trying has) right))) h where
         asks : (x : Taken) → HandsOver i x j → IsAskedBy workload v x
         asks (taken.Ask ask) u = λ p e.
             subst (λ q. request_at workload (submitter_at v q) ask.number ≡ Some ask.request)

@@ -115,13 +115,13 @@ there-too pages marks e r =
     (sym (ap (λ (xs : List Bool). length xs) e ∙ length-map pages (λ (p : Page). p.split)))
 
 -- a worker that has done nothing yet agrees with untouched inboxes
-pub agree-new : (s : Setup) (sizes : List ℕ) (number : ℕ) (board : List ℕ) (post : WorkerSeatView) (notes : Bool) (v : WorkerView)
+pub agree-new : (s : Setup) (sizes : List ℕ) (number : ℕ) (post : WorkerSeatView) (notes : Bool) (v : WorkerView)
     (inboxes : List InboxView)
     → number < s.workers
     → IsPostOf number s.pages post
     → AreInboxesFor s sizes number inboxes
-    → IsNew s sizes number board post notes v → Agree v inboxes
-agree-new s sizes number board post notes v inboxes is_worker fresh i new =
+    → IsNew s sizes number post notes v → Agree v inboxes
+agree-new s sizes number post notes v inboxes is_worker fresh i new =
     let share : v.last.share ≡ share_of s.users (length sizes) s.workers number =
     ap (λ (x : UserTable). x.share) new.last in
     let marks : v.post.opening.marks ≡ marks_of s.pages = ap (λ (x : WorkerSeatView). x.opening.marks) new.at_post ∙ fresh.opening.marks in

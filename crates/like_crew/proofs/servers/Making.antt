@@ -61,12 +61,13 @@ pub server-at : (setup : Setup) (sizes : List ℕ) (number k : ℕ) (inboxes own
     → sizes ≡ map length (plans_of inboxes)
     → own ≡ dealt setup.workers k inboxes
     → IsPostOf k setup.pages post
-    → IsNew setup sizes number board post notes s.worker
+    → s.board ≡ board
+    → IsNew setup sizes number post notes s.worker
     → ((workload : Workload) → IsWorkloadOf setup sizes workload → AreOwnPlans workload setup.workers number own
     → WorksFor workload s)
     → IsServer (workload_of setup (plans_of inboxes)) setup.workers board notes k s
-server-at setup sizes number k inboxes own post board notes s same sized is fresh new works =
-    is-server setup sizes k inboxes own post board notes s sized is fresh new.at_board
+server-at setup sizes number k inboxes own post board notes s same sized is fresh here new works =
+    is-server setup sizes k inboxes own post board notes s sized is fresh here
     (ap (λ (t : UserTable). t.share) new.last
     ∙ ap (λ n. share_of setup.users (length sizes) setup.workers n) same) new.at_post new.notes_are
     (λ workload of mine. works workload of (subst (λ n. AreOwnPlans workload setup.workers n own) (sym same) mine))
@@ -104,20 +105,19 @@ hand-closed opened view hands left k workers hand items own sized below rest fir
 
 -- a server with a new worker and closed inboxes is new
 pub new-server : (setup : Setup) (sizes : List ℕ) (number k : ℕ) (inboxes own : List InboxView) (post : WorkerSeatView)
-    (board : List ℕ) (notes : Bool) (s : ServerView)
+    (notes : Bool) (s : ServerView)
     → number ≡ k
     → sizes ≡ map length (plans_of inboxes)
     → AreUntouched inboxes
     → own ≡ dealt setup.workers k inboxes
     → IsPostOf k setup.pages post
-    → IsNew setup sizes number board post notes s.worker
+    → IsNew setup sizes number post notes s.worker
     → s.inboxes ≡ own → s.opened ≡ replicate (length own) 0 → IsNewServer setup (plans_of inboxes) notes k s
-new-server setup sizes number k inboxes own post board notes s same sized none is fresh new inboxes_are closed = record {
+new-server setup sizes number k inboxes own post notes s same sized none is fresh new inboxes_are closed = record {
   post = subst (IsPostOf k setup.pages) (sym new.at_post) fresh;
-  new = subst (λ b. IsNew setup (map length (plans_of inboxes)) k b s.worker.post notes s.worker) (sym new.at_board)
-      (subst (λ p. IsNew setup (map length (plans_of inboxes)) k board p notes s.worker) (sym new.at_post)
-      (subst (λ n. IsNew setup (map length (plans_of inboxes)) n board post notes s.worker) same
-      (subst (λ ns. IsNew setup ns number board post notes s.worker) sized new)));
+  new = subst (λ p. IsNew setup (map length (plans_of inboxes)) k p notes s.worker) (sym new.at_post)
+      (subst (λ n. IsNew setup (map length (plans_of inboxes)) n post notes s.worker) same
+      (subst (λ ns. IsNew setup ns number post notes s.worker) sized new));
   inboxes = inboxes_are ∙ is ∙ ap (dealt setup.workers k) (as-untouched inboxes none)
       ∙ sym (map-dealt untouched setup.workers k (plans_of inboxes));
   closed = closed ∙ ap (λ (xs : List InboxView). replicate (length xs) 0) (sym inboxes_are);

@@ -1,7 +1,7 @@
 -- Turns that take only what is open.
 use Rattle.std.proofs.Common.{◌≡◌, ℕ, zero, suc, ◌<◌, ◌≤◌, List, [], ◌∷◌, length, get_or, map, option_map, set, slice_get, Some, ap, ◌∙◌, subst, refl, arith}
-use Rattle.std.proofs.lemmas.List.{length-map, map-set}
-use Rattle.std.proofs.lemmas.Option.{get_or_from_slice_get, slice_get-map, slice_get_read, slice_get_within}
+use Rattle.std.proofs.lemmas.List.{map-set}
+use Rattle.std.proofs.lemmas.Option.{get_or_from_slice_get, slice_get-map, slice_get_read}
 use Rattle.like_queue.specs.Inbox.{InboxView}
 use Rattle.like_roles.specs.worker.WorkerView.{WorkerView}
 use Rattle.like_crew.specs.Server.{ServerView}
@@ -36,26 +36,24 @@ one-taken open_at (x ∷ xs) (suc place) w most (suc p) i j at after more =
     one-taken (λ n. open_at (suc n)) xs place w most p i j at after more
 
 -- a turn that tries the submitter of one inbox
-pub takes-open : {J : Type 0} (view : J → InboxView) (opened : J → ℕ) (u v : WorkerView) (lists : List J) (place : ℕ)
+pub takes-open : {J : Type 0} (view : J → InboxView) (opened : J → ℕ) (s t : ServerView) (lists : List J) (place : ℕ)
     (i j : J)
-    → slice_get (map view lists) place ≡ Some (view i)
+    → s.inboxes ≡ map view lists
+    → s.opened ≡ map opened lists
+    → t.inboxes ≡ map view (set lists place j)
+    → place < length lists
     → i ≡ get_or lists place i
     → (view j).taken ≤ opened i
-    → TakesOpen (record { worker = u; inboxes = map view lists; opened = map opened lists }) (record {
-      worker = v;
-      inboxes = map view (set lists place j);
-      opened = map opened (set lists place j);
-    })
-takes-open view opened u v lists place i j here is most =
-    let within : place < length lists =
-    omega (arith, slice_get_within (map view lists) place (view i) here, length-map lists view) in
-    let open_now : get_or (map opened lists) place 0 ≡ opened i =
-    get_or_from_slice_get (map opened lists) place (opened i) 0
+    → TakesOpen s t
+takes-open view opened s t lists place i j before open_before after within is most = λ p a b at later more.
+    let open_now : get_or s.opened place 0 ≡ opened i =
+    ap (λ ns. get_or ns place 0) open_before
+    ∙ get_or_from_slice_get (map opened lists) place (opened i) 0
     (slice_get-map opened lists place
     ∙ ap (option_map opened) (slice_get_read lists (length lists) place i refl within is)) in
-    λ p a b at after more. one-taken (λ n. get_or (map opened lists) n 0) (map view lists) place (view j)
-    (omega (arith, most, open_now)) p a b at
-    (subst (λ xs. slice_get xs p ≡ Some b) (map-set view lists place j) after) more
+    one-taken (λ n. get_or s.opened n 0) (map view lists) place (view j) (omega (arith, most, open_now)) p a b
+    (subst (λ xs. slice_get xs p ≡ Some a) before at)
+    (subst (λ xs. slice_get xs p ≡ Some b) (after ∙ map-set view lists place j) later) more
 
 -- and one that tries none
 pub takes-none : (s : ServerView) (v : WorkerView) → TakesOpen s (record s { worker = v })

@@ -1,4 +1,4 @@
--- A turn leaves whose post it is, and at which board; and it makes one look, unless its worker is gone.
+-- A turn leaves whose post it is; and it makes one look, unless its worker is gone.
 use Rattle.std.proofs.Common.{◌≡◌, ◌≢◌, ℕ, Bool, true, false, cond, List, [], ◌∷◌, ◌++◌, Option, Some, refl, ap, ◌∙◌}
 use Rattle.like_requests.specs.declared.request.Numbered.{Numbered}
 use Rattle.like_requests.specs.declared.request.Request.{Request}
@@ -19,13 +19,9 @@ use Rattle.like_roles.specs.worker.WorkerView.{WorkerView}
 use Rattle.like_crew.specs.Server.{ServerView}
 use Rattle.like_crew.specs.ServerTurns.{ServerTurns, tries, tries_none}
 
--- whose post it is, at which board, what it saw last, and all its looks
-abbrev told : WorkerView → ℕ × List ℕ × Option Sight × List Look
-told v = (v.post.worker, v.board, v.post.last, v.post.looks)
-
--- whose post it is, and at which board
-abbrev pub whose : WorkerView → ℕ × List ℕ
-whose v = (v.post.worker, v.board)
+-- whose post it is, what it saw last, and all its looks
+abbrev told : WorkerView → ℕ × Option Sight × List Look
+told v = (v.post.worker, v.post.last, v.post.looks)
 
 liked-told : (v : WorkerView) (user page old : ℕ) → told (liked v user page old) ≡ told v
 liked-told v user page old = by_test (slices v.post page) where
@@ -58,11 +54,13 @@ works-told v ending answer after (turns.reports now s seen a m x) = ap told x �
 works-told v ending answer after (turns.idles s seen stuck a x) = ap told x
 works-told v ending answer after (turns.tries_split place s seen room next a x) = ap told x
 
-pub turns-whose : (v : WorkerView) (answer : Turn) (after : WorkerView) → Turns v answer after → whose after ≡ whose v
-turns-whose v answer after (turns.is_gone gone a x) = ap whose x
-turns-whose v answer after (turns.waits sight here i w a x) = ap whose x
+pub turns-whose : (v : WorkerView) (answer : Turn) (after : WorkerView)
+    → Turns v answer after
+    → after.post.worker ≡ v.post.worker
+turns-whose v answer after (turns.is_gone gone a x) = ap (λ (w : WorkerView). w.post.worker) x
+turns-whose v answer after (turns.waits sight here i w a x) = ap (λ (w : WorkerView). w.post.worker) x
 turns-whose v answer after (turns.works sight mask here i w x) =
-    ap (λ (t : ℕ × List ℕ × Option Sight × List Look). (t.0, t.1))
+    ap (λ (t : ℕ × Option Sight × List Look). t.0)
     (works-told (saw v sight mask) sight.ending answer after x)
 
 takes-told : (v : WorkerView) (place : ℕ) (ask : Numbered) (answer : Turn) (after : WorkerView)
@@ -81,9 +79,9 @@ gives-told v took answer after (turns.asks place ask p g x) = takes-told (settle
 
 pub gives-whose : (v : WorkerView) (took : Taken) (answer : Turn) (after : WorkerView)
     → Gives v took answer after
-    → whose after ≡ whose v
+    → after.post.worker ≡ v.post.worker
 gives-whose v took answer after gives =
-    ap (λ (t : ℕ × List ℕ × Option Sight × List Look). (t.0, t.1)) (gives-told v took answer after gives)
+    ap (λ (t : ℕ × Option Sight × List Look). t.0) (gives-told v took answer after gives)
 
 -- one look was made, and is the last
 pub record LooksOnce (v w : WorkerView) : Type 0 where
@@ -94,8 +92,8 @@ pub record LooksOnce (v w : WorkerView) : Type 0 where
 looks-on : (v w x : WorkerView) → LooksOnce v w → told x ≡ told w → LooksOnce v x
 looks-on v w x once same = record {
   sight = once.sight;
-  last = ap (λ (t : ℕ × List ℕ × Option Sight × List Look). t.2) same ∙ once.last;
-  looks = ap (λ (t : ℕ × List ℕ × Option Sight × List Look). t.3) same ∙ once.looks;
+  last = ap (λ (t : ℕ × Option Sight × List Look). t.1) same ∙ once.last;
+  looks = ap (λ (t : ℕ × Option Sight × List Look). t.2) same ∙ once.looks;
 }
 
 turns-looks : (v : WorkerView) (answer : Turn) (after : WorkerView)

@@ -13,7 +13,7 @@ ghost use Rattle.like_crew.specs.Steps.{AtServer, FreshRound, IsFreshTurn, Leads
 use crate::crew::list_inboxes;
 use crate::crew::own_servers::{finish_own, own_servers};
 use crate::crew::run_coordinator::RunCoordinator;
-use crate::crew::server::{OwnServer, OwnTurn};
+use crate::crew::server::OwnServer;
 use crate::outcome::Outcome;
 use like_board::{OwnBoard, OwnCoordSeat};
 use like_queue::ListInbox;
@@ -22,13 +22,13 @@ use like_roles::{CoordTurn, NoGate, Turn};
 use std::alloc::{AllocError, Global};
 use std::marker::Model;
 
-/// The crew of a run on one thread that owns its board: the coordinator, and for each worker, in order, its server. The
-/// board, and with it a server, is taken out for a turn, and put back: between two calls each slot is full.
+/// The crew of a run on one thread that owns its board, which it lends for each turn: the coordinator, and for each
+/// worker, in order, its server.
 #[derive(Drop)]
 pub struct OwnCrew {
-    board: Option<OwnBoard>,
+    board: OwnBoard,
     coordinator: RunCoordinator<OwnCoordSeat>,
-    servers: Vec<Option<OwnServer<ListInbox>>>,
+    servers: Vec<OwnServer<ListInbox>>,
     // The count of each page at the start.
     counts: Vec<u64>,
 }
@@ -36,13 +36,14 @@ pub struct OwnCrew {
 impl Model for OwnCrew {
     ghost use Rattle.std.specs.Prelude.{◌≡◌, length};
     ghost use Rattle.like_crew.specs.Crew.{CrewView};
-    ghost use Rattle.like_crew.specs.OwnCrew.{servers_in, views_in, AreSeated};
+    ghost use Rattle.like_board.specs.Own.{own_views};
+    ghost use Rattle.like_crew.specs.OwnCrew.{servers_of, AreSeated};
 
     ghost Value = { CrewView };
 
-    ghost view = { λ c. record { coordinator = c.coordinator; servers = servers_in c.servers.items } };
+    ghost view = { λ c. record { coordinator = c.coordinator; servers = servers_of c.servers.items } };
 
-    ghost invariant = { λ c. AreSeated (views_in c.board) c.coordinator.seat c.servers.items
+    ghost invariant = { λ c. AreSeated (own_views c.board) c.coordinator.seat c.servers.items
         × (length c.counts.items ≡ length c.coordinator.seat.opening.counts) };
 }
 
@@ -65,10 +66,10 @@ impl OwnCrew {
         let marks = setup.pages.marks(alloc)?;
         let (board, coord, seats) = OwnBoard::new(alloc, setup.workers, &counts, &marks)?;
         let inboxes = list_inboxes(alloc, plans)?;
-        let (servers, board) = own_servers(alloc, setup, sizes, board, notes, seats, inboxes)?;
+        let servers = own_servers(alloc, setup, sizes, notes, seats, inboxes)?;
         let coordinator = RunCoordinator::new(alloc, coord, setup.turns, setup.hot, &counts)?;
         Ok(OwnCrew {
-            board: Some(board),
+            board,
             coordinator,
             servers,
             counts,
@@ -93,10 +94,7 @@ impl OwnCrew {
         ensures goes_on { GoesOn self.old self.new }
         ensures ended { result ≡ CoordTurn.Ended → HasEndedJoined self.new.coordinator }
     {
-        let mut board = self.board.take().unwrap();
-        let answer = self.coordinator.turn_at(&mut board);
-        self.board = Some(board);
-        answer
+        self.coordinator.turn_at(&mut self.board)
     }
 
     /// Makes one turn of a worker.
@@ -145,7 +143,7 @@ impl OwnCrew {
             servers,
             mut counts,
         } = self;
-        let (logs, seats, board) = finish_own(alloc, servers, board.unwrap())?;
+        let (logs, seats) = finish_own(alloc, servers)?;
         let phases = coordinator.phase();
         let (coord, chosen) = coordinator.finish();
         board.close(coord, seats, &mut counts);
@@ -207,16 +205,7 @@ impl OwnCrew {
         ensures rest { self.new.coordinator ≡ self.old.coordinator }
         ensures goes_on { GoesOn self.old self.new }
     {
-        let board = self.board.take().unwrap();
-        let server = self.servers[worker].take().unwrap();
-        let OwnTurn {
-            answer,
-            server,
-            board,
-        } = server.turn(&(), &NoGate, board);
-        self.servers[worker] = Some(server);
-        self.board = Some(board);
-        answer
+        self.servers[worker].turn(&(), &NoGate, &mut self.board)
     }
 
     // Opens one item more of the list of a submitter, which is a worker's.
@@ -228,11 +217,7 @@ impl OwnCrew {
         ensures rest { self.new.coordinator ≡ self.old.coordinator }
         ensures goes_on { GoesOn self.old self.new }
     {
-        let board = self.board.take().unwrap();
-        let server = self.servers[worker].take().unwrap();
-        let (server, board) = server.open_one(submitter, board);
-        self.servers[worker] = Some(server);
-        self.board = Some(board);
+        self.servers[worker].open_one(submitter);
     }
 
     // Opens all lists of a worker's submitters.
@@ -242,10 +227,6 @@ impl OwnCrew {
         ensures rest { self.new.coordinator ≡ self.old.coordinator }
         ensures goes_on { GoesOn self.old self.new }
     {
-        let board = self.board.take().unwrap();
-        let server = self.servers[worker].take().unwrap();
-        let (server, board) = server.open_all(board);
-        self.servers[worker] = Some(server);
-        self.board = Some(board);
+        self.servers[worker].open_all();
     }
 }

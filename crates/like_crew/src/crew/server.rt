@@ -6,40 +6,37 @@ ghost use Rattle.like_promises.specs.Workload.{Workload};
 ghost use Rattle.like_roles.specs.worker.Follows.{IsWorkloadOf};
 ghost use Rattle.like_crew.specs.Fresh.{IsModelled};
 ghost use Rattle.like_crew.specs.Server.{AreInboxesFor, AreOwnPlans, IsLogOf, ServerGoesOn, WorksFor};
-ghost use Rattle.like_crew.specs.ServerTurns.{OpensAll, OpensOne, OpensWhole, ServerTurns, TakesOpen, place_at};
+ghost use Rattle.like_crew.specs.ServerTurns.{OpensAll, OpensOne, ServerTurns, TakesOpen, place_at};
 
 mod own_server;
 
-pub use self::own_server::{OwnServer, OwnTurn};
+pub use self::own_server::OwnServer;
+use crate::crew::serving::Serving;
 use like_core::Post;
 use like_promises::WorkerLog;
 use like_queue::{Inbox, ListInbox, TakeWith};
 use like_requests::Setup;
-use like_roles::{Gate, NoWorker, Turn, Worker};
+use like_roles::{Gate, NoWorker, Turn};
 use std::alloc::Global;
 use std::marker::Model;
 
-/// A worker with the inboxes of the submitters that it serves: the inbox at place `j` is that of submitter `w + j N`,
-/// for worker `w` of `N`.
+/// A worker at its post, with the inboxes of the submitters that it serves: the inbox at place `j` is that of submitter
+/// `w + j N`, for worker `w` of `N`.
 #[derive(Drop)]
 pub struct Server<P: Post, I: Inbox> {
-    worker: Worker<P>,
-    // How many workers there are.
-    workers: u32,
-    inboxes: Vec<I>,
+    post: P,
+    serving: Serving<I>,
 }
 
 impl<P: Post, I: Inbox> Model for Server<P, I> {
-    ghost use Rattle.std.specs.Prelude.{◌≡◌, None, map};
-    ghost use Rattle.like_crew.specs.Server.{ServerView, Agree};
+    ghost use Rattle.like_crew.specs.Server.{ServerView};
+    ghost use Rattle.like_crew.specs.Serving.{IsServing, server_at};
 
     ghost Value = { ServerView };
 
-    ghost view = { λ s. let inboxes = s.inboxes.items in
-        record { worker = s.worker; inboxes = map I.view inboxes; opened = map I.opened inboxes } };
+    ghost view = { λ s. server_at I.view I.opened (P.board s.post) (P.view s.post) s.serving };
 
-    ghost invariant = { λ s. (s.worker.pending ≡ None)
-        × (s.workers ≡ s.worker.last.share.workers) × Agree s.worker (map I.view s.inboxes.items) };
+    ghost invariant = { λ s. IsServing I.view (P.view s.post) s.serving };
 }
 
 impl<P: Post, I: Inbox> Server<P, I> {
@@ -58,8 +55,9 @@ impl<P: Post, I: Inbox> Server<P, I> {
         requires is_worker { number < setup.now.workers }
         requires post { IsPostOf number setup.now.pages (P.view post) }
         requires inboxes { AreInboxesFor setup.now sizes.now number (map I.view inboxes.items) }
+        ensures board { IfOk result (λ server. server.board ≡ P.board post) }
         ensures new { IfOk result (λ server.
-            IsNew setup.now sizes.now number (P.board post) (P.view post) notes server.worker) }
+            IsNew setup.now sizes.now number (P.view post) notes server.worker) }
         ensures inboxes { IfOk result (λ server. server.inboxes ≡ map I.view inboxes.items) }
         ensures opened { IfOk result (λ server. server.opened ≡ map I.opened inboxes.items) }
         ensures works { IfOk result (λ server. (workload : Workload)
@@ -67,19 +65,17 @@ impl<P: Post, I: Inbox> Server<P, I> {
             → AreOwnPlans workload setup.now.workers number (map I.view inboxes.items) → WorksFor workload server) }
         ensures post { IfErr result (λ refused. refused.post ≡ post) }
     {
-        let worker = Worker::noting(alloc, setup, sizes, number, post, notes)?;
-        Ok(Server {
-            worker,
-            workers: setup.workers,
-            inboxes,
-        })
+        match Serving::new(alloc, setup, sizes, number, notes, inboxes) {
+            Ok(serving) => Ok(Server { post, serving }),
+            Err(_) => Err(NoWorker { post }),
+        }
     }
 
     /// How many inboxes it has.
     pub fn inbox_count(&self) -> usize
         ensures { result ≡ length self.now.inboxes }
     {
-        self.inboxes.len()
+        self.serving.inboxes.len()
     }
 
     /// Makes one whole turn of the worker. If it tries a submitter, it is given what that submitter's inbox has.
@@ -92,32 +88,27 @@ impl<P: Post, I: Inbox> Server<P, I> {
         ensures goes_on { ServerGoesOn self.old self.new }
         ensures retired { result ≡ Turn.Retired → self.new.worker.post.state ≡ Gone }
     {
-        match self.worker.turn(gate) {
-            Turn::Try { .. } => {
-                let place = self.worker.tried();
-                let taken = self.inboxes[place].take_with(rt);
-                self.worker.give(gate, taken)
-            }
-            turn => turn,
-        }
+        self.serving.turn(rt, &mut self.post, gate)
     }
 
     /// Gives the post back, whatever is left to do.
     pub fn leave(self) -> P
-        ensures board { P.board result ≡ self.worker.board }
+        ensures board { P.board result ≡ self.board }
         ensures post { P.view result ≡ self.worker.post }
     {
-        self.worker.leave()
+        let Server { post, .. } = self;
+        post
     }
 
     /// Takes it apart when its worker is gone: what the worker has done, and its post.
     pub fn finish(self) -> (WorkerLog, P)
         requires { self.worker.post.state ≡ Gone }
         ensures log { IsLogOf self result.0 }
-        ensures board { P.board result.1 ≡ self.worker.board }
+        ensures board { P.board result.1 ≡ self.board }
         ensures post { P.view result.1 ≡ self.worker.post }
     {
-        self.worker.finish()
+        let Server { post, serving } = self;
+        (serving.finish(), post)
     }
 }
 
@@ -128,8 +119,7 @@ impl<P: Post> Server<P, ListInbox> {
         ensures opens { OpensOne submitter self.old self.new }
         ensures goes_on { ServerGoesOn self.old self.new }
     {
-        let place = (submitter / self.workers) as usize;
-        self.inboxes[place].open_one();
+        self.serving.open_one(submitter);
     }
 
     /// Opens all lists.
@@ -137,18 +127,6 @@ impl<P: Post> Server<P, ListInbox> {
         ensures opens { OpensAll self.old self.new }
         ensures goes_on { ServerGoesOn self.old self.new }
     {
-        let places = self.inboxes.len();
-        for place in 0..places {
-            self.open_whole(place);
-        }
-    }
-
-    // Opens the list at a place.
-    fn open_whole(&mut self, place: usize)
-        requires { place < length self.old.inboxes }
-        ensures opens { OpensWhole place self.old self.new }
-        ensures goes_on { ServerGoesOn self.old self.new }
-    {
-        self.inboxes[place].open_all();
+        self.serving.open_all();
     }
 }

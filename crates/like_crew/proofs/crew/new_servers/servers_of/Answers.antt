@@ -5,7 +5,7 @@ use Rattle.std.specs.List.{AllZip, range_with_len}
 use Rattle.std.proofs.lemmas.List.{length_push}
 use Rattle.std.proofs.lemmas.Option.{slice_get_read}
 use Rattle.like_requests.specs.Setup.{IsWithin}
-use Rattle.like_board.specs.Seats.{board_id, board_numbers, post_board, seat_view}
+use Rattle.like_board.specs.Seats.{board_id, board_numbers, seat_view}
 use Rattle.like_core.specs.declared.view.WorkerSeatView.{WorkerSeatView}
 use Rattle.like_queue.specs.Inbox.{InboxView}
 use Rattle.like_tables.specs.Share.{dealt}
@@ -77,16 +77,14 @@ loop-seat-preserved g c =
     (slice_get_read c.args.seats.items (length c.args.seats.items) k c.in-Some.seat refl turn.0 turn.1) in
     let longer : length (l.yielded ++ c.in-Some.seat ∷ []) ≡ k + 1 = length_push l.yielded c.in-Some.seat in
     let same : c.len-number.result ≡ k = c.len-number.ensures ∙ l.servers.ok.0 ∙ l.invariant.len in
-    let here : board_numbers (post_board c.at.result) ≡ board =
-    ap board_numbers (c.at.ensures.board ∙ fresh.0) in
-    let new = subst (λ b. IsNew c.args.setup.now c.args.sizes.now c.len-number.result b (seat_view c.in-Some.seat) c.args.notes
-    c.in-Ok.server.worker) here
-    (subst (λ (p : WorkerSeatView). IsNew c.args.setup.now c.args.sizes.now c.len-number.result
-    (board_numbers (post_board c.at.result)) p c.args.notes c.in-Ok.server.worker) c.at.ensures.view c.in-Ok.ensures.new) in
+    let here : c.in-Ok.server.board ≡ board =
+    c.in-Ok.ensures.board ∙ ap board_numbers (c.at.ensures.board ∙ fresh.0) in
+    let new = subst (λ (p : WorkerSeatView). IsNew c.args.setup.now c.args.sizes.now c.len-number.result p c.args.notes
+    c.in-Ok.server.worker) c.at.ensures.view c.in-Ok.ensures.new in
     let server : R k c.in-Ok.server =
     server-at c.args.setup.now c.args.sizes.now c.len-number.result k inboxes own
     (seat_view c.in-Some.seat) board c.args.notes c.in-Ok.server
-    same c.requires.sizes is fresh.1 new c.in-Ok.ensures.works in
+    same c.requires.sizes is fresh.1 here new c.in-Ok.ensures.works in
     let both = one-pushed R k
     (length (l.yielded ++ c.in-Some.seat ∷ [])) l.servers.items _ c.in-Ok.server c.in_ok-push-in-Ok.ensures.items
     l.invariant.len longer l.invariant.servers server in
@@ -95,7 +93,7 @@ loop-seat-preserved g c =
     c.remove-inboxes.result c.args.inboxes.items c.in_ok-hands.ensures.dealt c.in_ok-hands.ensures.len below
     l.invariant.hands c.remove-inboxes.ensures.value c.requires.closed in
     let none_done : Q k c.in-Ok.server =
-    new-server c.args.setup.now c.args.sizes.now c.len-number.result k inboxes own (seat_view c.in-Some.seat) board
+    new-server c.args.setup.now c.args.sizes.now c.len-number.result k inboxes own (seat_view c.in-Some.seat)
     c.args.notes c.in-Ok.server same c.requires.sizes c.requires.untouched is fresh.1 new c.in-Ok.ensures.inboxes
     (c.in-Ok.ensures.opened ∙ closed) in
     let news = one-pushed Q k

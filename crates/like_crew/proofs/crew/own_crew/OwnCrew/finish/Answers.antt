@@ -1,59 +1,44 @@
-use Rattle.std.proofs.Common.{◌≡◌, ◌∙◌, ℕ, List, length, map, refl, sym, ap, subst}
+use Rattle.std.proofs.Common.{◌≡◌, ◌∙◌, ℕ, List, length, map, sym, ap, subst}
 use Rattle.std.specs.Vec.{with_items}
-use Rattle.std.proofs.lemmas.List.{with_items_is}
+use Rattle.std.proofs.lemmas.List.{length-map, with_items_is}
 use Rattle.like_core.specs.declared.view.CoordSeatView.{CoordSeatView}
 use Rattle.like_board.specs.Closed.{IsClosedBoard}
+use Rattle.like_board.specs.Own.{own_views}
 use Rattle.like_board.specs.OwnClosed.{all_views, as_shared}
 use Rattle.like_board.specs.Seats.{AreAll}
-use Rattle.like_crew.specs.Crew.{AreGone, CrewView}
 use Rattle.like_board.specs.declared.worker_seat.WorkerSeat.{WorkerSeat}
+use Rattle.like_crew.specs.Crew.{AreGone, CrewView}
 use Rattle.like_crew.specs.declared.outcome.Outcome.{Outcome}
-use Rattle.like_crew.specs.OwnCrew.{HasOutcome, IsOwnSeatOf, servers_in}
-use Rattle.like_crew.proofs.lists.Pairs.{pairs-length}
-use Rattle.like_crew.proofs.servers.OwnFinishing.{own-all, own-gone, own-like}
-use Rattle.like_crew.proofs.servers.Seated.{board-taken, board-there}
+use Rattle.like_crew.specs.OwnCrew.{HasOutcome}
+use Rattle.like_crew.specs.OwnServer.{OwnServerView}
+use Rattle.like_crew.proofs.servers.OwnFinishing.{own-all, own-gone, own-like, views-left}
 use Rattle.like_crew.proofs.crew.own_crew.OwnCrew.finish.Goals as goal
 
-pub unwrap-requires : goal.unwrap-requires
-unwrap-requires c =
-    board-there c.self.inside.board c.self.inside.coordinator.seat c.self.inside.servers.items c.self.invariant.0
-
-pub finish_own-requires-clause-seated : goal.finish_own-requires-clause-seated
-finish_own-requires-clause-seated c =
-    let seat = c.self.inside.coordinator.seat in (
-      seat,
-      board-taken c.self.inside.board c.self.inside.board c.unwrap.result seat c.self.inside.servers.items
-          c.self.invariant.0 refl c.unwrap.ensures,
-    )
-
-pub finish_own-requires-clause-gone : goal.finish_own-requires-clause-gone
-finish_own-requires-clause-gone c = subst (λ (v : CrewView). AreGone v.servers) (sym c.self.view_is) c.requires.gone
+pub finish_own-requires : goal.finish_own-requires
+finish_own-requires c = subst (λ (v : CrewView). AreGone v.servers) (sym c.self.view_is) c.requires.gone
 
 pub close-requires-clause-known : goal.close-requires-clause-known
 close-requires-clause-known c =
-    let seat = c.self.inside.coordinator.seat in
-    let left = c.in_ok-logs.ensures.left seat
-    (board-taken c.self.inside.board c.self.inside.board c.unwrap.result seat c.self.inside.servers.items
-    c.self.invariant.0 refl c.unwrap.ensures) in
-    left.views ∙ ap (λ (v : CoordSeatView). all_views v c.in_ok-logs.seats.items) (sym c.finish-coord.ensures.view)
+    views-left (own_views c.self.inside.board) c.self.inside.coordinator.seat c.self.inside.servers.items
+    c.in_ok-logs.seats.items c.self.invariant.0 c.in_ok-logs.ensures.seats
+    ∙ ap (λ (v : CoordSeatView). all_views v c.in_ok-logs.seats.items) (sym c.finish-coord.ensures.view)
 
 pub close-requires-clause-all : goal.close-requires-clause-all
 close-requires-clause-all c =
     let seat = c.self.inside.coordinator.seat in
-    let left = c.in_ok-logs.ensures.left seat
-    (board-taken c.self.inside.board c.self.inside.board c.unwrap.result seat c.self.inside.servers.items
-    c.self.invariant.0 refl c.unwrap.ensures) in
-    let many : length c.in_ok-logs.seats.items ≡ seat.opening.workers =
-    sym (pairs-length IsOwnSeatOf (servers_in c.self.inside.servers.items) c.in_ok-logs.seats.items
-    c.in_ok-logs.ensures.seats)
+    let owned = c.self.inside.servers.items in
+    let many : length owned ≡ seat.opening.workers =
+    sym (length-map owned (λ (s : OwnServerView). s.server))
     ∙ subst (λ (v : CrewView). length v.servers ≡ v.coordinator.seat.opening.workers) (sym c.self.view_is)
     c.requires.all in
     subst (λ (v : CoordSeatView). AreAll v.opening.workers (map as_shared c.in_ok-logs.seats.items))
-    (sym c.finish-coord.ensures.view) (own-all c.in_ok-logs.seats.items seat.opening.workers many left.places)
+    (sym c.finish-coord.ensures.view)
+    (own-all (own_views c.self.inside.board) seat owned c.in_ok-logs.seats.items c.self.invariant.0
+    c.in_ok-logs.ensures.seats seat.opening.workers many)
 
 pub close-requires-clause-gone : goal.close-requires-clause-gone
 close-requires-clause-gone c =
-    own-gone (servers_in c.self.inside.servers.items) c.in_ok-logs.seats.items c.in_ok-logs.ensures.seats
+    own-gone c.self.inside.servers.items c.in_ok-logs.seats.items c.in_ok-logs.ensures.seats
     (subst (λ (v : CrewView). AreGone v.servers) (sym c.self.view_is) c.requires.gone)
 
 pub close-requires-clause-places : goal.close-requires-clause-places
@@ -87,7 +72,7 @@ returns c =
     outcome-of-view _ _ outcome c.self.view_is (record {
       logs = c.in_ok-logs.ensures.logs;
       seats = map as_shared c.in_ok-logs.seats.items;
-      seats_are = own-like (servers_in c.self.inside.servers.items) c.in_ok-logs.seats.items c.in_ok-logs.ensures.seats;
+      seats_are = own-like c.self.inside.servers.items c.in_ok-logs.seats.items c.in_ok-logs.ensures.seats;
       counts = closed-as _ _ (map as_shared c.in_ok-logs.seats.items) _ _ c.finish-coord.ensures.view
           (sym (with_items_is c.self.inside.counts c.close.new.counts many)) c.close.ensures;
       phases = c.phase-phases.ensures;

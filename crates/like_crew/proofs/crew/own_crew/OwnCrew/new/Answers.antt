@@ -8,13 +8,14 @@ use Rattle.like_core.specs.core.State.{opening}
 use Rattle.like_core.specs.declared.opening.Opening.{Opening}
 use Rattle.like_core.specs.declared.view.CoordSeatView.{CoordSeatView}
 use Rattle.like_board.specs.Led.{no_board}
-use Rattle.like_board.specs.Own.{own_opening, own_views}
+use Rattle.like_board.specs.NewViews.{new_views}
+use Rattle.like_board.specs.Own.{own_opening}
 use Rattle.like_board.specs.Rule.{opened_coord}
 use Rattle.like_queue.specs.Inbox.{view_of}
 use Rattle.like_promises.specs.WorkloadOf.{lists_of, workload_of}
 use Rattle.like_roles.specs.coordinator.CoordTurns.{CoordinatorView}
 use Rattle.like_crew.specs.Crew.{new_coordinator}
-use Rattle.like_crew.specs.OwnCrew.{AreSeated, servers_in}
+use Rattle.like_crew.specs.OwnCrew.{AreSeated, servers_of}
 use Rattle.like_crew.specs.Servers.{AreNewServers, AreServers}
 use Rattle.like_crew.specs.Site.{opening_of}
 use Rattle.like_crew.proofs.Makings.{all-map, all-small, are-untouched, plans-are}
@@ -65,8 +66,8 @@ own_servers-requires-clause-sizes c =
 pub own_servers-requires-clause-closed : goal.own_servers-requires-clause-closed
 own_servers-requires-clause-closed c = c.in_ok-inboxes.ensures.closed
 
-pub own_servers-requires-clause-opening : goal.own_servers-requires-clause-opening
-own_servers-requires-clause-opening c =
+pub own_servers-requires-clause-seats : goal.own_servers-requires-clause-seats
+own_servers-requires-clause-seats c =
     let setup = c.args.setup.now in
     let counts : c.deref.result.now ≡ map (λ (p : Page). p.count) setup.pages =
     c.deref.ensures.value ∙ c.in_ok-counts.ensures.counts in
@@ -76,7 +77,7 @@ own_servers-requires-clause-opening c =
     c.in_ok-board.ensures.opening
     ∙ ap (λ (xs : List ℕ). opening setup.workers xs c.deref-2.result.now) counts
     ∙ ap (λ (xs : List Bool). opening setup.workers (map (λ (p : Page). p.count) setup.pages) xs) marks in
-    opened
+    (c.in_ok-board.board, opened, c.in_ok-board.ensures.fresh)
 
 pub new-requires-2-clause-counts : goal.new-requires-2-clause-counts
 new-requires-2-clause-counts c =
@@ -125,8 +126,10 @@ invariant_of-result c =
     let seat : c.in_ok-coordinator.coordinator.seat ≡ opened_coord (opening_of setup) =
     ap (λ (v : CoordinatorView). v.seat) c.in_ok-coordinator.ensures ∙ c.in_ok-board.ensures.coord
     ∙ ap opened_coord opened in (
-      subst (λ (v : CoordSeatView). AreSeated (own_views c.in_ok-servers.board) v c.in_ok-servers.servers.items)
-          (sym seat) c.in_ok-servers.ensures.seated,
+      subst (λ vs. AreSeated vs c.in_ok-coordinator.coordinator.seat c.in_ok-servers.servers.items)
+          (sym (c.in_ok-board.ensures.views ∙ ap new_views opened))
+          (subst (λ (v : CoordSeatView). AreSeated (new_views (opening_of setup)) v c.in_ok-servers.servers.items)
+          (sym seat) c.in_ok-servers.ensures.seated),
       ap (λ (xs : List ℕ). length xs) c.in_ok-counts.ensures.counts
           ∙ sym (ap (λ (v : CoordSeatView). length v.opening.counts) seat),
     )
@@ -152,7 +155,7 @@ returns-clause-crew c =
       turns = ap (λ (v : CoordinatorView). v.turns) c.in_ok-coordinator.ensures;
       hot = ap (λ (v : CoordinatorView). v.choice.hot) c.in_ok-coordinator.ensures;
       servers = subst (λ ps. AreServers (workload_of setup ps) setup.workers [] c.args.notes
-          (servers_in c.in_ok-servers.servers.items)) plans c.in_ok-servers.ensures.servers;
+          (servers_of c.in_ok-servers.servers.items)) plans c.in_ok-servers.ensures.servers;
     }
 
 pub returns-clause-new : goal.returns-clause-new
@@ -174,6 +177,6 @@ returns-clause-new c =
       coordinator = c.in_ok-coordinator.ensures
           ∙ ap (λ (v : CoordSeatView). new_coordinator no_board v setup.turns setup.hot)
           (c.in_ok-board.ensures.coord ∙ ap opened_coord opened);
-      servers = subst (λ ps. AreNewServers setup ps c.args.notes (servers_in c.in_ok-servers.servers.items)) plans
+      servers = subst (λ ps. AreNewServers setup ps c.args.notes (servers_of c.in_ok-servers.servers.items)) plans
           c.in_ok-servers.ensures.new;
     }

@@ -1,16 +1,17 @@
 use Rattle.std.proofs.Common.{◌≡◌, ◌+◌, length, refl, sym, subst, ◌∙◌, arith}
+use Rattle.std.proofs.lemmas.List.{length-map}
 use Rattle.like_crew.specs.Crew.{CrewView}
+use Rattle.like_crew.specs.OwnServer.{OwnServerView}
 use Rattle.like_crew.specs.ServerTurns.{OpensAll}
 use Rattle.like_crew.proofs.Coordinated.{crew-further, crew-same}
 use Rattle.like_crew.proofs.lists.Stepped.{Stepped, stepped-all, stepped-more, stepped-none}
-use Rattle.like_crew.proofs.servers.Seated.{as-many-slots}
 use Rattle.like_crew.proofs.crew.own_crew.OwnCrew.open_all.Goals as goal
 
 pub loop-worker-init : goal.loop-worker-init
 loop-worker-init c = record {
   workers = subst (λ (v : CrewView). c.len-workers.result ≡ length v.servers) c.self.view_is
       (c.len-workers.ensures ∙ c.self.inside.servers.ok.0
-      ∙ as-many-slots c.self.inside.servers.items c.self.invariant.0.all_in);
+      ∙ sym (length-map c.self.inside.servers.items (λ (s : OwnServerView). s.server)));
   opened = stepped-none OpensAll c.args.self.now.servers;
   rest = refl;
   goes_on = crew-same c.args.self.now;

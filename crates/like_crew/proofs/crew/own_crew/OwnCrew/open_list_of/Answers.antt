@@ -1,100 +1,80 @@
-use Rattle.std.proofs.Common.{◌≡◌, ◌<◌, length, set, slice_get, Some, sym, subst}
-use Rattle.std.specs.Option.{IsSome}
+use Rattle.std.proofs.Common.{◌≡◌, ◌<◌, length, set, slice_get, Some, refl, sym, subst, arith}
+use Rattle.std.proofs.lemmas.List.{length-map}
+use Rattle.std.proofs.lemmas.Option.{slice_get_read}
 use Rattle.like_board.specs.Own.{own_views}
 use Rattle.like_crew.specs.Crew.{CrewView, GoesOn}
-use Rattle.like_crew.specs.OwnCrew.{servers_in}
+use Rattle.like_crew.specs.OwnCrew.{servers_of}
+use Rattle.like_crew.specs.OwnServer.{OwnServerView}
 use Rattle.like_crew.specs.ServerTurns.{OpensOne}
 use Rattle.like_crew.specs.Steps.{AtServer}
-use Rattle.like_crew.proofs.servers.Seated.{are-back, are-taken, at-slot, board-taken, board-there, goes-on-after, seat-known, server-at-slot, server-there}
+use Rattle.like_crew.proofs.Coordinated.{coordinator-same}
+use Rattle.like_crew.proofs.servers.Seated.{all-go-on, at-server, seated-same, server-at}
 use Rattle.like_crew.proofs.crew.own_crew.OwnCrew.open_list_of.Goals as goal
 
-pub unwrap-board-requires : goal.unwrap-board-requires
-unwrap-board-requires c =
-    subst IsSome (sym c.take.ensures.value)
-    (board-there c.self.inside.board c.self.inside.coordinator.seat c.self.inside.servers.items c.self.invariant.0)
-
-pub unwrap-server-requires : goal.unwrap-server-requires
-unwrap-server-requires c =
-    let slots = c.self.inside.servers.items in
-    let below : c.args.worker < length (servers_in slots) =
+pub index_mut-requires : goal.index_mut-requires
+index_mut-requires c =
+    let servers = c.self.inside.servers.items in
+    let below : c.args.worker < length (servers_of servers) =
     subst (λ (v : CrewView). c.args.worker < length v.servers) (sym c.self.view_is) c.requires.worker in
-    server-there _ c.self.inside.coordinator.seat slots c.args.worker c.index_mut.result.now c.take-2.result c.self.invariant.0
-    below c.index_mut.ensures.value c.take-2.ensures.value
+    omega (arith, below, length-map servers (λ (x : OwnServerView). x.server), c.self.inside.servers.ok.0)
 
-pub open_one-server-requires-clause-here : goal.open_one-server-requires-clause-here
-open_one-server-requires-clause-here c =
-    let seat = c.self.inside.coordinator.seat in
-    let slots = c.self.inside.servers.items in
-    let below : c.args.worker < length (servers_in slots) =
-    subst (λ (v : CrewView). c.args.worker < length v.servers) (sym c.self.view_is) c.requires.worker in
-    let board = c.unwrap-board.result in
-    let it = are-taken (own_views board) seat slots c.args.worker c.index_mut.result.now c.take-2.result c.unwrap-server.result
-    (board-taken c.self.inside.board c.take.result board seat slots c.self.invariant.0 c.take.ensures.value
-    c.unwrap-board.ensures) below c.index_mut.ensures.value c.take-2.ensures.value c.unwrap-server.ensures in
-    seat-known (own_views board) seat slots c.args.worker c.unwrap-server.result it.seated it.at
-
-pub open_one-server-requires-clause-there : goal.open_one-server-requires-clause-there
-open_one-server-requires-clause-there c =
-    let seat = c.self.inside.coordinator.seat in
-    let slots = c.self.inside.servers.items in
-    let below : c.args.worker < length (servers_in slots) =
-    subst (λ (v : CrewView). c.args.worker < length v.servers) (sym c.self.view_is) c.requires.worker in
-    let board = c.unwrap-board.result in
-    let it = are-taken (own_views board) seat slots c.args.worker c.index_mut.result.now c.take-2.result c.unwrap-server.result
-    (board-taken c.self.inside.board c.take.result board seat slots c.self.invariant.0 c.take.ensures.value
-    c.unwrap-board.ensures) below c.index_mut.ensures.value c.take-2.ensures.value c.unwrap-server.ensures in
-    c.requires.there c.unwrap-server.result.as_server
-    (subst (λ (v : CrewView). slice_get v.servers c.args.worker ≡ Some c.unwrap-server.result.as_server) c.self.view_is
-    (server-at-slot slots c.args.worker c.unwrap-server.result it.at))
+pub open_one-requires : goal.open_one-requires
+open_one-requires c =
+    let servers = c.self.inside.servers.items in
+    let k = c.args.worker in
+    let below : k < length (servers_of servers) =
+    subst (λ (v : CrewView). k < length v.servers) (sym c.self.view_is) c.requires.worker in
+    let s : OwnServerView = c.index_mut.result.now in
+    let at : slice_get servers k ≡ Some s =
+    slice_get_read servers (length servers) k s refl
+    (omega (arith, below, length-map servers (λ (x : OwnServerView). x.server))) c.index_mut.ensures.value in
+    c.requires.there s.server
+    (subst (λ (v : CrewView). slice_get v.servers k ≡ Some s.server) c.self.view_is (server-at servers k s at))
 
 pub invariant_of-self : goal.invariant_of-self
 invariant_of-self c =
+    let servers = c.self.inside.servers.items in
+    let k = c.args.worker in
+    let below : k < length (servers_of servers) =
+    subst (λ (v : CrewView). k < length v.servers) (sym c.self.view_is) c.requires.worker in
+    let s : OwnServerView = c.index_mut.result.now in
+    let at : slice_get servers k ≡ Some s =
+    slice_get_read servers (length servers) k s refl
+    (omega (arith, below, length-map servers (λ (x : OwnServerView). x.server))) c.index_mut.ensures.value in
     let seat = c.self.inside.coordinator.seat in
-    let slots = c.self.inside.servers.items in
-    let below : c.args.worker < length (servers_in slots) =
-    subst (λ (v : CrewView). c.args.worker < length v.servers) (sym c.self.view_is) c.requires.worker in
-    let board = c.unwrap-board.result in
-    let it = are-taken (own_views board) seat slots c.args.worker c.index_mut.result.now c.take-2.result c.unwrap-server.result
-    (board-taken c.self.inside.board c.take.result board seat slots c.self.invariant.0 c.take.ensures.value
-    c.unwrap-board.ensures) below c.index_mut.ensures.value c.take-2.ensures.value c.unwrap-server.ensures in
-    let after = set (set slots c.args.worker c.take-2.new.self) c.args.worker (Some c.open_one-server.result.0) in
-    let told = c.open_one-server.ensures in
-    let back = are-back (own_views board) (own_views c.open_one-server.result.1) seat slots c.args.worker c.take-2.new.self
-    c.unwrap-server.result c.open_one-server.result.0 it told.came.place_is told.came.views_are told.seat in
-    (back.seated, c.self.invariant.1)
+    let t : OwnServerView = c.open_one.new.self in
+    let told = c.open_one.ensures in (
+      seated-same (own_views c.self.inside.board) seat servers c.self.invariant.0 k s t at told.place told.post,
+      c.self.invariant.1,
+    )
 
 pub returns-clause-opens : goal.returns-clause-opens
 returns-clause-opens c =
-    let seat = c.self.inside.coordinator.seat in
-    let slots = c.self.inside.servers.items in
-    let below : c.args.worker < length (servers_in slots) =
-    subst (λ (v : CrewView). c.args.worker < length v.servers) (sym c.self.view_is) c.requires.worker in
-    let board = c.unwrap-board.result in
-    let it = are-taken (own_views board) seat slots c.args.worker c.index_mut.result.now c.take-2.result c.unwrap-server.result
-    (board-taken c.self.inside.board c.take.result board seat slots c.self.invariant.0 c.take.ensures.value
-    c.unwrap-board.ensures) below c.index_mut.ensures.value c.take-2.ensures.value c.unwrap-server.ensures in
-    let after = set (set slots c.args.worker c.take-2.new.self) c.args.worker (Some c.open_one-server.result.0) in
-    let told = c.open_one-server.ensures in
-    let back = are-back (own_views board) (own_views c.open_one-server.result.1) seat slots c.args.worker c.take-2.new.self
-    c.unwrap-server.result c.open_one-server.result.0 it told.came.place_is told.came.views_are told.seat in
-    subst (λ (v : CrewView). AtServer c.args.worker (OpensOne c.args.submitter) v.servers (servers_in after)) c.self.view_is
-    (at-slot (OpensOne c.args.submitter) slots _ c.args.worker c.unwrap-server.result c.open_one-server.result.0 it.at back.all_back told.opens)
+    let servers = c.self.inside.servers.items in
+    let k = c.args.worker in
+    let below : k < length (servers_of servers) =
+    subst (λ (v : CrewView). k < length v.servers) (sym c.self.view_is) c.requires.worker in
+    let s : OwnServerView = c.index_mut.result.now in
+    let at : slice_get servers k ≡ Some s =
+    slice_get_read servers (length servers) k s refl
+    (omega (arith, below, length-map servers (λ (x : OwnServerView). x.server))) c.index_mut.ensures.value in
+    let t : OwnServerView = c.open_one.new.self in
+    let told = c.open_one.ensures in
+    subst (λ (v : CrewView). AtServer k (OpensOne c.args.submitter) v.servers (servers_of (set servers k t)))
+    c.self.view_is (at-server servers k s t at (OpensOne c.args.submitter) told.opens)
 
 pub returns-clause-goes_on : goal.returns-clause-goes_on
 returns-clause-goes_on c =
-    let seat = c.self.inside.coordinator.seat in
-    let slots = c.self.inside.servers.items in
-    let below : c.args.worker < length (servers_in slots) =
-    subst (λ (v : CrewView). c.args.worker < length v.servers) (sym c.self.view_is) c.requires.worker in
-    let board = c.unwrap-board.result in
-    let it = are-taken (own_views board) seat slots c.args.worker c.index_mut.result.now c.take-2.result c.unwrap-server.result
-    (board-taken c.self.inside.board c.take.result board seat slots c.self.invariant.0 c.take.ensures.value
-    c.unwrap-board.ensures) below c.index_mut.ensures.value c.take-2.ensures.value c.unwrap-server.ensures in
-    let after = set (set slots c.args.worker c.take-2.new.self) c.args.worker (Some c.open_one-server.result.0) in
-    let told = c.open_one-server.ensures in
-    let back = are-back (own_views board) (own_views c.open_one-server.result.1) seat slots c.args.worker c.take-2.new.self
-    c.unwrap-server.result c.open_one-server.result.0 it told.came.place_is told.came.views_are told.seat in
-    subst (λ (v : CrewView). GoesOn v (record { coordinator = c.self.inside.coordinator; servers = servers_in after }))
+    let servers = c.self.inside.servers.items in
+    let k = c.args.worker in
+    let below : k < length (servers_of servers) =
+    subst (λ (v : CrewView). k < length v.servers) (sym c.self.view_is) c.requires.worker in
+    let s : OwnServerView = c.index_mut.result.now in
+    let at : slice_get servers k ≡ Some s =
+    slice_get_read servers (length servers) k s refl
+    (omega (arith, below, length-map servers (λ (x : OwnServerView). x.server))) c.index_mut.ensures.value in
+    let t : OwnServerView = c.open_one.new.self in
+    let v = c.self.inside.coordinator in
+    subst (λ (u : CrewView). GoesOn u (record { coordinator = v; servers = servers_of (set servers k t) }))
     c.self.view_is
-    (goes-on-after slots _ c.args.worker c.unwrap-server.result c.open_one-server.result.0 c.self.inside.coordinator it.at back.all_back
-    told.goes_on)
+    (record { coordinator = coordinator-same v; servers = all-go-on servers k s t at c.open_one.ensures.goes_on })

@@ -1,29 +1,12 @@
-use Rattle.std.proofs.Common.{◌≡◌, length, map, sym, ap, subst}
-use Rattle.like_tables.specs.Share.{Share, share_of}
-use Rattle.like_tables.specs.UserTable.{UserTable, table_without_likes}
-use Rattle.like_crew.specs.Server.{AreOwnPlans}
-use Rattle.like_crew.proofs.servers.Finishing.{agree-new}
 use Rattle.like_crew.proofs.crew.server.Server.new.Goals as goal
 
--- the workers among which a table without likes is shared
-workers-new : (t : UserTable) (s : Share) → t ≡ table_without_likes s → s.workers ≡ t.share.workers
-workers-new t s new = sym (ap (λ (u : UserTable). u.share.workers) new)
-
 pub invariant_of-result : goal.invariant_of-result
-invariant_of-result g c =
-    let new = c.in_ok-worker.ensures.new in (
-      new.pending,
-      workers-new _
-          (share_of c.args.setup.now.users (length c.args.sizes.now) c.args.setup.now.workers c.args.number) new.last,
-      agree-new c.args.setup.now c.args.sizes.now c.args.number _ _ c.args.notes c.in_ok-worker.worker
-          (map g.I.Inbox.view c.args.inboxes.items) c.requires.is_worker c.requires.post c.requires.inboxes new,
-    )
+invariant_of-result g c = c.in-Ok.ensures.serving (g.P.Post.view c.args.post) c.requires.post
 
-pub returns-clause-works : goal.returns-clause-works
-returns-clause-works g c = λ workload of own.
-    let share = ap (λ (u : UserTable). u.share) c.in_ok-worker.ensures.new.last in
-    record {
-      plans = subst (λ (s : Share). AreOwnPlans workload s.workers s.worker (map g.I.Inbox.view c.args.inboxes.items))
-          (sym share) own;
-      follows = λ _. c.in_ok-worker.ensures.follows workload of;
-    }
+pub returns-in-Ok-clause-new : goal.returns-in-Ok-clause-new
+returns-in-Ok-clause-new g c = c.in-Ok.ensures.new (g.P.Post.view c.args.post) c.requires.post
+
+pub returns-in-Ok-clause-works : goal.returns-in-Ok-clause-works
+returns-in-Ok-clause-works g c = λ workload of own.
+    let works = c.in-Ok.ensures.works (g.P.Post.view c.args.post) c.requires.post workload of own in
+    record { plans = works.plans; follows = works.follows }

@@ -1,32 +1,23 @@
-use Rattle.std.proofs.Common.{◌≡◌, ◌∙◌, [], sym, ap, subst}
-use Rattle.like_core.specs.declared.view.View.TheVariants.{Worker}
-use Rattle.like_board.specs.Lent.{lent_board}
-use Rattle.like_board.specs.Own.{own_views}
-use Rattle.like_core.specs.declared.view.WorkerSeatView.{WorkerSeatView}
-use Rattle.like_crew.specs.Server.{ServerGoesOn, ServerView}
+use Rattle.std.proofs.Common.{[], ap, refl}
+use Rattle.like_board.specs.Own.{own_view}
+use Rattle.like_queue.specs.Inbox.{view_of}
+use Rattle.like_crew.specs.OwnServer.{OwnServerView}
 use Rattle.like_crew.specs.ServerTurns.{OpensAll}
-use Rattle.like_crew.proofs.servers.Owned.{lent-goes_on, lent-opens-all}
+use Rattle.like_crew.proofs.servers.Boards.{at-board}
+use Rattle.like_crew.proofs.servers.Opened.{goes-all, opened_of}
 use Rattle.like_crew.proofs.crew.server.own_server.OwnServer+ListInbox.open_all.Goals as goal
+
+pub invariant_of-self : goal.invariant_of-self
+invariant_of-self c = (c.open_all.ensures [] (own_view c.self.inside.seat) c.self.invariant).0
 
 pub returns-clause-opens : goal.returns-clause-opens
 returns-clause-opens c =
-    let s = c.args.self.as_server in
-    let board = lent_board (own_views c.args.board) c.args.self.place (Worker c.args.self.seat) in
-    let none : s.worker.board ≡ [] = c.lend-server.ensures.none in
-    subst (λ (t : ServerView). OpensAll s t) (sym c.back.ensures.server)
-    (lent-opens-all s c.open_all.new.self board none
-    (subst (λ (x : ServerView). OpensAll x c.open_all.new.self) c.lend-server.ensures.lent c.open_all.ensures.opens))
+    let post = own_view c.self.inside.seat in
+    at-board view_of opened_of OpensAll [] [] post post c.self.inside.serving c.open_all.new.self _
+    (ap (λ (s : OwnServerView). s.server) c.self.view_is) refl (λ b. (c.open_all.ensures b post c.self.invariant).1)
 
 pub returns-clause-goes_on : goal.returns-clause-goes_on
-returns-clause-goes_on c =
-    let s = c.args.self.as_server in
-    let board = lent_board (own_views c.args.board) c.args.self.place (Worker c.args.self.seat) in
-    let none : s.worker.board ≡ [] = c.lend-server.ensures.none in
-    subst (λ (t : ServerView). ServerGoesOn s t) (sym c.back.ensures.server)
-    (lent-goes_on s c.open_all.new.self board none
-    (subst (λ (x : ServerView). ServerGoesOn x c.open_all.new.self) c.lend-server.ensures.lent c.open_all.ensures.goes_on))
+returns-clause-goes_on c = goes-all _ _ (returns-clause-opens c)
 
-pub returns-clause-came : goal.returns-clause-came
-returns-clause-came c =
-    c.back.ensures.came (own_views c.args.board) c.args.self.place c.args.self.seat
-    (c.open_all.ensures.goes_on.board ∙ ap (λ (x : ServerView). x.worker.board) c.lend-server.ensures.lent)
+pub returns-clause-post : goal.returns-clause-post
+returns-clause-post c = ap (λ (s : OwnServerView). s.server.worker.post) c.self.view_is

@@ -1,56 +1,75 @@
-use Rattle.std.proofs.Common.{◌≡◌, ◌∙◌, [], sym, ap, subst}
+use Rattle.std.proofs.Common.{◌≡◌, [], refl, sym, ap, subst, ◌∙◌}
 use lib.ListN.{get_elem?}
 use Rattle.like_core.specs.declared.view.View.TheVariants.{Worker}
 use Rattle.like_board.specs.Lent.{lent_board}
-use Rattle.like_board.specs.Own.{own_views}
-use Rattle.like_core.specs.declared.view.WorkerSeatView.{WorkerSeatView}
+use Rattle.like_board.specs.Own.{own_place, own_view, own_views}
+use Rattle.like_board.proofs.LentPosts.{comes_back}
 use Rattle.like_crew.specs.Fresh.{IsModelled}
-use Rattle.like_crew.specs.Server.{ServerGoesOn, ServerView}
+use Rattle.like_crew.specs.OwnServer.{CameBackFrom, OwnServerView}
+use Rattle.like_crew.specs.Server.{ServerGoesOn}
 use Rattle.like_crew.specs.ServerTurns.{ServerTurns, TakesOpen}
-use Rattle.like_crew.proofs.servers.Owned.{lent-fresh, lent-goes_on, lent-turns}
+use Rattle.like_crew.specs.Serving.{server_at}
+use Rattle.like_crew.proofs.servers.Boards.{at-board}
+use Rattle.like_crew.proofs.servers.Owned.{came-back, given-back, lent-fresh}
 use Rattle.like_crew.proofs.crew.server.own_server.OwnServer.turn.Goals as goal
 
 pub returns-clause-case : goal.returns-clause-case
 returns-clause-case g c =
-    let s = c.args.self.as_server in
-    let board = lent_board (own_views c.args.board) c.args.self.place (Worker c.args.self.seat) in
-    let none : s.worker.board ≡ [] = c.lend-server.ensures.none in
-    subst (λ (t : ServerView). ServerTurns c.turn-answer.result s t) (sym c.back-server.ensures.server)
-    (lent-turns c.turn-answer.result s c.turn-answer.new.self board none
-    (subst (λ (x : ServerView). ServerTurns c.turn-answer.result x c.turn-answer.new.self) c.lend-server.ensures.lent
-    c.turn-answer.ensures.case))
-
-pub returns-clause-goes_on : goal.returns-clause-goes_on
-returns-clause-goes_on g c =
-    let s = c.args.self.as_server in
-    let board = lent_board (own_views c.args.board) c.args.self.place (Worker c.args.self.seat) in
-    let none : s.worker.board ≡ [] = c.lend-server.ensures.none in
-    subst (λ (t : ServerView). ServerGoesOn s t) (sym c.back-server.ensures.server)
-    (lent-goes_on s c.turn-answer.new.self board none
-    (subst (λ (x : ServerView). ServerGoesOn x c.turn-answer.new.self) c.lend-server.ensures.lent
-    c.turn-answer.ensures.goes_on))
+    let view = g.I.Inbox.view in
+    let opened = g.I.Inbox.opened in
+    at-board view opened (ServerTurns c.turn.result) [] [] (own_view c.lend-post.result.seat.now)
+    (own_view c.turn.new.post.seat.now) c.self.inside.serving c.turn.new.self _
+    ((λ m. server_at view opened [] (own_view (c.lend-post.ensures.seat m)) c.self.inside.serving)
+    ∙ ap (λ (s : OwnServerView). s.server) c.self.view_is) refl c.turn.ensures.case
 
 pub returns-clause-modelled : goal.returns-clause-modelled
 returns-clause-modelled g c =
-    subst (λ (t : ServerView). IsModelled c.args.self.as_server t) (sym c.back-server.ensures.server)
-    (subst (λ (x : ServerView). IsModelled x c.turn-answer.new.self) c.lend-server.ensures.lent
-    c.turn-answer.ensures.modelled)
+    let view = g.I.Inbox.view in
+    let opened = g.I.Inbox.opened in
+    at-board view opened IsModelled [] [] (own_view c.lend-post.result.seat.now)
+    (own_view c.turn.new.post.seat.now) c.self.inside.serving c.turn.new.self _
+    ((λ m. server_at view opened [] (own_view (c.lend-post.ensures.seat m)) c.self.inside.serving)
+    ∙ ap (λ (s : OwnServerView). s.server) c.self.view_is) refl c.turn.ensures.modelled
 
 pub returns-clause-only_open : goal.returns-clause-only_open
 returns-clause-only_open g c = λ only.
-    subst (λ (t : ServerView). TakesOpen c.args.self.as_server t) (sym c.back-server.ensures.server)
-    (subst (λ (x : ServerView). TakesOpen x c.turn-answer.new.self) c.lend-server.ensures.lent
-    (c.turn-answer.ensures.only_open only))
+    let view = g.I.Inbox.view in
+    let opened = g.I.Inbox.opened in
+    at-board view opened TakesOpen [] [] (own_view c.lend-post.result.seat.now)
+    (own_view c.turn.new.post.seat.now) c.self.inside.serving c.turn.new.self _
+    ((λ m. server_at view opened [] (own_view (c.lend-post.ensures.seat m)) c.self.inside.serving)
+    ∙ ap (λ (s : OwnServerView). s.server) c.self.view_is) refl (c.turn.ensures.only_open only)
+
+pub returns-clause-goes_on : goal.returns-clause-goes_on
+returns-clause-goes_on g c =
+    let view = g.I.Inbox.view in
+    let opened = g.I.Inbox.opened in
+    at-board view opened ServerGoesOn [] [] (own_view c.lend-post.result.seat.now)
+    (own_view c.turn.new.post.seat.now) c.self.inside.serving c.turn.new.self _
+    ((λ m. server_at view opened [] (own_view (c.lend-post.ensures.seat m)) c.self.inside.serving)
+    ∙ ap (λ (s : OwnServerView). s.server) c.self.view_is) refl c.turn.ensures.goes_on
 
 pub returns-clause-came : goal.returns-clause-came
 returns-clause-came g c =
-    c.back-server.ensures.came (own_views c.args.board) c.args.self.place c.args.self.seat
-    (c.turn-answer.ensures.goes_on.board ∙ ap (λ (x : ServerView). x.worker.board) c.lend-server.ensures.lent)
+    let p = c.turn.new.post in
+    let seat = c.self.inside.seat in
+    let lend = c.lend-post.ensures in
+    let tells = c.turn.ensures.board in
+    let after : OwnServerView = record {
+      server = server_at g.I.Inbox.view g.I.Inbox.opened [] (own_view p.seat.now) c.turn.new.self;
+      place = own_place p.seat.now;
+    } in
+    let lent : lent_board (own_views p.board.now) (own_place p.seat.now) p.before.me.0
+    ≡ lent_board (own_views c.args.board.now) (own_place seat) (Worker (own_view seat)) =
+    cc tells ∙ (λ m. lent_board (own_views (lend.board m)) (own_place (lend.seat m)) (lend.before m)) in
+    let name : p.board.ghost_name ≡ c.lend-post.result.board.ghost_name = cc tells in
+    given-back (λ board. CameBackFrom (own_views c.args.board.now) c.args.self.now board after) c.board-1.given
+    (sym lend.board_name ∙ sym name)
+    (subst (λ (s : OwnServerView). CameBackFrom (own_views c.args.board.now) s p.board.now after) c.self.view_is
+    (came-back _ _ after p.board.now p.seat.now
+    (comes_back p (own_views c.args.board.now) (own_place seat) (own_view seat) lent) refl refl))
 
 pub returns-clause-fresh : goal.returns-clause-fresh
 returns-clause-fresh g c = λ known is.
-    lent-fresh c.turn-answer.result (get_elem? (own_views c.args.board) 0) c.args.self.seat c.back-server.result.0.seat known
-    c.args.self.as_server c.back-server.result.0.as_server
-    (ap (λ (p : WorkerSeatView). p.looks) c.lend-server.ensures.seat)
-    (ap (λ (p : WorkerSeatView). p.looks) c.back-server.ensures.seat)
+    lent-fresh c.turn.result (get_elem? (own_views c.args.board.now) 0) known c.args.self.now.server _
     (returns-clause-came g c).looked is (returns-clause-case g c)
