@@ -175,16 +175,16 @@ plan_at pages (plan ∷ plans) (suc submitter) all =
     plan_at pages plans submitter (λ k d below. all (suc k) d (omega arith))
 
 -- a new worker may be played with
-pub plays_new : (s : Setup) (plans : List (List Request)) (sizes : List ℕ) (worker : ℕ) (board : List ℕ)
+pub plays_new : (s : Setup) (plans : List (List Request)) (sizes : List ℕ) (worker : ℕ)
     (post : WorkerSeatView) (notes : Bool) (plan : List Request) (v : WorkerView)
     → FitsRun s plans
     → sizes ≡ map length plans
     → length sizes ≤ s.workers
     → plan ≡ get_or plans worker []
     → IsPostOf worker s.pages post
-    → IsNew s sizes worker board post notes v
+    → IsNew s sizes worker post notes v
     → IsPlaying plan 0 v
-plays_new s plans sizes worker board post notes plan v w sized few is his new =
+plays_new s plans sizes worker post notes plan v w sized few is his new =
     let own = dealt_one s.workers worker sizes w.numbers.workers.0 few in
     let lists = plan_at s.pages plans worker (plans-within s plans w) in
     let ended : length v.ended ≡ length v.left = ap length new.ended ∙ length-replicate (length v.left) false in

@@ -9,16 +9,13 @@ use calls::{
     OnSlice, OnSplits, OnStash, OnUsers, held_of, of_a_million, of_five, slices, splits, stashes,
 };
 use like_requests::{Op, PageRef, Request, Verdict};
-use like_tables::{
-    BucketTags, Counts, Held, RunTags, ServiceTags, Slice, SplitPages, SplitSlice, Stash, Users,
-    factor_for,
-};
+use like_tables::{Counts, Held, Slice, SplitPages, SplitSlice, Stash, Users, factor_for};
 use std::alloc::{AllocError, Global};
 use std::process::Abort;
 use std::test::Fail;
 
 // Makes a call of a table of split pages, and tells whether it may be made and is answered as it says.
-fn answers_splits<T: BucketTags>(splits: &mut SplitPages<T>, call: OnSplits) -> bool {
+fn answers_splits(splits: &mut SplitPages, call: OnSplits) -> bool {
     match call {
         OnSplits::Put(page) => {
             if splits.page_in(splits.bucket(page)).is_some() {
@@ -39,7 +36,7 @@ fn answers_splits<T: BucketTags>(splits: &mut SplitPages<T>, call: OnSplits) -> 
 }
 
 // Makes the calls of a new table of split pages, and asserts their answers.
-fn call_splits<T: BucketTags>(
+fn call_splits(
     rt: &impl Abort,
     alloc: Global,
     factor: u32,
@@ -47,7 +44,7 @@ fn call_splits<T: BucketTags>(
 ) -> Result<(), AllocError>
     requires { 2 ^ 22 ≤ factor }
 {
-    let mut splits: SplitPages<T> = SplitPages::new(alloc, factor)?;
+    let mut splits = SplitPages::new(alloc, factor)?;
     for at in 0..calls.len() {
         assert_call_at(
             rt,
@@ -63,8 +60,7 @@ fn call_splits<T: BucketTags>(
 fn a_page_is_split_that_was_put(rt: HostRuntime) -> Result<(), Fail> {
     for (factor, calls) in splits() {
         assert_named(&rt, *factor >= 1 << 22, "a factor");
-        call_splits::<ServiceTags>(&rt, rt.alloc(), *factor, calls)?;
-        call_splits::<RunTags>(&rt, rt.alloc(), *factor, calls)?;
+        call_splits(&rt, rt.alloc(), *factor, calls)?;
     }
     Ok(())
 }
@@ -127,7 +123,7 @@ fn a_slice_gives_what_was_added(rt: HostRuntime) -> Result<(), Fail> {
 }
 
 // Whether two likes of page 64 come out of a slice in which no page is split.
-fn gives_two_likes<C: Counts, T: BucketTags>(slice: &mut SplitSlice<C, T>) -> bool
+fn gives_two_likes<C: Counts>(slice: &mut SplitSlice<C>) -> bool
     requires { slice.old ≡ no_slice (2 ^ 22) 1_024 }
 {
     slice.put(64);

@@ -2,7 +2,7 @@ ghost use Rattle.std.specs.Prelude.{◌≡◌, ◌<◌, ◌≤◌, [], IfOk, len
 ghost use Rattle.like_limits.specs.Limits.{max_requests};
 ghost use Rattle.like_requests.specs.Setup.{FitsRun, IsWithin};
 ghost use Rattle.like_promises.specs.WorkloadOf.{lists_of};
-ghost use Rattle.like_roles.specs.worker.New.{IsNew, IsPostOf};
+ghost use Rattle.like_roles.specs.worker.New.{IsNewAt, IsPostOf};
 ghost use Rattle.test_parts.specs.Playing.{IsNextGiven};
 
 use super::gates::Expecting;
@@ -31,9 +31,9 @@ impl<'a, P: Post> Model for Player<'a, P> {
 
     ghost Value = { WorkerView };
 
-    ghost view = { λ p. p.worker };
+    ghost view = { λ p. p.worker.worker };
 
-    ghost invariant = { λ p. IsPlaying p.plan.now p.next p.worker };
+    ghost invariant = { λ p. IsPlaying p.plan.now p.next p.worker.worker };
 }
 
 /// What is there for a worker that takes: the next request of the plan, and after the last one the end mark.
@@ -73,7 +73,7 @@ fn worker_of<P: Post>(
     requires within { IsWithin setup.now sizes.now }
     requires is_worker { number < setup.now.workers }
     requires post { IsPostOf number setup.now.pages (P.view post) }
-    ensures { IfOk result (IsNew setup.now sizes.now number (P.board post) (P.view post) notes) }
+    ensures { IfOk result (IsNewAt setup.now sizes.now number (P.board post) (P.view post) notes) }
 {
     if notes {
         return Worker::new(alloc, setup, sizes, number, post);

@@ -23,5 +23,5 @@ invariant_of-self g c =
 pub invariant_of-self-in_default : goal.invariant_of-self-in_default
 invariant_of-self-in_default g c = record {
   at = stays_at c.self.inside.plan.now c.self.inside.next _ _ c.self.invariant.at c.turn.ensures.takes;
-  settled = tries_none c.turn.result c.turn.new.self c.in_default.not-Try c.turn.ensures.pending;
+  settled = tries_none c.turn.result c.turn.new.self.worker c.in_default.not-Try c.turn.ensures.pending;
 }
