@@ -20,8 +20,8 @@ MOST = 3
 # How many pieces of a log are searched for its first time.
 UNTIMED = 64
 
-# By how many seconds times in a log fall back that is told, and how many lines of a piece are looked at for it.
-FAR, SOME = 3600, 16
+# By how many seconds times in a log fall back that is told.
+FAR = 3600
 
 # How many logs are listed in their order, before the last one.
 LISTED = 7
@@ -157,6 +157,10 @@ class Log:
         if rest:
             yield line, rest + b"\n"
 
+    def first_of(self, times):
+        """The first of these times that can be read."""
+        return next((at for at in (self.stamps[time][0] for time in times) if at > -math.inf), -math.inf)
+
     def pieces_of(self, place, least=-math.inf):
         """The pieces of a log, each after its time, or that of a piece before if it has none or an earlier one."""
         self.name = self.names[place]
@@ -218,14 +222,19 @@ class Log:
                 yield *batch, least, place
 
     def note_fall(self, place, lines, times):
-        """Notes whether times in a log fall far back, as where the newest of several logs comes first in one."""
+        """Notes where times in a log fall far back, as where the newest of several logs comes first in one."""
         self.stamps.make_room()
-        some = slice(None, None, max(1, len(times) // SOME))
-        for line, time in zip(lines[some], times[some]):
-            at, latest = self.stamps[time][0], self.latest.get(place, -math.inf)
+        latest = self.latest.get(place, -math.inf)
+        known = {self.stamps[time][0] for time in set(times)} - {-math.inf}
+        self.latest[place] = max([latest, *known])
+        if place in self.fallen or min(known, default=math.inf) >= self.latest[place] - FAR:
+            return
+        for line, time in zip(lines, times):
+            at = self.stamps[time][0]
             if -math.inf < at < latest - FAR:
-                self.fallen.setdefault(place, (line, latest - at))
-            self.latest[place] = max(latest, at)
+                self.fallen[place] = line, latest - at
+                return
+            latest = max(latest, at)
 
     def batch_of(self, lines, numbers, users, times, texts):
         """A batch of what is kept of a piece."""

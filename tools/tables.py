@@ -4,7 +4,6 @@ import argparse
 import csv
 import io
 import itertools
-import math
 
 import reading
 import rows
@@ -126,8 +125,7 @@ class Table(reading.Log):
 
     def time_of(self, piece):
         header, records = piece
-        times = (row[header.places[3]] for _, row in records if len(row) > header.places[3])
-        return next((at for at in (self.stamps[time][0] for time in times) if at > -math.inf), -math.inf)
+        return self.first_of(row[header.places[3]] for _, row in records if len(row) > header.places[3])
 
 
 def delimiter(text):

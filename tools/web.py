@@ -3,7 +3,6 @@
 import argparse
 import itertools
 import json
-import math
 import operator
 import os
 import re
@@ -35,8 +34,8 @@ PORTED = re.compile(r"([0-9.]+|\[[0-9a-fA-F:.%]+\]):[0-9]{1,5}")
 ASKED = r'\[([^][\n]{0,99})\] "([^"\\\n]*(?:\\.[^"\\\n]*)*)" ([0-9]{3}) '
 AGENT = r'(?:[^ \n]+ "[^"\\\n]*(?:\\.[^"\\\n]*)*" "([^"\\\n]*(?:\\.[^"\\\n]*)*)")?'
 
-# A time in a piece of a log. A line that is right from its time on, and one that looks like that.
-TIME = re.compile(rb"\[([0-9]{2}/[A-Z][a-z]{2}/[^][\n]{0,99})\]")
+# A time in a piece of a log, before a request. A line that is right from its time on, and one that looks like that.
+TIME = re.compile(rb'\[([0-9][^][\n]{0,98})\] "')
 BEHIND = re.compile(rf'[^"\n]*? {ASKED}')
 LIKE_ONE = re.compile(r'[^ \n]+ [^\n]*\[[^][\n]{0,99}\] "')
 
@@ -318,8 +317,7 @@ class Combined(Web):
             self.leave_out(TORN if LIKE_ONE.match(text) else JUNK, line, text)
 
     def time_of(self, block):
-        found = TIME.search(block)
-        return self.stamps[found[1].decode(errors=reading.ESCAPED)][0] if found else -math.inf
+        return self.first_of(found[1].decode(errors=reading.ESCAPED) for found in TIME.finditer(block))
 
 
 class Json(Web):
@@ -364,8 +362,7 @@ class Json(Web):
 
     def time_of(self, block):
         lines = block[: reading.BLOCK >> 4].decode(errors=reading.ESCAPED).split("\n")
-        times = (self.row_of(line)[2] for line in lines)
-        return next((at for at in (self.stamps[time][0] for time in times if time) if at > -math.inf), -math.inf)
+        return self.first_of(self.row_of(line)[2] for line in lines)
 
 
 def json_of(line):

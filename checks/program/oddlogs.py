@@ -117,6 +117,35 @@ CASES = {
         {"ann": "/new", "bob": "/old"},
         ["a.log: the times fall back by 1 hour before line 3", ", so last likes may be old: name logs one by one"],
     ),
+    "a few old lines in one log": (
+        {"a.log": "".join(line("x - ann", "new", 7200) for _ in range(1990)) + line("x - ann", "old") * 9},
+        WEB,
+        {"/new": 1990, "/old": 9},
+        {"ann": "/old"},
+        ["a.log: the times fall back by 2 hours before line 1991, so last likes may be old"],
+    ),
+    "times of other forms": (
+        {
+            "web.log": line("x - ann", "new").replace("27/Nov/2026:09:00:00 +0000", "2026-11-27T09:00:00+00:00"),
+            "web.log.1": line("x - ann", "old").replace("27/Nov/2026:09:00:00 +0000", "2026-11-26T09:00:00+00:00"),
+            "web.log.2": line("x - ann", "oldest").replace("27/Nov/2026:09:00:00 +0000", "1795000000.123"),
+        },
+        WEB,
+        {"/new": 1, "/old": 1, "/oldest": 1},
+        {"ann": "/new"},
+        ["taken in the order of their first times: web.log.2, web.log.1, web.log\n"],
+    ),
+    "a time in a name": (
+        {
+            "a.log": line("x - bob [27/Nov/2030:00:00:00 +0000]")
+            + "".join(line("x - ann", "a", second) for second in range(4000)),
+            "b.log": "".join(line("x - ann", "b", second) for second in range(4001)),
+        },
+        WEB,
+        {"/a": 4001, "/b": 4001},
+        {"bob [27/Nov/2030:00:00:00 +0000]": "/a", "ann": "/b"},
+        ["the times of a.log and 1 more overlap: their requests are merged by time\n"],
+    ),
     "seconds late": (
         {"a.log": line("x - ann", "a", 3600) + line("x - ann", "b")},
         WEB,
