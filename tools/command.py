@@ -10,6 +10,9 @@ import signal
 import sys
 import threading
 
+if sys.version_info < (3, 9):
+    sys.exit(f"{sys.argv[0]}: this is Python {sys.version_info[0]}.{sys.version_info[1]}, and 3.9 or later is needed")
+
 # The version of the release that the tools are of, which tools/release writes beside them.
 VERSION = f"{os.path.dirname(os.path.realpath(__file__))}/version"
 

@@ -30,6 +30,9 @@ LISTED = 7
 ESCAPED = "percent"
 codecs.register_error(ESCAPED, lambda error: (rows.escaped(error.object[error.start : error.end]), error.end))
 
+# How a NUL in a name is written: Python before 3.11 reads no CSV that has one.
+NUL = "%00"
+
 # Why lines are left out.
 LONG = f"a line of more than {LONGEST} bytes"
 NO_TIME, EARLY, LATE = "no time that can be read", "before --since", "at --until or later"

@@ -55,7 +55,7 @@ class Table(reading.Log):
                 self.leave_out(reading.LONG, line, piece)
                 yield "\n"
             else:
-                yield from io.StringIO(piece.decode(errors=reading.ESCAPED), newline="")
+                yield from io.StringIO(piece.decode(errors=reading.ESCAPED).replace("\0", reading.NUL), newline="")
 
     def cut(self, block):
         """Cuts a block behind its last line, which CR may end."""
@@ -64,11 +64,20 @@ class Table(reading.Log):
     def pieces_in(self, file):
         lines = self.lines(file)
         front = next((line for line in lines if line.strip()), "")
-        delimiter = self.delimiter or max(DELIMITERS, key=lambda one: len(next(csv.reader([front], delimiter=one), "")))
+        delimiter = self.delimiter or max(DELIMITERS, key=lambda one: self.fit(front, one))
         records = rows.records_of(itertools.chain([front], lines), self.name, True, delimiter)
         header = self.header_of(records, delimiter)
         while batch := list(itertools.islice(records, BATCH)):
             yield batch[0][0], (header, batch)
+
+    def fit(self, front, delimiter):
+        """How well a delimiter fits a file's first line: how many columns it finds, or whether an op, then how many
+        fields."""
+        fields = next(csv.reader([front], delimiter=delimiter), [])
+        if self.has_header:
+            return sum(map(fields.__contains__, self.columns)), len(fields)
+        op = int(self.op)
+        return any(map(self.ops.__contains__, fields[op - 1 : op])), len(fields)
 
     def header_of(self, records, delimiter):
         """The header of a file, or without one the columns by their numbers."""

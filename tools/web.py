@@ -16,7 +16,7 @@ from command import Fault, shown
 SYSLOG = (
     r"(?:<[0-9]{1,3}>)?(?:1 )?(?:[A-Z][a-z]{2} [ 0-9][0-9] (?:[0-9]{4} )?[0-9:]{8}|[0-9]{2}:[0-9]{2}:[0-9]{2}"
     r"|[0-9]{4}-[0-9]{2}-[0-9]{2}[T ][0-9:.,]{8,18}(?:Z|[+-][0-9:]{4,5})?) "
-    r"[^ \n]+ (?:[^ \n]+: |[^ \n]+ [^ \n]+ [^ \n]+ (?:-|\[[^\n]*?\]) )"
+    r"[^ \n]+ (?:[^ \n]+: |[^ \n]+ [^ \n]+ [^ \n]+ (?:-|\[[^\n]*?\]) \ufeff?)"
 )
 PREFIX = re.compile(SYSLOG)
 
@@ -58,7 +58,7 @@ KEPT = 1 << 17
 # The names of fields in a JSON log of nginx, Caddy and Traefik, each in the objects that are before its dots.
 FIELDS = {
     "time": "time_iso8601 time_local msec time ts StartUTC timestamp @timestamp",
-    "address": "remote_addr request.client_ip request.remote_ip ClientHost",
+    "address": "remote_addr request.client_ip request.remote_ip request.remote_addr ClientHost",
     "user": "remote_user user_id ClientUsername",
     "request": "request",
     "method": "request_method request.method RequestMethod",
@@ -144,7 +144,7 @@ class Meanings(dict):
         path, query = text[begin:form], text[form:end]
         if "%" in path:
             path = unquote(path, errors=reading.ESCAPED)
-        return path + unquote_plus(query, errors=reading.ESCAPED)
+        return (path + unquote_plus(query, errors=reading.ESCAPED)).replace("\0", reading.NUL)
 
 
 class Agents(dict):
@@ -251,6 +251,8 @@ class Web(reading.Log):
         ]
         if any(nobody in users for nobody in NAMELESS):
             users = [address if user in NAMELESS else user for address, user in zip(addresses, users)]
+        if "\0" in "".join(users):
+            users = [user.replace("\0", reading.NUL) for user in users]
         return [named.get(request) or user for request, user in zip(requests, users)] if named else users
 
     def one_of(self, several):
@@ -350,7 +352,7 @@ class Json(Web):
             for part in names:
                 value = value.get(part) if isinstance(value, dict) else None
             value = value[0] if isinstance(value, list) and value else value
-            if isinstance(value, (str, int, float)):
+            if isinstance(value, (str, int, float)) and not isinstance(value, bool):
                 text = str(value)
                 return text if text.isascii() else text.encode(errors="surrogatepass").decode(errors=reading.ESCAPED)
         return ""

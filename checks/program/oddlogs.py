@@ -32,11 +32,12 @@ CASES = {
         {
             "a.log": "".join(SYSLOG.format(n) + line("192.0.2.1 - -") for n in range(3))
             + "".join(RFC.format(n) + line("192.0.2.2 - bob", "b") for n in range(3))
+            + RFC.format(3) + "\ufeff" + line("192.0.2.1 - -")
         },
         WEB,
-        {"/a": 3, "/b": 3},
+        {"/a": 4, "/b": 3},
         {"192.0.2.1": "/a", "bob": "/b"},
-        ["refused 0 of 6 requests"],
+        ["refused 0 of 7 requests"],
     ),
     "forwarded": (
         {"a.log": line("10.0.0.1, 203.0.113.7 - bob") + line("10.0.0.1, 203.0.113.7 - -", "b")},
@@ -222,6 +223,14 @@ CASES = {
         [],
     ),
     "bytes in CSV": ({"a.csv": "op,user,page\nlike,m\udcfcller,\udcff\n"}, "", {"%FF": 1}, {"m%FCller": "%FF"}, []),
+    "NULs": (
+        {"a.log": line("x - ann", "b%00") + line("x - b\\x00b") + line("x - b\0b", "b\\x00\0")},
+        WEB,
+        {"/a": 1, "/b%00": 1, "/b%00%00": 1},
+        {"ann": "/b%00", "b%00b": "/b%00%00"},
+        [],
+    ),
+    "NULs in CSV": ({"a.csv": "op,user,page\nlike,a\0nn,\0\n"}, "", {"%00": 1}, {"a%00nn": "%00"}, []),
     "queries": (
         {"a.log": "".join(line("x - ann", page) for n in range(4) for page in (f"a?mail={n % 2}", f"b{n}?x", "a"))},
         WEB.replace("[^? ]*", r"\S*"),
@@ -250,6 +259,16 @@ CASES = {
         {"ann": "/a"},
         ["left out 1, fewer fields than --columns: the first is line 2, "],
     ),
+    "commas in the header": (
+        {"a.csv": "Datum, Zeit, Ort, Zone;op;user;page\n1;like;ann;/a,b\n"}, "", {"/a,b": 1}, {"ann": "/a,b"}, []
+    ),
+    "commas in the first row": (
+        {"a.csv": "1;like;ann;/a,b,c,d,e\n2;like;ann;/b\n"},
+        "--columns 2,3,4",
+        {"/a,b,c,d,e": 1, "/b": 1},
+        {"ann": "/b"},
+        [],
+    ),
     "a delimiter": ({"a.csv": "op:user:page\nlike:ann:a,b\n"}, "--delimiter :", {"a,b": 1}, {"ann": "a,b"}, []),
     "JSON": (
         {
@@ -259,15 +278,17 @@ CASES = {
             '"user_id": "ann", "status": 200}\n'
             '{"ClientHost": "3.3.3.3", "ClientUsername": "-", "RequestMethod": "POST", "RequestPath": "/like/%ff", '
             '"DownstreamStatus": 200}\n'
+            '{"request": {"remote_addr": "4.4.4.4:80", "method": "POST", "uri": "/like/d"}, "user_id": false, "status": 200}'
+            "\n"
             '{"status": 200}\n{"status":\nlog\n{"remote_user": "\\x22", "status": 200}\n'
         },
         JSON,
-        {"/a": 1, "/café": 1, "/%FF": 1},
-        {"1.1.1.1": "/a", "ann": "/café", "3.3.3.3": "/%FF"},
+        {"/a": 1, "/café": 1, "/%FF": 1, "/d": 1},
+        {"1.1.1.1": "/a", "ann": "/café", "3.3.3.3": "/%FF", "4.4.4.4": "/d"},
         [
-            "no request or no status by these names of fields (--fields): the first is line 4",
-            "left out 2, a log line that can't be read: the first is line 5",
-            "not a JSON object: the first is line 6",
+            "no request or no status by these names of fields (--fields): the first is line 5",
+            "left out 2, a log line that can't be read: the first is line 6",
+            "not a JSON object: the first is line 7",
         ],
     ),
     "JSON behind syslog": (
