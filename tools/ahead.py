@@ -8,7 +8,7 @@ import marshal
 import os
 import signal
 
-from command import Fault
+from command import SIGNALS, Fault
 
 # How many bytes the length of a batch has, and how many the pipe holds.
 LENGTH, ROOM = 8, 1 << 20
@@ -86,16 +86,20 @@ def started(log, turn, sharers):
     ours, theirs = os.pipe()
     with contextlib.suppress(AttributeError, OSError):  # an old Python, or a limit of the system
         fcntl.fcntl(theirs, fcntl.F_SETPIPE_SZ, ROOM)
+    # A signal waits until both processes can end at it.
+    signals = signal.pthread_sigmask(signal.SIG_BLOCK, SIGNALS)
     child = os.fork()
     if child == 0:
         # It ends when all is read, at a signal, or when the pipe is closed.
         with contextlib.suppress(BaseException), open(theirs, "wb") as out:
+            signal.pthread_sigmask(signal.SIG_SETMASK, signals)
             os.close(ours)
             log.turn, log.sharers = turn, sharers
             send(log, out)
         os._exit(0)
-    os.close(theirs)
     try:
+        signal.pthread_sigmask(signal.SIG_SETMASK, signals)
+        os.close(theirs)
         with open(ours, "rb") as file:
             yield file
     finally:

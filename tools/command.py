@@ -1,12 +1,17 @@
 """What the tools share as commands: options, the line on a fault or signal, output by rename, and progress."""
 
+import signal
+
+# Until `run` handles it, Ctrl-C ends a tool without a traceback.
+if signal.getsignal(signal.SIGINT) == signal.default_int_handler:
+    signal.signal(signal.SIGINT, signal.SIG_DFL)
+
 import argparse
 import contextlib
 import errno
 import os
 import re
 import shutil
-import signal
 import sys
 import threading
 
@@ -209,10 +214,10 @@ def run(main):
     open_closed()
     if sys.argv[1:] == ["help"]:
         sys.argv[1] = "--help"
-    for number in SIGNALS:
-        if signal.getsignal(number) != signal.SIG_IGN:
-            signal.signal(number, stop)
     try:
+        for number in SIGNALS:
+            if signal.getsignal(number) != signal.SIG_IGN:
+                signal.signal(number, stop)
         main()
         sys.stdout.flush()
     except Fault as fault:
