@@ -7,10 +7,11 @@ import operator
 
 
 class Merge:
-    """Requests of several logs, those of each log in its order: a request's time is the latest in its log so far."""
+    """Requests of several logs, those of each log in its order: a request's time is the latest in its log so far. Of
+    requests at one time, those of the log that began first come first."""
 
     def __init__(self):
-        self.waiting = {}  # by log: the times of requests that others may come before, and what is merged
+        self.waiting = {}  # by log, as they begin: the times of requests that others may come before, and what is merged
         self.latest = {}  # by log: the latest time so far
         self.are_mixed = False  # whether requests of one log come between those of another
 
@@ -28,8 +29,7 @@ class Merge:
     def ready(self, least=math.inf):
         """What is earlier than this time, in order, in columns."""
         fronts = []
-        for place in sorted(self.waiting):
-            columns = self.waiting[place]
+        for columns in self.waiting.values():
             count = bisect.bisect_left(columns[0], least)
             if count:
                 fronts.append([column[:count] for column in columns])

@@ -104,6 +104,13 @@ CASES = {
         {"ann": "/new"},
         ["taken in the order of their first times: web.log.2, web.log.1, web.log\n"],
     ),
+    "one second in two logs": (
+        {"web.log": line("x - ann", "new", 60), "web.log.1": line("x - ann", "old") + line("x - ann", "late", 60)},
+        WEB,
+        {"/new": 1, "/old": 1, "/late": 1},
+        {"ann": "/new"},
+        ["taken in the order of their first times: web.log.1, web.log\nrefused 0 of 3 requests\n"],
+    ),
     "many logs": (
         {f"{number}.log": line("x - ann", str(number), 20 - number) for number in range(20)},
         WEB,
