@@ -12,11 +12,13 @@ from urllib.parse import unquote, unquote_plus
 import reading
 from command import Fault, shown
 
-# What syslog puts before a line: a time, the host, and the program or what RFC 5424 has in its place.
+# What syslog puts before a line: a time, the host, and the program with a colon or what RFC 5424 has in its place, with
+# elements of data.
+ELEMENT = r'\[[^]"\n]*(?:"[^"\\\n]*(?:\\.[^"\\\n]*)*"[^]"\n]*)*\]'
 SYSLOG = (
     r"(?:<[0-9]{1,3}>)?(?:1 )?(?:[A-Z][a-z]{2} [ 0-9][0-9] (?:[0-9]{4} )?[0-9:]{8}|[0-9]{2}:[0-9]{2}:[0-9]{2}"
     r"|[0-9]{4}-[0-9]{2}-[0-9]{2}[T ][0-9:.,]{8,18}(?:Z|[+-][0-9:]{4,5})?) "
-    r"[^ \n]+ (?:[^ \n]+: |[^ \n]+ [^ \n]+ [^ \n]+ (?:-|\[[^\n]*?\]) \ufeff?)"
+    rf"[^ \n]+ (?:[^ \n]+: |[^ \n]*[^: \n] [^ \n]+ [^ \n]+ (?:-|(?:{ELEMENT})+) \ufeff?)"
 )
 PREFIX = re.compile(SYSLOG)
 
@@ -286,12 +288,12 @@ class Combined(Web):
         # other line is the last group, and all else is empty.
         self.lines = {
             (has_syslog, has_host): re.compile(
-                rf"(?:{SYSLOG * has_syslog}{HOST * has_host}{ADDRESSES} - ([^ \n]+) {ASKED}{agent}[^\n]*|([^\n]*))\n"
+                rf'(?:{SYSLOG * has_syslog}{HOST * has_host}{ADDRESSES} - ([^ "\n]+|"") {ASKED}{agent}[^\n]*|([^\n]*))\n'
             )
             for has_syslog, has_host in itertools.product((False, True), repeat=2)
         }
         # Any line of these formats.
-        self.line = re.compile(rf'(?:{SYSLOG})?(?:{HOST})?{ADDRESSES} - ((?:[^"\\\n]|\\.)+?) {ASKED}{agent}')
+        self.line = re.compile(rf'(?:{SYSLOG})?(?:{HOST})?{ADDRESSES} - ((?:[^"\\\n]|\\.)+?|"") {ASKED}{agent}')
 
     def columns_of(self, text):
         front = re.match(rf"({SYSLOG})?({HOST})?", text)

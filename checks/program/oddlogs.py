@@ -39,6 +39,17 @@ CASES = {
         {"192.0.2.1": "/a", "bob": "/b"},
         ["refused 0 of 7 requests"],
     ),
+    "syslog and names that look like it": (
+        {
+            "a.log": SYSLOG.format(1) + line("1.1.1.1 - -") + "15:00:00 web-1 nginx: " + line("1.1.1.1, 2.2.2.2 - x - root"),
+            "b.log": RFC.format(1) + line("1.1.1.1 - -") + RFC.format(1)[:-2] + "[m] " + line("1.1.1.1 - [x] y - root")
+            + RFC.format(1)[:-2] + r'[m x="\]"][y z="]"] ' + line("1.1.1.2 - -"),
+        },
+        WEB,
+        {"/a": 3},
+        {"1.1.1.1": "/a", "1.1.1.2": "/a"},
+        [f"left out 2, {NO_FRONT}: the first is line 2 of a.log, '15:00:00 web-1 nginx: 1.1.1.1, 2.2.2.2 - x - root"],
+    ),
     "forwarded": (
         {"a.log": line("10.0.0.1, 203.0.113.7 - bob") + line("10.0.0.1, 203.0.113.7 - -", "b")},
         WEB,
@@ -76,11 +87,11 @@ CASES = {
     "nobody by other words": (
         {
             "a.log": line('1.1.1.1 - ""') + line("unknown, 1.1.1.2 - -") + line("-, 1.1.1.3 - -", "b")
-            + line("unknown - -") + line("-, unknown - -")
+            + line("unknown - -") + line("-, unknown - -") + line('h.org:80 1.1.1.4 - ""')
         },
         WEB,
-        {"/a": 2, "/b": 1},
-        {"1.1.1.1": "/a", "1.1.1.2": "/a", "1.1.1.3": "/b"},
+        {"/a": 3, "/b": 1},
+        {"1.1.1.1": "/a", "1.1.1.2": "/a", "1.1.1.3": "/b", "1.1.1.4": "/a"},
         ["left out 2, no user and no address: the first is line 4, "],
     ),
     "two in a line": (
