@@ -329,9 +329,11 @@ class Json(Web):
 
     def __init__(self, words, patterns):
         super().__init__(words, patterns)
-        self.fields = {name: [path.split(".") for path in text.split()] for name, text in FIELDS.items()}
+        paths = {name: [path.split(".") for path in text.split()] for name, text in FIELDS.items()}
         # A dot may also be in a field's name.
-        self.fields |= {name: [[path], path.split(".")] for name, path in (words.fields or {}).items()}
+        paths |= {name: [[path], path.split(".")] for name, path in (words.fields or {}).items()}
+        # The first part of each path, and the others.
+        self.fields = {name: [(path[0], path[1:]) for path in found] for name, found in paths.items()}
 
     def columns_of(self, text):
         return list(map(list, zip(*map(self.row_of, text.split("\n")[:-1]))))
@@ -340,23 +342,27 @@ class Json(Web):
         """What columns have of a line."""
         found = json_of(line)
         if isinstance(found, dict):
-            request = self.field(found, "request") or " ".join(self.field(found, name) for name in ("method", "uri"))
-            status = self.field(found, "status")
+            field = self.field
+            request = field(found, "request") or f"{field(found, 'method')} {field(found, 'uri')}"
+            status = field(found, "status")
             if len(status) == 3 and request != " ":
-                address, user, time, agent = (self.field(found, name) for name in ("address", "user", "time", "agent"))
-                return address, user, time, request, status, agent, ""
+                whose = field(found, "address"), field(found, "user")
+                return *whose, field(found, "time"), request, status, field(found, "agent"), ""
         return "", "", "", "", "", "", line
 
     def field(self, found, name):
         """A field of an object, as text, by the first of its names that the object has."""
-        for names in self.fields[name]:
-            value = found
-            for part in names:
+        for first, rest in self.fields[name]:
+            value = found.get(first)
+            if value is None:
+                continue
+            for part in rest:
                 value = value.get(part) if isinstance(value, dict) else None
             value = value[0] if isinstance(value, list) and value else value
-            if isinstance(value, (str, int, float)) and not isinstance(value, bool):
-                text = str(value)
-                return text if text.isascii() else text.encode(errors="surrogatepass").decode(errors=reading.ESCAPED)
+            if type(value) is str:
+                return value if value.isascii() else value.encode(errors="surrogatepass").decode(errors=reading.ESCAPED)
+            if type(value) in (int, float):
+                return str(value)
         return ""
 
     def read_apart(self, columns, at, line):
