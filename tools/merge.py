@@ -11,7 +11,7 @@ class Merge:
     requests at one time, those of the log that began first come first."""
 
     def __init__(self):
-        self.waiting = {}  # by log, as they begin: the times of requests that others may come before, and what is merged
+        self.waiting = {}  # by log, as they begin: times of requests that others may come before, and what is merged
         self.latest = {}  # by log: the latest time so far
         self.are_mixed = False  # whether requests of one log come between those of another
 

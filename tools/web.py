@@ -288,7 +288,8 @@ class Combined(Web):
         # other line is the last group, and all else is empty.
         self.lines = {
             (has_syslog, has_host): re.compile(
-                rf'(?:{SYSLOG * has_syslog}{HOST * has_host}{ADDRESSES} - ([^ "\n]+|"") {ASKED}{agent}[^\n]*|([^\n]*))\n'
+                rf'(?:{SYSLOG * has_syslog}{HOST * has_host}{ADDRESSES} - ([^ "\n]+|"") '
+                rf"{ASKED}{agent}[^\n]*|([^\n]*))\n"
             )
             for has_syslog, has_host in itertools.product((False, True), repeat=2)
         }
