@@ -105,7 +105,8 @@ enum likes_status {
 
     /* outcomes of a seat's calls */
     LIKES_LIKED = 1,      /* one like was added, and the page is now its user's last */
-    LIKES_SEEN = 2,       /* the look was answered */
+    LIKES_SEEN = 2,       /* the look or the glance was answered, and the count is exact */
+    LIKES_GLIMPSED = 18,  /* the glance was answered, but the page is split now: its count may lack likes */
     LIKES_WAITS = 3,      /* the look will be found later, with its tag, by likes_seat_take_found */
     LIKES_RUNS = 4,       /* the seat runs a phase */
     LIKES_BETWEEN = 5,    /* not run: the seat is between two phases. Try again, or do other work first. */
@@ -151,10 +152,10 @@ enum likes_status {
 
 #define LIKES_FIRST_ERROR 100u
 
-/* Whether a status says that what was asked for is done: LIKES_OK, LIKED, SEEN and COUNTED. The others below
+/* Whether a status says that what was asked for is done: LIKES_OK, LIKED, SEEN, GLIMPSED and COUNTED. The others below
  * LIKES_FIRST_ERROR are outcomes, which each call lists, and those from there on are errors. */
 static inline bool likes_is_success(uint32_t status) {
-    return status <= LIKES_SEEN || status == LIKES_COUNTED;
+    return status <= LIKES_SEEN || status == LIKES_GLIMPSED || status == LIKES_COUNTED;
 }
 
 /* Opens a service. The counts and the last likes of an earlier one, opened again, go on where it ended. LIKES_OK fills
@@ -182,8 +183,8 @@ uint64_t likes_phase_now(const likes_phase *phase);
 uint32_t likes_seat_of(uint32_t user, uint32_t seats);
 
 typedef struct likes_answer {
-    uint64_t count;  /* of LIKES_SEEN: the page's count */
-    uint32_t last;   /* of LIKES_SEEN: the page of the user's last like, or LIKES_NO_PAGE */
+    uint64_t count;  /* of LIKES_SEEN and GLIMPSED: the page's count */
+    uint32_t last;   /* of LIKES_SEEN and GLIMPSED: the page of the user's last like, or LIKES_NO_PAGE */
     uint32_t status; /* a likes_status */
 } likes_answer;
 
@@ -204,9 +205,9 @@ typedef struct likes_found {
  * likes_seat_lasts do no phase work, so they answer neither GONE nor BETWEEN.)
  *
  * Once all seats are gone, one thread could have done all that they did, one request after the other, with each seat's
- * requests in their order and phases that never fall. A look that waits has its place where it is found. The count of
- * a glance at a split page need not fit: it may lack likes. Of two seats' requests in one phase, either may come first.
- */
+ * requests in their order and phases that never fall. A look that waits has its place where it is found. Each count of
+ * LIKES_SEEN is the one that this thread would see. That of LIKES_GLIMPSED need not be: it may lack likes. Of two
+ * seats' requests in one phase, either may come first. */
 
 /* Adds one like: LIKES_LIKED, BETWEEN, GONE, LIKE_LIMIT, EMPTY, UNKNOWN_USER, OTHER_SEAT or UNKNOWN_PAGE. */
 uint32_t likes_seat_like(likes_seat *seat, uint32_t user, uint32_t page);
@@ -216,8 +217,10 @@ uint32_t likes_seat_like(likes_seat *seat, uint32_t user, uint32_t page);
  * written; its count and last are 0 but for LIKES_SEEN. */
 uint32_t likes_seat_look(likes_seat *seat, uint32_t user, uint32_t page, uint64_t tag, likes_answer *answer);
 
-/* Looks at once, in split phases too: LIKES_SEEN, BETWEEN, GONE, EMPTY, UNKNOWN_USER, OTHER_SEAT or UNKNOWN_PAGE. The
- * count has all likes of earlier phases and the seat's own. It may lack other seats' likes of the present phase. */
+/* Looks at once, in split phases too: LIKES_SEEN, GLIMPSED, BETWEEN, GONE, EMPTY, UNKNOWN_USER, OTHER_SEAT or
+ * UNKNOWN_PAGE. LIKES_SEEN, of a page that isn't split now, has what a look shows. LIKES_GLIMPSED, of one that is, has
+ * the user's last like, and a count with all likes of earlier phases and the seat's own. It may lack other seats' likes
+ * of the present phase. */
 uint32_t likes_seat_glance(likes_seat *seat, uint32_t user, uint32_t page, likes_answer *answer);
 
 /* Takes the next found look, in the order of asking. False: there is none, and nothing is written. It works at any

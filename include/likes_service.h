@@ -98,7 +98,8 @@ uint32_t likes_service_look(likes_service *service, uint32_t user, uint32_t page
 uint32_t likes_service_look_within(likes_service *service, uint32_t user, uint32_t page, uint32_t microseconds,
                                    likes_answer *answer);
 
-/* Looks at once: an answer of likes_seat_glance, but never LIKES_BETWEEN. Any thread may call it. */
+/* Looks at once: an answer of likes_seat_glance, but never LIKES_BETWEEN. LIKES_SEEN has the exact count. That of
+ * LIKES_GLIMPSED may lack likes. Any thread may call it. */
 uint32_t likes_service_glance(likes_service *service, uint32_t user, uint32_t page, likes_answer *answer);
 
 /* Writers

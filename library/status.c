@@ -4,6 +4,7 @@
 static const char *const outcomes[] = {
     "ok",      "liked",     "seen",       "waits",    "runs",  "between", "no room",   "like limit", "gone",
     "goes on", "announced", "not all in", "released", "ended", "counted", "no moment", "not ended",  "all taken",
+    "glimpsed",
 };
 
 /* From LIKES_EMPTY on. */

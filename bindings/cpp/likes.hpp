@@ -62,6 +62,12 @@ struct Moment {
     std::vector<Last> lasts = {};
 };
 
+// What a glance shows, and whether its count is exact.
+struct Shown {
+    Seen seen = {};
+    bool is_exact = false;
+};
+
 // What a service has done so far.
 struct Statistics {
     std::uint64_t phases = 0; // how many have ended
@@ -153,11 +159,13 @@ public:
         return seen(answer);
     }
 
-    // A count at once, which may lack other seats' likes of the present phase.
-    Seen glance(std::uint32_t user, std::uint32_t page) {
+    // A count at once. If the page is split, it may lack other seats' likes of the present phase, and isn't exact.
+    Shown glance(std::uint32_t user, std::uint32_t page) {
         likes_answer answer = {};
-        expect(likes_service_glance(service_, user, page, &answer), LIKES_SEEN);
-        return *seen(answer);
+        auto status = likes_service_glance(service_, user, page, &answer);
+        if (status != LIKES_GLIMPSED)
+            expect(status, LIKES_SEEN);
+        return {*seen(answer), status == LIKES_SEEN};
     }
 
     // A thread's likes at full speed.

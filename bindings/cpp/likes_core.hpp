@@ -109,12 +109,13 @@ struct Seen {
     std::uint64_t count = 0;
 };
 
-// What an answer of LIKES_SEEN shows.
+// What an answer of LIKES_SEEN or LIKES_GLIMPSED shows.
 inline std::optional<Seen> seen(const likes_answer &answer) {
-    return answer.status == LIKES_SEEN ? std::optional<Seen>({last_of(answer.last), answer.count}) : std::nullopt;
+    bool is_shown = answer.status == LIKES_SEEN || answer.status == LIKES_GLIMPSED;
+    return is_shown ? std::optional<Seen>({last_of(answer.last), answer.count}) : std::nullopt;
 }
 
-// What a look did, and of LIKES_SEEN what it shows.
+// What a look or a glance did, and of LIKES_SEEN and LIKES_GLIMPSED what it shows.
 struct Look {
     likes_status outcome = LIKES_OK;
     std::optional<Seen> seen = {};
@@ -193,7 +194,8 @@ public:
         return {outcome(answer.status), seen(answer)};
     }
 
-    // Looks at once: LIKES_SEEN, BETWEEN or GONE.
+    // Looks at once: LIKES_SEEN, with the exact count; GLIMPSED, of a page that is split, whose count may lack other
+    // seats' likes of the present phase; BETWEEN or GONE.
     Look glance(std::uint32_t user, std::uint32_t page) {
         likes_answer answer = {};
         likes_seat_glance(&handle_, user, page, &answer);

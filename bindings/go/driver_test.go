@@ -48,10 +48,21 @@ func (it *two) fails(right error) func(Status, error) {
 // shows holds that a look was answered so.
 func (it *two) shows(last uint32, count uint64) func(Seen, Status, error) {
 	it.Helper()
+	return it.tells(SeenNow, last, count)
+}
+
+// glimpses holds that a glance at a split page was answered so.
+func (it *two) glimpses(last uint32, count uint64) func(Seen, Status, error) {
+	it.Helper()
+	return it.tells(Glimpsed, last, count)
+}
+
+func (it *two) tells(right Status, last uint32, count uint64) func(Seen, Status, error) {
+	it.Helper()
 	return func(seen Seen, status Status, err error) {
 		it.Helper()
-		if seen != (Seen{last, count}) || status != SeenNow || err != nil {
-			it.Errorf("%v, %v, %v, and not %v", seen, status, err, Seen{last, count})
+		if seen != (Seen{last, count}) || status != right || err != nil {
+			it.Errorf("%v, %v, %v, and not %v, %v", seen, status, err, Seen{last, count}, right)
 		}
 	}
 }
@@ -91,8 +102,9 @@ func TestThreePhases(t *testing.T) {
 	it.is(Liked)(first.Like(2, 0))
 	it.is(Liked)(second.Like(1, 0))
 	it.waits(Waits)(first.Look(0, 0, 7))
-	it.shows(0, 13)(first.Glance(0, 0))
-	it.shows(NoPage, 12)(second.Glance(3, 0))
+	it.glimpses(0, 13)(first.Glance(0, 0))
+	it.glimpses(NoPage, 12)(second.Glance(3, 0))
+	it.shows(0, 0)(first.Glance(0, 1))
 	it.shows(0, 0)(first.Look(0, 1, 8))
 	it.same(first.Phase(), uint64(1))
 	it.changePhase()

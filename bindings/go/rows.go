@@ -29,7 +29,7 @@ type Request struct {
 	_          uint32
 }
 
-// Answer is the answer to a request of a row. Of SeenNow it has what the look shows.
+// Answer is the answer to a request of a row. Of SeenNow and Glimpsed it has what the look shows.
 type Answer struct {
 	Count  uint64
 	Last   uint32
@@ -55,9 +55,30 @@ type Seen struct {
 	Count uint64
 }
 
+// Shown is what a glance shows. If its count isn't exact, the page is split: it may lack other seats' likes of the
+// present phase.
+type Shown struct {
+	Seen
+	IsExact bool
+}
+
+// seenIn is what an answer shows, if it shows anything.
+func seenIn(answer C.likes_answer) Seen {
+	return Seen{Last: uint32(answer.last), Count: uint64(answer.count)}
+}
+
 // seenBy is what a look of a service shows, or why it shows nothing.
 func seenBy(answer C.likes_answer) (Seen, error) {
-	return Seen{Last: uint32(answer.last), Count: uint64(answer.count)}, wanted(answer.status, SeenNow)
+	return seenIn(answer), wanted(answer.status, SeenNow)
+}
+
+// shownBy is the same of a glance.
+func shownBy(answer C.likes_answer) (Shown, error) {
+	if Status(answer.status) == Glimpsed {
+		return Shown{Seen: seenIn(answer)}, nil
+	}
+	seen, err := seenBy(answer)
+	return Shown{Seen: seen, IsExact: err == nil}, err
 }
 
 // Rows are handed to C as they are.

@@ -33,7 +33,8 @@ func (s *Seat) Look(user, page uint32, tag uint64) (Seen, Status, error) {
 	return told(answer)
 }
 
-// Glance looks at once: SeenNow, Between or Gone. The count may lack other seats' likes of the present phase.
+// Glance looks at once: SeenNow, with the exact count; Glimpsed, of a page that is split, whose count may lack other
+// seats' likes of the present phase; Between or Gone.
 func (s *Seat) Glance(user, page uint32) (Seen, Status, error) {
 	s.mutex.Lock()
 	defer s.mutex.Unlock()
@@ -44,7 +45,7 @@ func (s *Seat) Glance(user, page uint32) (Seen, Status, error) {
 
 func told(answer C.likes_answer) (Seen, Status, error) {
 	status, err := outcome(answer.status)
-	return Seen{Last: uint32(answer.last), Count: uint64(answer.count)}, status, err
+	return seenIn(answer), status, err
 }
 
 // Run runs requests one by one, and gives how many were done. It stops before the first that is Between or NoRoom, and

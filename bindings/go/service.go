@@ -126,15 +126,15 @@ func (s *Service) LookWithin(user, page uint32, limit time.Duration) (seen Seen,
 	return seen, err
 }
 
-// Glance gives a count at once, which may lack other seats' likes of the present phase.
-func (s *Service) Glance(user, page uint32) (seen Seen, err error) {
+// Glance gives a count at once, and whether it is exact.
+func (s *Service) Glance(user, page uint32) (shown Shown, err error) {
 	err = s.call(user, func() error {
 		var answer C.likes_answer
 		C.likes_service_glance(s.c, C.uint32_t(user), C.uint32_t(page), &answer)
-		seen, err = seenBy(answer)
+		shown, err = shownBy(answer)
 		return err
 	})
-	return seen, err
+	return shown, err
 }
 
 // beginLook waits until a look may wait in C. It is false for a goroutine that holds a seat, for which those that wait

@@ -26,6 +26,7 @@ const (
 	NoMoment  Status = C.LIKES_NO_MOMENT
 	NotEnded  Status = C.LIKES_NOT_ENDED
 	AllTaken  Status = C.LIKES_ALL_TAKEN
+	Glimpsed  Status = C.LIKES_GLIMPSED
 )
 
 // Error says why a call is refused: what was asked for isn't done.

@@ -80,7 +80,8 @@ static void like(seat *at) {
 static void glance(seat *at) {
     uint32_t number = (uint32_t)(at - it.seats), status = move(at, false);
     likes_answer answer;
-    expect(likes_seat_glance(&at->handle, number, 0, &answer), status == LIKES_RUNS ? LIKES_SEEN : status, "a glance");
+    uint32_t shown = at->phase % 2 == 1 ? LIKES_GLIMPSED : LIKES_SEEN;
+    expect(likes_seat_glance(&at->handle, number, 0, &answer), status == LIKES_RUNS ? shown : status, "a glance");
     if (status == LIKES_RUNS)
         expect(answer.count, it.count + at->slice, "a count");
 }

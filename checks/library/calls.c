@@ -93,9 +93,11 @@ static void two_seats(void) {
     IS(likes_seat_like(&it.seats[1], 1, 0), LIKES_LIKED);
     IS(likes_seat_look(&it.seats[0], 0, 0, 7, &answer), LIKES_WAITS);
     IS(answer.status, LIKES_WAITS);
-    IS(likes_seat_glance(&it.seats[0], 0, 0, &answer), LIKES_SEEN);
+    IS(likes_seat_glance(&it.seats[0], 0, 0, &answer), LIKES_GLIMPSED);
     IS(answer.count, 13);
-    IS(likes_seat_glance(&it.seats[1], 3, 0, &answer), LIKES_SEEN);
+    IS(likes_seat_glance(&it.seats[0], 0, 1, &answer), LIKES_SEEN);
+    IS(answer.count, 0);
+    IS(likes_seat_glance(&it.seats[1], 3, 0, &answer), LIKES_GLIMPSED);
     IS(answer.count, 12);
     IS(answer.last, LIKES_NO_PAGE);
     IS(likes_seat_look(&it.seats[0], 0, 1, 8, &answer), LIKES_SEEN);
@@ -156,9 +158,9 @@ static void slots(void) {
     IS(likes_seat_like(&it.seats[1], 1, 5), LIKES_LIKED);
     IS(likes_seat_look(&it.seats[0], 0, 5, 0, &answer), LIKES_SEEN);
     IS(answer.count, 2);
-    IS(likes_seat_glance(&it.seats[0], 0, LAST, &answer), LIKES_SEEN);
+    IS(likes_seat_glance(&it.seats[0], 0, LAST, &answer), LIKES_GLIMPSED);
     IS(answer.count, 2);
-    IS(likes_seat_glance(&it.seats[1], 1, LAST, &answer), LIKES_SEEN);
+    IS(likes_seat_glance(&it.seats[1], 1, LAST, &answer), LIKES_GLIMPSED);
     IS(answer.count, 1);
     change_phase(&it, 2);
     IS(likes_seat_look(&it.seats[1], 1, LAST, 0, &answer), LIKES_SEEN);
@@ -195,8 +197,10 @@ static void moves(void) {
             IS(likes_seat_look(&it.seats[i], i, *joined, 0, &answer), LIKES_SEEN);
             IS(answer.count, 2 * round + i + 1);
             IS(likes_seat_look(&it.seats[i], i, *split, 5, &answer), LIKES_WAITS);
-            IS(likes_seat_glance(&it.seats[i], i, *split, &answer), LIKES_SEEN);
+            IS(likes_seat_glance(&it.seats[i], i, *split, &answer), LIKES_GLIMPSED);
             IS(answer.count, 2 * round + 1);
+            IS(likes_seat_glance(&it.seats[i], i, *joined, &answer), LIKES_SEEN);
+            IS(answer.count, 2 * round + i + 1);
         }
         change_phase(&it, 2);
         is_split(&it.driver, split, 1);
@@ -819,7 +823,7 @@ static void reserved_requests(void) {
                 IS(answers[i].count, 0);
                 IS(answers[i].last, 0);
             }
-            IS(answers[3].status, LIKES_SEEN);
+            IS(answers[3].status, phase == 1 ? LIKES_GLIMPSED : LIKES_SEEN);
             IS(answers[3].count, 7);
             IS(answers[3].last, LIKES_NO_PAGE);
         }
@@ -895,7 +899,7 @@ static void rows(void) {
     IS(likes_seat_run(&it.seats[0], row, 4, answers, 4), 3);
     IS(answers[0].status, LIKES_WAITS);
     IS(answers[1].status, LIKES_LIKED);
-    IS(answers[2].status, LIKES_SEEN);
+    IS(answers[2].status, LIKES_GLIMPSED);
     IS(answers[2].count, 1);
     IS(answers[3].status, LIKES_NO_ROOM);
     IS(likes_driver_turn(&it.driver, LIKES_END_IF_IT_SERVES), LIKES_ANNOUNCED);
@@ -933,7 +937,7 @@ static void comes_back(void) {
     IS(likes_seat_come_back(&it.seats[0]), LIKES_RUNS);
     IS(likes_seat_phase(&it.seats[0]), 3);
     IS(likes_seat_like(&it.seats[0], 0, 0), LIKES_LIKED);
-    IS(likes_seat_glance(&it.seats[0], 0, 0, &answer), LIKES_SEEN);
+    IS(likes_seat_glance(&it.seats[0], 0, 0, &answer), LIKES_GLIMPSED);
     IS(answer.count, 13);
     IS(likes_seat_come_back(&it.seats[0]), LIKES_RUNS);
     change_phase(&it, 2);
@@ -1237,7 +1241,7 @@ static void still_handles(void) {
         for (uint32_t i = 0; i < 2; i++) {
             IS(likes_seat_like(&still.it.seats[i], i, 0), LIKES_LIKED);
             IS(likes_seat_look(&still.it.seats[i], i, 1, 0, &answers[0]), LIKES_SEEN);
-            IS(likes_seat_glance(&still.it.seats[i], i, 0, &answers[0]), LIKES_SEEN);
+            IS(likes_seat_glance(&still.it.seats[i], i, 0, &answers[0]), phase == 1 ? LIKES_GLIMPSED : LIKES_SEEN);
             IS(likes_seat_phase(&still.it.seats[i]), phase);
             IS(likes_seat_last(&still.it.seats[i], i, &page), LIKES_OK);
             IS(likes_seat_lasts(&still.it.seats[i], 0, &page, 1), LIKES_OK);
@@ -1285,6 +1289,7 @@ static const struct {
     {LIKES_NO_MOMENT, "no moment"},
     {LIKES_NOT_ENDED, "not ended"},
     {LIKES_ALL_TAKEN, "all taken"},
+    {LIKES_GLIMPSED, "glimpsed"},
     {LIKES_EMPTY, "empty"},
     {LIKES_IN_USE, "in use"},
     {LIKES_NO_MEMORY, "no memory"},
@@ -1316,7 +1321,7 @@ static const struct {
     {LIKES_STOPPED, "the service was stopped"},
     {LIKES_WRONG_LENGTH, "an array has one entry for each page, or for each user"},
 };
-enum { TOLD = sizeof told / sizeof *told, OUTCOMES = 18, ERRORS = 19 };
+enum { TOLD = sizeof told / sizeof *told, OUTCOMES = 19, ERRORS = 19 };
 
 /* Each status has its number and its text. No other number has one. Those that say success are told apart. */
 static void statuses(void) {
@@ -1329,7 +1334,7 @@ static void statuses(void) {
         if (is_known)
             IS(told[known].status, status);
         IS(strcmp(likes_status_text(status), is_known ? told[known].text : "unknown status"), 0);
-        IS(likes_is_success(status), status < 3 || status == LIKES_COUNTED);
+        IS(likes_is_success(status), status < 3 || status == LIKES_GLIMPSED || status == LIKES_COUNTED);
         known += is_known;
     }
     IS(known, TOLD);

@@ -9,7 +9,7 @@
 
 enum { STOCK = 200 };
 
-enum kind { LIKED, LOOKED, GLANCED, FOUND, WAITED, LACKED_ROOM, WAS_BETWEEN };
+enum kind { LIKED, LOOKED, GLANCED, GLIMPSED, FOUND, WAITED, LACKED_ROOM, WAS_BETWEEN };
 
 /* A call that did something, or was refused by its phase or for want of room. Times are numbers that grow with each
  * call of the round. */
@@ -208,7 +208,7 @@ typedef struct {
 } tallies;
 
 /* A count has all likes of earlier phases and the seat's own before it, none of later phases and none of the seat's own
- * after it. It has no like that began after its call. Where its page isn't split, it has each like that ended before
+ * after it. It has no like that began after its call. Unless it was only glimpsed, it has each like that ended before
  * its call. */
 static void check_count(const record *it, const tallies *of, uint32_t number, const event *look) {
     uint64_t first = it->counts[look->page], page = look->page, phase = look->phase;
@@ -221,7 +221,7 @@ static void check_count(const record *it, const tallies *of, uint32_t number, co
     uint64_t done = likes_below(&of->by_end, page, look->start);
     if (begun < most)
         most = begun;
-    if (done > least && (look->kind != GLANCED || !is_split(it, look->page, phase)))
+    if (done > least && look->kind != GLIMPSED)
         least = done;
     if (look->count < first + least || look->count > first + most)
         fail(it, "seat %u, phase %llu: a look (%d) at page %u showed %llu, not from %llu to %llu", number,
@@ -244,7 +244,7 @@ static void check_time(const record *it, uint32_t number, const event *made) {
              (unsigned long long)made->start, (unsigned long long)made->end, (unsigned long long)made->phase);
 }
 
-/* A look waits where its page is split, and nowhere else. */
+/* A look waits where its page is split, and nowhere else. A glance tells whether it is. */
 static void check_wait(const record *it, uint32_t number, const event *made) {
     bool waits = made->kind == WAITED || made->kind == LACKED_ROOM;
     if (waits && !is_split(it, made->page, made->phase))
@@ -252,6 +252,10 @@ static void check_wait(const record *it, uint32_t number, const event *made) {
     if (made->kind == LOOKED && is_split(it, made->page, made->phase))
         fail(it, "seat %u: a look at page %u doesn't wait in phase %llu", number, made->page,
              (unsigned long long)made->phase);
+    bool glances = made->kind == GLANCED || made->kind == GLIMPSED;
+    if (glances && is_split(it, made->page, made->phase) != (made->kind == GLIMPSED))
+        fail(it, "seat %u: a glance at page %u tells something else than a page that is%s split in phase %llu", number,
+             made->page, made->kind == GLIMPSED ? "n't" : "", (unsigned long long)made->phase);
 }
 
 static void check_seat(const record *it, tallies *of, uint32_t number) {
@@ -264,7 +268,7 @@ static void check_seat(const record *it, tallies *of, uint32_t number) {
             fail(it, "seat %u was in phase %llu of %zu", number, (unsigned long long)made->phase, it->phases_len);
         check_time(it, number, made);
         check_wait(it, number, made);
-        if (made->kind == LOOKED || made->kind == GLANCED || made->kind == FOUND)
+        if (made->kind == LOOKED || made->kind == GLANCED || made->kind == GLIMPSED || made->kind == FOUND)
             check_count(it, of, number, made);
     }
     free(of->own_by_phase.points);

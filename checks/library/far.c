@@ -77,8 +77,10 @@ static void split_phase(void) {
         look(i);
         like(i, 0);
         hold(likes_seat_look(&seats[i], i, 0, phase + i, &answer) == LIKES_WAITS, "a look did not wait");
-        hold(likes_seat_glance(&seats[i], i, 0, &answer) == LIKES_SEEN, "a glance was not answered");
+        hold(likes_seat_glance(&seats[i], i, 0, &answer) == LIKES_GLIMPSED, "a glance was not answered");
         hold(answer.count == count + 1, "a glance shows another count");
+        hold(likes_seat_glance(&seats[i], i, 1, &answer) == LIKES_SEEN, "a glance tells no exact count");
+        hold(answer.count == 20 + liked[1], "a glance of a page that is not split shows another count");
     }
 }
 

@@ -16,10 +16,10 @@ BINDINGS, EXAMPLES, SAME = f"{runs.ROOT}/bindings", f"{runs.ROOT}/examples", f"{
 
 # What the drawn calls are answered between them.
 ANSWERS = [
-    *["ok", "liked", "seen", "waits", "runs", "between", "no room", "gone", "goes on", "announced", "not all in"],
-    *["released", "ended", "counted", "no moment", "not ended", "all taken", "unknown user", "other seat"],
-    *["unknown page", "the range goes past the end", "pages is 1 to 16777216", "marks are at most 64 pages"],
-    *["an initial count is at most 1000000000000000000", "seats is 1 to 64", "users is 1 to 4294967295"],
+    *["ok", "liked", "seen", "glimpsed", "waits", "runs", "between", "no room", "gone", "goes on", "announced"],
+    *["not all in", "released", "ended", "counted", "no moment", "not ended", "all taken", "unknown user"],
+    *["other seat", "unknown page", "the range goes past the end", "pages is 1 to 16777216"],
+    *["marks are at most 64 pages", "an initial count is at most 1000000000000000000", "seats is 1 to 64", "users is 1 to 4294967295"],
     *["room is 1 to 4096", "hot is 1 to 1000000", "last likes are one for each user", "unknown seat"],
     *["a writer is open"],
 ]

@@ -161,7 +161,7 @@ static bool may_answer(const game *it, uint32_t number, const likes_request *req
         return status == LIKES_LIKED;
     bool has_room = at->length < it->record.options.room;
     bool waits = request->op == LIKES_LOOK && status == (uint32_t)(has_room ? LIKES_WAITS : LIKES_NO_ROOM);
-    return status == LIKES_SEEN || waits;
+    return status == LIKES_SEEN || waits || (request->op == LIKES_GLANCE && status == LIKES_GLIMPSED);
 }
 
 static void note_wait(const game *it, seat *at, const likes_request *request) {
@@ -179,8 +179,8 @@ static void note_answer(game *it, uint32_t number, const likes_request *request,
         made.kind = LIKED;
         *last = request->page;
         at->likes++;
-    } else if (answer->status == LIKES_SEEN) {
-        made.kind = request->op == LIKES_LOOK ? LOOKED : GLANCED;
+    } else if (answer->status == LIKES_SEEN || answer->status == LIKES_GLIMPSED) {
+        made.kind = answer->status == LIKES_GLIMPSED ? GLIMPSED : request->op == LIKES_LOOK ? LOOKED : GLANCED;
         if (answer->last != *last)
             fail(&it->record, "seat %u: the last like of user %u was reported as %u, not %u", number, request->user,
                  answer->last, *last);
@@ -201,7 +201,7 @@ static void take_answer(game *it, uint32_t number, const likes_request *request,
         fail(&it->record, "seat %u, %s: request %u of user %u at page %u was answered %s, with %u looks of %u", number,
              likes_status_text(at->status), request->op, request->user, request->page, likes_status_text(status),
              at->length, it->record.options.room);
-    if (status != LIKES_SEEN && (answer->count != 0 || answer->last != 0))
+    if (status != LIKES_SEEN && status != LIKES_GLIMPSED && (answer->count != 0 || answer->last != 0))
         fail(&it->record, "seat %u: the answer %s has a count or a last like", number, likes_status_text(status));
     if (at->status == LIKES_EMPTY || at->status == LIKES_GONE || status == LIKES_UNKNOWN_OP)
         return;

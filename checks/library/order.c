@@ -5,8 +5,9 @@
  *
  * Half of the time threads hold seats of likes.h, and phases of the driver change meanwhile. A chain is a seat, whose
  * phases never fall. The other half they share a service of likes_service.h, whose phases change by themselves. There a
- * chain is what a thread does at a seat, and what its writer does there. A glance at a split page shows a last like,
- * but its count need not fit. At rest, the counts and the last likes must be those that the order leaves.
+ * chain is what a thread does at a seat, and what its writer does there. A glance that tells that its page is split
+ * shows a last like, but its count need not fit. At rest, the counts and the last likes must be those that the order
+ * leaves.
  *
  * It must find faults, too: each history is searched again with a wrong number in place of one that was shown, and some
  * of these must have no order. Short ones are compared with trying all orders; no order shows another last like of a
@@ -134,12 +135,12 @@ static void ask(player *by, uint32_t op, uint32_t user, uint32_t page) {
     while ((status = try_once(by, op, user, page, &answer)) == LIKES_BETWEEN)
         wait_for_phase(by, &tries);
     uint64_t phase = phase_at(by);
-    bool waits = op == LIKES_LOOK && is_split(phase, page);
-    IS(status, op == LIKES_LIKE ? LIKES_LIKED : waits ? LIKES_WAITS : LIKES_SEEN);
+    uint32_t at_split = op == LIKES_LOOK ? LIKES_WAITS : LIKES_GLIMPSED;
+    IS(status, op == LIKES_LIKE ? LIKES_LIKED : is_split(phase, page) ? at_split : LIKES_SEEN);
     if (op == LIKES_LIKE)
         add_like(&seen, by->number, 2 * phase, user, page);
-    else if (!waits)
-        note_shown(by->number, phase, user, page, !is_split(phase, page), answer.count, answer.last);
+    else if (status != LIKES_WAITS)
+        note_shown(by->number, phase, user, page, status == LIKES_SEEN, answer.count, answer.last);
 }
 
 static void like_or_look(player *by) {
@@ -262,7 +263,6 @@ static void call_service(player *by) {
     uint32_t user = (uint32_t)below(&by->random, USERS), page = (uint32_t)below(&by->random, PAGES);
     uint32_t single = 2 * (by->number * now.seats + user % now.seats), written = single + 1;
     uint64_t choice = below(&by->random, 100);
-    bool is_marked = (now.marks >> page & 1) == 1;
     likes_answer answer;
     if (choice < 30) {
         IS(likes_service_like(service, user, page), LIKES_LIKED);
@@ -271,8 +271,9 @@ static void call_service(player *by) {
         IS(likes_service_look(service, user, page, &answer), LIKES_SEEN);
         note_shown(single, 0, user, page, true, answer.count, answer.last);
     } else if (choice < 60) {
-        IS(likes_service_glance(service, user, page, &answer), LIKES_SEEN);
-        note_shown(single, 0, user, page, !is_marked, answer.count, answer.last);
+        uint32_t status = likes_service_glance(service, user, page, &answer);
+        IS(status == LIKES_SEEN || status == LIKES_GLIMPSED, true);
+        note_shown(single, 0, user, page, status == LIKES_SEEN, answer.count, answer.last);
     } else if (choice < 85) {
         IS(likes_writer_like(by->writer, user, page), LIKES_OK);
         add_like(&seen, written, 0, user, page);

@@ -11,11 +11,11 @@ enum { SEATS = 3, USERS = 240, PAGES = 5, SINGLES = 6, BATCHES = 2, THREADS = SI
 
 static likes_service *service;
 static uint64_t until;
-static uint64_t calls, waits;
+static uint64_t calls, waits, glimpses;
 
 typedef struct {
     uint32_t number;
-    uint64_t random, liked[PAGES], shown[PAGES], looks;
+    uint64_t random, liked[PAGES], shown[PAGES], looks, glimpses;
     uint32_t last[USERS];
     pthread_t thread;
 } worker;
@@ -31,12 +31,16 @@ static void note_like(worker *it, uint32_t status, uint32_t user, uint32_t page)
     it->last[user] = page;
 }
 
-/* What a look shows: the user's last like, at least this thread's likes, and no less than an earlier look. */
+/* What a look or a glance shows: the user's last like, and no less than an earlier exact count. */
 static void note_look(worker *it, const likes_answer *answer, uint32_t user, uint32_t page) {
-    hold(answer->status == LIKES_SEEN, "a look was not answered");
+    bool is_exact = answer->status == LIKES_SEEN;
+    hold(is_exact || answer->status == LIKES_GLIMPSED, "a look was not answered");
     hold(answer->last == it->last[user], "a look has another last like");
     hold(answer->count >= it->shown[page], "a look shows less than an earlier one");
+    if (is_exact)
+        it->shown[page] = answer->count;
     it->looks++;
+    it->glimpses += !is_exact;
 }
 
 static void single(worker *it) {
@@ -44,9 +48,8 @@ static void single(worker *it) {
     likes_answer answer;
     switch (below(&it->random, 4)) {
     case 0:
-        likes_service_look(service, user, page, &answer);
+        hold(likes_service_look(service, user, page, &answer) == LIKES_SEEN, "a look has no exact count");
         note_look(it, &answer, user, page);
-        it->shown[page] = answer.count;
         break;
     case 1:
         likes_service_glance(service, user, page, &answer);
@@ -150,8 +153,10 @@ static void play(uint64_t seed, uint32_t room, uint32_t period) {
         }
         hold(totals[page] == counts[page], "a total is wrong");
     }
-    for (uint32_t i = 0; i < THREADS; i++)
+    for (uint32_t i = 0; i < THREADS; i++) {
         waits += workers[i].looks;
+        glimpses += workers[i].glimpses;
+    }
 }
 
 /* What is refused leaves nothing behind. */
@@ -188,6 +193,7 @@ int main(int count, char **words) {
         until = clock_now() + UINT64_C(400000000);
         play(seed + round, rooms[round % 3], periods[round % 4]);
     }
+    hold(glimpses > 0, "no glance tells that its page is split");
     printf("totals and last likes held, with %llu likes and %llu looks\n", (unsigned long long)calls,
            (unsigned long long)waits);
     return 0;

@@ -52,8 +52,16 @@ struct Two {
     }
 };
 
+static bool has(const likes::Look &look, likes_status outcome, std::optional<std::uint32_t> last, std::uint64_t count) {
+    return look.outcome == outcome && look.seen && look.seen->last == last && look.seen->count == count;
+}
+
 static bool shows(const likes::Look &look, std::optional<std::uint32_t> last, std::uint64_t count) {
-    return look.outcome == LIKES_SEEN && look.seen && look.seen->last == last && look.seen->count == count;
+    return has(look, LIKES_SEEN, last, count);
+}
+
+static bool glimpses(const likes::Look &look, std::optional<std::uint32_t> last, std::uint64_t count) {
+    return has(look, LIKES_GLIMPSED, last, count);
 }
 
 static void three_phases() {
@@ -65,7 +73,8 @@ static void three_phases() {
     hold(second.like(1, 0) == LIKES_LIKED, "a like of seat 1 in phase 1");
     likes::Look waits = first.look(0, 0, 7);
     hold(waits.outcome == LIKES_WAITS && !waits.seen && !first.take_found(), "a look that waits");
-    hold(shows(first.glance(0, 0), 0, 13) && shows(second.glance(3, 0), std::nullopt, 12), "glances");
+    hold(glimpses(first.glance(0, 0), 0, 13) && glimpses(second.glance(3, 0), std::nullopt, 12), "glances");
+    hold(shows(first.glance(0, 1), 0, 0), "a glance at a page that isn't split");
     hold(shows(first.look(0, 1, 8), 0, 0) && first.phase() == 1, "a look at a page that isn't split");
     two.change_phase();
     hold(two.driver.phase() == 2 && first.like(0, 1) == LIKES_LIKED, "a like in phase 2");

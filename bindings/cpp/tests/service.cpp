@@ -123,7 +123,7 @@ static void marks() {
     service.like(4, 1);
     while (service.phase() < 4) {
         std::this_thread::sleep_for(100us);
-        hold(service.glance(4, 1).last == 1u, "a glance");
+        hold(service.glance(4, 1).seen.last == 1u, "a glance");
     }
     hold(service.counts() == std::vector<std::uint64_t>{5, 8}, "the counts of a moment");
     service.stop();

@@ -11,7 +11,7 @@ The library is the file that LIKES_LIBRARY names, or else the shared library of 
 
 from ._core import Driver, Found, Phase, Seat
 from ._errors import Closed, Refused
-from ._rows import Asked, Seen, Told
+from ._rows import Asked, Glimpsed, Seen, Shown, Told
 from ._service import Likes, Moment, Statistics, Writer
 from ._statuses import GLANCE, LIKE, LIKED, LOOK, MAX_SPLIT, NO_HOT, End, Op, Status
 
@@ -27,6 +27,7 @@ __all__ = [
     "Driver",
     "End",
     "Found",
+    "Glimpsed",
     "Likes",
     "Moment",
     "Op",
@@ -34,6 +35,7 @@ __all__ = [
     "Refused",
     "Seat",
     "Seen",
+    "Shown",
     "Statistics",
     "Status",
     "Told",

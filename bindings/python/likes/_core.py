@@ -5,11 +5,11 @@ Any thread may make a call. Calls on the same object wait for each other, and ot
 
 import threading
 from ctypes import byref, c_uint32, c_uint64
-from typing import Any, List, NamedTuple, Optional, Sequence
+from typing import Any, List, NamedTuple, Optional, Sequence, Union
 
 from ._errors import Closed, check, outcome
 from ._library import MOST_64, Answer, DriverHandle, FoundLook, Handle, Opening, last_of, load, row_of, whole
-from ._rows import Asked, Row, Seen, Told, seen
+from ._rows import Asked, Row, Seen, Told, seen, shown
 from ._statuses import MAX_SPLIT, End, Status
 
 
@@ -53,19 +53,20 @@ class Seat(_Handled):
         user, page = whole("user", user), whole("page", page)
         return outcome(self._call(self._library.likes_seat_like, user, page))
 
-    def look(self, user: int, page: int, tag: int = 0) -> Told:
+    def look(self, user: int, page: int, tag: int = 0) -> Union[Seen, Status]:
         """What a look shows, or WAITS, BETWEEN, NO_ROOM or GONE."""
         user, page, tag = whole("user", user), whole("page", page), whole("tag", tag, MOST_64)
         answer = Answer()
-        self._call(self._library.likes_seat_look, user, page, tag, byref(answer))
-        return _seen_or_outcome(answer)
+        status = outcome(self._call(self._library.likes_seat_look, user, page, tag, byref(answer)))
+        return seen(answer) if status == Status.SEEN else status
 
     def glance(self, user: int, page: int) -> Told:
-        """What a look shows at once, or BETWEEN or GONE. It may lack other seats' likes of the present phase."""
+        """What a look shows, at once: Seen, or Glimpsed where the page is split, so that other seats' likes of the
+        present phase may be missing. Or BETWEEN or GONE."""
         user, page = whole("user", user), whole("page", page)
         answer = Answer()
-        self._call(self._library.likes_seat_glance, user, page, byref(answer))
-        return _seen_or_outcome(answer)
+        status = outcome(self._call(self._library.likes_seat_glance, user, page, byref(answer)))
+        return shown(answer) if status in (Status.SEEN, Status.GLIMPSED) else status
 
     def run(self, requests: Sequence[Asked]) -> List[Told]:
         """Runs rows of (op, user, page), and gives the answers: of a request that was refused its Status. A tag is a
@@ -118,11 +119,6 @@ class Seat(_Handled):
 
     def _free(self) -> None:
         self._end(self._library.likes_seat_free)
-
-
-def _seen_or_outcome(answer: Any) -> Told:
-    status = outcome(answer.status)
-    return seen(answer) if status == Status.SEEN else status
 
 
 class Phase(_Handled):

@@ -2,6 +2,7 @@
 
 import struct
 from ctypes import byref
+from dataclasses import dataclass
 from typing import Any, List, NamedTuple, Optional, Sequence, Tuple, Union
 
 from ._library import Answer, Request, last_of, whole
@@ -10,7 +11,7 @@ from ._statuses import STATUSES, Status
 # A Request from a tag, a user, a page and an op; a count, a last like and a status from an Answer.
 REQUEST, ANSWER = struct.Struct("=QIII4x"), struct.Struct("=QII")
 
-SEEN, WAITS = int(Status.SEEN), int(Status.WAITS)
+SEEN, GLIMPSED, WAITS = int(Status.SEEN), int(Status.GLIMPSED), int(Status.WAITS)
 
 # An op, a user and a page.
 Asked = Tuple[int, int, int]
@@ -23,13 +24,36 @@ class Seen(NamedTuple):
     count: int  # type: ignore[assignment]  # in place of the method of tuples
 
 
+@dataclass(frozen=True)
+class Glimpsed:
+    """What a glance shows where the page is split: the same, but the count may lack other seats' likes of the present
+    phase."""
+
+    last: Optional[int]
+    count: int
+
+
+# What a glance shows: the exact count, or one that may lack likes.
+Shown = Union[Seen, Glimpsed]
+
 # What a request was answered. A Status may be an error here.
-Told = Union[Seen, Status]
+Told = Union[Seen, Glimpsed, Status]
 
 
 def seen(look: Any) -> Seen:
     """What an answer or a found look shows."""
     return Seen(last_of(look.last), look.count)
+
+
+def shown(glance: Any) -> Shown:
+    """What the answer to a glance shows."""
+    return Glimpsed(last_of(glance.last), glance.count) if glance.status == GLIMPSED else seen(glance)
+
+
+def _told(last: int, count: int, status: int) -> Told:
+    if status == SEEN:
+        return Seen(last_of(last), count)
+    return Glimpsed(last_of(last), count) if status == GLIMPSED else STATUSES[status]
 
 
 class Row:
@@ -61,7 +85,7 @@ class Row:
         answers = memoryview(self.answers).cast("B")[first * ANSWER.size : self.done * ANSWER.size]
         told: List[Told] = []
         for count, last, status in ANSWER.iter_unpack(answers):
-            told.append(Seen(last_of(last), count) if status == SEEN else STATUSES[status])
+            told.append(_told(last, count, status))
             self.waits += status == WAITS
         return told
 

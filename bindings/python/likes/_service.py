@@ -14,7 +14,7 @@ from typing import Any, List, NamedTuple, Optional, Sequence, Set, Type
 from ._errors import Closed, Refused, check
 from ._library import MOST, Answer, FoundLook, Opening, last_of, load, microseconds, row_of, whole
 from ._library import Statistics as StatisticsOfC
-from ._rows import Asked, Row, Seen, Told, seen
+from ._rows import Asked, Row, Seen, Shown, Told, seen, shown
 from ._statuses import MAX_SPLIT, Status
 
 # How long `run` sleeps between two looks for answers, in seconds.
@@ -132,7 +132,10 @@ class Likes:
 
     def look(self, user: int, page: int) -> Seen:
         """The page of the user's last like, or None, and the exact count. It may take about a phase."""
-        return self._show(self._library.likes_service_look, user, page)
+        answer = Answer()
+        user, page = whole("user", user), whole("page", page)
+        check(self._call(self._library.likes_service_look, user, page, byref(answer)), Status.SEEN)
+        return seen(answer)
 
     def look_within(self, user: int, page: int, seconds: float) -> Optional[Seen]:
         """The same with a time limit, after which it is None."""
@@ -144,15 +147,15 @@ class Likes:
         check(status, Status.SEEN)
         return seen(answer)
 
-    def glance(self, user: int, page: int) -> Seen:
-        """The same at once. The count may lack other seats' likes of the present phase."""
-        return self._show(self._library.likes_service_glance, user, page)
-
-    def _show(self, call: Any, user: int, page: int) -> Seen:
+    def glance(self, user: int, page: int) -> Shown:
+        """The same at once: Seen, or Glimpsed where the page is split, so that other seats' likes of the present phase
+        may be missing."""
         answer = Answer()
         user, page = whole("user", user), whole("page", page)
-        check(self._call(call, user, page, byref(answer)), Status.SEEN)
-        return seen(answer)
+        status = self._call(self._library.likes_service_glance, user, page, byref(answer))
+        if status != Status.GLIMPSED:
+            check(status, Status.SEEN)
+        return shown(answer)
 
     def writer(self) -> "Writer":
         """Opens a writer, for a thread's likes. It is closed before the service."""

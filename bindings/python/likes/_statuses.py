@@ -30,6 +30,7 @@ class Status(IntEnum):
     NO_MOMENT = 15
     NOT_ENDED = 16
     ALL_TAKEN = 17
+    GLIMPSED = 18
     EMPTY = 100
     IN_USE = 101
     NO_MEMORY = 102

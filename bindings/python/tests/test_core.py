@@ -4,7 +4,7 @@ import threading
 import unittest
 from typing import Any, Callable, List
 
-from likes import GLANCE, LIKE, LOOK, NO_HOT, Closed, Driver, End, Refused, Seen, Status
+from likes import GLANCE, LIKE, LOOK, NO_HOT, Closed, Driver, End, Glimpsed, Refused, Seen, Status
 
 from .numbers import WRONG
 
@@ -37,8 +37,9 @@ class Core(unittest.TestCase):
         for seat, user in ((first, 0), (first, 2), (second, 1)):
             self.assertEqual(seat.like(user, 0), Status.LIKED)
         self.assertEqual(first.look(0, 0, 7), Status.WAITS)
-        self.assertEqual(first.glance(0, 0), Seen(0, 13))
-        self.assertEqual(second.glance(3, 0), Seen(None, 12))
+        self.assertEqual(first.glance(0, 0), Glimpsed(0, 13))
+        self.assertEqual(second.glance(3, 0), Glimpsed(None, 12))
+        self.assertEqual(first.glance(0, 1), Seen(0, 0))
         self.assertEqual(first.look(0, 1, 8), Seen(0, 0))
         self.assertEqual((first.phase(), first.take_found()), (1, None))
         self.change_phase()
@@ -67,8 +68,8 @@ class Core(unittest.TestCase):
         first = self.seats[0]
         self.change_phase()
         looks = [(LOOK, 0, 0)] * 4
-        told = first.run([(LIKE, 2, 1), (GLANCE, 2, 1), (LIKE, 2, 9), (3, 0, 0), *looks])
-        right = [Status.LIKED, Seen(1, 1), Status.UNKNOWN_PAGE, Status.UNKNOWN_OP]
+        told = first.run([(LIKE, 2, 1), (GLANCE, 2, 1), (GLANCE, 2, 0), (LIKE, 2, 9), (3, 0, 0), *looks])
+        right = [Status.LIKED, Seen(1, 1), Glimpsed(1, 10), Status.UNKNOWN_PAGE, Status.UNKNOWN_OP]
         self.assertEqual(told, [*right, Status.WAITS, Status.WAITS, Status.NO_ROOM])
         self.assertEqual(first.run([]), [])
 

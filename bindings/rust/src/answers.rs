@@ -252,6 +252,26 @@ pub struct Seen {
     pub count: u64,
 }
 
+/// What [`Service::glance`](crate::Service::glance) shows.
+#[derive(Clone, Copy, Debug, PartialEq, Eq)]
+#[must_use]
+pub enum Shown {
+    /// The count is exact.
+    Seen(Seen),
+    /// The page is split now: the count may lack other seats' likes of the present phase.
+    Glimpsed(Seen),
+}
+
+impl Shown {
+    /// What it shows, exact or not.
+    #[must_use]
+    pub const fn seen(self) -> Seen {
+        match self {
+            Self::Seen(seen) | Self::Glimpsed(seen) => seen,
+        }
+    }
+}
+
 /// What [`Seat::look`](crate::Seat::look) did.
 #[derive(Clone, Copy, Debug, PartialEq, Eq)]
 #[must_use]
@@ -272,8 +292,10 @@ pub enum Look {
 #[derive(Clone, Copy, Debug, PartialEq, Eq)]
 #[must_use]
 pub enum Glance {
-    /// The glance was answered.
+    /// The glance was answered, and the count is exact.
     Seen(Seen),
+    /// The glance was answered, but the page is split now: the count may lack other seats' likes of the present phase.
+    Glimpsed(Seen),
     /// Not run: the seat is between two phases. Try again, or do other work first.
     Between,
     /// Not run: the seat has retired.
@@ -286,8 +308,10 @@ pub enum Glance {
 pub enum Outcome {
     /// One like was added, and the page is now its user's last.
     Liked,
-    /// The look or the glance was answered.
+    /// The look or the glance was answered, and the count is exact.
     Seen(Seen),
+    /// The glance was answered, but the page is split now: the count may lack other seats' likes of the present phase.
+    Glimpsed(Seen),
     /// The look will be found later, with its tag, by [`Seat::take_found`](crate::Seat::take_found).
     Waits,
     /// Not run: the seat is between two phases. The row has stopped here.
@@ -307,6 +331,7 @@ impl fmt::Display for Outcome {
         to.write_str(match self {
             Self::Liked => status::text(status::LIKED),
             Self::Seen(_) => status::text(status::SEEN),
+            Self::Glimpsed(_) => status::text(status::GLIMPSED),
             Self::Waits => status::text(status::WAITS),
             Self::Between => status::text(status::BETWEEN),
             Self::NoRoom => status::text(status::NO_ROOM),
@@ -325,7 +350,7 @@ impl fmt::Display for Look {
 
 impl fmt::Display for Glance {
     fn fmt(&self, to: &mut fmt::Formatter) -> fmt::Result {
-        Look::from(*self).fmt(to)
+        Outcome::from(*self).fmt(to)
     }
 }
 
@@ -341,10 +366,11 @@ impl From<Look> for Outcome {
     }
 }
 
-impl From<Glance> for Look {
+impl From<Glance> for Outcome {
     fn from(glance: Glance) -> Self {
         match glance {
             Glance::Seen(seen) => Self::Seen(seen),
+            Glance::Glimpsed(seen) => Self::Glimpsed(seen),
             Glance::Between => Self::Between,
             Glance::Gone => Self::Gone,
         }

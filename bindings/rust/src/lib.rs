@@ -40,7 +40,9 @@ mod seat;
 mod service;
 pub mod status;
 
-pub use answers::{Error, Glance, Last, LastCounts, Like, Look, Outcome, Seen, Snapshot, State, Statistics, Turn};
+pub use answers::{
+    Error, Glance, Last, LastCounts, Like, Look, Outcome, Seen, Shown, Snapshot, State, Statistics, Turn,
+};
 pub use driver::{Driver, End};
 pub use options::{Hot, Options, MAX_COUNT, MAX_HOT, MAX_MARKS, MAX_PAGES, MAX_PERIOD, MAX_ROOM, MAX_SEATS, MAX_SPLIT};
 pub use phase::Phase;

@@ -1,6 +1,6 @@
 //! Rows of requests and their answers, and looks that were found, as the library has them in memory.
 
-use crate::answers::{self, Error, Glance, Last, Look, Outcome, Seen};
+use crate::answers::{self, Error, Glance, Last, Look, Outcome, Seen, Shown};
 use crate::status;
 
 /// What is asked for in a request.
@@ -79,6 +79,7 @@ impl Answer {
             status::OK => Ok(Outcome::NotRun),
             status::LIKED => Ok(Outcome::Liked),
             status::LIKE_LIMIT => Ok(Outcome::LikeLimit),
+            status::GLIMPSED => self.glance().map(Outcome::from),
             _ => self.look().map(Outcome::from),
         }
     }
@@ -87,27 +88,41 @@ impl Answer {
     pub(crate) fn look(&self) -> Result<Look, Error> {
         match self.status {
             status::WAITS => Ok(Look::Waits),
+            status::BETWEEN => Ok(Look::Between),
             status::NO_ROOM => Ok(Look::NoRoom),
-            _ => self.glance().map(Look::from),
+            status::GONE => Ok(Look::Gone),
+            _ => self.seen().map(Look::Seen),
         }
     }
 
     /// The same, of a glance.
     pub(crate) fn glance(&self) -> Result<Glance, Error> {
         match self.status {
-            status::SEEN => Ok(Glance::Seen(Seen { last: self.last, count: self.count })),
+            status::GLIMPSED => Ok(Glance::Glimpsed(self.numbers())),
             status::BETWEEN => Ok(Glance::Between),
             status::GONE => Ok(Glance::Gone),
-            _ => Err(answers::error(self.status)),
+            _ => self.seen().map(Glance::Seen),
         }
     }
 
     /// The same, of a look of a service.
     pub(crate) fn seen(&self) -> Result<Seen, Error> {
         match self.status {
-            status::SEEN => Ok(Seen { last: self.last, count: self.count }),
+            status::SEEN => Ok(self.numbers()),
             _ => Err(answers::error(self.status)),
         }
+    }
+
+    /// The same, of a glance of a service.
+    pub(crate) fn shown(&self) -> Result<Shown, Error> {
+        match self.status {
+            status::GLIMPSED => Ok(Shown::Glimpsed(self.numbers())),
+            _ => self.seen().map(Shown::Seen),
+        }
+    }
+
+    const fn numbers(&self) -> Seen {
+        Seen { last: self.last, count: self.count }
     }
 }
 

@@ -82,8 +82,8 @@ impl Seat {
         answer.look()
     }
 
-    /// Looks at once, in split phases too. The count has all likes of earlier phases and the seat's own. It may lack
-    /// other seats' likes of the present phase.
+    /// Looks at once, in split phases too. If the page is split, it is [`Glance::Glimpsed`]: the count has all likes of
+    /// earlier phases and the seat's own, and may lack other seats' likes of the present phase. Else it is exact.
     ///
     /// # Errors
     ///

@@ -6,7 +6,7 @@ mod writer;
 use std::ptr;
 use std::time::Duration;
 
-use crate::answers::{check, error, wanted, Error, Last, Seen, Statistics};
+use crate::answers::{check, error, wanted, Error, Last, Seen, Shown, Statistics};
 use crate::ffi::{self, RawService};
 use crate::options::{Options, MAX_SPLIT};
 use crate::rows::Answer;
@@ -105,16 +105,16 @@ impl Service {
         }
     }
 
-    /// Looks at once. The count may lack other seats' likes of the present phase.
+    /// Looks at once. The answer says whether the count is exact, or may lack other seats' likes of the present phase.
     ///
     /// # Errors
     ///
     /// Those of [`like`](Self::like) but [`Error::LikeLimit`].
-    pub fn glance(&self, user: u32, page: u32) -> Result<Seen, Error> {
+    pub fn glance(&self, user: u32, page: u32) -> Result<Shown, Error> {
         let mut answer = Answer::NONE;
         // SAFETY: the service is open as long as it is borrowed, and the call writes the answer.
         unsafe { ffi::likes_service_glance(self.at, user, page, &mut answer) };
-        answer.seen()
+        answer.shown()
     }
 
     /// Opens a writer, for a thread's likes at full speed.

@@ -52,8 +52,9 @@ fn two_seats_go_through_three_phases() {
         assert_eq!(seats[seat].like(user, 0), Ok(Like::Liked));
     }
     assert_eq!(seats[0].look(0, 0, 7), Ok(Look::Waits));
-    assert_eq!(seats[0].glance(0, 0), Ok(Glance::Seen(seen(Some(0), 13))));
-    assert_eq!(seats[1].glance(3, 0), Ok(Glance::Seen(seen(None, 12))));
+    assert_eq!(seats[0].glance(0, 0), Ok(Glance::Glimpsed(seen(Some(0), 13))));
+    assert_eq!(seats[1].glance(3, 0), Ok(Glance::Glimpsed(seen(None, 12))));
+    assert_eq!(seats[0].glance(0, 1), Ok(Glance::Seen(seen(Some(0), 0))));
     assert_eq!(seats[0].look(0, 1, 8), Ok(Look::Seen(seen(Some(0), 0))));
     assert_eq!((seats[0].phase(), seats[0].take_found()), (1, None));
     change_phase(&mut driver, &mut seats);
@@ -106,19 +107,20 @@ fn a_row_stops_at_a_look_without_room() {
     let (mut driver, mut seats) = open_two();
     change_phase(&mut driver, &mut seats);
     let looks = [5, 6, 7].map(|tag| Request::look(0, 0, tag));
-    let row = [Request::like(2, 1), Request::glance(2, 1), Request::like(2, 9), looks[0], looks[1], looks[2]];
+    let glances = [Request::glance(2, 1), Request::glance(2, 0)];
+    let row = [Request::like(2, 1), glances[0], glances[1], Request::like(2, 9), looks[0], looks[1], looks[2]];
     let mut answers = [Answer::NONE; 8];
     assert_eq!(seats[0].run(&row, &mut answers[..0]), 0);
-    assert_eq!(seats[0].run(&row, &mut answers), 5);
+    assert_eq!(seats[0].run(&row, &mut answers), 6);
     let outcomes = answers.map(|answer| answer.outcome());
     let right = [
         Ok(Outcome::Liked),
         Ok(Outcome::Seen(seen(Some(1), 1))),
+        Ok(Outcome::Glimpsed(seen(Some(1), 10))),
         Err(Error::UnknownPage),
         Ok(Outcome::Waits),
         Ok(Outcome::Waits),
         Ok(Outcome::NoRoom),
-        Ok(Outcome::NotRun),
         Ok(Outcome::NotRun),
     ];
     assert_eq!(outcomes, right);

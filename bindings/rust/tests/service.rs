@@ -29,7 +29,7 @@ fn call_singly(service: &Service, number: u32) {
         service.like(user, page).unwrap();
         if i % 50 == 0 {
             assert_eq!(service.look(user, 0).unwrap().last, Last::of(page));
-            assert_eq!(service.glance(user, 1).unwrap().last, Last::of(page));
+            assert_eq!(service.glance(user, 1).unwrap().seen().last, Last::of(page));
         }
     }
 }

@@ -53,9 +53,13 @@ static void say_last(uint32_t last) {
         printf(" %" PRIu32, last);
 }
 
+static bool is_shown(uint32_t status) {
+    return status == LIKES_SEEN || status == LIKES_GLIMPSED;
+}
+
 static void say_answer(const char *name, const likes_answer *answer) {
     say(name, answer->status);
-    if (answer->status == LIKES_SEEN) {
+    if (is_shown(answer->status)) {
         say_last(answer->last);
         printf(" %" PRIu64, answer->count);
     }
@@ -276,11 +280,11 @@ static void say_done(const char *name, uint32_t status) {
 
 static void say_shown(const char *name, uint32_t status, const likes_answer *answer, bool has_count) {
     printf("%s", name);
-    if (status == LIKES_SEEN)
+    if (is_shown(status))
         say_last(answer->last);
     else
         printf(" %s", likes_status_text(status));
-    if (status == LIKES_SEEN && has_count)
+    if (is_shown(status) && has_count)
         printf(" %" PRIu64, answer->count);
     printf("\n");
 }

@@ -292,7 +292,7 @@ struct Shared {
         else if (kind == 5)
             tell("within", [&] { return shown(service.look_within(user, page, std::chrono::seconds(10)).value()); });
         else
-            tell("glance", [&] { return text(service.glance(user, page).last); });
+            tell("glance", [&] { return text(service.glance(user, page).seen.last); });
     }
 
     void tell_all(std::uint32_t kind) {

@@ -75,11 +75,15 @@ func statusText(status likes.Status, err error) string {
 	return status.String()
 }
 
+func isShown(status likes.Status) bool {
+	return status == likes.SeenNow || status == likes.Glimpsed
+}
+
 func seenText(seen likes.Seen, status likes.Status, err error) string {
 	if err != nil {
 		return err.Error()
 	}
-	if status != likes.SeenNow {
+	if !isShown(status) {
 		return status.String()
 	}
 	return fmt.Sprintf("%v %s %d", status, lastText(seen.Last), seen.Count)
@@ -390,8 +394,8 @@ func (it *shared) likeOrLook(kind uint32) {
 		seen, err := it.service.LookWithin(user, page, 10*time.Second)
 		tellSeen("within", seen, err)
 	default:
-		seen, err := it.service.Glance(user, page)
-		tell("glance", " "+lastText(seen.Last), err)
+		shown, err := it.service.Glance(user, page)
+		tell("glance", " "+lastText(shown.Last), err)
 	}
 }
 
@@ -454,7 +458,7 @@ func (it *shared) run() {
 		return nil
 	})
 	for _, answer := range answers {
-		if answer.Status == likes.SeenNow {
+		if isShown(answer.Status) {
 			tell("row", " "+lastText(answer.Last), err)
 		} else {
 			done("row", answer.Err())

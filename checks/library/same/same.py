@@ -1,7 +1,7 @@
 #!/usr/bin/env python3
 """Makes the calls that README.md draws, by the package likes, and prints what each answers."""
 
-from likes import LIKED, NO_HOT, Driver, End, Likes, Op, Refused, Seen, Status
+from likes import LIKED, NO_HOT, Driver, End, Glimpsed, Likes, Op, Refused, Seen, Status
 
 SERVICES, CALLS = 300, 400
 SHARED, SHARED_CALLS = 100, 100
@@ -30,8 +30,9 @@ class Draws:
 
 def text_of(answer):
     """What a call answers, in words."""
-    if isinstance(answer, Seen):
-        return f"seen {last_of(answer.last)} {answer.count}"
+    if isinstance(answer, (Seen, Glimpsed)):
+        name = "seen" if isinstance(answer, Seen) else "glimpsed"
+        return f"{name} {last_of(answer.last)} {answer.count}"
     return answer.text if isinstance(answer, Status) else str(answer)
 
 
@@ -265,7 +266,8 @@ class Shared:
             op = Op.LIKE if self.draws.draw(2) == 0 else Op.GLANCE
             row.append((op, self.user(), self.page()))
         for told in self.service.run(number, row):
-            print("row", last_of(told.last) if isinstance(told, Seen) else "ok" if told == LIKED else told.text)
+            shows = isinstance(told, (Seen, Glimpsed))
+            print("row", last_of(told.last) if shows else "ok" if told == LIKED else told.text)
 
     def leave(self):
         number = self.draws.draw(self.service.seats + 1)

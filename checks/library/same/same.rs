@@ -45,7 +45,9 @@ fn last_text(last: Last) -> String {
 
 fn outcome_text(outcome: Outcome) -> String {
     match outcome {
-        Outcome::Seen(Seen { last, count }) => format!("{outcome} {} {count}", last_text(last)),
+        Outcome::Seen(Seen { last, count }) | Outcome::Glimpsed(Seen { last, count }) => {
+            format!("{outcome} {} {count}", last_text(last))
+        }
         _ => outcome.to_string(),
     }
 }
@@ -147,8 +149,8 @@ impl<'a> Service<'a> {
                 format!("look {}", text(look, |look: Look| outcome_text(look.into())))
             }
             _ => {
-                let look = |glance: Glance| outcome_text(Look::from(glance).into());
-                format!("glance {}", text(seat.glance(user, page), look))
+                let glance = |glance: Glance| outcome_text(glance.into());
+                format!("glance {}", text(seat.glance(user, page), glance))
             }
         }
     }
@@ -319,7 +321,10 @@ impl Shared<'_> {
                 let seen = self.service.look_within(user, page, Duration::from_secs(10));
                 format!("within{}", told(seen, |seen| shown(seen.expect("a look in time"))))
             }
-            _ => format!("glance{}", told(self.service.glance(user, page), |seen| words([last_text(seen.last)]))),
+            _ => {
+                let shown = self.service.glance(user, page);
+                format!("glance{}", told(shown, |shown| words([last_text(shown.seen().last)])))
+            }
         }
     }
 
@@ -357,7 +362,7 @@ impl Shared<'_> {
         assert_eq!(ran, Ok(row.len()));
         let line = |answer: &Answer| match answer.outcome() {
             Ok(Outcome::Liked) => "row ok".into(),
-            Ok(Outcome::Seen(seen)) => format!("row {}", last_text(seen.last)),
+            Ok(Outcome::Seen(seen) | Outcome::Glimpsed(seen)) => format!("row {}", last_text(seen.last)),
             other => format!("row {}", text(other, outcome_text)),
         };
         answers.iter().map(line).collect::<Vec<_>>().join("\n")

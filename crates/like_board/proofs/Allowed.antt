@@ -10,6 +10,7 @@ use Rattle.atomic_table.proofs.Lists.{set_again}
 use Rattle.like_core.specs.declared.worker_state.WorkerState.TheVariants.{Gone}
 use Rattle.like_core.specs.declared.event.Event.TheVariants.{Acknowledge, Report, Retire, Read, Hot, CoordRead, Announce, Release}
 use Rattle.like_core.specs.declared.shown.Shown.TheVariants.{Seen, Done, Old, Count, Hot as HotShown}
+use Rattle.like_core.specs.declared.log.LogEntry.TheVariants.{Saw, Did}
 use Rattle.like_core.specs.declared.page_step.PageCall.{PageCall}
 use Rattle.like_core.specs.declared.page_step.PageCall.TheVariants.{Add, Read as ReadCall, Glance as GlanceCall}
 use Rattle.like_core.specs.declared.form.Form.{Form}
@@ -22,13 +23,13 @@ use Rattle.like_core.specs.OpeningLimits.{has_slots}
 use Rattle.like_core.specs.core.Moves.{LetsReturn, Move, comes_back, glances as glances_at, makes}
 use Rattle.like_core.specs.Slots.{IsChoice}
 use Rattle.like_core.specs.word.Forms.{WordForm, form_of}
-use Rattle.like_core.specs.Post.{IsFresh, MayAdd, MayRead, MayGlance, MayReadSlot, MayReadSlots, fresh, looked_at, answered, retired, returned, added, has_read, has_glanced, with_mask, with_slot, slots_read}
+use Rattle.like_core.specs.Post.{MayAdd, MayRead, MayGlance, MayReadSlot, MayReadSlots, number_of, fresh, looked_at, answered, retired, returned, added, has_read, has_glanced, with_mask, with_slot, slots_read}
 use Rattle.like_core.specs.PageSteps.{page_step}
 use Rattle.like_core.specs.WorkerState.{RunsJoined, RunsSplit, SawEnding, phase_of, running_sight}
 use Rattle.like_core.specs.views.Views.{MayAnnounce, MayCount, MayPublish, MayPut, MayPublishSlots, MayRelease, likes_merged, adding, looked_coord, announced_coord, counted_coord, published_coord, slotted_coord, slots_put, mask_released, released_coord, made_coord, gathered_coord}
 use Rattle.like_core.specs.views.Actions.{Acknowledges, Reports, Retires, Reads, Glances, Announces, Releases}
 use Rattle.like_core.specs.views.Layout.{mask_place, slot_place, word_of}
-use Rattle.like_core.specs.views.Shows.{ShowsSome, FitsWorker, FitsCoord, IsKnown, IsMove, IsPageStep, IsStep}
+use Rattle.like_core.specs.views.Shows.{ShowsSome, FitsWorker, FitsCoord, IsEntry, IsKnown, IsStep}
 use Rattle.like_core.proofs.views.KeptOrder.{new_seat_keeps_order}
 use Rattle.like_core.proofs.views.Apart.{word_of-injective}
 use Rattle.like_board.specs.declared.key.Key.{Key}
@@ -83,15 +84,16 @@ looking {S} key slots id me is there = λ st shows _ at _.
     let same = worker_opening z st.words st.views id v shows here in
     let r = looks z st.words st.views id v shows here there in
     let found : ℕ = get_or st.words 0 0 in
-    let w : View = Worker (looked_at v (sight_at z found v.state)) in (
+    let number : ℕ = length shows.log in
+    let w : View = Worker (looked_at v (sight_at z found v.state) number) in (
       w,
       keeps,
       tt,
       r.1,
       (
         record {
-          looked = subst (λ (y : Opening). Looked y found v) (sym same) r.0;
-          view = ap (λ (y : Opening). Worker (looked_at v (sight_at y found v.state))) (sym same);
+          looked = subst (λ (y : Opening). Looked y found number v) (sym same) r.0;
+          view = ap (λ (y : Opening). Worker (looked_at v (sight_at y found v.state) number)) (sym same);
         },
         ap (λ (m : Me S View). m.1) is,
       ),
@@ -224,13 +226,13 @@ returning {S} key slots id me expected new is gone lets even new_is = λ st show
           (subst (λ (y : Opening). new + (form_of y.limits.form).retirement v.worker ≡ expected) same new_is ∙ sym hit)
           in
           let phase : ℕ = phase_at z found in
-          let w : View = Worker (returned v phase) in
+          let w : View = Worker (returned v phase (length shows.log)) in
           let came : CameBack phase me.0 w =
           record {
             within = subst (λ (y : Opening). phase ≤ y.limits.last_phase) (sym same) r.within;
             view = refl;
-            step = subst (λ (y : Opening). IsMove y (comes_back v.worker) (Seen (running_sight phase)) (Worker v) w)
-                (sym same) r.step;
+            step = subst (λ (y : Opening). IsEntry y [] (comes_back v.worker) (Seen (running_sight phase))
+                (Saw v.worker phase) (Worker v) w) (sym same) r.step;
           }
           in (
             w,
@@ -468,8 +470,8 @@ making {S} key id v is room = λ st shows at.
       reachable = shows.reachable;
       shows = splits z shows.state st.words st.views id c shows.shows here below;
       tallied = tallied_made z shows.state st.views id c here (omega arith) shows.tallied;
-      steps = shows.steps;
-      order = new_seat_keeps_order z shows.state st.views shows.steps id c here
+      log = shows.log;
+      order = new_seat_keeps_order z shows.state st.views shows.log id c here
           (no_seat z shows.state st.words st.views id c shows.shows here) shows.order;
     })
 
@@ -482,7 +484,7 @@ adding_page {S} key slots id me page n is may = λ st shows _ at _.
     let z = opening_of key in
     let v : WorkerSeatView = worker_view_of me.0 in
     let found : ℕ = get_or st.words (word_of page) 0 in
-    let w : WorkerSeatView = added v page found n in
+    let w : WorkerSeatView = added v page found n (length shows.log) in
     let here : get_elem? st.views id ≡ some (Worker v) = at ∙ ap (λ (m : Me S View). some m.0) is in
     let same = worker_opening z st.words st.views id v shows here in
     let r = adds z st.words st.views id v page n shows here may in
@@ -490,8 +492,8 @@ adding_page {S} key slots id me page n is may = λ st shows _ at _.
     record {
       view = refl;
       own = r.2;
-      step = subst (λ (y : Opening). IsPageStep y (likes_merged v page n) (makes (adding v page)) (Old found)
-          (page_step v.worker (phase_of v.state) page found (Add n)) (Worker v) (Worker w)) (sym same) r.0;
+      step = subst (λ (y : Opening). IsEntry y (likes_merged v page n) (makes (adding v page)) (Old found)
+          (Did (page_step v.worker (phase_of v.state) page found (Add n))) (Worker v) (Worker w)) (sym same) r.0;
     }
     in (
       Worker w,
@@ -517,35 +519,38 @@ adding_to {S} key slots id me page word n word_is is may =
 
 -- a step that finds a page's count and is this move
 finding_page : {S : Type 0} (key : Key) (slots id : ℕ) (me : Me S View) (page : ℕ) (move : Move)
-    (call : PageCall) (next : WorkerSeatView → ℕ → ℕ → WorkerSeatView)
+    (call : PageCall) (next : WorkerSeatView → ℕ → ℕ → ℕ → WorkerSeatView)
     → me ≡ (Worker (worker_view_of me.0), [])
-    → ((z : Opening) (words : List ℕ) (views : List View) → ShowsSome z words views
+    → ((z : Opening) (words : List ℕ) (views : List View) → (shows : ShowsSome z words views)
     → get_elem? views id ≡ some (Worker (worker_view_of me.0))
     → IsRead z words views id (worker_view_of me.0) page move call
-    (next (worker_view_of me.0) page (get_or words (word_of page) 0)))
+    (next (worker_view_of me.0) page (get_or words (word_of page) 0) (length shows.log)))
+    → ((v : WorkerSeatView) (found number : ℕ) → number_of (next v page found number) ≡ number)
     → (does : WorkerSeatView → ℕ → ℕ → WorkerSeatView → Type 0)
     → ((count : ℕ) (w : WorkerSeatView)
-    → IsPageStep (worker_view_of me.0).opening [] move (Count count)
-    (page_step (worker_view_of me.0).worker (phase_of (worker_view_of me.0).state) page count call)
+    → IsEntry (worker_view_of me.0).opening [] move (Count count)
+    (Did (page_step (worker_view_of me.0).worker (phase_of (worker_view_of me.0).state) page count call))
     (Worker (worker_view_of me.0)) (Worker w)
     → does (worker_view_of me.0) page count w)
     → Allows (IsShowing key) slots id me (word_of page) (λ k. k)
     (λ found after. OfWord word_of (TellsRead does next) (word_of page) me.0 found after.0 × (after.1 ≡ []))
-finding_page {S} key slots id me page move call next is reads does act = λ st shows _ at _.
+finding_page {S} key slots id me page move call next is reads number_is does act = λ st shows _ at _.
     let z = opening_of key in
     let v : WorkerSeatView = worker_view_of me.0 in
     let found : ℕ = get_or st.words (word_of page) 0 in
-    let w : WorkerSeatView = next v page found in
+    let number : ℕ = length shows.log in
+    let w : WorkerSeatView = next v page found number in
+    let again : w ≡ next v page found (number_of w) = ap (next v page found) (sym (number_is v found number)) in
     let here : get_elem? st.views id ≡ some (Worker v) = at ∙ ap (λ (m : Me S View). some m.0) is in
     let same = worker_opening z st.words st.views id v shows here in
     let r = reads z st.words st.views shows here in
     let told : TellsRead does next page me.0 found (Worker w) =
     record {
-      view = refl;
+      view = ap Worker again;
       own = r.2;
       bounded = r.3;
-      step = act found w (subst (λ (y : Opening). IsPageStep y [] move (Count found)
-          (page_step v.worker (phase_of v.state) page found call) (Worker v) (Worker w)) (sym same) r.0);
+      step = subst (does v page found) again (act found w (subst (λ (y : Opening). IsEntry y [] move (Count found)
+          (Did (page_step v.worker (phase_of v.state) page found call)) (Worker v) (Worker w)) (sym same) r.0));
     }
     in (
       Worker w,
@@ -568,7 +573,8 @@ reading {S} key slots id me page word word_is is may =
     subst (λ (i : ℕ). Allows (IsShowing key) slots id me i (λ k. k)
     (λ found after. OfWord word_of (TellsRead Reads has_read) i me.0 found after.0 × (after.1 ≡ []))) (sym word_is)
     (finding_page key slots id me page (makes (Read (worker_view_of me.0).worker page)) ReadCall has_read is
-    (λ z words views. reads z words views id (worker_view_of me.0) page may) Reads (λ count w step. step))
+    (λ z words views. reads z words views id (worker_view_of me.0) page may) (λ v found number. refl) Reads
+    (λ count w step. step))
 
 pub glancing : {S : Type 0} (key : Key) (slots id : ℕ) (me : Me S View) (page word : ℕ)
     → word ≡ word_of page
@@ -580,7 +586,8 @@ glancing {S} key slots id me page word word_is is may =
     subst (λ (i : ℕ). Allows (IsShowing key) slots id me i (λ k. k)
     (λ found after. OfWord word_of (TellsRead Glances has_glanced) i me.0 found after.0 × (after.1 ≡ []))) (sym word_is)
     (finding_page key slots id me page (glances_at (worker_view_of me.0).worker page) GlanceCall has_glanced is
-    (λ z words views. glances z words views id (worker_view_of me.0) page may) Glances (λ count w step. step))
+    (λ z words views. glances z words views id (worker_view_of me.0) page may) (λ v found number. refl) Glances
+    (λ count w step. step))
 
 pub reading_mask : {S : Type 0} (key : Key) (slots id : ℕ) (me : Me S View)
     → me ≡ (Worker (worker_view_of me.0), [])

@@ -1,5 +1,5 @@
 -- A worker's seat is given back to the coordinator, and what the words show where all were.
-use Rattle.std.proofs.Common.{◌≡◌, ◌≢◌, ℕ, zero, suc, ◌+◌, ◌<◌, ◌==◌, nat_lt, cond, inl, inr, List, [], ◌∷◌, All, length, count_by, get_or, slice_index, set, subst, ap, sym, ◌∙◌, refl, eq-eqb, arith}
+use Rattle.std.proofs.Common.{◌≡◌, ◌≢◌, ℕ, zero, suc, ◌+◌, ◌<◌, ◌==◌, nat_lt, cond, inl, inr, List, [], ◌∷◌, All, length, get_or, slice_index, set, subst, ap, sym, ◌∙◌, refl, eq-eqb, arith}
 use Rattle.std.specs.List.{sum_by}
 use Rattle.std.proofs.lemmas.List.Sums.{sum_by-cons}
 use Rattle.std.proofs.lemmas.Bool.{cond-true}
@@ -13,11 +13,12 @@ use Rattle.like_core.specs.declared.view.View.{View}
 use Rattle.like_core.specs.declared.view.View.TheVariants.{Coord, Worker, Spent}
 use Rattle.like_core.specs.core.State.{CoreState}
 use Rattle.like_core.specs.Additions.{added_to, added_before}
-use Rattle.like_core.specs.PageSteps.{additions_among, steps_by}
+use Rattle.like_core.specs.PageSteps.{additions_among}
 use Rattle.like_core.specs.views.Views.{gathered_coord, seats_of}
 use Rattle.like_core.specs.views.Reads.{IsCounted}
 use Rattle.like_core.specs.views.Posts.{posts_before, posts_of}
-use Rattle.like_core.specs.views.Order.{HasDone}
+use Rattle.like_core.specs.Log.{logged_by}
+use Rattle.like_core.specs.views.Order.{HasMade}
 use Rattle.like_core.specs.views.PostOrder.{IsOrderOf}
 use Rattle.like_core.specs.views.Tallies.{left_to, room}
 use Rattle.like_core.proofs.views.ViewSums.{added_posts, before_in, before_posts, paged}
@@ -45,7 +46,6 @@ fits_gathered z s c v f g = record {
     opening = f.seats.opening;
     made = f.seats.made;
     unmade = f.seats.unmade;
-    unlabelled = f.seats.unlabelled;
     joined = either f g;
   };
   phase = same_phase z s c (gathered_coord c v) refl f.phase;
@@ -135,8 +135,8 @@ gathers z words views place other c v some_state at apart mine =
           let more = sum_by-cons (λ (w : WorkerSeatView). left_to z.limits.likes page w) v c.joined in
           let same = sum_gathered (room z.limits page) views place other c v at mine refl (omega arith) in
           omega arith;
-      steps = some_state.steps;
-      order = join_keeps_order z s views some_state.steps place other c v at there some_state.order;
+      log = some_state.log;
+      order = join_keeps_order z s views some_state.log place other c v at there some_state.order;
     }
 
 -- beside a coordinator that has all workers' seats back, no view knows anything
@@ -173,14 +173,14 @@ sum_coord f z s words views place c none sh at all =
     sum_lone f views place (Coord c) at
     (λ j u other found. ap f (others_spent z s words views place c sh at all j u other found) ∙ none)
 
--- where all workers' seats were given back, no other worker did anything at a page
+-- where all workers' seats were given back, no other worker made anything
 pub last_others : (z : Opening) (words : List ℕ) (views : List View) (place : ℕ) (c : CoordSeatView)
     → (shows : ShowsSome z words views)
     → get_elem? views place ≡ some (Coord c)
     → ((i : ℕ) → i < c.made → seats_of i (Coord c) ≡ 1)
     → (i : ℕ)
     → seats_of i (Coord c) ≡ 0
-    → steps_by i shows.steps ≡ []
+    → logged_by i shows.log ≡ []
 last_others z words views place c some_state at all i none =
     some_state.order.others i
     (sum_coord (seats_of i) z some_state.state words views place c refl some_state.shows at all ∙ none)
@@ -218,15 +218,16 @@ last_counted z words views place c some_state at all =
     sym (sum_coord (before_in k p) z s words views place c refl sh at all) ∙ before_posts k p views)
     (of_coord z s words views place c sh at).1
 
--- what all those workers did at pages has one order
+-- what all those workers made has one order
 pub last_order : (z : Opening) (words : List ℕ) (views : List View) (place : ℕ) (c : CoordSeatView)
     → (shows : ShowsSome z words views)
     → get_elem? views place ≡ some (Coord c)
     → ((i : ℕ) → i < c.made → seats_of i (Coord c) ≡ 1)
-    → IsOrderOf (slice_index z.counts) shows.state.phase c.joined shows.steps
+    → IsOrderOf (slice_index z.counts) shows.state.phase c.joined shows.log
 last_order z words views place c some_state at all = record {
   in_turn = some_state.order.in_turn;
-  each = all_at (HasDone some_state.steps) c.joined (some_state.order.each place (Coord c) at);
+  rising = some_state.order.rising;
+  each = all_at (HasMade some_state.log) c.joined (some_state.order.each place (Coord c) at);
   once = λ i.
       let sh = some_state.shows in
       let part = sum_part (seats_of i) views place (Coord c) at in

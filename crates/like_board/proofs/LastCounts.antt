@@ -1,5 +1,5 @@
 -- What the last words are, in terms of the seats that were given back.
-use Rattle.std.proofs.Common.{◌≡◌, ℕ, zero, suc, ◌+◌, ◌^◌, ◌<◌, ◌≤◌, ◌==◌, cond, List, [], ◌∷◌, ◌++◌, All, length, map, get_or, slice_index, IfSome, subst, ap, sym, ◌∙◌, refl, arith}
+use Rattle.std.proofs.Common.{◌≡◌, ℕ, ◌+◌, ◌^◌, ◌<◌, ◌≤◌, ◌==◌, cond, List, [], ◌∷◌, ◌++◌, All, length, map, get_or, slice_index, IfSome, subst, ap, sym, ◌∙◌, refl, arith}
 use Rattle.std.specs.List.{sum_by}
 use Rattle.std.proofs.lemmas.List.{append-nil, length-append}
 use Rattle.std.proofs.lemmas.List.Sums.{sum_by-cons}
@@ -11,16 +11,12 @@ use Rattle.like_core.specs.declared.view.WorkerSeatView.{WorkerSeatView}
 use Rattle.like_core.specs.declared.view.CoordSeatView.{CoordSeatView}
 use Rattle.like_core.specs.declared.view.View.{View}
 use Rattle.like_core.specs.declared.view.View.TheVariants.{Coord}
-use Rattle.like_core.specs.Additions.{added_to, added_before}
-use Rattle.like_core.specs.PageSteps.{additions_among}
 use Rattle.like_core.specs.views.Views.{seats_of}
 use Rattle.like_core.specs.views.Reads.{IsCounted}
-use Rattle.like_core.proofs.views.ViewSums.{before_in}
 use Rattle.like_core.specs.PhaseMasks.{mask_of, AreMasksOf}
 use Rattle.like_core.specs.views.Layout.{word_of}
 use Rattle.like_core.specs.views.Shows.{ShowsSome, FitsWorker, FitsCoord}
 use Rattle.like_core.specs.Post.{additions_of}
-use Rattle.like_core.specs.views.Order.{HasDone}
 use Rattle.like_core.specs.WorkerState.{SawNoLater}
 use Rattle.like_core.specs.views.PostOrder.{IsOrderOf}
 use Rattle.like_core.specs.views.Posts.{posts_before}
@@ -126,21 +122,21 @@ closes z words views place v c seats shows at_view back =
     let fits = shows.shows.opening.limits.pages in
     omega arith)
     in
-    let order : IsOrderOf first c.phase posts shows.steps =
-    subst (λ (y : Opening). IsOrderOf (slice_index y.counts) c.phase posts shows.steps) (sym old.seats.opening)
-    (subst (λ (k : ℕ). IsOrderOf (slice_index z.counts) k posts shows.steps) (sym old.phase.present)
+    let order : IsOrderOf first c.phase posts shows.log =
+    subst (λ (y : Opening). IsOrderOf (slice_index y.counts) c.phase posts shows.log) (sym old.seats.opening)
+    (subst (λ (k : ℕ). IsOrderOf (slice_index z.counts) k posts shows.log) (sym old.phase.present)
     (last_order z words views place d shows at
     (λ i below. (let made = back.made in each i (omega arith))))) in (
       record {
         few_pages = subst (λ (y : Opening). length y.counts < 2 ^ 32) (sym old.seats.opening) few;
         phases = all_at (λ (w : WorkerSeatView). SawNoLater c.phase w.last) posts
             (closed_phase z words views place d shows at);
-        between = order_gives_bounds c.opening.counts c.phase posts shows.steps order;
+        between = order_gives_bounds c.opening.counts c.phase posts shows.log order;
         counted = closed_counted z words views place d shows at back.made each;
         masks = all_at (λ (w : WorkerSeatView). AreMasksOf (mask_of c.masks) w.masks) posts
             (closed_masks z words views place d shows at);
-        places = order_gives_places first c.phase posts shows.steps order;
-        steps = shows.steps;
+        places = order_gives_places first c.phase posts shows.log order;
+        log = shows.log;
         order = order;
       },
       λ page on.

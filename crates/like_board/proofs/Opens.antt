@@ -45,7 +45,6 @@ opens z words opening width word pages mask_word slots =
         opening = refl;
         made = omega arith;
         unmade = λ i _ below. cond-true (nat_lt i z.workers) (Runs 0) Gone (lt-ltb i z.workers below);
-        unlabelled = λ i phase page _ _. refl;
         joined = λ place v at. absurd (some-ne-none v (sym at));
       };
       phase = record {
@@ -96,9 +95,10 @@ opens z words opening width word pages mask_word slots =
           let none_made : z.limits.seats - c.made ≡ z.limits.seats = omega arith in
           let whole = ap (λ (n : ℕ). z.limits.likes * n) none_made in
           omega arith;
-      steps = [];
+      log = [];
       order = record {
         in_turn = tt;
+        rising = tt;
         applied = λ page. refl;
         each = none_done c refl;
         others = λ i none. refl;

@@ -1,6 +1,6 @@
 -- What is known of a board where all workers' seats were given back.
 use Rattle.std.specs.Prelude.{◌≡◌, ℕ, ◌^◌, ◌<◌, All, List, [], length, map, slice_index}
-use Rattle.like_core.specs.declared.page_step.PageStep.{PageStep}
+use Rattle.like_core.specs.declared.log.LogEntry.{LogEntry}
 use Rattle.like_core.specs.declared.view.CoordSeatView.{CoordSeatView}
 use Rattle.like_core.specs.declared.view.View.{View}
 use Rattle.like_core.specs.declared.view.View.TheVariants.{Coord}
@@ -37,9 +37,9 @@ pub record IsClosed (c : CoordSeatView) (posts : List WorkerSeatView) : Type 0 w
   pub masks : All (λ v. AreMasksOf (mask_of c.masks) v.masks) posts
   -- the stretches of all additions tile each page's counts, and each count that a worker read has its place there
   pub places : HavePlaces (slice_index c.opening.counts) posts
-  -- all that the workers did at pages has one order
-  pub steps : List PageStep
-  pub order : IsOrderOf (slice_index c.opening.counts) c.phase posts steps
+  -- all that the workers made has one order, which their entries and numbers fix
+  pub log : List LogEntry
+  pub order : IsOrderOf (slice_index c.opening.counts) c.phase posts log
 
 -- a page's last count, where these seats were given back to the coordinator's
 abbrev pub count_with : CoordSeatView → List WorkerSeat → ℕ → ℕ

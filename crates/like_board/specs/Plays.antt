@@ -1,6 +1,8 @@
--- What the looks of a worker and of the coordinator tell of a phase word.
-use Rattle.std.specs.Prelude.{◌≡◌, ◌≢◌, ℕ, ◌^◌, ◌<◌, ◌≤◌, true, length, slice_index}
+-- What the looks of a worker and of the coordinator tell of a phase word, and what each other step tells. The number of a
+-- look, a return or a step at a page is in the view after it.
+use Rattle.std.specs.Prelude.{◌≡◌, ◌≢◌, ℕ, ◌^◌, ◌<◌, ◌≤◌, true, [], length, slice_index}
 use Rattle.like_core.specs.declared.worker_state.WorkerState.{WorkerState}
+use Rattle.like_core.specs.declared.log.LogEntry.TheVariants.{Saw}
 use Rattle.like_core.specs.declared.sight.Sight.{Sight}
 use Rattle.like_core.specs.declared.sight.CoordSight.{CoordSight}
 use Rattle.like_core.specs.declared.event.Event.TheVariants.{Look, CoordLook}
@@ -19,10 +21,11 @@ use Rattle.like_core.specs.Additions.{added_to}
 use Rattle.like_core.specs.Slots.{IsChoice}
 use Rattle.like_core.specs.views.Views.{looked_coord, counted_coord, slotted_coord}
 use Rattle.like_core.specs.views.Layout.{slot_place}
-use Rattle.like_core.specs.views.Shows.{IsKnown, IsStep}
+use Rattle.like_core.specs.core.Moves.{makes}
+use Rattle.like_core.specs.views.Shows.{IsEntry, IsKnown, IsStep}
 use Rattle.like_core.specs.views.Actions.{Adds, ComesBack, ReadsMask, Counts}
 use Rattle.like_core.specs.PageSteps.{additions_among}
-use Rattle.like_core.specs.Post.{looked_at, returned, added, with_mask, with_slot, slots_read}
+use Rattle.like_core.specs.Post.{number_of, looked_at, returned, added, with_mask, with_slot, slots_read}
 use Rattle.like_board.specs.Known.{worker_view_of, coord_view_of}
 
 -- what a worker in this state sees in a phase word of this opening
@@ -37,13 +40,14 @@ coord_sight_at z word = coord_sight_in (form_of z.limits.form) z.workers word
 abbrev pub phase_at : Opening → ℕ → ℕ
 phase_at z word = (form_of z.limits.form).phase_in word
 
--- what a worker's look at this word shows
-pub record Looked (z : Opening) (found : ℕ) (v : WorkerSeatView) : Type 0 where
+-- what a worker's look at this word shows, which has this number
+pub record Looked (z : Opening) (found number : ℕ) (v : WorkerSeatView) : Type 0 where
   pub can : IsSightOf v.state (sight_at z found v.state)
   pub within : phase_of (seen v.state (sight_at z found v.state)) ≤ z.limits.last_phase
   pub ending : SeesEndingStill v.state v.last (sight_at z found v.state)
   pub step : let sight = sight_at z found v.state in
-      IsStep z (Look v.worker) (Seen sight) (Worker v) (Worker (looked_at v sight))
+      IsEntry z [] (makes (Look v.worker)) (Seen sight) (Saw v.worker sight.number) (Worker v)
+      (Worker (looked_at v sight number))
 
 -- what the coordinator's look at this word shows
 pub record Surveyed (z : Opening) (found : ℕ) (c : CoordSeatView) : Type 0 where
@@ -57,8 +61,9 @@ pub record Surveyed (z : Opening) (found : ℕ) (c : CoordSeatView) : Type 0 whe
 
 -- what a worker's look tells: of the view before, the word found and the view after
 pub record TellsLook (v : View) (found : ℕ) (w : View) : Type 0 where
-  pub looked : Looked (worker_view_of v).opening found (worker_view_of v)
-  pub view : let me = worker_view_of v in w ≡ Worker (looked_at me (sight_at me.opening found me.state))
+  pub looked : Looked (worker_view_of v).opening found (number_of (worker_view_of w)) (worker_view_of v)
+  pub view : let me = worker_view_of v in
+      w ≡ Worker (looked_at me (sight_at me.opening found me.state) (number_of (worker_view_of w)))
 
 -- what the coordinator's look tells
 pub record TellsSurvey (v : View) (found : ℕ) (w : View) : Type 0 where
@@ -81,8 +86,8 @@ pub record TellsCoord (does : CoordSeatView → CoordSeatView → Type 0) (next 
 -- a worker came back into this phase: the view after says so, and it is the action
 pub record CameBack (phase : ℕ) (v w : View) : Type 0 where
   pub within : phase ≤ (worker_view_of v).opening.limits.last_phase
-  pub view : w ≡ Worker (returned (worker_view_of v) phase)
-  pub step : let me = worker_view_of v in ComesBack me (returned me phase)
+  pub view : w ≡ Worker (returned (worker_view_of v) phase (number_of (worker_view_of w)))
+  pub step : let me = worker_view_of v in ComesBack me (returned me phase (number_of (worker_view_of w)))
 
 -- what the exchange by which a worker comes back tells, where it expected this word and found that one: if they are the
 -- same, it came back into the phase that they tell; otherwise nothing changed
@@ -97,18 +102,19 @@ OfWord word_for Tells word v found w = (i : ℕ) → word ≡ word_for i → Tel
 -- what an addition of n to a page tells: the view after has it, with the count that it found; the worker's own
 -- additions are in that; and it is the action
 pub record TellsAdd (page n : ℕ) (v : View) (found : ℕ) (w : View) : Type 0 where
-  pub view : w ≡ Worker (added (worker_view_of v) page found n)
+  pub view : w ≡ Worker (added (worker_view_of v) page found n (number_of (worker_view_of w)))
   pub own : added_to page (additions_among (worker_view_of v).did) ≤ found
-  pub step : let me = worker_view_of v in Adds me page n found (added me page found n)
+  pub step : let me = worker_view_of v in
+      Adds me page n found (added me page found n (number_of (worker_view_of w)))
 
 -- what a read of a page or a glance tells: the view after has it, with the count that it found; the worker's own
 -- additions are in that, and it is within the bound of all counts; and it is the action
 pub record TellsRead (does : WorkerSeatView → ℕ → ℕ → WorkerSeatView → Type 0)
-    (next : WorkerSeatView → ℕ → ℕ → WorkerSeatView) (page : ℕ) (v : View) (found : ℕ) (w : View) : Type 0 where
-  pub view : w ≡ Worker (next (worker_view_of v) page found)
+    (next : WorkerSeatView → ℕ → ℕ → ℕ → WorkerSeatView) (page : ℕ) (v : View) (found : ℕ) (w : View) : Type 0 where
+  pub view : w ≡ Worker (next (worker_view_of v) page found (number_of (worker_view_of w)))
   pub own : added_to page (additions_among (worker_view_of v).did) ≤ found
   pub bounded : found < total_bound
-  pub step : let me = worker_view_of v in does me page found (next me page found)
+  pub step : let me = worker_view_of v in does me page found (next me page found (number_of (worker_view_of w)))
 
 -- what a read of the mask word tells: the view after has the mask that it found, and it is the action
 pub record TellsMask (v : View) (found : ℕ) (w : View) : Type 0 where

@@ -48,7 +48,7 @@ pub struct WorkerSeat {
 impl WorkerSeat {
     ghost use Rattle.like_core.specs.declared.worker_state.WorkerState.TheVariants.{Gone};
     ghost use Rattle.like_core.specs.WorkerState.{IsSightOf, RunsJoined, RunsSplit, SawEnding, SeesEndingStill, phase_of, seen};
-    ghost use Rattle.like_core.specs.Post.{MayAdd, MayRead, MayGlance, looked_at, answered, retired, returned, added, has_read, has_glanced, with_mask, with_slot, slots_read, MayReadSlot, MayReadSlots};
+    ghost use Rattle.like_core.specs.Post.{MayAdd, MayRead, MayGlance, number_of, looked_at, answered, retired, returned, added, has_read, has_glanced, with_mask, with_slot, slots_read, MayReadSlot, MayReadSlots};
     ghost use Rattle.like_core.specs.Additions.{added_to};
     ghost use Rattle.like_core.specs.core.Moves.{LetsReturn};
     ghost use Rattle.like_core.specs.views.Actions.{Looks, Acknowledges, Reports, Retires, ComesBack, Adds, Reads, Glances, ReadsMask};
@@ -77,7 +77,8 @@ impl WorkerSeat {
         requires here { seat_board self.old ≡ board_id board.now }
         requires there { (seat_view self.old).state ≢ Gone }
         ensures board { seat_board self.new ≡ seat_board self.old }
-        ensures view { seat_view self.new ≡ looked_at (seat_view self.old) result }
+        ensures view { seat_view self.new
+            ≡ looked_at (seat_view self.old) result (number_of (seat_view self.new)) }
         ensures sight { IsSightOf (seat_view self.old).state result }
         ensures within { let v = seat_view self.old in
             phase_of (seen v.state result) ≤ v.opening.limits.last_phase }
@@ -137,7 +138,8 @@ impl WorkerSeat {
         requires lets { LetsReturn (seat_view self.old).opening.limits }
         ensures board { seat_board self.new ≡ seat_board self.old }
         ensures view { IfSome result
-            (λ phase. seat_view self.new ≡ returned (seat_view self.old) phase) }
+            (λ phase. seat_view self.new
+            ≡ returned (seat_view self.old) phase (number_of (seat_view self.new))) }
         ensures within { IfSome result
             (λ phase. phase ≤ (seat_view self.old).opening.limits.last_phase) }
         ensures event { IfSome result (λ _. ComesBack (seat_view self.old) (seat_view self.new)) }
@@ -164,7 +166,8 @@ impl WorkerSeat {
         requires here { seat_board self.old ≡ board_id board.now }
         requires may { MayAdd (seat_view self.old) page n }
         ensures board { seat_board self.new ≡ seat_board self.old }
-        ensures view { seat_view self.new ≡ added (seat_view self.old) page result n }
+        ensures view { seat_view self.new
+            ≡ added (seat_view self.old) page result n (number_of (seat_view self.new)) }
         ensures own { added_to page (additions_among (seat_view self.old).did) ≤ result }
         ensures event { Adds (seat_view self.old) page n result (seat_view self.new) }
     {
@@ -180,7 +183,8 @@ impl WorkerSeat {
         requires here { seat_board self.old ≡ board_id board.now }
         requires may { MayRead (seat_view self.old) page }
         ensures board { seat_board self.new ≡ seat_board self.old }
-        ensures view { seat_view self.new ≡ has_read (seat_view self.old) page result }
+        ensures view { seat_view self.new
+            ≡ has_read (seat_view self.old) page result (number_of (seat_view self.new)) }
         ensures own { added_to page (additions_among (seat_view self.old).did) ≤ result }
         ensures event { Reads (seat_view self.old) page result (seat_view self.new) }
     {
@@ -193,7 +197,8 @@ impl WorkerSeat {
         requires here { seat_board self.old ≡ board_id board.now }
         requires may { MayGlance (seat_view self.old) page }
         ensures board { seat_board self.new ≡ seat_board self.old }
-        ensures view { seat_view self.new ≡ has_glanced (seat_view self.old) page result }
+        ensures view { seat_view self.new
+            ≡ has_glanced (seat_view self.old) page result (number_of (seat_view self.new)) }
         ensures own { added_to page (additions_among (seat_view self.old).did) ≤ result }
         ensures bounded { result < total_bound }
         ensures event { Glances (seat_view self.old) page result (seat_view self.new) }

@@ -31,12 +31,12 @@ glance_op = 2
 abbrev pub status_row : ℕ → AnswerRow
 status_row status = record { count = 0; last = 0; status = status }
 
--- what was seen
-abbrev pub seen_row : Seen → AnswerRow
-seen_row seen = record { count = seen.count; last = page_or_none seen.last; status = status.seen }
+-- what was seen or glimpsed, as the status says
+abbrev pub shown_row : Seen → ℕ → AnswerRow
+shown_row shown status = record { count = shown.count; last = page_or_none shown.last; status = status }
 
 abbrev pub look_row : LookAnswer → AnswerRow
-look_row (look.Seen seen) = seen_row seen
+look_row (look.Seen seen) = shown_row seen status.seen
 look_row look.Waits = status_row status.waits
 look_row look.Between = status_row status.between
 look_row look.NoRoom = status_row status.no_room
@@ -44,7 +44,8 @@ look_row (look.Refused verdict) = status_row (verdict_status verdict)
 look_row look.Gone = status_row status.gone
 
 abbrev pub glance_row : GlanceAnswer → AnswerRow
-glance_row (glance.Seen seen) = seen_row seen
+glance_row (glance.Seen seen) = shown_row seen status.seen
+glance_row (glance.Glimpsed seen) = shown_row seen status.glimpsed
 glance_row glance.Between = status_row status.between
 glance_row (glance.Refused verdict) = status_row (verdict_status verdict)
 glance_row glance.Gone = status_row status.gone

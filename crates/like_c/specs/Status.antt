@@ -69,6 +69,9 @@ not_ended = 16
 abbrev pub all_taken : ℕ
 all_taken = 17
 
+abbrev pub glimpsed : ℕ
+glimpsed = 18
+
 abbrev pub empty : ℕ
 empty = 100
 

@@ -2,7 +2,7 @@
 ghost use Rattle.std.specs.Prelude.{◌≡◌, ◌↔◌, IsTrue};
 ghost use Rattle.like_c.specs.Held.{IsUnreserved};
 ghost use Rattle.like_c.specs.Layout.{AreLaidOut};
-ghost use Rattle.like_c.specs.Rows.{found_row, glance_row, look_row, seen_row, status_row};
+ghost use Rattle.like_c.specs.Rows.{found_row, glance_row, look_row, shown_row, status_row};
 ghost use Rattle.like_tables.specs.LastLike.{page_or_none};
 
 use crate::status;
@@ -104,14 +104,15 @@ impl AnswerRow {
         }
     }
 
+    /// What was seen or glimpsed, as the status says.
     #[inline(always)]
-    fn of_seen(seen: Seen) -> AnswerRow
-        ensures { result ≡ seen_row seen }
+    fn of_shown(shown: Seen, status: u32) -> AnswerRow
+        ensures { result ≡ shown_row shown status }
     {
         AnswerRow {
-            count: seen.count,
-            last: page_or_none(seen.last),
-            status: status::SEEN,
+            count: shown.count,
+            last: page_or_none(shown.last),
+            status,
         }
     }
 
@@ -120,7 +121,7 @@ impl AnswerRow {
         ensures { result ≡ look_row answer }
     {
         match answer {
-            LookAnswer::Seen(seen) => AnswerRow::of_seen(seen),
+            LookAnswer::Seen(seen) => AnswerRow::of_shown(seen, status::SEEN),
             LookAnswer::Waits => AnswerRow::of(status::WAITS),
             LookAnswer::NoRoom => AnswerRow::of(status::NO_ROOM),
             LookAnswer::Between => AnswerRow::of(status::BETWEEN),
@@ -134,7 +135,8 @@ impl AnswerRow {
         ensures { result ≡ glance_row answer }
     {
         match answer {
-            GlanceAnswer::Seen(seen) => AnswerRow::of_seen(seen),
+            GlanceAnswer::Seen(seen) => AnswerRow::of_shown(seen, status::SEEN),
+            GlanceAnswer::Glimpsed(seen) => AnswerRow::of_shown(seen, status::GLIMPSED),
             GlanceAnswer::Between => AnswerRow::of(status::BETWEEN),
             GlanceAnswer::Refused(verdict) => AnswerRow::of(status::of_verdict(verdict)),
             GlanceAnswer::Gone => AnswerRow::of(status::GONE),

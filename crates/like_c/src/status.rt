@@ -41,6 +41,8 @@ pub(crate) const NOT_ENDED: u32 = 16;
 
 pub(crate) const ALL_TAKEN: u32 = 17;
 
+pub(crate) const GLIMPSED: u32 = 18;
+
 pub(crate) const EMPTY: u32 = 100;
 
 pub(crate) const IN_USE: u32 = 101;

@@ -8,3 +8,5 @@ pub mod Chosen
 pub mod SplitPages
 pub mod Ends
 pub mod Ordered
+pub mod Labelled
+pub mod Clock

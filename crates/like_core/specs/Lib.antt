@@ -1,5 +1,6 @@
 pub mod Additions
 pub mod PageSteps
+pub mod Log
 pub mod word
 pub mod Phase
 pub mod OpeningLimits

@@ -1,14 +1,14 @@
 -- A post, as contracts see it: what its worker's seat knows, and what each of its calls makes of that.
-use Rattle.std.specs.Prelude.{◌≡◌, ℕ, ◌+◌, ◌<◌, ◌≤◌, Bool, true, false, List, [], ◌∷◌, ◌++◌, length, take, slice_index, Option, Some, None}
-use Rattle.like_core.specs.declared.worker_state.WorkerState.{WorkerState}
+use Rattle.std.specs.Prelude.{◌≡◌, ℕ, ◌+◌, ◌<◌, ◌≤◌, Bool, true, false, [], ◌∷◌, ◌++◌, length, take, slice_index, Some, None}
 use Rattle.like_core.specs.declared.worker_state.WorkerState.TheVariants.{Runs, Answered, Gone}
 use Rattle.like_core.specs.declared.sight.Sight.{Sight}
 use Rattle.like_core.specs.declared.opening.Opening.{Opening}
+use Rattle.like_core.specs.declared.log.LogEntry.TheVariants.{Saw, Did}
 use Rattle.like_core.specs.declared.page_step.PageCall.{PageCall}
 use Rattle.like_core.specs.declared.page_step.PageCall.TheVariants.{Add, Read, Glance}
-use Rattle.like_core.specs.declared.page_step.PageStep.{PageStep}
 use Rattle.like_core.specs.declared.view.WorkerSeatView.{WorkerSeatView}
 use Rattle.like_core.specs.Additions.{all_added, added_to, added_in}
+use Rattle.like_core.specs.Log.{latest_number, numbered}
 use Rattle.like_core.specs.PageSteps.{additions_among, look_after, page_step}
 use Rattle.like_core.specs.Phase.{IsSplit, is_marked, split_by}
 use Rattle.like_limits.specs.Limits.{hot_pages}
@@ -26,6 +26,7 @@ fresh z worker = record {
   last = None;
   looks = [];
   did = [];
+  logged = [];
   masks = [];
   slots = [];
 }
@@ -33,6 +34,10 @@ fresh z worker = record {
 -- no call was made on the post yet
 abbrev pub IsFresh : WorkerSeatView → Type 0
 IsFresh v = v ≡ fresh v.opening v.worker
+
+-- the number of its latest entry in the board's log
+abbrev pub number_of : WorkerSeatView → ℕ
+number_of v = latest_number v.logged
 
 -- how many pages there are
 abbrev pub pages_of : WorkerSeatView → ℕ
@@ -57,12 +62,13 @@ KnowsSlices v page =
     IsSplit (phase_of v.state) → is_marked v.opening.marks page ≡ false → page < v.opening.limits.hot
     → HasMask (phase_of v.state) v.masks
 
--- the post after a look. Like each step on the phase word, it forgets the slots that were read
-abbrev pub looked_at : WorkerSeatView → Sight → WorkerSeatView
-looked_at v sight = record v {
+-- the post after a look, which has this number. Like each step on the phase word, it forgets the slots that were read
+abbrev pub looked_at : WorkerSeatView → Sight → ℕ → WorkerSeatView
+looked_at v sight number = record v {
   state = seen v.state sight;
   last = Some sight;
   looks = v.looks ++ look_after sight v.did ∷ [];
+  logged = numbered number (Saw v.worker sight.number) ∷ v.logged;
   slots = [];
 }
 
@@ -74,28 +80,32 @@ answered v = record v { state = Answered (phase_of v.state); slots = [] }
 abbrev pub retired : WorkerSeatView → WorkerSeatView
 retired v = record v { state = Gone; slots = [] }
 
--- the post after it came back, into this phase, which it saw running
-abbrev pub returned : WorkerSeatView → ℕ → WorkerSeatView
-returned v phase = record v {
+-- the post after it came back, into this phase, which it saw running; that has this number, like a look
+abbrev pub returned : WorkerSeatView → ℕ → ℕ → WorkerSeatView
+returned v phase number = record v {
   state = Runs phase;
   last = Some (running_sight phase);
   looks = v.looks ++ look_after (running_sight phase) v.did ∷ [];
+  logged = numbered number (Saw v.worker phase) ∷ v.logged;
   slots = [];
 }
 
--- the post after it did this at a page, whose count was `found` before
-abbrev pub stepped : WorkerSeatView → ℕ → ℕ → PageCall → WorkerSeatView
-stepped v page found call = record v { did = page_step v.worker (phase_of v.state) page found call ∷ v.did }
+-- the post after it did this at a page, whose count was `found` before; the step has this number
+abbrev pub stepped : WorkerSeatView → ℕ → ℕ → PageCall → ℕ → WorkerSeatView
+stepped v page found call number = record v {
+  did = page_step v.worker (phase_of v.state) page found call ∷ v.did;
+  logged = numbered number (Did (page_step v.worker (phase_of v.state) page found call)) ∷ v.logged;
+}
 
 -- after it added n to the count, read it, or glanced at it
-abbrev pub added : WorkerSeatView → ℕ → ℕ → ℕ → WorkerSeatView
-added v page old n = stepped v page old (Add n)
+abbrev pub added : WorkerSeatView → ℕ → ℕ → ℕ → ℕ → WorkerSeatView
+added v page old n number = stepped v page old (Add n) number
 
-abbrev pub has_read : WorkerSeatView → ℕ → ℕ → WorkerSeatView
-has_read v page count = stepped v page count Read
+abbrev pub has_read : WorkerSeatView → ℕ → ℕ → ℕ → WorkerSeatView
+has_read v page count number = stepped v page count Read number
 
-abbrev pub has_glanced : WorkerSeatView → ℕ → ℕ → WorkerSeatView
-has_glanced v page count = stepped v page count Glance
+abbrev pub has_glanced : WorkerSeatView → ℕ → ℕ → ℕ → WorkerSeatView
+has_glanced v page count number = stepped v page count Glance number
 
 -- the post after it read the mask of its phase's hot pages, which was this. The slots have told what they had to tell
 abbrev pub with_mask : WorkerSeatView → ℕ → WorkerSeatView

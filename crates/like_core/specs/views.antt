@@ -9,6 +9,7 @@ pub mod Order
 pub mod Layout
 pub mod Shows
 pub mod PostOrder
+pub mod Clock
 pub mod SplitPages
 pub mod Serves
 pub mod Actions

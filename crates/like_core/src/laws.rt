@@ -10,7 +10,8 @@ ghost use Rattle.like_core.specs.views.Shows.{CountsAreOfOneMoment, MomentsAreRe
 ghost use Rattle.like_core.specs.views.SplitPages.{SlicesAreSplit, SlotsAreExact};
 ghost use Rattle.like_core.specs.views.Serves.{AllGoneCounts, AllInCounts, AnswersOne, FormServes, RetiresOne, ReturnsOne, WordTellsPhase};
 ghost use Rattle.like_core.specs.word.KindTells.{KindTellsPhase};
-ghost use Rattle.like_core.specs.views.Order.{JoinKeepsOrder, NewSeatKeepsOrder, OtherStepKeepsOrder, PageStepKeepsOrder};
+ghost use Rattle.like_core.specs.views.Clock.{LaterOrdersContinue, NumbersRise, PhasesKeepTime, SeatsFixOrder};
+ghost use Rattle.like_core.specs.views.Order.{JoinKeepsOrder, LookKeepsOrder, NewSeatKeepsOrder, OrderGivesLabels, OtherStepKeepsOrder, PageStepKeepsOrder};
 ghost use Rattle.like_core.specs.views.PostOrder.{MomentsAreOrdered, OrderGivesBounds, OrderGivesPast, OrderGivesPlaces};
 
 /// No worker runs joined work while another has unmerged likes, after any list of events.
@@ -74,6 +75,11 @@ pub fn page_step_keeps_order()
     ensures { PageStepKeepsOrder }
 {}
 
+/// A worker's look keeps the order, too, and comes last: so does a return, which sees the phase that the worker then runs.
+pub fn look_keeps_order()
+    ensures { LookKeepsOrder }
+{}
+
 /// Each other step of a seat leaves the order as it is. A release raises the phase, and no step is of a later one then.
 pub fn other_step_keeps_order()
     ensures { OtherStepKeepsOrder }
@@ -109,6 +115,33 @@ pub fn order_gives_places()
 /// And nothing is added in a later phase than the last step's.
 pub fn order_gives_past()
     ensures { OrderGivesPast }
+{}
+
+/// A look, a return or a step at a page gets a number above all that any seat had at its moment, also of those that were
+/// given back. So the numbers of the log are a clock.
+pub fn numbers_rise()
+    ensures { NumbersRise }
+{}
+
+/// The log of a later moment, or of a closed board, continues that of an earlier one.
+pub fn later_orders_continue()
+    ensures { LaterOrdersContinue }
+{}
+
+/// There is one log: what the seats know of their own entries and numbers fixes it.
+pub fn seats_fix_order()
+    ensures { SeatsFixOrder }
+{}
+
+/// Of two entries in the log, that of the earlier phase has the lesser number.
+pub fn phases_keep_time()
+    ensures { PhasesKeepTime }
+{}
+
+/// The likes that have a worker's label of a phase are as many as its seat added to the page then: that follows from the
+/// order, since the likes applied to a page are a function of the log.
+pub fn order_gives_labels()
+    ensures { OrderGivesLabels }
 {}
 
 /// The counts that the coordinator read at the end of a phase are of one moment: each has all that was added by then.

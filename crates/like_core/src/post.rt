@@ -3,7 +3,7 @@ ghost use Rattle.like_core.specs.declared.worker_state.WorkerState.TheVariants.{
 ghost use Rattle.like_core.specs.declared.view.WorkerSeatView.{WorkerSeatView};
 ghost use Rattle.like_core.specs.OpeningLimits.{has_slots};
 ghost use Rattle.like_core.specs.WorkerState.{RunsJoined, RunsSplit, SawEnding, IsSightOf, SeesEndingStill, phase_of, seen};
-ghost use Rattle.like_core.specs.Post.{looked_at, answered, retired, added, has_read, with_mask, additions_of, MayAdd, MayRead};
+ghost use Rattle.like_core.specs.Post.{number_of, looked_at, answered, retired, added, has_read, with_mask, additions_of, MayAdd, MayRead};
 ghost use Rattle.like_core.specs.views.Actions.{Looks, Acknowledges, Reports, Retires, Adds, Reads, ReadsMask};
 
 use crate::sight::Sight;
@@ -12,6 +12,9 @@ use crate::sight::Sight;
 ///
 /// Each call is one step on the board's words, and none waits. A like of a sliced page is no call: it goes into a slice
 /// that the worker keeps, and the slice's number is added at the end of the phase.
+///
+/// A look, an addition and a read are entries in the board's log, and so are a glance and a return. The view after the
+/// call has the entry's number, which is above all numbers that any worker's view had before (`laws::numbers_rise`).
 pub trait Post {
     // what its worker's seat knows
     ghost view: { Self → WorkerSeatView };
@@ -23,7 +26,7 @@ pub trait Post {
     fn look(&mut self) -> Sight
         requires { (view self.old).state ≢ Gone }
         ensures board { board self.new ≡ board self.old }
-        ensures view { view self.new ≡ looked_at (view self.old) result }
+        ensures view { view self.new ≡ looked_at (view self.old) result (number_of (view self.new)) }
         ensures event { Looks (view self.old) result (view self.new) }
         ensures sight { IsSightOf (view self.old).state result }
         ensures within { phase_of (seen (view self.old).state result)
@@ -59,7 +62,7 @@ pub trait Post {
     fn add(&mut self, page: u32, n: u64) -> u64
         requires { MayAdd (view self.old) page n }
         ensures board { board self.new ≡ board self.old }
-        ensures view { view self.new ≡ added (view self.old) page result n }
+        ensures view { view self.new ≡ added (view self.old) page result n (number_of (view self.new)) }
         ensures event { Adds (view self.old) page n result (view self.new) }
         ensures own { additions_of (view self.old) page ≤ result };
 
@@ -67,7 +70,7 @@ pub trait Post {
     fn read(&mut self, page: u32) -> u64
         requires { MayRead (view self.old) page }
         ensures board { board self.new ≡ board self.old }
-        ensures view { view self.new ≡ has_read (view self.old) page result }
+        ensures view { view self.new ≡ has_read (view self.old) page result (number_of (view self.new)) }
         ensures event { Reads (view self.old) page result (view self.new) }
         ensures own { additions_of (view self.old) page ≤ result };
 

@@ -1,4 +1,5 @@
 //! What the seats at a board know, as contracts see it. No value of these types is made.
+use crate::log::Logged;
 use crate::opening::Opening;
 use crate::page_step::PageStep;
 use crate::sight::{CoordSight, Sight};
@@ -44,6 +45,8 @@ pub struct WorkerSeatView {
     pub looks: LinkedList<Look>,
     /// All that it did at pages, the latest step first.
     pub did: LinkedList<PageStep>,
+    /// Its entries in the board's log, its looks and these steps, with their numbers, the latest first.
+    pub logged: LinkedList<Logged>,
     /// The masks that it read, the latest first.
     pub masks: LinkedList<PhaseMask>,
     /// The pages of the first slots, as it read them in its split phase.

@@ -5,16 +5,19 @@ use Rattle.std.proofs.lemmas.List.{length-map}
 use Rattle.std.proofs.lemmas.Option.{slice_get-get_or}
 use Rattle.like_requests.specs.declared.request.Request.{Request}
 use Rattle.like_requests.specs.declared.setup.Setup.{Setup}
+use Rattle.like_core.specs.declared.log.LogEntry.{LogEntry}
 use Rattle.like_core.specs.declared.opening.Opening.{Opening}
 use Rattle.like_core.specs.declared.page_step.PageCall.{PageCall}
 use Rattle.like_core.specs.declared.page_step.PageCall.TheVariants.{Add, Read, Glance}
 use Rattle.like_core.specs.declared.page_step.PageStep.{PageStep}
 use Rattle.like_core.specs.declared.view.Addition.{Addition}
 use Rattle.like_core.specs.Additions.{added_in}
+use Rattle.like_core.specs.Log.{steps_in}
 use Rattle.like_core.specs.PageSteps.{AreInTurn, additions_among, adds_to, and_addition, earliest_first, likes_in, likes_of, steps_by}
-use Rattle.like_core.specs.views.Order.{HasDone}
+use Rattle.like_core.specs.views.Order.{HasDone, HasMade}
 use Rattle.like_core.specs.views.PostOrder.{IsOrderOf}
 use Rattle.like_core.proofs.core.Labels.{added_in-push}
+use Rattle.like_core.proofs.views.Ordered.{no_steps}
 use Rattle.like_board.specs.declared.worker_seat.WorkerSeat.{WorkerSeat}
 use Rattle.like_board.specs.Seats.{seat_view}
 use Rattle.like_core.specs.declared.view.WorkerSeatView.{WorkerSeatView}
@@ -89,21 +92,26 @@ fits-none : (workload : Workload) → FitsRunList workload [] []
 fits-none workload = record { plain = refl; by_phase = λ phase page. refl }
 
 module _ (setup : Setup) (plans : List (List Request)) (notes : Bool) (e : Outcome) (h : IsOutcome setup plans notes e)
-    (masks : HaveMasks setup plans notes e h) (steps : List PageStep)
+    (masks : HaveMasks setup plans notes e h) (log : List LogEntry)
     (order : IsOrderOf (slice_index h.coord.opening.counts) h.coord.phase
-    (posts setup plans notes e h) steps) where
+    (posts setup plans notes e h) log) where
+  -- its steps at pages
+  abbrev steps : List PageStep
+  steps = steps_in log
+
   -- what the worker of a log did
-  fits-log : (worker : ℕ) (log : WorkerLog) → slice_get e.logs.items worker ≡ Some log
-      → FitsRunList (known setup plans notes e h) (earliest_first (steps_by worker steps)) log.ran.items
-  fits-log worker log at =
-      let s = left-at IsLogOf h.servers e.logs.items worker log h.logs at in
+  fits-log : (worker : ℕ) (l : WorkerLog) → slice_get e.logs.items worker ≡ Some l
+      → FitsRunList (known setup plans notes e h) (earliest_first (steps_by worker steps)) l.ran.items
+  fits-log worker l at =
+      let s = left-at IsLogOf h.servers e.logs.items worker l h.logs at in
       let is = server-at setup plans notes e h worker s.0 s.1.0 in
-      let post : HasDone steps s.0.worker.post = at-post setup plans notes e h (HasDone steps) order.each worker s.0 s.1.0 in
+      let post : HasDone steps s.0.worker.post =
+      (at-post setup plans notes e h (HasMade log) order.each worker s.0 s.1.0).done in
       let right = s.1.1.each (known setup plans notes e h)
       (is.works (hot_known setup plans notes e h), right-at-server setup plans notes e h masks worker s.0 s.1.0) in
-      subst (λ did. FitsRunList (known setup plans notes e h) (earliest_first did) log.ran.items)
+      subst (λ did. FitsRunList (known setup plans notes e h) (earliest_first did) l.ran.items)
       (sym post ∙ ap (λ i. steps_by i steps) is.whose)
-      (fits-run (known setup plans notes e h) s.0.worker.post.did log.ran.items right.steps right.by_phase)
+      (fits-run (known setup plans notes e h) s.0.worker.post.did l.ran.items right.steps right.by_phase)
 
   -- no seat is of a worker that is not there
   none-seated : (worker : ℕ) → length e.logs.items ≤ worker
@@ -127,7 +135,7 @@ module _ (setup : Setup) (plans : List (List Request)) (notes : Bool) (e : Outco
         (fits-log worker found.0 found.1)
     | inr past ↦
         subst (λ did. FitsRunList (known setup plans notes e h) (earliest_first did) (run_of (runs_of e.logs.items) worker))
-        (sym (order.others worker
+        (sym (no_steps (slice_index h.coord.opening.counts) h.coord.phase (posts setup plans notes e h) log order worker
         (sum-of-map (λ (p : WorkerSeatView). cond {A = ℕ} (p.worker == worker) 1 0) seat_view h.seats
         ∙ none-seated worker past)))
         (subst (FitsRunList (known setup plans notes e h) [])

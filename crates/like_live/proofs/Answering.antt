@@ -4,13 +4,13 @@ use Rattle.std.specs.List.{All}
 use Rattle.std.proofs.lemmas.List.Elements.{All-nil}
 use Rattle.like_core.specs.declared.page_step.PageCall.TheVariants.{Glance}
 use Rattle.like_live.specs.LiveView.{LiveView}
-use Rattle.like_live.specs.Answers.{AnswersAreReads, IsRead, IsReadOrGlanced, Shown, found_count}
+use Rattle.like_live.specs.Answers.{AnswersAreReads, IsGlanced, IsRead, Shown, found_count}
 use Rattle.like_live.specs.History.{HasDone, Told}
 use Rattle.like_live.proofs.Histories.{told-does, whole_at_first}
 use Rattle.like_live.proofs.Keeping.{AreFound, IsRead-later, Keeps, Keeps-all, Keeps-both, called-later}
 use Rattle.like_live.proofs.Telling.{IsWhole}
 use Rattle.like_live.proofs.CallsKeep.{Keeps-does}
-use Rattle.like_live.proofs.Showing.{IfShown-map, IsJustRead, shows}
+use Rattle.like_live.proofs.Showing.{IfShown-map, IsJustGlanced, shows}
 
 -- what calls keep, one after the other
 record Comes (v after : LiveView) : Type 0 where
@@ -25,23 +25,19 @@ comes (t ∷ told) v after whole d =
     let rest = comes told now after (told-does t v now whole d.1.0).whole d.1.1 in
     record { whole = rest.whole; keeps = Keeps-both v now after first rest.keeps }
 
--- what was read or glanced at right after a call was so at the end
-still : (now after : LiveView) (s : Shown) → Keeps now after → IsJustRead now s → IsReadOrGlanced now after s
-still now after s keeps h = record {
-  plain = λ plain. IsRead-later now after s keeps (h.plain plain);
-  split = λ split.
-      let g = h.split split in
-      record {
-        later = keeps.more ++ [];
-        earlier = g.earlier;
-        board = g.board;
-        sliced = get_or now.station.slice s.page 0;
-        glanced = called-later now after keeps.more s.phase s.page g.board Glance [] g.earlier keeps.did keeps.worker g.glanced;
-        sliced_is = refl;
-        count_is = g.count_is;
-        own = g.own;
-        kept = (keeps.held s.phase s.page [] _ g.held).1;
-      };
+-- what was glanced at right after a call was so at the end
+still : (now after : LiveView) (s : Shown) → Keeps now after → IsJustGlanced now s → IsGlanced now after s
+still now after s keeps g = record {
+  split = g.split;
+  later = keeps.more ++ [];
+  earlier = g.earlier;
+  board = g.board;
+  sliced = get_or now.station.slice s.page 0;
+  glanced = called-later now after keeps.more s.phase s.page g.board Glance [] g.earlier keeps.did keeps.worker g.glanced;
+  sliced_is = refl;
+  count_is = g.count_is;
+  own = g.own;
+  kept = (keeps.held s.phase s.page [] _ g.held).1;
 }
 
 pub answers_are_reads : AnswersAreReads
@@ -51,7 +47,7 @@ answers_are_reads v now after t unused is =
     subst (All (λ f. IsRead v (found_count f))) (sym unused.new.found) (All-nil (λ f. IsRead v (found_count f))) in
     let whole = (told-does t is.before now first.whole is.call).whole in
     let rest = comes is.later now after whole is.rest in
-    IfShown-map (IsRead now) (IsJustRead now) (IsRead after) (IsReadOrGlanced now after)
+    IfShown-map (IsRead now) (IsJustGlanced now) (IsRead after) (IsGlanced now after)
     (λ s r. IsRead-later now after s rest.keeps r)
     (λ s h. still now after s rest.keeps h)
     now t

@@ -1,28 +1,19 @@
 -- The bounds of what was told.
-use Rattle.std.proofs.Common.{◌≡◌, ℕ, ◌⊎◌, Bool, true, false, List, refl, sym, ◌∙◌, inl, inr, arith}
+use Rattle.std.proofs.Common.{◌≡◌, ℕ, List, sym, ◌∙◌, inl, inr, arith}
 use Rattle.std.specs.List.{All, Contains}
 use Rattle.std.proofs.lemmas.List.Elements.{All-contains}
 use Rattle.like_core.specs.declared.page_step.PageCall.TheVariants.{Glance, Read}
 use Rattle.like_core.specs.declared.worker_state.WorkerState.TheVariants.{Gone}
-use Rattle.like_core.specs.Post.{slices}
 use Rattle.like_core.specs.views.Reads.{HaveBetween}
 use Rattle.like_core.specs.views.Posts.{posts_before}
 use Rattle.like_core.specs.PageSteps.{page_step}
 use Rattle.like_live.specs.Driver.{DriverView}
 use Rattle.like_live.specs.LiveView.{LiveView}
-use Rattle.like_live.specs.Answers.{AnswersAreBounded, IsGlanced, IsRead, IsReadOrGlanced, IsWithinAdded, Shown}
+use Rattle.like_live.specs.Answers.{AnswersAreBounded, IsGlanced, IsRead, IsWithinAdded, Shown}
 use Rattle.like_live.specs.Service.{posts_at}
 use Rattle.like_live.proofs.Closing.{all-of-map, post_at}
 use Rattle.like_live.proofs.Showing.{IfShown-map}
 use Rattle.like_live.proofs.Answering.{answers_are_reads}
-
--- a glance's count is one or the other
-either : (now after : LiveView) (s : Shown) → IsReadOrGlanced now after s → IsRead after s ⊎ IsGlanced now after s
-either now after s h = by_test (slices now.station.post s.page) refl
-  where
-    by_test : (b : Bool) → slices now.station.post s.page ≡ b → IsRead after s ⊎ IsGlanced now after s
-    by_test true is = inr (h.split is)
-    by_test false is = inl (h.plain is)
 
 module _ (driver : DriverView) (seats : List LiveView) (after : LiveView) (there : Contains seats after)
     (bounds : All (HaveBetween driver.lead.seat.opening.counts (posts_before (posts_at seats)) driver.lead.seat.phase)
@@ -72,12 +63,7 @@ answers_are_bounded driver seats counts v now after t service gone there unused 
     let bound : Shown → Type 0 = IsWithinAdded driver seats in
     let read : (s : Shown) → IsRead after s → bound s =
     λ s r. read-bounded driver seats after there bounds s r in
-    let glance : (s : Shown) → IsReadOrGlanced now after s → bound s =
-    λ s h.
-    elim (either now after s h) [
-      | inl r ↦ read s r
-      | inr g ↦ glance-bounded driver seats after there bounds now s here g
-    ]
-    in
-    IfShown-map (IsRead after) (IsReadOrGlanced now after) bound bound read glance now t
+    let glance : (s : Shown) → IsGlanced now after s → bound s =
+    λ s g. glance-bounded driver seats after there bounds now s here g in
+    IfShown-map (IsRead after) (IsGlanced now after) bound bound read glance now t
     (answers_are_reads v now after t unused call)

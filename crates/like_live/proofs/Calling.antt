@@ -3,10 +3,12 @@ use Rattle.std.proofs.Common.{◌≡◌, ℕ, ◌+◌, ◌<◌, ◌==◌, Bool, 
 use Rattle.std.proofs.lemmas.Bool.{cases_eq, eq-eqb, ltb-true, ne_eqb}
 use Rattle.std.proofs.lemmas.List.{get_or-set_other, get_or-set_same}
 use Rattle.std.proofs.lemmas.List.Sums.{sum_by-append, sum_by-cons}
+use Rattle.like_core.specs.declared.log.Logged.{Logged}
+use Rattle.like_core.specs.declared.view.WorkerSeatView.{WorkerSeatView}
 use Rattle.like_core.specs.declared.view.Addition.{Addition}
 use Rattle.like_core.specs.declared.page_step.PageStep.{PageStep}
 use Rattle.like_core.specs.Additions.{addition, added_to}
-use Rattle.like_core.specs.Post.{has_glanced, has_read, pages_of}
+use Rattle.like_core.specs.Post.{has_glanced, has_read, number_of, pages_of}
 use Rattle.like_core.specs.WorkerState.{phase_of}
 use Rattle.like_core.specs.PageSteps.{additions_among}
 use Rattle.like_requests.specs.declared.verdict.Verdict.TheVariants.{Accepted, UnknownUser, OtherHome, UnknownPage}
@@ -15,13 +17,14 @@ use Rattle.like_seat.specs.Steps.{CountsLike, holding}
 use Rattle.like_tables.specs.UserTable.{with_last}
 use Rattle.like_tables.specs.Waiting.{Waiting}
 use Rattle.like_live.specs.declared.answer.GlanceAnswer.{GlanceAnswer}
+use Rattle.like_live.specs.declared.answer.GlanceAnswer.TheVariants as glanced
 use Rattle.like_live.specs.declared.answer.LikeAnswer.{LikeAnswer}
 use Rattle.like_live.specs.declared.answer.LookAnswer.{LookAnswer}
 use Rattle.like_live.specs.declared.answer.TurnAnswer.{TurnAnswer}
 use Rattle.like_live.specs.declared.asked.Asked.{Asked}
 use Rattle.like_live.specs.LiveView.{IsSameSeat, KeepsTallies, LiveView, tally, with_station}
 use Rattle.like_live.specs.Calls as calls
-use Rattle.like_live.specs.Calls.{GlancesNow, LikesNow, LooksNow, TalliesLike, asked_in, full, last_after, liked, refused, told_of, verdict_at}
+use Rattle.like_live.specs.Calls.{GlancesNow, LikesNow, LooksNow, TalliesLike, TellsIfSplit, asked_in, full, last_after, liked, refused, told_of, verdict_at}
 use Rattle.like_live.specs.Moves.{Moves}
 use Rattle.like_live.proofs.Moving.{IsSized, Leaves-moves, same_seat}
 
@@ -150,14 +153,14 @@ Moves-leaves v after answer sized moves =
     record { same = left.same; tallies = left.tallies; last = left.last }
 
 -- so reads, glances and looks that wait leave them, after a turn that does
-still-leaves : (u v : LiveView) (did : List PageStep) (held : Waiting Asked)
+still-leaves : (u v : LiveView) (did : List PageStep) (logged : List Logged) (held : Waiting Asked)
     → additions_among did ≡ additions_among v.station.post.did
     → LeavesLikes u v
     → LeavesLikes u (with_station v (record v.station {
-      post = record v.station.post { did = did };
+      post = record v.station.post { did = did; logged = logged };
       held = held;
     }))
-still-leaves u v did held same_adds turn =
+still-leaves u v did logged held same_adds turn =
     let same = turn.same in
     record {
       same = record { board = same.board; worker = same.worker; marks = same.marks; share = same.share };
@@ -173,12 +176,13 @@ pub LooksNow-leaves : (u v after : LiveView) (user page tag : ℕ) (answer : Loo
 LooksNow-leaves u v after user page tag answer turn (calls.refused fails a is) = subst (LeavesLikes u) (sym is) turn
 LooksNow-leaves u v after user page tag answer turn (calls.seen shown s accepted plain a read is) =
     subst (LeavesLikes u) (sym (is ∙ ap (with_station v) read.read))
-    (still-leaves u v (has_read v.station.post page shown.count).did v.station.held refl turn)
+    (let now : WorkerSeatView = has_read v.station.post page shown.count (number_of s.post) in
+    still-leaves u v now.did now.logged v.station.held refl turn)
 LooksNow-leaves u v after user page tag answer turn (calls.no_room accepted split most a is) =
     subst (LeavesLikes u) (sym is) turn
 LooksNow-leaves u v after user page tag answer turn (calls.waits accepted split room a is) =
     subst (LeavesLikes u) (sym is)
-    (still-leaves u v v.station.post.did (holding v.station (asked_in (phase_at v.station) user page tag)).held refl turn)
+    (still-leaves u v v.station.post.did v.station.post.logged (holding v.station (asked_in (phase_at v.station) user page tag)).held refl turn)
 
 -- so does a glance
 pub GlancesNow-leaves : (u v after : LiveView) (user page : ℕ) (answer : GlanceAnswer)
@@ -188,7 +192,23 @@ pub GlancesNow-leaves : (u v after : LiveView) (user page : ℕ) (answer : Glanc
 GlancesNow-leaves u v after user page answer turn (calls.refused fails a is) = subst (LeavesLikes u) (sym is) turn
 GlancesNow-leaves u v after user page answer turn (calls.plain shown s accepted plain a read is) =
     subst (LeavesLikes u) (sym (is ∙ ap (with_station v) read.read))
-    (still-leaves u v (has_read v.station.post page shown.count).did v.station.held refl turn)
+    (let now : WorkerSeatView = has_read v.station.post page shown.count (number_of s.post) in
+    still-leaves u v now.did now.logged v.station.held refl turn)
 GlancesNow-leaves u v after user page answer turn (calls.split shown s accepted split a glance is) =
     subst (LeavesLikes u) (sym (is ∙ ap (with_station v) glance.glanced))
-    (still-leaves u v (has_glanced v.station.post page glance.count).did v.station.held refl turn)
+    (let now : WorkerSeatView = has_glanced v.station.post page glance.count (number_of s.post) in
+    still-leaves u v now.did now.logged v.station.held refl turn)
+
+-- and it tells whether its page is split
+pub GlancesNow-tells : (v after : LiveView) (user page : ℕ) (answer : GlanceAnswer)
+    → GlancesNow v user page answer after
+    → TellsIfSplit after page answer
+GlancesNow-tells v after user page answer (calls.refused fails a is) = subst (TellsIfSplit after page) (sym a) tt
+GlancesNow-tells v after user page answer (calls.plain shown s accepted plain a read is) =
+    subst (TellsIfSplit after page) (sym a)
+    (subst (λ (w : LiveView). TellsIfSplit w page (glanced.Seen shown))
+    (sym (is ∙ ap (with_station v) read.read)) plain)
+GlancesNow-tells v after user page answer (calls.split shown s accepted split a glance is) =
+    subst (TellsIfSplit after page) (sym a)
+    (subst (λ (w : LiveView). TellsIfSplit w page (glanced.Glimpsed shown))
+    (sym (is ∙ ap (with_station v) glance.glanced)) split)

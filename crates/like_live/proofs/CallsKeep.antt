@@ -1,6 +1,7 @@
 -- What each call keeps of what the seat did at pages.
 use Rattle.std.proofs.Common.{◌≡◌, ℕ, ◌<◌, inl, inr, Bool, length, Option, ap, sym, ◌∙◌, subst, [], refl}
 use Rattle.std.proofs.lemmas.List.Elements.{All-drop}
+use Rattle.like_core.specs.Post.{number_of}
 use Rattle.like_core.specs.WorkerState.{RunsJoined}
 use Rattle.like_core.specs.declared.worker_state.WorkerState.TheVariants.{Gone}
 use Rattle.like_seat.specs.Steps.{came_back}
@@ -44,7 +45,7 @@ Keeps-looks v after user page tag answer (calls.refused fails a is) = subst (Kee
 Keeps-looks v after user page tag answer (calls.no_room accepted split none a is) =
     subst (Keeps v) (sym is) (Keeps-all v)
 Keeps-looks v after user page tag answer (calls.seen shown s accepted plain a reads is) =
-    subst (Keeps v) (sym (is ∙ ap (with_station v) reads.read)) (Keeps-read v page shown.count)
+    subst (Keeps v) (sym (is ∙ ap (with_station v) reads.read)) (Keeps-read v page shown.count (number_of s.post))
 Keeps-looks v after user page tag answer (calls.waits accepted split room a is) =
     subst (Keeps v) (sym is) (record {
       more = [];
@@ -59,9 +60,9 @@ Keeps-glances : (v after : LiveView) (user page : ℕ) (answer : GlanceAnswer)
     → Keeps v after
 Keeps-glances v after user page answer (calls.refused fails a is) = subst (Keeps v) (sym is) (Keeps-all v)
 Keeps-glances v after user page answer (calls.plain shown s accepted plain a reads is) =
-    subst (Keeps v) (sym (is ∙ ap (with_station v) reads.read)) (Keeps-read v page shown.count)
+    subst (Keeps v) (sym (is ∙ ap (with_station v) reads.read)) (Keeps-read v page shown.count (number_of s.post))
 Keeps-glances v after user page answer (calls.split shown s accepted split a glances is) =
-    subst (Keeps v) (sym (is ∙ ap (with_station v) glances.glanced)) (Keeps-glanced v page glances.count)
+    subst (Keeps v) (sym (is ∙ ap (with_station v) glances.glanced)) (Keeps-glanced v page glances.count (number_of s.post))
 
 Keeps-takes : (v after : LiveView) (taken : Option Found) → TakesFound v taken after → Keeps v after
 Keeps-takes v after taken takes = subst (Keeps v) (sym takes.1) (record {
@@ -87,9 +88,9 @@ Keeps-retires : (v after : LiveView) (answer : TurnAnswer) → IsSized v → Ret
 Keeps-retires v after answer sized m = Keeps-by RetireWorks Keeps-retire_works v after answer sized m
 
 -- a seat that was gone had no like in its slice
-Keeps-came_back : (v : LiveView) (phase mask : ℕ) → v.station.post.state ≡ Gone
-    → Keeps v (with_station v (came_back v.station phase mask))
-Keeps-came_back v phase mask gone = record {
+Keeps-came_back : (v : LiveView) (phase mask number : ℕ) → v.station.post.state ≡ Gone
+    → Keeps v (with_station v (came_back v.station phase mask number))
+Keeps-came_back v phase mask number gone = record {
   more = [];
   did = refl;
   worker = refl;
@@ -102,7 +103,7 @@ Keeps-came_back v phase mask gone = record {
 
 Keeps-come_back : (v after : LiveView) (answer : TurnAnswer) → IsSized v → ComeBackCase v answer after → Keeps v after
 Keeps-come_back v after answer sized (calls.runs s gone a back is) =
-    subst (Keeps v) (sym (is ∙ ap (with_station v) back.1.1)) (Keeps-came_back v back.0 back.1.0 gone)
+    subst (Keeps v) (sym (is ∙ ap (with_station v) back.1.1)) (Keeps-came_back v back.0 back.1.0 (number_of s.post) gone)
 Keeps-come_back v after answer sized (calls.between gone a is) = subst (Keeps v) (sym is) (Keeps-all v)
 Keeps-come_back v after answer sized (calls.there here m) = Keeps-moves v after answer sized m
 

@@ -104,23 +104,23 @@ module _ (first : LiveView) where
 
   lasts_next : (v : LiveView) (s : Step v) (ds : List Deed) → Stands first v → HasLasts v ds
       → HasLasts (next v s) (ds ++ done_by v s)
-  lasts_next v (looks sight mask can) ds is k = no_deed v _ ds refl k
-  lasts_next v (finds found joined order shown) ds is k =
+  lasts_next v (looks sight mask number can) ds is k = no_deed v _ ds refl k
+  lasts_next v (finds found logged joined order shown logs) ds is k =
       let all = found_deeds v found shown ds k in record { table = all.table; shows = all.shows }
   lasts_next v (acknowledges joined) ds is k = no_deed v _ ds refl k
-  lasts_next v (reports adds split merges) ds is k = no_deed v _ ds refl k
+  lasts_next v (reports adds logged split merges logs) ds is k = no_deed v _ ds refl k
   lasts_next v (retires joined) ds is k = no_deed v _ ds refl k
-  lasts_next v (returns phase mask gone) ds is k = no_deed v _ ds refl k
+  lasts_next v (returns phase mask number gone) ds is k = no_deed v _ ds refl k
   lasts_next v takes ds is k = no_deed v _ ds refl k
   lasts_next v (slices_like user page req) ds is k =
       let there = subst (λ n. user < n) (sym is.table) (user_there v.station user page req.accepted) in
       like_deed v _ ds _ user page there (λ other. last-more v.station.last user page other there) k
-  lasts_next v (adds_like user page old req) ds is k =
+  lasts_next v (adds_like user page old number req) ds is k =
       let there = subst (λ n. user < n) (sym is.table) (user_there v.station user page req.accepted) in
       like_deed v _ ds _ user page there (λ other. last-more v.station.last user page other there) k
-  lasts_next v (reads user page shown req last) ds is k =
+  lasts_next v (reads user page shown number req last) ds is k =
       look_deed v _ ds _ refl (λ other. refl) last k
-  lasts_next v (glances user page count shown req last) ds is k =
+  lasts_next v (glances user page count shown number req last) ds is k =
       look_deed v _ ds _ refl (λ other. refl) last k
   lasts_next v (holds user page tag req) ds is k = no_deed v _ ds refl k
 

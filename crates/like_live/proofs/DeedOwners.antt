@@ -37,19 +37,19 @@ module _ (first : LiveView) where
 
   his_next : (v : LiveView) (s : Step v) (ds : List Deed) → Stands first v → AreHis v ds
       → AreHis (next v s) (ds ++ done_by v s)
-  his_next v (looks sight mask can) ds k all = no_deed v ds all
-  his_next v (finds found joined order shown) ds k all =
+  his_next v (looks sight mask number can) ds k all = no_deed v ds all
+  his_next v (finds found logged joined order shown logs) ds k all =
       all_append (λ d. IsHis first d.user) ds (map deed_found found) all
       (found_his v found k (subst (AllByRecursion (λ (a : Asked). IsHis v a.user)) (sym order) k.own))
   his_next v (acknowledges joined) ds k all = no_deed v ds all
-  his_next v (reports adds split merges) ds k all = no_deed v ds all
+  his_next v (reports adds logged split merges logs) ds k all = no_deed v ds all
   his_next v (retires joined) ds k all = no_deed v ds all
-  his_next v (returns phase mask gone) ds k all = no_deed v ds all
+  his_next v (returns phase mask number gone) ds k all = no_deed v ds all
   his_next v takes ds k all = no_deed v ds all
   his_next v (slices_like user page is) ds k all = one_his v ds _ page k is.accepted all
-  his_next v (adds_like user page old is) ds k all = one_his v ds _ page k is.accepted all
-  his_next v (reads user page shown is last) ds k all = one_his v ds _ page k is.accepted all
-  his_next v (glances user page count shown is last) ds k all = one_his v ds _ page k is.accepted all
+  his_next v (adds_like user page old number is) ds k all = one_his v ds _ page k is.accepted all
+  his_next v (reads user page shown number is last) ds k all = one_his v ds _ page k is.accepted all
+  his_next v (glances user page count shown number is last) ds k all = one_his v ds _ page k is.accepted all
   his_next v (holds user page tag is) ds k all = no_deed v ds all
 
   pub his_kept : IsKept first (λ w. Unit {0}) AreHis

@@ -126,12 +126,12 @@ module _ (first : LiveView) (masks : ℕ → ℕ) where
 
   risen_next : (v : LiveView) (s : Step v) (ds : List Deed) → Stands first v → IsOrdered masks (next v s)
       → HasRisen v ds → HasRisen (next v s) (ds ++ done_by v s)
-  risen_next v (looks sight mask can) ds st o h =
+  risen_next v (looks sight mask number can) ds st o h =
       no_deed v _ ds (λ k is. record {
         steps = is.steps;
         slice = λ page has. subst (λ n. n ≤ k) (looked_phase v.station.post.state sight (st.split page has).0) (is.slice page has);
       }) h
-  risen_next v (finds found joined order shown) ds st o h =
+  risen_next v (finds found logged joined order shown logs) ds st o h =
       finds_risen v _ found ds (λ i d below. (shown i d below).phase)
       (λ page has. unsplit v.station.post.state joined (st.split page has).0)
       (then-earliest v.station.post.did (map (step_for v.station.post.worker) found)) o h
@@ -140,7 +140,7 @@ module _ (first : LiveView) (masks : ℕ → ℕ) where
         steps = is.steps;
         slice = λ page has. absurd (unsplit v.station.post.state joined (st.split page has).0);
       }) h
-  risen_next v (reports adds runs merges) ds st o h =
+  risen_next v (reports adds logged runs merges logs) ds st o h =
       no_deed v _ ds (λ k is. record {
         steps = all_front (λ t. phase_of_step t ≤ k) (earliest_first v.station.post.did) (map (step_adding v.station.post.worker) adds) (now k is);
         slice = λ page has.
@@ -155,7 +155,7 @@ module _ (first : LiveView) (masks : ℕ → ℕ) where
             omega (arith, phase, top);
       }) h
     where
-      now : (k : ℕ) → IsPast k (reported v adds)
+      now : (k : ℕ) → IsPast k (reported v adds logged)
           → AllByRecursion (λ t. phase_of_step t ≤ k)
           (earliest_first v.station.post.did ++ map (step_adding v.station.post.worker) adds)
       now k is = subst (AllByRecursion (λ t. phase_of_step t ≤ k))
@@ -165,7 +165,7 @@ module _ (first : LiveView) (masks : ℕ → ℕ) where
         steps = is.steps;
         slice = λ page has. absurd (unsplit v.station.post.state joined (st.split page has).0);
       }) h
-  risen_next v (returns phase mask gone) ds st o h =
+  risen_next v (returns phase mask number gone) ds st o h =
       no_deed v _ ds (λ k is. record {
         steps = is.steps;
         slice = λ page has. absurd (subst RunsSplit gone (st.split page has).0);
@@ -189,9 +189,9 @@ module _ (first : LiveView) (masks : ℕ → ℕ) where
         slice-more v.station.slice page page (subst (λ n. page < n) (sym st.sized) there),
         ap {B = ℕ} (λ b. cond b 1 0) (eq-eqb page page refl),
       ))
-  risen_next v (adds_like user page old req) ds st o h = one_step v _ ds _ _ refl refl refl refl refl o h
-  risen_next v (reads user page shown req last) ds st o h = one_step v _ ds _ _ refl refl refl refl refl o h
-  risen_next v (glances user page count shown req last) ds st o h = one_step v _ ds _ _ refl refl refl refl refl o h
+  risen_next v (adds_like user page old number req) ds st o h = one_step v _ ds _ _ refl refl refl refl refl o h
+  risen_next v (reads user page shown number req last) ds st o h = one_step v _ ds _ _ refl refl refl refl refl o h
+  risen_next v (glances user page count shown number req last) ds st o h = one_step v _ ds _ _ refl refl refl refl refl o h
   risen_next v (holds user page tag req) ds st o h =
       no_deed v _ ds (λ k is. record { steps = is.steps; slice = is.slice }) h
 

@@ -115,9 +115,9 @@ module _ (first : LiveView) (masks : ℕ → ℕ) where
 
   pub steps_next : (v : LiveView) (s : Step v) (ds : List Deed) → Stands first v → IsOrdered masks (next v s)
       → HasSteps v ds → HasSteps (next v s) (ds ++ done_by v s)
-  steps_next v (looks sight mask can) ds k o h = no_steps v _ ds refl h
-  steps_next v (finds found joined order shown) ds k o h =
-      let before = ordered_back first masks v (finds found joined order shown) k o in
+  steps_next v (looks sight mask number can) ds k o h = no_steps v _ ds refl h
+  steps_next v (finds found logged joined order shown logs) ds k o h =
+      let before = ordered_back first masks v (finds found logged joined order shown logs) k o in
       more_steps v _ ds (map deed_found found) (map (step_for v.station.post.worker) found)
       (then-earliest v.station.post.did (map (step_for v.station.post.worker) found))
       (steps_found v.station.post.worker (phase_at v.station) found
@@ -127,8 +127,8 @@ module _ (first : LiveView) (masks : ℕ → ℕ) where
       ∙ plain v.station.post f.asked.page joined))
       h
   steps_next v (acknowledges joined) ds k o h = no_steps v _ ds refl h
-  steps_next v (reports adds runs merges) ds k o h =
-      let before = ordered_back first masks v (reports adds runs merges) k o in
+  steps_next v (reports adds logged runs merges logs) ds k o h =
+      let before = ordered_back first masks v (reports adds logged runs merges logs) k o in
       more_steps v _ ds [] (map (step_adding v.station.post.worker) adds)
       (then-earliest v.station.post.did (map (step_adding v.station.post.worker) adds))
       (steps_merged v.station.post.worker adds
@@ -138,7 +138,7 @@ module _ (first : LiveView) (masks : ℕ → ℕ) where
       (then-earliest v.station.post.did (map (step_adding v.station.post.worker) adds)) o.some))))
       h
   steps_next v (retires joined) ds k o h = no_steps v _ ds refl h
-  steps_next v (returns phase mask gone) ds k o h = no_steps v _ ds refl h
+  steps_next v (returns phase mask number gone) ds k o h = no_steps v _ ds refl h
   steps_next v takes ds k o h = no_steps v _ ds refl h
   steps_next v (slices_like user page is) ds k o h =
       let before = ordered_back first masks v (slices_like user page is) k o in
@@ -146,21 +146,21 @@ module _ (first : LiveView) (masks : ℕ → ℕ) where
       more_steps v _ ds (deed (phase_at v.station) user page counted ∷ []) []
       (sym (append-nil (earliest_first v.station.post.did)))
       (ap (λ b. cons_option (step_by b (phase_at v.station) page counted) []) there) h
-  steps_next v (adds_like user page old is) ds k o h =
-      let before = ordered_back first masks v (adds_like user page old is) k o in
+  steps_next v (adds_like user page old number is) ds k o h =
+      let before = ordered_back first masks v (adds_like user page old number is) k o in
       let there = sym (slices_split first masks v page k before is.runs) ∙ is.at in
       more_steps v _ ds (deed (phase_at v.station) user page counted ∷ [])
       (page_step v.station.post.worker (phase_at v.station) page old (Add 1) ∷ []) refl
       (ap (λ b. cons_option (step_by b (phase_at v.station) page counted) []) there
       ∙ plain_step (page_step v.station.post.worker (phase_at v.station) page old (Add 1)) there) h
-  steps_next v (reads user page shown is last) ds k o h =
-      let before = ordered_back first masks v (reads user page shown is last) k o in
+  steps_next v (reads user page shown number is last) ds k o h =
+      let before = ordered_back first masks v (reads user page shown number is last) k o in
       let there = sym (slices_split first masks v page k before is.runs) ∙ is.at in
       more_steps v _ ds (deed (phase_at v.station) user page (showed shown) ∷ [])
       (page_step v.station.post.worker (phase_at v.station) page shown.count Read ∷ []) refl
       (plain_step (page_step v.station.post.worker (phase_at v.station) page shown.count Read) there) h
-  steps_next v (glances user page count shown is last) ds k o h =
-      let before = ordered_back first masks v (glances user page count shown is last) k o in
+  steps_next v (glances user page count shown number is last) ds k o h =
+      let before = ordered_back first masks v (glances user page count shown number is last) k o in
       let there = sym (slices_split first masks v page k before is.runs) ∙ is.at in
       more_steps v _ ds (deed (phase_at v.station) user page (glimpsed shown) ∷ [])
       (page_step v.station.post.worker (phase_at v.station) page count Glance ∷ []) refl

@@ -130,18 +130,18 @@ module _ (first : LiveView) where
 
   totals_next : (v : LiveView) (s : Step v) (ds : List Deed) → Stands first v
       → HasTotals v ds → HasTotals (next v s) (ds ++ done_by v s)
-  totals_next v (looks sight mask can) ds k h =
+  totals_next v (looks sight mask number can) ds k h =
       none v _ ds refl
       (λ phase page. looked_same (phase_at v.station) (phase_of (seen v.station.post.state sight)) (get_or v.station.slice page 0)
       phase (λ has. looked_phase v.station.post.state sight (k.split page has).0)) h
-  totals_next v (finds found joined order shown) ds k h =
+  totals_next v (finds found logged joined order shown logs) ds k h =
       more v _ ds (map deed_found found) (map (step_for v.station.post.worker) found)
       (then-earliest v.station.post.did (map (step_for v.station.post.worker) found))
       (λ phase page.
       let a = found_none phase page found in
       let b = reads_none phase page v.station.post.worker found in omega arith) h
   totals_next v (acknowledges joined) ds k h = none v _ ds refl (λ phase page. refl) h
-  totals_next v (reports adds runs merges) ds k h =
+  totals_next v (reports adds logged runs merges logs) ds k h =
       more v _ ds [] (map (step_adding v.station.post.worker) adds)
       (then-earliest v.station.post.did (map (step_adding v.station.post.worker) adds))
       (λ phase page.
@@ -160,7 +160,7 @@ module _ (first : LiveView) where
       let zero_is = is_none (get_or v.station.slice page 0)
       (λ has. unsplit v.station.post.state joined (k.split page has).0) in
       empty (phase_at v.station == phase) (0 == phase) _ _ zero_is zero_is) h
-  totals_next v (returns to mask gone) ds k h =
+  totals_next v (returns to mask number gone) ds k h =
       none v _ ds refl
       (λ phase page.
       let zero_is = is_none (get_or v.station.slice page 0) (λ has. subst RunsSplit gone (k.split page has).0) in
@@ -171,17 +171,17 @@ module _ (first : LiveView) where
       (λ phase other.
       let there = subst (λ n. page < n) (sym k.sized) (page_there v.station user page is.accepted) in
       like_one (phase_at v.station == phase) (page == other) _ _ (slice-more v.station.slice page other there)) h
-  totals_next v (adds_like user page old is) ds k h =
+  totals_next v (adds_like user page old number is) ds k h =
       more v _ ds (deed (phase_at v.station) user page counted ∷ [])
       (page_step v.station.post.worker (phase_at v.station) page old (Add 1) ∷ []) refl (λ phase other. refl) h
-  totals_next v (reads user page shown is last) ds k h =
+  totals_next v (reads user page shown number is last) ds k h =
       more v _ ds (deed (phase_at v.station) user page (showed shown) ∷ [])
       (page_step v.station.post.worker (phase_at v.station) page shown.count Read ∷ []) refl
       (λ phase other.
       let a = only-none (phase_at v.station == phase) in
       let b = read_none phase other v.station.post.worker (phase_at v.station) page shown.count Read (inl refl) in
       omega arith) h
-  totals_next v (glances user page count shown is last) ds k h =
+  totals_next v (glances user page count shown number is last) ds k h =
       more v _ ds (deed (phase_at v.station) user page (glimpsed shown) ∷ [])
       (page_step v.station.post.worker (phase_at v.station) page count Glance ∷ []) refl
       (λ phase other.

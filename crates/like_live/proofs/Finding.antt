@@ -4,13 +4,18 @@ use Rattle.std.specs.List.{All, slice_get}
 use Rattle.std.proofs.lemmas.Bool.{ne_eqb, and_left, cases_eq}
 use Rattle.std.proofs.lemmas.List.{get_or-map, get_or_append_left, map-append, length-map}
 use Rattle.std.proofs.lemmas.List.Elements.{All-append, All-nil, All-push, All-head, All-drop}
+use Rattle.like_core.specs.declared.log.Logged.{Logged}
+use Rattle.like_core.specs.declared.page_step.PageStep.{PageStep}
+use Rattle.like_core.specs.declared.log.LogEntry.TheVariants.{Did}
+use Rattle.like_core.specs.Log.{numbered}
+use Rattle.like_seat.specs.Merge.{LogsSteps}
 use Rattle.like_core.specs.declared.view.Addition.{Addition}
 use Rattle.like_core.specs.declared.page_step.PageCall.TheVariants.{Read}
 use Rattle.like_core.specs.Additions.{added_to}
 use Rattle.like_core.specs.PageSteps.{additions_among, page_step, then_steps}
 use Rattle.like_core.specs.declared.worker_state.WorkerState.{WorkerState}
 use Rattle.like_core.specs.declared.worker_state.WorkerState.TheVariants as state
-use Rattle.like_core.specs.Post.{has_read, slices}
+use Rattle.like_core.specs.Post.{has_read, number_of, slices}
 use Rattle.like_core.specs.Phase.{IsJoined, is_hot_by, is_marked}
 use Rattle.like_core.specs.PhaseMasks.{mask_of}
 use Rattle.like_core.specs.WorkerState.{IsRunning, RunsJoined, RunsSplit, phase_of}
@@ -82,9 +87,13 @@ pub record Finding (v now : LiveView) : Type 0 where
   pub order : map (λ f. f.asked) found ++ waiting now ≡ waiting v
   pub shown : All (IsFoundAt v.station) found
   pub station : now.station ≡ record v.station {
-    post = record v.station.post { did = then_steps v.station.post.did (map (step_for v.station.post.worker) found) };
+    post = record v.station.post {
+      did = then_steps v.station.post.did (map (step_for v.station.post.worker) found);
+      logged = now.station.post.logged;
+    };
     held = now.station.held;
   }
+  pub logs : LogsSteps (map (step_for v.station.post.worker) found) v.station.post.logged now.station.post.logged
   pub capacity : now.station.held.capacity ≡ v.station.held.capacity
   pub found_is : now.found ≡ v.found ++ found
 
@@ -95,6 +104,7 @@ Finding-start v = record {
   order = refl;
   shown = All-nil (IsFoundAt v.station);
   station = refl;
+  logs = record { since = []; made = refl; logged = refl };
   capacity = refl;
   found_is = sym (append-nil v.found);
 }
@@ -107,11 +117,15 @@ Finding-end v now f none = record {
       ∙ ap (λ ws. map (λ (x : Found). x.asked) f.found ++ ws) (sym none) ∙ f.order;
   shown = f.shown;
   rest = λ m. record { station = (f.station ∙ empty) m; found = f.found_is m };
+  logs = f.logs;
 }
   where
     at : Waiting Asked → StationView Asked
     at held = record v.station {
-      post = record v.station.post { did = then_steps v.station.post.did (map (step_for v.station.post.worker) f.found) };
+      post = record v.station.post {
+        did = then_steps v.station.post.did (map (step_for v.station.post.worker) f.found);
+        logged = now.station.post.logged;
+      };
       held = held;
     }
 
@@ -148,15 +162,18 @@ Finding-ran v now f before next =
     (All-append RanNext v.found f.found next (λ k d below. (f.shown k d below).phase ∙ asked k d below))
 
 -- one look more is found, which was the first that waited still
-pub Finding-more : (v now next : LiveView) (a : Asked) (f : Found) → Finding v now
+pub Finding-more : (v now next : LiveView) (a : Asked) (f : Found) (number : ℕ) → Finding v now
     → waiting now ≡ a ∷ waiting next → f.asked ≡ a → IsFoundAt v.station f
     → next.station ≡ record now.station {
-      post = record now.station.post { did = step_for v.station.post.worker f ∷ now.station.post.did };
+      post = record now.station.post {
+        did = step_for v.station.post.worker f ∷ now.station.post.did;
+        logged = numbered number (Did (step_for v.station.post.worker f)) ∷ now.station.post.logged;
+      };
       held = next.station.held;
     }
     → next.station.held.capacity ≡ now.station.held.capacity
     → next.found ≡ now.found ++ f ∷ [] → Finding v next
-Finding-more v now next a f d first is shown station capacity found = record {
+Finding-more v now next a f number d first is shown station capacity found = record {
   found = d.found ++ f ∷ [];
   order =
       ap (λ (xs : List Asked). xs ++ waiting next) (map-append (λ (x : Found). x.asked) d.found (f ∷ []))
@@ -168,14 +185,34 @@ Finding-more v now next a f d first is shown station capacity found = record {
   station =
       station
       ∙ ap (λ (t : StationView Asked). record t {
-        post = record t.post { did = step_for v.station.post.worker f ∷ t.post.did };
+        post = record t.post { did = step_for v.station.post.worker f ∷ t.post.did; logged = entry ∷ now.station.post.logged };
         held = next.station.held;
       }) d.station
-      ∙ (λ m. record v.station { post = record v.station.post { did = did m }; held = next.station.held });
+      ∙ (λ m. record v.station {
+        post = record v.station.post { did = did m; logged = sym logged_is m };
+        held = next.station.held;
+      });
+  logs = record {
+    since = entry ∷ d.logs.since;
+    made = (λ m. Did (step_for v.station.post.worker f) ∷ d.logs.made m) ∙ ap (λ (ds : List PageStep). map (λ s. Did s) ds) made;
+    logged = logged_is ∙ ap (λ (es : List Logged). entry ∷ es) d.logs.logged;
+  };
   capacity = capacity ∙ d.capacity;
   found_is = found ∙ ap (λ xs. xs ++ f ∷ []) d.found_is ∙ append_assoc v.found d.found (f ∷ []);
 }
   where
+    entry : Logged
+    entry = numbered number (Did (step_for v.station.post.worker f))
+
+    logged_is : next.station.post.logged ≡ entry ∷ now.station.post.logged
+    logged_is = ap (λ (t : StationView Asked). t.post.logged) station
+
+    made : step_for v.station.post.worker f ∷ then_steps [] (map (step_for v.station.post.worker) d.found)
+        ≡ then_steps [] (map (step_for v.station.post.worker) (d.found ++ f ∷ []))
+    made =
+        sym (then-push [] (map (step_for v.station.post.worker) d.found) (step_for v.station.post.worker f))
+        ∙ ap (then_steps []) (sym (map-append (step_for v.station.post.worker) d.found (f ∷ [])))
+
     did : step_for v.station.post.worker f ∷ then_steps v.station.post.did (map (step_for v.station.post.worker) d.found)
         ≡ then_steps v.station.post.did (map (step_for v.station.post.worker) (d.found ++ f ∷ []))
     did =
@@ -238,10 +275,11 @@ Finding-next v now s after found a seen phase d first is reads phase_is found_is
     ∙ found-additions v.station.post.worker v.station.post.did d.found in
     let state : phase_of now.station.post.state ≡ phase = ap (λ (p : WorkerSeatView). phase_of p.state) post ∙ sym phase_is in
     let worker : now.station.post.worker ≡ v.station.post.worker = ap (λ (p : WorkerSeatView). p.worker) post in
-    let e : after ≡ record (without_first now.station) { post = has_read now.station.post a.page seen.count } =
-    reads.read ∙ ap (λ (t : StationView Asked). record t { post = has_read t.post a.page seen.count }) is in
+    let number : ℕ = number_of after.post in
+    let e : after ≡ record (without_first now.station) { post = has_read now.station.post a.page seen.count number } =
+    reads.read ∙ ap (λ (t : StationView Asked). record t { post = has_read t.post a.page seen.count number }) is in
     let f : Found = record { asked = a; last = seen.last; count = seen.count; phase = phase } in
-    Finding-more v now (record { station = after; found = found }) a f d
+    Finding-more v now (record { station = after; found = found }) a f number d
     (first_of (waiting now) a first
     ∙ ap (λ (xs : List Asked). a ∷ xs) (sym (ap (λ (t : StationView Asked). t.held.held) e)))
     refl
@@ -253,6 +291,7 @@ Finding-next v now s after found a seen phase d first is reads phase_is found_is
     (e ∙ (λ m. record now.station {
       post = record now.station.post {
         did = page_step (worker m) (state m) a.page seen.count Read ∷ now.station.post.did;
+        logged = numbered number (Did (page_step (worker m) (state m) a.page seen.count Read)) ∷ now.station.post.logged;
       };
       held = sym (ap (λ (t : StationView Asked). t.held) e) m;
     }))

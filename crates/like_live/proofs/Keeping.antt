@@ -3,6 +3,7 @@ use Rattle.std.proofs.Common.{◌≡◌, ℕ, ◌<◌, ◌≤◌, ◌==◌, ◌&
 use Rattle.std.specs.List.{All}
 use Rattle.std.proofs.lemmas.Bool.{eq-eqb}
 use Rattle.std.proofs.lemmas.List.Elements.{All-append}
+use Rattle.like_core.specs.declared.log.Logged.{Logged}
 use Rattle.like_core.specs.declared.sight.Sight.{Sight}
 use Rattle.like_core.specs.declared.view.Addition.{Addition}
 use Rattle.like_core.specs.declared.page_step.PageCall.{PageCall}
@@ -12,7 +13,7 @@ use Rattle.like_core.specs.declared.worker_state.WorkerState.{WorkerState}
 use Rattle.like_core.specs.declared.worker_state.WorkerState.TheVariants as state
 use Rattle.like_core.specs.Additions.{added_in, added_to}
 use Rattle.like_core.specs.Phase.{IsSplit}
-use Rattle.like_core.specs.Post.{answered, has_glanced, has_read, stepped}
+use Rattle.like_core.specs.Post.{answered, has_glanced, has_read, number_of, stepped}
 use Rattle.like_core.specs.WorkerState.{RunsJoined, phase_of, seen}
 use Rattle.like_core.specs.PageSteps.{additions_among, page_step, step_adding, then_steps}
 use Rattle.like_core.proofs.Between.{sum_parts}
@@ -102,8 +103,8 @@ added-later phase page more later n few =
     omega arith
 
 -- a look at the phase word
-Keeps-looked : (v : LiveView) (sight : Sight) (mask : ℕ) → Keeps v (looked v sight mask)
-Keeps-looked v sight mask = record {
+Keeps-looked : (v : LiveView) (sight : Sight) (mask number : ℕ) → Keeps v (looked v sight mask number)
+Keeps-looked v sight mask number = record {
   more = [];
   did = refl;
   worker = refl;
@@ -162,7 +163,7 @@ Keeps-finds v after f = subst (Keeps v) (sym f.rest) (record {
     worker = v.station.post.worker
 
     now : LiveView
-    now = with_found v f.found
+    now = with_found v f.found after.station.post.logged
 
     more : List PageStep
     more = then_steps [] (map (step_for worker) f.found)
@@ -177,7 +178,8 @@ Keeps-merged v s sized m =
     let worker = v.station.post.worker in
     let more : List PageStep = then_steps [] (map (step_adding worker) adds) in
     let did = then-behind [] v.station.post.did (map (step_adding worker) adds) in
-    let is : s ≡ record (merged v.station adds) { post = answered (merged v.station adds).post } =
+    let logged : List Logged = m.0.post.logged in
+    let is : s ≡ record (merged v.station adds logged) { post = answered (merged v.station adds logged).post } =
     m.1.1 ∙ ap (λ (t : StationView Asked). record t { post = answered t.post }) m.1.0.1.1 in
     subst (λ (t : StationView Asked). Keeps v (with_station v t)) (sym is) (record {
       more = more;
@@ -201,14 +203,16 @@ Keeps-merged v s sized m =
       );
       found = λ all k d below.
           read-later v
-          (with_station v (record (merged v.station adds) { post = answered (merged v.station adds).post })) more
+          (with_station v (record (merged v.station adds logged) {
+            post = answered (merged v.station adds logged).post;
+          })) more
           (found_count (get_or v.found k d)) did refl (all k d below);
     })
 
 -- a step at a page
-Keeps-step : (v : LiveView) (last : UserTable) (page count : ℕ) (call : PageCall)
-    → Keeps v (with_station v (record v.station { post = stepped v.station.post page count call; last = last }))
-Keeps-step v last page count call =
+Keeps-step : (v : LiveView) (last : UserTable) (page count : ℕ) (call : PageCall) (number : ℕ)
+    → Keeps v (with_station v (record v.station { post = stepped v.station.post page count call number; last = last }))
+Keeps-step v last page count call number =
     let step : PageStep = page_step v.station.post.worker (phase_at v.station) page count call in
     record {
       more = step ∷ [];
@@ -220,7 +224,7 @@ Keeps-step v last page count call =
       );
       found = λ all k d below.
           read-later v
-          (with_station v (record v.station { post = stepped v.station.post page count call; last = last }))
+          (with_station v (record v.station { post = stepped v.station.post page count call number; last = last }))
           (step ∷ []) (found_count (get_or v.found k d)) refl refl (all k d below);
     }
 
@@ -247,17 +251,17 @@ Keeps-counts v s user page None there c = subst (λ (t : StationView Asked). Kee
 })
 Keeps-counts v s user page (Some count) there c =
     subst (λ (t : StationView Asked). Keeps v (with_station v t)) (sym c.1)
-    (Keeps-step v _ page count (Add 1))
+    (Keeps-step v _ page count (Add 1) (number_of s.post))
 
 -- a read
-pub Keeps-read : (v : LiveView) (page count : ℕ)
-    → Keeps v (with_station v (record v.station { post = has_read v.station.post page count }))
-Keeps-read v page count = Keeps-step v v.station.last page count Read
+pub Keeps-read : (v : LiveView) (page count number : ℕ)
+    → Keeps v (with_station v (record v.station { post = has_read v.station.post page count number }))
+Keeps-read v page count number = Keeps-step v v.station.last page count Read number
 
 -- a glance
-pub Keeps-glanced : (v : LiveView) (page count : ℕ)
-    → Keeps v (with_station v (record v.station { post = has_glanced v.station.post page count }))
-Keeps-glanced v page count = Keeps-step v v.station.last page count Glance
+pub Keeps-glanced : (v : LiveView) (page count number : ℕ)
+    → Keeps v (with_station v (record v.station { post = has_glanced v.station.post page count number }))
+Keeps-glanced v page count number = Keeps-step v v.station.last page count Glance number
 
 -- phase work
 pub Keeps-works : (v after : LiveView) (ending : Bool) (answer : TurnAnswer)
@@ -282,10 +286,10 @@ pub Keeps-by : (Runs : LiveView → Bool → TurnAnswer → LiveView → Type 0)
     → Keeps v after
 Keeps-by Runs does v after answer sized (is_gone gone a is) = subst (Keeps v) (sym is) (Keeps-all v)
 Keeps-by Runs does v after answer sized (waits sight mask can w a is) =
-    subst (Keeps v) (sym is) (Keeps-looked v sight mask)
-Keeps-by Runs does v after answer sized (works sight mask can w runs) =
-    Keeps-both v (looked v sight mask) after (Keeps-looked v sight mask)
-    (does (looked v sight mask) after sight.ending answer sized runs)
+    subst (Keeps v) (sym is) (Keeps-looked v sight mask (number_of after.station.post))
+Keeps-by Runs does v after answer sized (works sight mask number can w runs) =
+    Keeps-both v (looked v sight mask number) after (Keeps-looked v sight mask number)
+    (does (looked v sight mask number) after sight.ending answer sized runs)
 
 pub Keeps-moves : (v after : LiveView) (answer : TurnAnswer) → IsSized v → Moves v answer after → Keeps v after
 Keeps-moves v after answer sized m = Keeps-by Works Keeps-works v after answer sized m

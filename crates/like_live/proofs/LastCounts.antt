@@ -1,7 +1,7 @@
 -- The last counts of a service are those of its store.
-use Rattle.std.proofs.Common.{◌≡◌, ℕ, ◌+◌, ◌==◌, Bool, true, false, cond, List, [], ◌∷◌, map, get_or, slice_get, sum_by, Some, ap, sym, ◌∙◌, refl, arith}
+use Rattle.std.proofs.Common.{◌≡◌, ℕ, ◌+◌, ◌==◌, List, [], ◌∷◌, map, get_or, slice_get, sum_by, Some, ap, sym, ◌∙◌, refl, arith}
 use Rattle.like_board.specs.Seats.{board_numbers}
-use Rattle.like_core.specs.Post.{fresh, slices}
+use Rattle.like_core.specs.Post.{fresh}
 use Rattle.like_core.specs.declared.opening.Opening.{Opening as CoreOpening}
 use Rattle.like_core.specs.declared.view.WorkerSeatView.{WorkerSeatView}
 use Rattle.like_requests.specs.Verdict.{home}
@@ -15,13 +15,13 @@ use Rattle.like_live.specs.declared.asked.Found.{Found}
 use Rattle.like_live.specs.declared.opening.Opening.{Opening}
 use Rattle.like_live.specs.LiveView.{LiveView, tally}
 use Rattle.like_live.specs.History.{HasDone, IsUnused, Told, come_back, glance, like, like_told, look, retire, take_found, turn}
-use Rattle.like_live.specs.Deeds.{Deed, deed_found, deeds_of, deeds_of_call, found_by, glimpsed, own_deed, showed}
+use Rattle.like_live.specs.Deeds.{Deed, deed_found, deeds_of, deeds_of_call, found_by, own_deed}
 use Rattle.like_live.specs.Driver.{DriverView, IsSameDriver}
 use Rattle.like_live.specs.Opening.{board_opening}
 use Rattle.like_live.specs.Service.{AreOpened, IsClosedService}
 use Rattle.like_live.specs.SerialService.{HasLastCounts, IsSerialService, SeatHistory, ServicesAreSerial, deeds_in, opened as store_opened}
 use Rattle.like_live.proofs.Closing.{sum-of-map}
-use Rattle.like_live.proofs.DeedLikes.{count_is, likes_counted}
+use Rattle.like_live.proofs.DeedLikes.{count_is}
 use Rattle.like_live.proofs.DeedTotals.{likes_of_deed}
 use Rattle.like_live.proofs.Histories.{histories_are_counted}
 use Rattle.like_live.proofs.OneThread.{alike_at, at_map, deeds_at, deeds_past, deeds_there, opening_is, serial_service}
@@ -32,16 +32,13 @@ found_none : (page : ℕ) (found : List Found) → weigh (likes_of_deed page) (m
 found_none page [] = refl
 found_none page (f ∷ found) = let more = found_none page found in omega arith
 
-shown_none : (page other : ℕ) (b : Bool) (s : _) → likes_counted page other (cond b (glimpsed s) (showed s)) + 0 ≡ 0
-shown_none page other true s = refl
-shown_none page other false s = refl
-
 own_told : (page : ℕ) (now : LiveView) (t : Told) → weigh (likes_of_deed page) (own_deed now t) ≡ like_told page t
 own_told page now (like user other liked.Liked) = omega arith
 own_told page now (like user other answer) = refl
 own_told page now (look user other tag (looked.Seen shown)) = refl
 own_told page now (look user other tag answer) = refl
-own_told page now (glance user other (glanced.Seen shown)) = shown_none page other (slices now.station.post other) shown
+own_told page now (glance user other (glanced.Seen shown)) = refl
+own_told page now (glance user other (glanced.Glimpsed shown)) = refl
 own_told page now (glance user other answer) = refl
 own_told page now (turn answer) = refl
 own_told page now (take_found found) = refl

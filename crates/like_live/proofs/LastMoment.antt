@@ -2,11 +2,12 @@
 use Rattle.std.proofs.Common.{◌≡◌, ◌==◌, cond, ℕ, map, get_or, ap, sym, ◌∙◌, subst}
 use Rattle.std.specs.List.{All, count_by}
 use Rattle.like_core.specs.declared.worker_state.WorkerState.TheVariants as state
+use Rattle.like_core.specs.Log.{steps_in}
 use Rattle.like_core.specs.PageSteps.{steps_by}
 use Rattle.like_core.specs.PhaseMasks.{AreMasksOf}
 use Rattle.like_core.specs.views.Order.{HasDone}
 use Rattle.like_core.specs.views.Posts.{posts_of}
-use Rattle.like_core.proofs.views.Ordered.{all_fit, moments_are_ordered}
+use Rattle.like_core.proofs.views.Ordered.{all_fit, moments_are_ordered, no_steps}
 use Rattle.like_core.specs.declared.view.WorkerSeatView.{WorkerSeatView}
 use Rattle.like_live.specs.Opening.{board_opening}
 use Rattle.like_live.specs.SerialService.{LastMomentsAreSerial, SeatHistory}
@@ -18,7 +19,7 @@ last_moments_are_serial o factor board hs m opened at gone =
     let z = board_opening o factor in
     let ends = map (λ (h : SeatHistory). h.last) hs in
     let views = posts_of m.views in
-    let steps = m.shown.steps in
+    let steps = steps_in m.shown.log in
     let order = moments_are_ordered z m in
     let IsGone : WorkerSeatView → Type 0 = λ p. p.state ≡ state.Gone in
     let HasMasks : WorkerSeatView → Type 0 = λ p. AreMasksOf m.shown.state.hot p.masks in
@@ -32,9 +33,9 @@ last_moments_are_serial o factor board hs m opened at gone =
     (record {
       in_turn = order.in_turn;
       each = all-of-map (λ (p : WorkerSeatView). steps_by p.worker steps ≡ p.did) post_at ends
-          (subst (All (HasDone steps)) (sym at) order.each);
+          (subst (All (HasDone steps)) (sym at) (λ k d below. (order.each k d below).done));
       others = λ i none.
-          order.others i
+          no_steps _ _ _ _ order i
           (ap (count_by (λ (p : WorkerSeatView). p.worker == i)) (sym at)
           ∙ sum-of-map (λ (p : WorkerSeatView). cond {A = ℕ} (p.worker == i) 1 0) post_at ends
           ∙ none);

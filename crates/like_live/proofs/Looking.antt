@@ -3,11 +3,12 @@ use Rattle.std.proofs.Common.{◌≡◌, ℕ, ◌+◌, ◌⊎◌, inl, inr, Bool
 use Rattle.std.specs.List.{All}
 use Rattle.std.proofs.lemmas.List.{length-append, length-map}
 use Rattle.std.proofs.lemmas.List.Elements.{All-nil}
+use Rattle.like_core.specs.declared.log.Logged.{Logged}
 use Rattle.like_core.specs.declared.sight.Sight.{Sight}
 use Rattle.like_core.specs.declared.worker_state.WorkerState.{WorkerState}
 use Rattle.like_core.specs.declared.worker_state.WorkerState.TheVariants as state
 use Rattle.like_core.specs.Phase.{IsJoined, IsSplit}
-use Rattle.like_core.specs.Post.{answered}
+use Rattle.like_core.specs.Post.{answered, number_of}
 use Rattle.like_core.specs.WorkerState.{IsRunning, IsSightOf, phase_of, seen}
 use Rattle.like_core.specs.declared.view.WorkerSeatView.{WorkerSeatView}
 use Rattle.like_seat.specs.Merge.{MergesAndReports, merged}
@@ -137,7 +138,8 @@ pub merged-live : (s t : StationView Asked) (found : Waiting Found)
 merged-live s t found looked odd m kept =
     let live = looked-live s found looked odd in
     let adds = m.1.0.0 in
-    let is : t ≡ record (merged s adds) { post = answered (merged s adds).post } =
+    let logged : List Logged = m.0.post.logged in
+    let is : t ≡ record (merged s adds logged) { post = answered (merged s adds logged).post } =
     m.1.1 ∙ ap (λ (x : StationView Asked). record x { post = answered x.post }) m.1.0.1.1 in
     subst (λ (x : StationView Asked). IsLive (live_of x found)) (sym is) (record {
       station = subst (λ (x : StationView Asked). IsStation x) is kept;
@@ -215,7 +217,7 @@ after-works s u t found now home pages room half sight parts looks leaves live c
     let v = live_of s found in
     after-leaves s t found now home pages room half parts
     (Leaves-both v (live_of u found) (live_of t now)
-    (subst (λ x. Leaves v (live_of x found)) (sym looks.looks.1) (Leaves-looked v sight looks.looks.0)) leaves)
+    (subst (λ x. Leaves v (live_of x found)) (sym looks.looks.1) (Leaves-looked v sight looks.looks.0 (number_of u.post))) leaves)
     live capacity
 
 -- a live seat's parts agree after it came back

@@ -1,8 +1,9 @@
 -- What phase work leaves as it is.
 use Rattle.std.proofs.Common.{◌≡◌, ℕ, ◌+◌, ◌/◌, ◌≤◌, Bool, List, length, get_or, refl, ap, sym, ◌∙◌, subst, arith, length-append}
 use Rattle.std.proofs.lemmas.List.{length-map, length-replicate}
+use Rattle.like_core.specs.declared.log.Logged.{Logged}
 use Rattle.like_core.specs.declared.sight.Sight.{Sight}
-use Rattle.like_core.specs.Post.{answered, pages_of}
+use Rattle.like_core.specs.Post.{answered, pages_of, number_of}
 use Rattle.like_seat.specs.Merge.{MergesAndReports, merged}
 use Rattle.like_seat.specs.StationView.{StationView}
 use Rattle.like_seat.proofs.MergedLikes.{merged-tally}
@@ -68,8 +69,8 @@ Leaves-both v now after a b = record {
   fewer = omega (arith, a.fewer, b.fewer);
 }
 
-pub Leaves-looked : (v : LiveView) (sight : Sight) (mask : ℕ) → Leaves v (looked v sight mask)
-Leaves-looked v sight mask = record {
+pub Leaves-looked : (v : LiveView) (sight : Sight) (mask number : ℕ) → Leaves v (looked v sight mask number)
+Leaves-looked v sight mask number = record {
   same = record { board = refl; worker = refl; marks = refl; share = refl };
   tallies = λ page. refl;
   last = refl;
@@ -108,11 +109,12 @@ Leaves-found v after f = subst (Leaves v) (sym f.rest) (record {
 Leaves-merged : (v : LiveView) (s : StationView Asked) → IsSized v → MergesAndReports v.station s → Leaves v (with_station v s)
 Leaves-merged v s sized m =
     let adds = m.1.0.0 in
-    let is : s ≡ record (merged v.station adds) { post = answered (merged v.station adds).post } =
+    let logged : List Logged = m.0.post.logged in
+    let is : s ≡ record (merged v.station adds logged) { post = answered (merged v.station adds logged).post } =
     m.1.1 ∙ ap (λ (t : StationView Asked). record t { post = answered t.post }) m.1.0.1.1 in
     subst (λ (t : StationView Asked). Leaves v (with_station v t)) (sym is) (record {
       same = record { board = refl; worker = refl; marks = refl; share = refl };
-      tallies = merged-tally v.station adds m.1.0.1.0;
+      tallies = merged-tally v.station adds logged m.1.0.1.0;
       last = refl;
       sized = length-replicate {A = ℕ} (pages_of v.station.post) 0 ∙ sym sized;
       room = refl;
@@ -144,10 +146,10 @@ Leaves-by : (Runs : LiveView → Bool → TurnAnswer → LiveView → Type 0)
     → Leaves v after
 Leaves-by Runs leaves v after answer sized (is_gone gone a is) = subst (Leaves v) (sym is) (Leaves-all v)
 Leaves-by Runs leaves v after answer sized (waits sight mask can w a is) =
-    subst (Leaves v) (sym is) (Leaves-looked v sight mask)
-Leaves-by Runs leaves v after answer sized (works sight mask can w does) =
-    Leaves-both v (looked v sight mask) after (Leaves-looked v sight mask)
-    (leaves (looked v sight mask) after sight.ending answer sized does)
+    subst (Leaves v) (sym is) (Leaves-looked v sight mask (number_of after.station.post))
+Leaves-by Runs leaves v after answer sized (works sight mask number can w does) =
+    Leaves-both v (looked v sight mask number) after (Leaves-looked v sight mask number)
+    (leaves (looked v sight mask number) after sight.ending answer sized does)
 
 pub Leaves-moves : (v after : LiveView) (answer : TurnAnswer) → IsSized v → Moves v answer after → Leaves v after
 Leaves-moves = Leaves-by Works Leaves-works
@@ -174,8 +176,9 @@ Leaves-retire_works v after ending answer sized (stays split does) = Leaves-work
 pub Leaves-retires : (v after : LiveView) (answer : TurnAnswer) → IsSized v → RetireCase v answer after → Leaves v after
 Leaves-retires = Leaves-by RetireWorks Leaves-retire_works
 
-Leaves-came_back : (v : LiveView) (phase mask : ℕ) → Leaves v (with_station v (came_back v.station phase mask))
-Leaves-came_back v phase mask = record {
+Leaves-came_back : (v : LiveView) (phase mask number : ℕ)
+    → Leaves v (with_station v (came_back v.station phase mask number))
+Leaves-came_back v phase mask number = record {
   same = record { board = refl; worker = refl; marks = refl; share = refl };
   tallies = λ page. refl;
   last = refl;
@@ -190,7 +193,7 @@ pub Leaves-come_back : (v after : LiveView) (answer : TurnAnswer)
     → ComeBackCase v answer after
     → Leaves v after
 Leaves-come_back v after answer sized (calls.runs s gone a back is) =
-    subst (Leaves v) (sym (is ∙ ap (with_station v) back.1.1)) (Leaves-came_back v back.0 back.1.0)
+    subst (Leaves v) (sym (is ∙ ap (with_station v) back.1.1)) (Leaves-came_back v back.0 back.1.0 (number_of s.post))
 Leaves-come_back v after answer sized (calls.between gone a is) = subst (Leaves v) (sym is) (Leaves-all v)
 Leaves-come_back v after answer sized (calls.there here m) = Leaves-moves v after answer sized m
 

@@ -18,7 +18,9 @@ use Rattle.like_core.specs.declared.worker_state.WorkerState.TheVariants.{Gone}
 use Rattle.like_core.specs.Post.{fresh}
 use Rattle.like_core.specs.OpeningLimits.{service_limits}
 use Rattle.like_core.specs.Additions.{added_before}
+use Rattle.like_core.specs.Log.{steps_in}
 use Rattle.like_core.specs.PageSteps.{AddsSome, AreInTurn, additions_among, adds_to, earliest_first, steps_by}
+use Rattle.like_core.proofs.views.Ordered.{no_steps as without_steps}
 use Rattle.like_core.specs.Phase.{is_marked, split_by}
 use Rattle.like_core.specs.PhaseMasks.{AreMasksOf, mask_of}
 use Rattle.like_core.specs.WorkerState.{RunsSplit}
@@ -556,15 +558,15 @@ module _ (o : Opening) (driver now : DriverView) (hs : List SeatHistory) (counts
       (map (λ (h : SeatHistory). h.last) hs) service.closed.masks
 
   in_order : AreInOrder (λ page. get_or o.counts.items page 0) now.lead.seat.phase (map (λ (h : SeatHistory). h.last) hs)
-      service.closed.steps
+      (steps_in service.closed.log)
   in_order = record {
     in_turn =
-        subst (λ (z : CoreOpening). AreInTurn (λ page. get_or z.counts page 0) now.lead.seat.phase service.closed.steps)
+        subst (λ (z : CoreOpening). AreInTurn (λ page. get_or z.counts page 0) now.lead.seat.phase (steps_in service.closed.log))
         opening_is service.closed.order.in_turn;
-    each = all-of-map (λ (p : WorkerSeatView). steps_by p.worker service.closed.steps ≡ p.did) post_at
-        (map (λ (h : SeatHistory). h.last) hs) service.closed.order.each;
+    each = all-of-map (λ (p : WorkerSeatView). steps_by p.worker (steps_in service.closed.log) ≡ p.did) post_at
+        (map (λ (h : SeatHistory). h.last) hs) (λ k d below. (service.closed.order.each k d below).done);
     others = λ i none.
-        service.closed.order.others i
+        without_steps _ _ _ _ service.closed.order i
         (sum-of-map (λ (p : WorkerSeatView). cond {A = ℕ} (p.worker == i) 1 0) post_at (map (λ (h : SeatHistory). h.last) hs)
         ∙ none);
   }
@@ -581,7 +583,7 @@ pub serial_service : (o : Opening) (driver now : DriverView) (hs : List SeatHist
 serial_service o driver now hs counts opened same service gone =
     let ends = map (λ (h : SeatHistory). h.last) hs in
     let one = one_thread o opened.factor driver.lead.board hs (mask_of now.lead.seat.masks) now.lead.seat.phase
-    service.closed.steps opened.fresh gone (masks_are o driver now hs counts opened same service)
+    (steps_in service.closed.log) opened.fresh gone (masks_are o driver now hs counts opened same service)
     (in_order o driver now hs counts opened same service) in (
       one.0,
       one.1.0,
@@ -600,5 +602,5 @@ serial_service o driver now hs counts opened same service gone =
 pub seats_rise : SeatsRise
 seats_rise o driver now hs counts opened same service gone =
     each_rises o opened.factor driver.lead.board hs (mask_of now.lead.seat.masks) now.lead.seat.phase
-    service.closed.steps opened.fresh gone (masks_are o driver now hs counts opened same service)
+    (steps_in service.closed.log) opened.fresh gone (masks_are o driver now hs counts opened same service)
     (in_order o driver now hs counts opened same service)

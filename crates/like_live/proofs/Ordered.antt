@@ -102,9 +102,9 @@ module _ (first : LiveView) (masks : ℕ → ℕ) where
   }
 
   pub ordered_back : (v : LiveView) (s : Step v) → Stands first v → IsOrdered masks (next v s) → IsOrdered masks v
-  ordered_back v (looks sight mask can) k o = record {
+  ordered_back v (looks sight mask number can) k o = record {
     some = o.some;
-    right = masks-before masks v.station.post.masks (saw_at v.station.post sight mask).masks
+    right = masks-before masks v.station.post.masks (saw_at v.station.post sight mask number).masks
         (saw_keeps (phase_of (seen v.station.post.state sight) == phase_of v.station.post.state) v.station.post.masks _
         (entered_keeps (phase_of (seen v.station.post.state sight) % 2 == 1) _ v.station.post.masks))
         o.right;
@@ -113,7 +113,7 @@ module _ (first : LiveView) (masks : ℕ → ℕ) where
         subst (λ n. AllByRecursion (λ (t : PageStep). t.phase ≤ n) (earliest_first v.station.post.did))
         (looked_phase v.station.post.state sight (k.split page has).0) (o.none_later page has);
   }
-  ordered_back v (finds found joined order shown) k o =
+  ordered_back v (finds found logged joined order shown logs) k o =
       some_back v _ _ (then-earliest v.station.post.did (map (step_for v.station.post.worker) found)) refl (λ page has. absurd (unsplit v.station.post.state joined (k.split page has).0)) o
   ordered_back v (acknowledges joined) k o = record {
     some = o.some;
@@ -121,10 +121,10 @@ module _ (first : LiveView) (masks : ℕ → ℕ) where
     rises = o.rises;
     none_later = λ page has. absurd (unsplit v.station.post.state joined (k.split page has).0);
   }
-  ordered_back v (reports adds split merges) k o =
-      some_back v (reported v adds) (map (step_adding v.station.post.worker) adds) are refl later o
+  ordered_back v (reports adds logged split merges logs) k o =
+      some_back v (reported v adds logged) (map (step_adding v.station.post.worker) adds) are refl later o
     where
-      are : earliest_first (reported v adds).station.post.did
+      are : earliest_first (reported v adds logged).station.post.did
           ≡ earliest_first v.station.post.did ++ map (step_adding v.station.post.worker) adds
       are = then-earliest v.station.post.did (map (step_adding v.station.post.worker) adds)
 
@@ -148,7 +148,7 @@ module _ (first : LiveView) (masks : ℕ → ℕ) where
     rises = o.rises;
     none_later = λ page has. absurd (unsplit v.station.post.state joined (k.split page has).0);
   }
-  ordered_back v (returns phase mask gone) k o = record {
+  ordered_back v (returns phase mask number gone) k o = record {
     some = o.some;
     right = masks-before masks v.station.post.masks (masks_entered v.station.post.masks phase mask)
         (entered_keeps (phase % 2 == 1) _ v.station.post.masks) o.right;
@@ -177,9 +177,9 @@ module _ (first : LiveView) (masks : ℕ → ℕ) where
               (sym (get_or-set_other v.station.slice page other _ 0 (λ e. apart (sym e))) ∙ none)
         ]);
   }
-  ordered_back v (adds_like user page old is) k o = one_back v _ _ refl refl refl o
-  ordered_back v (reads user page shown is last) k o = one_back v _ _ refl refl refl o
-  ordered_back v (glances user page count shown is last) k o = one_back v _ _ refl refl refl o
+  ordered_back v (adds_like user page old number is) k o = one_back v _ _ refl refl refl o
+  ordered_back v (reads user page shown number is last) k o = one_back v _ _ refl refl refl o
+  ordered_back v (glances user page count shown number is last) k o = one_back v _ _ refl refl refl o
   ordered_back v (holds user page tag is) k o =
       record { some = o.some; right = o.right; rises = o.rises; none_later = o.none_later }
 

@@ -4,9 +4,11 @@ use Rattle.std.proofs.Math.Nat.{mod-mod}
 use Rattle.std.proofs.lemmas.Bool.{and_from, eq-eqb, eqb-true}
 use Rattle.std.proofs.lemmas.List.{length_push}
 use Rattle.std.proofs.lemmas.List.Elements.{All-drop, All-push}
+use Rattle.like_core.specs.declared.log.Logged.{Logged}
+use Rattle.like_core.specs.declared.view.WorkerSeatView.{WorkerSeatView}
 use Rattle.like_core.specs.OpeningLimits.{service_limits}
 use Rattle.like_core.specs.Phase.{IsJoined}
-use Rattle.like_core.specs.Post.{has_glanced, has_read, pages_of}
+use Rattle.like_core.specs.Post.{has_glanced, has_read, number_of, pages_of}
 use Rattle.like_core.specs.declared.page_step.PageStep.{PageStep}
 use Rattle.like_seat.specs.declared.seen.Seen.{Seen}
 use Rattle.like_core.specs.WorkerState.{RunsSplit, phase_of}
@@ -93,9 +95,10 @@ accepted_in v s t found user page placed is same a =
     (subst (λ u. IsAccepted v.station u page placed) (sym a.user_is) a)
 
 -- the seat with these additions, slice, likes that went into it, and last likes
-abbrev liked_in : StationView Asked → List PageStep → List ℕ → List SlicedLike → List (Option ℕ) → StationView Asked
-liked_in s did slice likes lasts = record s {
-  post = record s.post { did = did };
+abbrev liked_in : StationView Asked → List PageStep → List Logged → List ℕ → List SlicedLike → List (Option ℕ)
+    → StationView Asked
+liked_in s did logged slice likes lasts = record s {
+  post = record s.post { did = did; logged = logged };
   slice = slice;
   sliced = likes;
   last = record s.last { last = lasts };
@@ -103,11 +106,11 @@ liked_in s did slice likes lasts = record s {
 
 -- a live seat's parts agree as before, where nothing changed but what a like changes and it is a seat still
 after-like : (s : StationView Asked) (found : Waiting Found) (home : Home) (pages : ℕ) (room : RoomView) (half : ℕ)
-    (did : List PageStep) (slice : List ℕ) (likes : List SlicedLike) (lasts : List (Option ℕ))
+    (did : List PageStep) (logged : List Logged) (slice : List ℕ) (likes : List SlicedLike) (lasts : List (Option ℕ))
     → AreLiveSeatParts s found home pages room half
-    → IsStation (liked_in s did slice likes lasts)
-    → AreLiveSeatParts (liked_in s did slice likes lasts) found home pages room half
-after-like s found home pages room half did slice likes lasts parts kept =
+    → IsStation (liked_in s did logged slice likes lasts)
+    → AreLiveSeatParts (liked_in s did logged slice likes lasts) found home pages room half
+after-like s found home pages room half did logged slice likes lasts parts kept =
     let live = parts.live in
     record {
       live = record {
@@ -139,23 +142,23 @@ after-counted s t found home pages room half user page None parts c kept =
     let lasts = (with_last s.last user page).last in
     let new : StationView Asked = liked_last (sliced s page) user page in
     subst (λ x. AreLiveSeatParts x found home pages room half) (sym c.1)
-    (after-like s found home pages room half s.post.did new.slice new.sliced lasts parts
+    (after-like s found home pages room half s.post.did s.post.logged new.slice new.sliced lasts parts
     (subst (λ x. IsStation x) c.1 kept))
 after-counted s t found home pages room half user page (Some count) parts c kept =
     let lasts = (with_last s.last user page).last in
-    let new : StationView Asked = liked_last (with_addition s page count 1) user page in
+    let new : StationView Asked = liked_last (with_addition s page count 1 (number_of t.post)) user page in
     subst (λ x. AreLiveSeatParts x found home pages room half) (sym c.1)
-    (after-like s found home pages room half new.post.did s.slice s.sliced lasts parts
+    (after-like s found home pages room half new.post.did new.post.logged s.slice s.sliced lasts parts
     (subst (λ x. IsStation x) c.1 kept))
 
 -- so they do after a seat has some other reads and glances, and has done something else at pages
 after-shown : (s t : StationView Asked) (found : Waiting Found) (home : Home) (pages : ℕ) (room : RoomView) (half : ℕ)
-    (did : List PageStep)
+    (did : List PageStep) (logged : List Logged)
     → AreLiveSeatParts s found home pages room half
-    → t ≡ record s { post = record s.post { did = did } }
+    → t ≡ record s { post = record s.post { did = did; logged = logged } }
     → IsStation t
     → AreLiveSeatParts t found home pages room half
-after-shown s t found home pages room half did parts is kept =
+after-shown s t found home pages room half did logged parts is kept =
     let live = parts.live in
     subst (λ x. AreLiveSeatParts x found home pages room half) (sym is) (record {
       live = record {
@@ -184,7 +187,8 @@ pub after-read : (s t : StationView Asked) (found : Waiting Found) (home : Home)
     → IsStation t
     → AreLiveSeatParts t found home pages room half
 after-read s t found home pages room half user page shown parts r kept =
-    after-shown s t found home pages room half (has_read s.post page shown.count).did parts r.read kept
+    let now : WorkerSeatView = has_read s.post page shown.count (number_of t.post) in
+    after-shown s t found home pages room half now.did now.logged parts r.read kept
 
 -- and after a glance
 pub after-glanced : (s t : StationView Asked) (found : Waiting Found) (home : Home) (pages : ℕ) (room : RoomView) (half user page : ℕ)
@@ -194,7 +198,8 @@ pub after-glanced : (s t : StationView Asked) (found : Waiting Found) (home : Ho
     → IsStation t
     → AreLiveSeatParts t found home pages room half
 after-glanced s t found home pages room half user page shown parts r kept =
-    after-shown s t found home pages room half (has_glanced s.post page r.count).did parts r.glanced kept
+    let now : WorkerSeatView = has_glanced s.post page r.count (number_of t.post) in
+    after-shown s t found home pages room half now.did now.logged parts r.glanced kept
 
 -- who runs a split phase does not run a joined one
 not-joined : (s : WorkerState) → RunsSplit s → IsJoined (phase_of s) → ⊥

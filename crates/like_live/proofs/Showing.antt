@@ -37,7 +37,8 @@ pub IfShown-map : (P Q R S : Shown → Type 0) → ((s : Shown) → P s → R s)
     → IfShown P Q now t
     → IfShown R S now t
 IfShown-map P Q R S p q now (look user page tag (looked.Seen shown)) h = p _ h
-IfShown-map P Q R S p q now (glance user page (glanced.Seen shown)) h = q _ h
+IfShown-map P Q R S p q now (glance user page (glanced.Seen shown)) h = p _ h
+IfShown-map P Q R S p q now (glance user page (glanced.Glimpsed shown)) h = q _ h
 IfShown-map P Q R S p q now (take_found (Some f)) h = p _ h
 IfShown-map P Q R S p q now t h = tt
 
@@ -64,7 +65,7 @@ runs-after v now ending answer does is =
 runs-moves : (v now : LiveView) → Moves v turned.Runs now → IsRunning now.station.post.state
 runs-moves v now (moves.is_gone gone a is) = absurd (cc a)
 runs-moves v now (moves.waits sight mask can w a is) = absurd (cc a)
-runs-moves v now (moves.works sight mask can w does) = runs-works (moves.looked v sight mask) now sight.ending does
+runs-moves v now (moves.works sight mask number can w does) = runs-works (moves.looked v sight mask number) now sight.ending does
 
 -- the phase that it runs
 runs_this : (s : WorkerState) → IsRunning s → s ≡ state.Runs (phase_of s)
@@ -78,17 +79,13 @@ split_phase post page split = eqb-true _ _ ((and_parts _ _ split).0)
 
 -- right after a glance at a split page: what it was told is a count on the board and the slice, which is held
 pub record IsJustGlanced (now : LiveView) (s : Shown) : Type 0 where
+  pub split : slices now.station.post s.page ≡ true
   pub earlier : List PageStep
   pub board : ℕ
   pub glanced : HasCalled now s.phase s.page board Glance [] earlier
   pub count_is : s.count ≡ board + get_or now.station.slice s.page 0
   pub own : s.own ≤ added_in s.phase s.page (additions_among earlier) + get_or now.station.slice s.page 0
   pub held : AreHeld now s.phase s.page [] (get_or now.station.slice s.page 0)
-
--- right after a glance
-pub record IsJustRead (now : LiveView) (s : Shown) : Type 0 where
-  pub plain : slices now.station.post s.page ≡ false → IsRead now s
-  pub split : slices now.station.post s.page ≡ true → IsJustGlanced now s
 
 -- what a seat has counted in its phase, by whether the page is split
 counted-is : (v : LiveView) (page : ℕ) (split : Bool)
@@ -102,11 +99,11 @@ counted-is v page split is =
 -- right after the call: what a look was told
 shows-look : (v after : LiveView) (user page tag : ℕ) (answer : LookAnswer)
     → LookCase v user page tag answer after
-    → IfShown (IsRead after) (IsJustRead after) after (look user page tag answer)
+    → IfShown (IsRead after) (IsJustGlanced after) after (look user page tag answer)
 shows-look v after user page tag answer d = by_case d
   where
     P : LookAnswer → Type 0
-    P x = IfShown (IsRead after) (IsJustRead after) after (look user page tag x)
+    P x = IfShown (IsRead after) (IsJustGlanced after) after (look user page tag x)
 
     now_case : (now : LiveView) → LooksNow now user page tag answer after → P answer
     now_case now (calls.refused fails a is) = subst P (sym a) tt
@@ -114,7 +111,7 @@ shows-look v after user page tag answer d = by_case d
     now_case now (calls.waits accepted split room a is) = subst P (sym a) tt
     now_case now (calls.seen shown s accepted plain a reads is) =
         subst P (sym a)
-        (subst (λ w. IfShown (IsRead w) (IsJustRead w) w (look user page tag (looked.Seen shown)))
+        (subst (λ w. IfShown (IsRead w) (IsJustGlanced w) w (look user page tag (looked.Seen shown)))
         (sym (is ∙ ap (with_station now) reads.read))
         (let own = counted-is now page false plain in
         ([], now.station.post.did, refl, omega arith)))
@@ -127,41 +124,35 @@ shows-look v after user page tag answer d = by_case d
 -- and what a glance was told
 shows-glance : (v after : LiveView) (user page : ℕ) (answer : GlanceAnswer)
     → GlanceCase v user page answer after
-    → IfShown (IsRead after) (IsJustRead after) after (glance user page answer)
+    → IfShown (IsRead after) (IsJustGlanced after) after (glance user page answer)
 shows-glance v after user page answer d = by_case d
   where
     P : GlanceAnswer → Type 0
-    P x = IfShown (IsRead after) (IsJustRead after) after (glance user page x)
+    P x = IfShown (IsRead after) (IsJustGlanced after) after (glance user page x)
 
     now_case : (now : LiveView) → IsRunning now.station.post.state → GlancesNow now user page answer after → P answer
     now_case now runs (calls.refused fails a is) = subst P (sym a) tt
     now_case now runs (calls.plain shown s accepted plain a reads is) =
         subst P (sym a)
-        (subst (λ w. IfShown (IsRead w) (IsJustRead w) w (glance user page (glanced.Seen shown)))
+        (subst (λ w. IfShown (IsRead w) (IsJustGlanced w) w (glance user page (glanced.Seen shown)))
         (sym (is ∙ ap (with_station now) reads.read))
-        (record {
-          plain = λ _.
-              let own = counted-is now page false plain in
-              ([], now.station.post.did, refl, omega arith);
-          split = λ split. absurd (cc (sym plain ∙ split));
-        }))
+        (let own = counted-is now page false plain in
+        ([], now.station.post.did, refl, omega arith)))
     now_case now runs (calls.split shown s accepted split a glances is) =
         subst P (sym a)
-        (subst (λ w. IfShown (IsRead w) (IsJustRead w) w (glance user page (glanced.Seen shown)))
+        (subst (λ w. IfShown (IsRead w) (IsJustGlanced w) w (glance user page (glanced.Glimpsed shown)))
         (sym (is ∙ ap (with_station now) glances.glanced))
         (record {
-          plain = λ plain. absurd (cc (sym plain ∙ split));
-          split = λ _. record {
-            earlier = now.station.post.did;
-            board = glances.count;
-            glanced = refl;
-            count_is = glances.counts;
-            own = let own = counted-is now page true split in omega arith;
-            held = (
-              split_phase now.station.post page split,
-              inr (runs_this now.station.post.state runs, omega arith),
-            );
-          };
+          split = split;
+          earlier = now.station.post.did;
+          board = glances.count;
+          glanced = refl;
+          count_is = glances.counts;
+          own = let own = counted-is now page true split in omega arith;
+          held = (
+            split_phase now.station.post page split,
+            inr (runs_this now.station.post.state runs, omega arith),
+          );
         }))
 
     by_case : GlanceCase v user page answer after → P answer
@@ -173,26 +164,26 @@ shows-glance v after user page answer d = by_case d
 first_found : (v after : LiveView) (fs : List Found) (taken : Option Found)
     → All (λ f. IsRead v (found_count f)) fs
     → taken ≡ slice_get fs 0
-    → IfShown (IsRead v) (IsJustRead v) after (take_found taken)
+    → IfShown (IsRead v) (IsJustGlanced v) after (take_found taken)
 first_found v after [] taken all is =
-    subst (λ o. IfShown (IsRead v) (IsJustRead v) after (take_found o)) (sym is) tt
+    subst (λ o. IfShown (IsRead v) (IsJustGlanced v) after (take_found o)) (sym is) tt
 first_found v after (f ∷ fs) taken all is =
-    subst (λ o. IfShown (IsRead v) (IsJustRead v) after (take_found o)) (sym is)
+    subst (λ o. IfShown (IsRead v) (IsJustGlanced v) after (take_found o)) (sym is)
     (All-head (λ x. IsRead v (found_count x)) f fs all)
 
 shows-take : (v after : LiveView) (taken : Option Found)
     → AreFound v
     → TakesFound v taken after
-    → IfShown (IsRead after) (IsJustRead after) after (take_found taken)
+    → IfShown (IsRead after) (IsJustGlanced after) after (take_found taken)
 shows-take v after taken found takes =
-    subst (λ w. IfShown (IsRead w) (IsJustRead w) w (take_found taken)) (sym takes.1)
+    subst (λ w. IfShown (IsRead w) (IsJustGlanced w) w (take_found taken)) (sym takes.1)
     (by_case taken (first_found v v v.found taken found takes.0))
   where
     now : LiveView
     now = record v { found = drop 1 v.found }
 
-    by_case : (o : Option Found) → IfShown (IsRead v) (IsJustRead v) v (take_found o)
-        → IfShown (IsRead now) (IsJustRead now) now (take_found o)
+    by_case : (o : Option Found) → IfShown (IsRead v) (IsJustGlanced v) v (take_found o)
+        → IfShown (IsRead now) (IsJustGlanced now) now (take_found o)
     by_case (Some f) h = h
     by_case None h = tt
 
@@ -200,7 +191,7 @@ shows-take v after taken found takes =
 pub shows : (t : Told) (v after : LiveView)
     → AreFound v
     → Does v t after
-    → IfShown (IsRead after) (IsJustRead after) after t
+    → IfShown (IsRead after) (IsJustGlanced after) after t
 shows (turn answer) v after found d = tt
 shows (like user page answer) v after found d = tt
 shows (look user page tag answer) v after found d = shows-look v after user page tag answer d

@@ -96,18 +96,18 @@ one_more post slice page n kept runs split other some = elim (cases_eq page othe
 ]
 
 pub stands_next : (first v : LiveView) (s : Step v) → Stands first v → Stands first (next v s)
-stands_next first v (looks sight mask can) k = record {
+stands_next first v (looks sight mask number can) k = record {
   worker = k.worker;
   marks = k.marks;
   limits = k.limits;
   share = k.share;
   sized = k.sized;
   table = k.table;
-  masked = has-after v.station.post sight mask k.masked;
-  split = splits-after v.station.post v.station.slice sight mask k.split;
+  masked = has-after v.station.post sight mask number k.masked;
+  split = splits-after v.station.post v.station.slice sight mask number k.split;
   own = k.own;
 }
-stands_next first v (finds found joined order shown) k = record {
+stands_next first v (finds found logged joined order shown logs) k = record {
   worker = k.worker;
   marks = k.marks;
   limits = k.limits;
@@ -129,7 +129,7 @@ stands_next first v (acknowledges joined) k = record {
   split = λ page some. absurd (unsplit v.station.post.state joined (k.split page some).0);
   own = k.own;
 }
-stands_next first v (reports adds split merges) k = record {
+stands_next first v (reports adds logged split merges logs) k = record {
   worker = k.worker;
   marks = k.marks;
   limits = k.limits;
@@ -151,7 +151,7 @@ stands_next first v (retires joined) k = record {
   split = λ page some. absurd (unsplit v.station.post.state joined (k.split page some).0);
   own = k.own;
 }
-stands_next first v (returns phase mask gone) k = record {
+stands_next first v (returns phase mask number gone) k = record {
   worker = k.worker;
   marks = k.marks;
   limits = k.limits;
@@ -184,7 +184,7 @@ stands_next first v (slices_like user page is) k = record {
   split = one_more v.station.post v.station.slice page _ k.split (runs_split v.station.post page is.runs is.at) is.at;
   own = k.own;
 }
-stands_next first v (adds_like user page old is) k = record {
+stands_next first v (adds_like user page old number is) k = record {
   worker = k.worker;
   marks = k.marks;
   limits = k.limits;
@@ -195,7 +195,7 @@ stands_next first v (adds_like user page old is) k = record {
   split = k.split;
   own = k.own;
 }
-stands_next first v (reads user page shown is last) k = record {
+stands_next first v (reads user page shown number is last) k = record {
   worker = k.worker;
   marks = k.marks;
   limits = k.limits;
@@ -206,7 +206,7 @@ stands_next first v (reads user page shown is last) k = record {
   split = k.split;
   own = k.own;
 }
-stands_next first v (glances user page count shown is last) k = record {
+stands_next first v (glances user page count shown number is last) k = record {
   worker = k.worker;
   marks = k.marks;
   limits = k.limits;

@@ -1,17 +1,19 @@
 -- A call as steps, each of which does one thing to a seat.
-use Rattle.std.proofs.Common.{◌≡◌, ℕ, Bool, true, false, cond, List, [], ◌∷◌, ◌++◌, drop, length, map, Option, Some, None, refl, ap, sym, ◌∙◌, subst, arith, append-nil}
+use Rattle.std.proofs.Common.{◌≡◌, ℕ, Bool, true, false, List, [], ◌∷◌, ◌++◌, drop, length, map, Option, Some, None, refl, ap, sym, ◌∙◌, subst, arith, append-nil}
 use Rattle.std.specs.List.{All}
 use Rattle.std.proofs.Math.Seq.{drop-append_seam, drop-length}
 use Rattle.std.proofs.lemmas.List.{drop_all}
+use Rattle.like_core.specs.declared.log.Logged.{Logged}
+use Rattle.like_core.specs.PageSteps.{step_adding}
 use Rattle.like_core.specs.declared.sight.Sight.{Sight}
 use Rattle.like_core.specs.declared.view.Addition.{Addition}
 use Rattle.like_core.specs.declared.worker_state.WorkerState.TheVariants.{Runs, Answered, Gone}
-use Rattle.like_core.specs.Post.{answered, has_glanced, has_read, slices}
+use Rattle.like_core.specs.Post.{answered, has_glanced, has_read, number_of, slices}
 use Rattle.like_core.specs.declared.worker_state.WorkerState.{WorkerState}
 use Rattle.like_core.specs.WorkerState.{IsRunning, IsSightOf, RunsJoined, RunsSplit}
 use Rattle.like_requests.specs.declared.verdict.Verdict.TheVariants.{Accepted}
 use Rattle.like_seat.specs.declared.seen.Seen.{Seen}
-use Rattle.like_seat.specs.Merge.{MergesAll, merged}
+use Rattle.like_seat.specs.Merge.{LogsSteps, MergesAll, merged}
 use Rattle.like_seat.specs.StationView.{StationView, phase_at}
 use Rattle.like_seat.specs.Steps.{came_back, holding, liked_last, sliced, with_addition}
 use Rattle.like_tables.specs.UserTable.{last_of}
@@ -25,7 +27,7 @@ use Rattle.like_live.specs.declared.asked.Asked.{Asked}
 use Rattle.like_live.specs.declared.asked.Found.{Found}
 use Rattle.like_live.specs.LiveView.{LiveView, waiting, with_station}
 use Rattle.like_live.specs.Moves as moves
-use Rattle.like_live.specs.Moves.{FindsAll, IsFoundAt, Moves, MovesBy, Works, acknowledged, looked, with_found}
+use Rattle.like_live.specs.Moves.{FindsAll, IsFoundAt, Moves, MovesBy, Works, acknowledged, looked, step_for, with_found}
 use Rattle.like_live.specs.Calls as calls
 use Rattle.like_live.specs.Calls.{ComeBackCase, GlanceCase, GlancesNow, LikeCase, LikesNow, LookCase, LooksNow, RetireWorks, TakesFound, asked_in, retired_seat, verdict_at}
 use Rattle.like_live.specs.History.{Does, HasDone, Told, come_back, glance, like, look, retire, take_found, turn}
@@ -42,21 +44,21 @@ split_runs Gone h = absurd h
 moves_run : (v after : LiveView) → Moves v answer.Runs after → IsRunning after.station.post.state
 moves_run v after (moves.is_gone gone a is) = absurd (cc a)
 moves_run v after (moves.waits sight mask can w a is) = absurd (cc a)
-moves_run v after (moves.works sight mask can w does) = by_works does where
-  by_works : Works (looked v sight mask) sight.ending answer.Runs after → IsRunning after.station.post.state
+moves_run v after (moves.works sight mask number can w does) = by_works does where
+  by_works : Works (looked v sight mask number) sight.ending answer.Runs after → IsRunning after.station.post.state
   by_works (moves.runs_joined joined e a found) =
       subst (λ (w : LiveView). IsRunning w.station.post.state) (sym found.rest)
-      (running (looked v sight mask).station.post.state joined)
+      (running (looked v sight mask number).station.post.state joined)
   by_works (moves.acknowledges now joined e a found is) = absurd (cc a)
   by_works (moves.runs_split split e a is) =
       subst (λ (w : LiveView). IsRunning w.station.post.state) (sym is)
-      (split_runs (looked v sight mask).station.post.state split)
+      (split_runs (looked v sight mask number).station.post.state split)
   by_works (moves.reports s split e a merges is) = absurd (cc a)
 
 -- the seat after a merge and its report
-abbrev pub reported : LiveView → List Addition → LiveView
-reported v adds =
-    let m = merged v.station adds in
+abbrev pub reported : LiveView → List Addition → List Logged → LiveView
+reported v adds logged =
+    let m = merged v.station adds logged in
     with_station v (record m { post = answered m.post })
 
 -- a request is accepted at a seat that runs a phase, for a page that is split there or not
@@ -67,47 +69,50 @@ pub record IsRequest (v : LiveView) (user page : ℕ) (split : Bool) : Type 0 wh
 
 -- a step of a seat: what it does, and what is known then
 pub data Step (v : LiveView) : Type 0 where
-  looks : (sight : Sight) (mask : ℕ) → IsSightOf v.station.post.state sight → Step v
-  finds : (found : List Found) → RunsJoined v.station.post.state → map (λ f. f.asked) found ≡ waiting v
-      → All (IsFoundAt v.station) found → Step v
+  looks : (sight : Sight) (mask number : ℕ) → IsSightOf v.station.post.state sight → Step v
+  finds : (found : List Found) (logged : List Logged) → RunsJoined v.station.post.state
+      → map (λ f. f.asked) found ≡ waiting v → All (IsFoundAt v.station) found
+      → LogsSteps (map (step_for v.station.post.worker) found) v.station.post.logged logged → Step v
   acknowledges : RunsJoined v.station.post.state → Step v
-  reports : (adds : List Addition) → RunsSplit v.station.post.state
-      → MergesAll v.station.post.opening.factor (phase_at v.station) v.station.slice adds → Step v
+  reports : (adds : List Addition) (logged : List Logged) → RunsSplit v.station.post.state
+      → MergesAll v.station.post.opening.factor (phase_at v.station) v.station.slice adds
+      → LogsSteps (map (step_adding v.station.post.worker) adds) v.station.post.logged logged → Step v
   retires : RunsJoined v.station.post.state → Step v
-  returns : (phase mask : ℕ) → v.station.post.state ≡ Gone → Step v
+  returns : (phase mask number : ℕ) → v.station.post.state ≡ Gone → Step v
   takes : Step v
   slices_like : (user page : ℕ) → IsRequest v user page true → Step v
-  adds_like : (user page old : ℕ) → IsRequest v user page false → Step v
-  reads : (user page : ℕ) (shown : Seen) → IsRequest v user page false → shown.last ≡ last_of v.station.last user → Step v
-  glances : (user page count : ℕ) (shown : Seen) → IsRequest v user page true → shown.last ≡ last_of v.station.last user
-      → Step v
+  adds_like : (user page old number : ℕ) → IsRequest v user page false → Step v
+  reads : (user page : ℕ) (shown : Seen) (number : ℕ) → IsRequest v user page false
+      → shown.last ≡ last_of v.station.last user → Step v
+  glances : (user page count : ℕ) (shown : Seen) (number : ℕ) → IsRequest v user page true
+      → shown.last ≡ last_of v.station.last user → Step v
   holds : (user page tag : ℕ) → IsRequest v user page true → Step v
 
 -- the seat after it
 abbrev pub next : (v : LiveView) → Step v → LiveView
-next v (looks sight mask can) = looked v sight mask
-next v (finds found joined order shown) = with_found v found
+next v (looks sight mask number can) = looked v sight mask number
+next v (finds found logged joined order shown logs) = with_found v found logged
 next v (acknowledges joined) = acknowledged v
-next v (reports adds split merges) = reported v adds
+next v (reports adds logged split merges logs) = reported v adds logged
 next v (retires joined) = retired_seat v
-next v (returns phase mask gone) = with_station v (came_back v.station phase mask)
+next v (returns phase mask number gone) = with_station v (came_back v.station phase mask number)
 next v takes = record v { found = drop 1 v.found }
 next v (slices_like user page is) = with_station v (liked_last (sliced v.station page) user page)
-next v (adds_like user page old is) =
-    with_station v (liked_last (with_addition v.station page old 1) user page)
-next v (reads user page shown is last) =
-    with_station v (record v.station { post = has_read v.station.post page shown.count })
-next v (glances user page count shown is last) =
-    with_station v (record v.station { post = has_glanced v.station.post page count })
+next v (adds_like user page old number is) =
+    with_station v (liked_last (with_addition v.station page old 1 number) user page)
+next v (reads user page shown number is last) =
+    with_station v (record v.station { post = has_read v.station.post page shown.count number })
+next v (glances user page count shown number is last) =
+    with_station v (record v.station { post = has_glanced v.station.post page count number })
 next v (holds user page tag is) = with_station v (holding v.station (asked_in (phase_at v.station) user page tag))
 
 -- the deeds that it is
 abbrev pub done_by : (v : LiveView) → Step v → List Deed
-done_by v (finds found joined order shown) = map deed_found found
+done_by v (finds found logged joined order shown logs) = map deed_found found
 done_by v (slices_like user page is) = deed (phase_at v.station) user page counted ∷ []
-done_by v (adds_like user page old is) = deed (phase_at v.station) user page counted ∷ []
-done_by v (reads user page shown is last) = deed (phase_at v.station) user page (showed shown) ∷ []
-done_by v (glances user page count shown is last) =
+done_by v (adds_like user page old number is) = deed (phase_at v.station) user page counted ∷ []
+done_by v (reads user page shown number is last) = deed (phase_at v.station) user page (showed shown) ∷ []
+done_by v (glances user page count shown number is last) =
     deed (phase_at v.station) user page (glimpsed shown) ∷ []
 done_by v other = []
 
@@ -128,8 +133,9 @@ module _ (R : LiveView → List Deed → LiveView → Type 0) (f : FollowsSteps 
       → R v (map deed_found (found_by v after)) after
   all_found v after joined all =
       subst (λ w. R v (map deed_found (found_by v w)) w) (sym all.rest)
-      (subst (λ fs. R v (map deed_found fs) (with_found v all.found)) (sym (drop-append_seam v.found all.found))
-      (f.one v (finds all.found joined all.order all.shown)))
+      (subst (λ fs. R v (map deed_found fs) (with_found v all.found after.station.post.logged))
+      (sym (drop-append_seam v.found all.found))
+      (f.one v (finds all.found after.station.post.logged joined all.order all.shown all.logs)))
 
   -- one step more, which is no deed and finds nothing
   more : (v now after : LiveView) → after.found ≡ now.found → R v (map deed_found (found_by v now)) now
@@ -152,10 +158,11 @@ module _ (R : LiveView → List Deed → LiveView → Type 0) (f : FollowsSteps 
       still v after (ap (λ (w : LiveView). w.found) is) (subst (R v []) (sym is) (f.none v))
   by_works v after ending answer (moves.reports s split e a merges is) =
       let adds = merges.1.0.0 in
-      let same : s ≡ record (merged v.station adds) { post = answered (merged v.station adds).post } =
+      let logged : List Logged = merges.0.post.logged in
+      let same : s ≡ record (merged v.station adds logged) { post = answered (merged v.station adds logged).post } =
       merges.1.1 ∙ ap (λ (t : StationView Asked). record t { post = answered t.post }) merges.1.0.1.1 in
       still v after (ap (λ (w : LiveView). w.found) is)
-      (subst (R v []) (sym (is ∙ ap (with_station v) same)) (f.one v (reports adds split merges.1.0.1.0)))
+      (subst (R v []) (sym (is ∙ ap (with_station v) same)) (f.one v (reports adds logged split merges.1.0.1.0 merges.1.0.1.2)))
 
   by_retire_works : (v after : LiveView) (ending : Bool) (answer : TurnAnswer) → RetireWorks v ending answer after
       → R v (map deed_found (found_by v after)) after
@@ -172,10 +179,11 @@ module _ (R : LiveView → List Deed → LiveView → Type 0) (f : FollowsSteps 
   by_moves Acts run v after answer (moves.is_gone gone a is) =
       still v after (ap (λ (w : LiveView). w.found) is) (subst (R v []) (sym is) (f.none v))
   by_moves Acts run v after answer (moves.waits sight mask can w a is) =
-      still v after (ap (λ (w : LiveView). w.found) is) (subst (R v []) (sym is) (f.one v (looks sight mask can)))
-  by_moves Acts run v after answer (moves.works sight mask can w does) =
-      f.both v (looked v sight mask) after [] (map deed_found (found_by v after)) (f.one v (looks sight mask can))
-      (run (looked v sight mask) after sight.ending answer does)
+      still v after (ap (λ (w : LiveView). w.found) is) (subst (R v []) (sym is)
+      (f.one v (looks sight mask (number_of after.station.post) can)))
+  by_moves Acts run v after answer (moves.works sight mask number can w does) =
+      f.both v (looked v sight mask number) after [] (map deed_found (found_by v after))
+      (f.one v (looks sight mask number can)) (run (looked v sight mask number) after sight.ending answer does)
 
   -- a call that is no deed itself
   plain_call : (v after : LiveView) (t : Told) → own_deed after t ≡ [] → R v (map deed_found (found_by v after)) after
@@ -222,7 +230,7 @@ module _ (R : LiveView → List Deed → LiveView → Type 0) (f : FollowsSteps 
         same = ap (λ (w : LiveView). w.found) is;
         own = subst (λ x. R v (own_deed after (like user page x)) after) (sym a)
             (subst (λ w. R v (deed (phase_at w.station) user page counted ∷ []) w) (sym e)
-            (f.one v (adds_like user page old (record { runs = runs; accepted = accepted; at = c.0 }))));
+            (f.one v (adds_like user page old (number_of s.post) (record { runs = runs; accepted = accepted; at = c.0 }))));
       }
 
   by_looks : (v after : LiveView) (user page tag : ℕ) (answer : LookAnswer) → IsRunning v.station.post.state
@@ -237,7 +245,7 @@ module _ (R : LiveView → List Deed → LiveView → Type 0) (f : FollowsSteps 
         same = ap (λ (w : LiveView). w.found) is;
         own = subst (λ x. R v (own_deed after (look user page tag x)) after) (sym a)
             (subst (λ w. R v (deed (phase_at w.station) user page (showed shown) ∷ []) w) (sym e)
-            (f.one v (reads user page shown (record { runs = runs; accepted = accepted; at = plain }) read.last)));
+            (f.one v (reads user page shown (number_of s.post) (record { runs = runs; accepted = accepted; at = plain }) read.last)));
       }
   by_looks v after user page tag answer runs (calls.waits accepted split room a is) =
       record {
@@ -256,19 +264,15 @@ module _ (R : LiveView → List Deed → LiveView → Type 0) (f : FollowsSteps 
         same = ap (λ (w : LiveView). w.found) is;
         own = subst (λ x. R v (own_deed after (glance user page x)) after) (sym a)
             (subst (λ w. R v (own_deed w (glance user page (glanced.Seen shown))) w) (sym e)
-            (subst (λ b. R v (deed (phase_at v.station) user page (cond b (glimpsed shown) (showed shown)) ∷ [])
-            (with_station v (record v.station { post = has_read v.station.post page shown.count }))) (sym plain)
-            (f.one v (reads user page shown (record { runs = runs; accepted = accepted; at = plain }) read.last))));
+            (f.one v (reads user page shown (number_of s.post) (record { runs = runs; accepted = accepted; at = plain }) read.last)));
       }
   by_glances v after user page answer runs (calls.split shown s accepted split a g is) =
       let e = is ∙ ap (with_station v) g.glanced in
       record {
         same = ap (λ (w : LiveView). w.found) is;
         own = subst (λ x. R v (own_deed after (glance user page x)) after) (sym a)
-            (subst (λ w. R v (own_deed w (glance user page (glanced.Seen shown))) w) (sym e)
-            (subst (λ b. R v (deed (phase_at v.station) user page (cond b (glimpsed shown) (showed shown)) ∷ [])
-            (with_station v (record v.station { post = has_glanced v.station.post page g.count }))) (sym split)
-            (f.one v (glances user page g.count shown (record { runs = runs; accepted = accepted; at = split }) g.last))));
+            (subst (λ w. R v (own_deed w (glance user page (glanced.Glimpsed shown))) w) (sym e)
+            (f.one v (glances user page g.count shown (number_of s.post) (record { runs = runs; accepted = accepted; at = split }) g.last)));
       }
 
   by_turn : (v after : LiveView) (answer : TurnAnswer) → Moves v answer after
@@ -280,7 +284,7 @@ module _ (R : LiveView → List Deed → LiveView → Type 0) (f : FollowsSteps 
   by_return v after answer (calls.runs s gone a back is) =
       let e = is ∙ ap (with_station v) back.1.1 in
       still v after (ap (λ (w : LiveView). w.found) is)
-      (subst (R v []) (sym e) (f.one v (returns back.0 back.1.0 gone)))
+      (subst (R v []) (sym e) (f.one v (returns back.0 back.1.0 (number_of s.post) gone)))
   by_return v after answer (calls.between gone a is) =
       still v after (ap (λ (w : LiveView). w.found) is) (subst (R v []) (sym is) (f.none v))
   by_return v after answer (calls.there here m) = by_turn v after answer m

@@ -46,7 +46,7 @@ moves_by : (Acts : LiveView → Bool → TurnAnswer → LiveView → Type 0)
     → (v after : LiveView) (answer : TurnAnswer) → MovesBy Acts v answer after → Grows v after
 moves_by Acts acts v after answer (moves.is_gone gone a is) = same v after (ap (λ (w : LiveView). w.found) is)
 moves_by Acts acts v after answer (moves.waits sight mask can w a is) = same v after (ap (λ (w : LiveView). w.found) is)
-moves_by Acts acts v after answer (moves.works sight mask can w does) = acts _ after sight.ending answer does
+moves_by Acts acts v after answer (moves.works sight mask number can w does) = acts _ after sight.ending answer does
 
 likes : (v after : LiveView) (user page : ℕ) (answer : LikeAnswer) → LikesNow v user page answer after
     → after.found ≡ v.found

@@ -165,8 +165,8 @@ empty-by : (Runs : LiveView → Bool → TurnAnswer → LiveView → Type 0)
 empty-by Runs does v after answer empty (moves.is_gone gone a is) = subst IsEmpty (sym is) empty
 empty-by Runs does v after answer empty (moves.waits sight mask can w a is) =
     subst IsEmpty (sym is) (λ gone. absurd (seen-there v.station.post.state sight can gone))
-empty-by Runs does v after answer empty (moves.works sight mask can w work) =
-    does.empty (looked v sight mask) after sight.ending answer work
+empty-by Runs does v after answer empty (moves.works sight mask number can w work) =
+    does.empty (looked v sight mask number) after sight.ending answer work
 
 asks-by : (Runs : LiveView → Bool → TurnAnswer → LiveView → Type 0)
     → IsFaithful Runs
@@ -175,8 +175,8 @@ asks-by : (Runs : LiveView → Bool → TurnAnswer → LiveView → Type 0)
     → asks_left after ≡ asks_left v
 asks-by Runs does v after answer (moves.is_gone gone a is) = ap asks_left is
 asks-by Runs does v after answer (moves.waits sight mask can w a is) = ap asks_left is
-asks-by Runs does v after answer (moves.works sight mask can w work) =
-    does.asks (looked v sight mask) after sight.ending answer work
+asks-by Runs does v after answer (moves.works sight mask number can w work) =
+    does.asks (looked v sight mask number) after sight.ending answer work
 
 -- what leaves all that, and each tally and last like, is quiet
 IsQuiet-by : (Runs : LiveView → Bool → TurnAnswer → LiveView → Type 0)

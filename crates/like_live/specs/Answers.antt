@@ -1,5 +1,5 @@
 -- The counts that a seat's calls were told, and what the seat read.
-use Rattle.std.specs.Prelude.{◌≡◌, ◌⊎◌, ℕ, ◌+◌, ◌≤◌, if◌then◌else◌, true, false, List, ◌∷◌, ◌++◌, slice_index, Contains, Some}
+use Rattle.std.specs.Prelude.{◌≡◌, ◌⊎◌, ℕ, ◌+◌, ◌≤◌, if◌then◌else◌, true, List, ◌∷◌, ◌++◌, slice_index, Contains, Some}
 use Rattle.like_core.specs.declared.page_step.PageCall.{PageCall}
 use Rattle.like_core.specs.declared.page_step.PageCall.TheVariants.{Glance, Read}
 use Rattle.like_core.specs.declared.page_step.PageStep.{PageStep}
@@ -41,11 +41,12 @@ shown_now v page count =
 abbrev pub found_count : Found → Shown
 found_count f = record { phase = f.phase; page = f.asked.page; own = 0; count = f.count }
 
--- if the call was told a count: P is true of it at a look, found looks included, and Q at a glance. `now` is the seat
--- right after the call
+-- if the call was told a count: P is true of it at a look, found looks included, and at a glance that was told `Seen`,
+-- and Q at one that was told `Glimpsed`. `now` is the seat right after the call
 abbrev pub IfShown : (P Q : Shown → Type 0) → (now : LiveView) → Told → Type 0
 IfShown P Q now (look user page tag (looked.Seen shown)) = P (shown_now now page shown.count)
-IfShown P Q now (glance user page (glanced.Seen shown)) = Q (shown_now now page shown.count)
+IfShown P Q now (glance user page (glanced.Seen shown)) = P (shown_now now page shown.count)
+IfShown P Q now (glance user page (glanced.Glimpsed shown)) = Q (shown_now now page shown.count)
 IfShown P Q now (take_found (Some f)) = P (found_count f)
 IfShown P Q now told = Unit {0}
 
@@ -67,9 +68,11 @@ AreKept v phase page later n =
     (n ≤ added_in phase page (additions_among later))
     ⊎ ((v.station.post.state ≡ Runs phase) × (n ≤ slice_index v.station.slice page))
 
--- the seat glanced at this page in this phase. The count is the board's at that glance plus the likes of the page in
--- the seat's slice, which are kept. The seat's own likes were added before the glance, or are in that slice
+-- the seat glanced at this page in this phase, in which it is split. The count is the board's at that glance plus the
+-- likes of the page in the seat's slice, which are kept. The seat's own likes were added before the glance, or are in
+-- that slice
 pub record IsGlanced (now v : LiveView) (s : Shown) : Type 0 where
+  pub split : slices now.station.post s.page ≡ true
   pub later : List PageStep
   pub earlier : List PageStep
   pub board : ℕ
@@ -79,12 +82,6 @@ pub record IsGlanced (now v : LiveView) (s : Shown) : Type 0 where
   pub count_is : s.count ≡ board + sliced
   pub own : s.own ≤ added_in s.phase s.page (additions_among earlier) + sliced
   pub kept : AreKept v s.phase s.page later sliced
-
--- the count that a glance was told. If the page isn't split then, the seat read it; otherwise the seat glanced at the
--- page, and its own likes are added
-pub record IsReadOrGlanced (now v : LiveView) (s : Shown) : Type 0 where
-  pub plain : slices now.station.post s.page ≡ false → IsRead v s
-  pub split : slices now.station.post s.page ≡ true → IsGlanced now v s
 
 -- a call in a seat's history: some calls were made before it, and some after it
 pub record IsCallOf (v now after : LiveView) (t : Told) : Type 0 where
@@ -101,7 +98,7 @@ abbrev pub AnswersAreReads : Type 0
 AnswersAreReads =
     (v now after : LiveView) (t : Told)
     → IsUnused v → IsCallOf v now after t
-    → IfShown (IsRead after) (IsReadOrGlanced now after) now t
+    → IfShown (IsRead after) (IsGlanced now after) now t
 
 -- the count has the page's first count, all that these seats added in earlier phases, and the seat's own likes of the
 -- phase before; and nothing of a later phase

@@ -92,8 +92,8 @@ pub data LookCase (v : LiveView) (user page tag : ℕ) (answer : LookAnswer) (af
   runs : (now : LiveView) → Moves v turn.Runs now → LooksNow now user page tag answer after
       → LookCase v user page tag answer after
 
--- what a glance does at a seat that runs a phase. A page that is not split is read. Of a split page, the count is the
--- board's plus the seat's own slice
+-- what a glance does at a seat that runs a phase, and its answer tells which of the two it is. A page that is not split
+-- is read. Of a split page, the count is the board's plus the seat's own slice
 pub data GlancesNow (v : LiveView) (user page : ℕ) (answer : GlanceAnswer) (after : LiveView) : Type 0 where
   refused : verdict_at v.station user page ≢ Accepted
       → answer ≡ glance.Refused (verdict_at v.station user page) → after ≡ v → GlancesNow v user page answer after
@@ -103,7 +103,7 @@ pub data GlancesNow (v : LiveView) (user page : ℕ) (answer : GlanceAnswer) (af
       → GlancesNow v user page answer after
   split : (shown : Seen) (s : StationView Asked)
       → verdict_at v.station user page ≡ Accepted → slices v.station.post page ≡ true
-      → answer ≡ glance.Seen shown → Glances v.station user page shown s → after ≡ with_station v s
+      → answer ≡ glance.Glimpsed shown → Glances v.station user page shown s → after ≡ with_station v s
       → GlancesNow v user page answer after
 
 -- glance case: the answer to a glance, and the seat after; the phase work comes first
@@ -112,6 +112,12 @@ pub data GlanceCase (v : LiveView) (user page : ℕ) (answer : GlanceAnswer) (af
   between : Moves v turn.Between after → answer ≡ glance.Between → GlanceCase v user page answer after
   runs : (now : LiveView) → Moves v turn.Runs now → GlancesNow now user page answer after
       → GlanceCase v user page answer after
+
+-- a glance that shows something tells whether its page is split then
+abbrev pub TellsIfSplit : LiveView → ℕ → GlanceAnswer → Type 0
+TellsIfSplit v page (glance.Seen shown) = slices v.station.post page ≡ false
+TellsIfSplit v page (glance.Glimpsed shown) = slices v.station.post page ≡ true
+TellsIfSplit v page answer = Unit {0}
 
 -- the seat after it retired
 abbrev pub retired_seat : LiveView → LiveView

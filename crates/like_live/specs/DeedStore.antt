@@ -17,7 +17,7 @@ asked user page (glimpsed s) = look user page
 abbrev pub store_after : Store → List Deed → Store
 store_after s deeds = after_all s (map (λ d. asked d.user d.page d.act) deeds)
 
--- a deed was shown what the store replies; a glance at a page that is split then, at least its user's last like
+-- a deed was shown what the store replies, or has glimpsed at least its user's last like there
 abbrev pub Fits : Store → (user page : ℕ) → Act → Type 0
 Fits s user page counted = Unit {0}
 Fits s user page (showed seen) = reply s (look user page) ≡ Seen seen.last seen.count

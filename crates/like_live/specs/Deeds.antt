@@ -1,6 +1,5 @@
 -- What a live seat did for its users: its deeds.
-use Rattle.std.specs.Prelude.{◌≡◌, ℕ, if◌then◌else◌, List, [], ◌∷◌, ◌++◌, drop, flat_map, length, map, Some}
-use Rattle.like_core.specs.Post.{slices}
+use Rattle.std.specs.Prelude.{◌≡◌, ℕ, List, [], ◌∷◌, ◌++◌, drop, flat_map, length, map, Some}
 use Rattle.like_seat.specs.declared.seen.Seen.{Seen}
 use Rattle.like_seat.specs.StationView.{phase_at}
 use Rattle.like_live.specs.declared.answer.GlanceAnswer.TheVariants as glanced
@@ -10,7 +9,8 @@ use Rattle.like_live.specs.declared.asked.Found.{Found}
 use Rattle.like_live.specs.LiveView.{LiveView}
 use Rattle.like_live.specs.History.{HasDone, IsUnused, Told, glance, like, look, take_found}
 
--- a like was counted; or a last like and a count were shown, by a look, or by a glance at a page that is split then
+-- a like was counted; or a last like and a count were shown, by a look or a glance, or only glimpsed, by a glance at a
+-- page that is split then
 pub data Act : Type 0 where
   counted : Act
   showed : Seen → Act
@@ -40,8 +40,8 @@ found_by v now = drop (length v.found) now.found
 abbrev pub own_deed : LiveView → Told → List Deed
 own_deed now (like user page Liked) = deed (phase_at now.station) user page counted ∷ []
 own_deed now (look user page tag (looked.Seen shown)) = deed (phase_at now.station) user page (showed shown) ∷ []
-own_deed now (glance user page (glanced.Seen shown)) =
-    deed (phase_at now.station) user page (if slices now.station.post page then glimpsed shown else showed shown) ∷ []
+own_deed now (glance user page (glanced.Seen shown)) = deed (phase_at now.station) user page (showed shown) ∷ []
+own_deed now (glance user page (glanced.Glimpsed shown)) = deed (phase_at now.station) user page (glimpsed shown) ∷ []
 own_deed now told = []
 
 -- the deeds of a call: the looks that it found, and then its own

@@ -1,13 +1,14 @@
 -- The phase work of a live seat: what a look at the phase word makes it do.
 use Rattle.std.specs.Prelude.{◌≡◌, ℕ, ◌≤◌, Bool, true, false, List, [], ◌++◌, map, All}
+use Rattle.like_core.specs.declared.log.Logged.{Logged}
 use Rattle.like_core.specs.declared.page_step.PageCall.TheVariants.{Read}
 use Rattle.like_core.specs.declared.page_step.PageStep.{PageStep}
 use Rattle.like_core.specs.declared.sight.Sight.{Sight}
 use Rattle.like_core.specs.declared.worker_state.WorkerState.TheVariants.{Gone}
 use Rattle.like_core.specs.PageSteps.{page_step, then_steps}
-use Rattle.like_core.specs.Post.{additions_of, answered}
+use Rattle.like_core.specs.Post.{additions_of, answered, number_of}
 use Rattle.like_core.specs.WorkerState.{IsSightOf, RunsJoined, RunsSplit}
-use Rattle.like_seat.specs.Merge.{MergesAndReports}
+use Rattle.like_seat.specs.Merge.{LogsSteps, MergesAndReports}
 use Rattle.like_seat.specs.StationView.{StationView, phase_at}
 use Rattle.like_seat.specs.Steps.{saw}
 use Rattle.like_tables.specs.UserTable.{last_of}
@@ -17,9 +18,10 @@ use Rattle.like_live.specs.declared.asked.Asked.{Asked}
 use Rattle.like_live.specs.declared.asked.Found.{Found}
 use Rattle.like_live.specs.LiveView.{LiveView, waiting, with_station}
 
--- the seat after a look at the phase word; if it enters a split phase, it has also read that phase's mask
-abbrev pub looked : LiveView → Sight → ℕ → LiveView
-looked v sight mask = with_station v (saw v.station sight mask)
+-- the seat after a look at the phase word, which has this number; if it enters a split phase, it has also read that
+-- phase's mask
+abbrev pub looked : LiveView → Sight → ℕ → ℕ → LiveView
+looked v sight mask number = with_station v (saw v.station sight mask number)
 
 -- the seat after it acknowledged its phase
 abbrev pub acknowledged : LiveView → LiveView
@@ -36,11 +38,14 @@ pub record IsFoundAt (s : StationView Asked) (f : Found) : Type 0 where
 abbrev pub step_for : ℕ → Found → PageStep
 step_for worker f = page_step worker f.phase f.asked.page f.count Read
 
--- the seat after these looks were found, each with one read, and no other waits
-abbrev pub with_found : LiveView → List Found → LiveView
-with_found v found = record {
+-- the seat after these looks were found, each with one read, and no other waits; these are its entries then
+abbrev pub with_found : LiveView → List Found → List Logged → LiveView
+with_found v found logged = record {
   station = record v.station {
-    post = record v.station.post { did = then_steps v.station.post.did (map (step_for v.station.post.worker) found) };
+    post = record v.station.post {
+      did = then_steps v.station.post.did (map (step_for v.station.post.worker) found);
+      logged = logged;
+    };
     held = record v.station.held { held = [] };
   };
   found = v.found ++ found;
@@ -51,7 +56,8 @@ pub record FindsAll (v after : LiveView) : Type 0 where
   pub found : List Found
   pub order : map (λ f. f.asked) found ≡ waiting v
   pub shown : All (IsFoundAt v.station) found
-  pub rest : after ≡ with_found v found
+  pub rest : after ≡ with_found v found after.station.post.logged
+  pub logs : LogsSteps (map (step_for v.station.post.worker) found) v.station.post.logged after.station.post.logged
 
 -- what a seat does that has looked and runs a phase. In a joined phase, it first finds all looks that wait. If the
 -- phase is ending, it then stops: at the end of a joined phase it acknowledges; at the end of a split phase it adds its
@@ -73,9 +79,9 @@ pub data MovesBy (Runs : LiveView → Bool → TurnAnswer → LiveView → Type 
     (after : LiveView) : Type 0 where
   is_gone : v.station.post.state ≡ Gone → answer ≡ turn.Gone → after ≡ v → MovesBy Runs v answer after
   waits : (sight : Sight) (mask : ℕ) → IsSightOf v.station.post.state sight → sight.waits ≡ true
-      → answer ≡ turn.Between → after ≡ looked v sight mask → MovesBy Runs v answer after
-  works : (sight : Sight) (mask : ℕ) → IsSightOf v.station.post.state sight → sight.waits ≡ false
-      → Runs (looked v sight mask) sight.ending answer after → MovesBy Runs v answer after
+      → answer ≡ turn.Between → after ≡ looked v sight mask (number_of after.station.post) → MovesBy Runs v answer after
+  works : (sight : Sight) (mask number : ℕ) → IsSightOf v.station.post.state sight → sight.waits ≡ false
+      → Runs (looked v sight mask number) sight.ending answer after → MovesBy Runs v answer after
 
 -- the phase work of a seat
 abbrev pub Moves : LiveView → TurnAnswer → LiveView → Type 0

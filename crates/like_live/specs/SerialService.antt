@@ -38,8 +38,8 @@ abbrev pub opened : Opening → Store
 opened o = record { count = slice_index o.counts.items; last = last_in o.lasts.items }
 
 -- serial, where these are the deeds of each seat: the list has them in their order, and no others; phases never fall; and
--- each deed fits the store after the deeds before it. (A glance at a page that is split then may lack likes that other
--- seats have in their slices. Its count has the bounds of `IsWithinAdded`)
+-- each deed fits the store after the deeds before it. (What is glimpsed may lack likes that other seats have in their
+-- slices. Its count has the bounds of `IsWithinAdded`)
 pub record IsSerialService (o : Opening) (deeds : List (List Deed)) (serial : List Deed) : Type 0 where
   pub own : (seat : ℕ) → deeds_by o.seats seat serial ≡ slice_index_or deeds seat []
   pub rising : AllPairs (λ d e. d.phase ≤ e.phase) serial

@@ -50,8 +50,11 @@ pub enum LookAnswer {
 /// What a glance is told. The call may have done phase work in each case.
 #[derive(Clone, Copy, Debug, PartialEq, Eq)]
 pub enum GlanceAnswer {
-    /// The user's last like, and the page's count with the seat's own likes.
+    /// The user's last like, and the page's count, as a look shows them: the page isn't split.
     Seen(Seen),
+    /// The same, but the page is split in this phase: the count has the seat's own likes, and may lack those that other
+    /// seats have counted in this phase.
+    Glimpsed(Seen),
     /// The seat is between two phases: call again.
     Between,
     /// As for a like.

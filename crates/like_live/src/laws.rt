@@ -45,9 +45,9 @@ pub fn last_counts_are_tallies()
 {}
 
 /// Whatever calls a fresh seat is asked: each count that a look is told, at once or with a found look that is taken, is
-/// one that the seat read of its page, in the phase in which the look ran. So is each count that a glance is told of a
-/// page that isn't split. Of a split page, it is a count at which the seat glanced plus the seat's slice of the page.
-/// The seat adds these likes in that phase, or has them in its slice still.
+/// one that the seat read of its page, in the phase in which the look ran. So is each count of a glance that is told
+/// `Seen`. One that is told `Glimpsed` is a count at which the seat glanced plus the seat's slice of the page. The seat
+/// adds these likes in that phase, or has them in its slice still.
 pub fn answers_are_reads()
     ensures { AnswersAreReads }
 {}
@@ -78,10 +78,10 @@ pub fn found_are_taken()
 {}
 
 /// There is one list of all deeds of the seats of a closed service that one thread could have done, one after the other:
-/// each seat's deeds stand in it in their order, phases never fall along it, and each look shows its user's last like
-/// and its page's count in a store, as the deeds before it left them. Only a glance at a page that is split may lack
-/// likes that other seats have in their slices then. A snapshot shows the store at the end of its phase, and the last
-/// counts and the last likes that seats tell are the store's at the end.
+/// each seat's deeds stand in it in their order, phases never fall along it, and each look and each glance that is told
+/// `Seen` shows its user's last like and its page's count in a store, as the deeds before it left them. Only a glance
+/// that is told `Glimpsed` may lack likes that other seats have in their slices then. A snapshot shows the store at the
+/// end of its phase, and the last counts and the last likes that seats tell are the store's at the end.
 pub fn services_are_serial()
     ensures { ServicesAreSerial }
 {}

@@ -7,7 +7,7 @@ ghost use Rattle.like_core.specs.WorkerState.{IsRunning};
 ghost use Rattle.like_seat.specs.StationView.{phase_at};
 ghost use Rattle.like_live.specs.LiveView.{IsLive, IsNewLive, IsSameSeat, KeepsTallies, RanNext, tally};
 ghost use Rattle.like_live.specs.Moves.{Moves};
-ghost use Rattle.like_live.specs.Calls.{ComeBackCase, GlanceCase, LikeCase, LookCase, RetireCase, TakesFound, TalliesLike, last_after};
+ghost use Rattle.like_live.specs.Calls.{ComeBackCase, GlanceCase, LikeCase, LookCase, RetireCase, TakesFound, TalliesLike, TellsIfSplit, last_after};
 
 mod batch;
 mod lasts;
@@ -148,10 +148,11 @@ impl<P: SlotPost> LiveSeat<P> {
 
 impl<P: SlotPost + Glances> LiveSeat<P> {
     /// Looks at a page for a user, and never waits. If the page is split now, the count may lack other seats' likes of
-    /// this phase.
+    /// this phase, and the answer says so: `Glimpsed`.
     #[inline(always)]
     pub fn glance(&mut self, user: u32, page: u32) -> GlanceAnswer
         ensures case { GlanceCase self.old user page result self.new }
+        ensures tells { TellsIfSplit self.new page result }
         ensures keeps { IsLive self.new }
         ensures same { IsSameSeat self.old self.new }
         ensures tallies { KeepsTallies self.old self.new }

@@ -2,7 +2,7 @@
 use Rattle.std.proofs.Common.{◌≡◌, ℕ, ◌+◌, ◌<◌, ◌≤◌, Bool, cond, [], ◌∷◌, ◌++◌, length, get_or, sum, Some, None, refl, ap, sym, ◌∙◌, arith, subst}
 use Rattle.std.proofs.lemmas.List.Sums.{sum_by-set}
 use Rattle.like_core.specs.Additions.{all_added}
-use Rattle.like_core.specs.Post.{has_read, pages_of}
+use Rattle.like_core.specs.Post.{has_read, number_of, pages_of}
 use Rattle.like_core.specs.PageSteps.{additions_among}
 use Rattle.like_tables.specs.UserTable.{with_last}
 use Rattle.like_tables.specs.declared.held.Held.{Held}
@@ -57,7 +57,7 @@ liked-slice s t d user page is room seat there c =
       (
         0,
         ap (λ x. view_of x d) c.1
-            ∙ sym (ap (λ (b : Bool). record (cond b (view_of (sliced s page) d) (serve.with_addition v page 0 1)) {
+            ∙ sym (ap (λ (b : Bool). record (cond b (view_of (sliced s page) d) (serve.with_addition v page 0 1 (number_of t.post))) {
               last =
                   with_last s.last user page;
             }) c.0),
@@ -74,7 +74,7 @@ pub liked-board : (s t : StationView Held) (d e : Desk) (user page phase count :
     → HasNoted d e phase page count 1
     → IsSettled t e × HasRoomToNote t e × Likes (view_of s d) user page (view_of t e)
 liked-board s t d e user page phase count is room seat c phase_is h =
-    let now = liked_last (with_addition s page count 1) user page in
+    let now = liked_last (with_addition s page count 1 (number_of t.post)) user page in
     let v = view_of s d in
     let more : all_added (additions_among now.post.did) ≡ all_added (additions_among s.post.did) + 1 =
     all_added-push (additions_among s.post.did) (record { phase = phase_at s; page = page; old = count; likes = 1 }) in
@@ -94,7 +94,7 @@ liked-board s t d e user page phase count is room seat c phase_is h =
         count,
         ap (λ x. view_of x e) c.1
             ∙ (noted ∙ sym (ap (λ (b : Bool). record (cond b (view_of (sliced s page) d)
-            (serve.with_addition v page count 1)) { last = with_last s.last user page }) c.0)),
+            (serve.with_addition v page count 1 (number_of t.post))) { last = with_last s.last user page }) c.0)),
       ),
     )
 
@@ -102,10 +102,10 @@ liked-board s t d e user page phase count is room seat c phase_is h =
 pub read-settled : (s t : StationView Held) (d : Desk) (page count : ℕ)
     → IsSettled s d
     → IsStation t
-    → t ≡ record s { post = has_read s.post page count }
+    → t ≡ record s { post = has_read s.post page count (number_of t.post) }
     → IsSettled t d
 read-settled s t d page count is seat e =
-    let now = record s { post = has_read s.post page count } in
+    let now = record s { post = has_read s.post page count (number_of t.post) } in
     settled-still s t now d d is seat e refl refl refl refl is.sound.room refl
 
 -- a page that was merged, and noted, leaves room
@@ -116,14 +116,14 @@ pub merged-settled : (s t : StationView Held) (d e : Desk) (from phase : ℕ) (m
     → HasNoted d e phase m.page m.old m.likes
     → IsSettled t e
 merged-settled s t d e from phase m is seat merges h =
-    let now = steps.merged_page s m.page m.old in
+    let now = steps.merged_page s m.page m.old (number_of t.post) in
     let page = m.page in
     let likes : ℕ = get_or s.slice page 0 in
     let liked = merges.next.liked in
     let some : 1 ≤ likes = omega (arith, liked) in
     let less : sum now.slice + likes ≡ sum s.slice =
     omega (arith, sum_by-set (λ x. x) s.slice page 0 0 merges.next.there) in
-    let same = merged_page-likes s page m.old merges.next.there in
+    let same = merged_page-likes s page m.old (number_of t.post) merges.next.there in
     let before = is.sound.room in
     settled-still s t now d e is seat merges.merged refl refl refl refl (record {
       taken = before.taken;

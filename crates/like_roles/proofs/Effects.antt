@@ -25,11 +25,14 @@ Runs-effects v h stashed after run = record {
       ∙ GivesReply-state v h.submitter h.ask.request run.reply run.served run.serves;
   held = ap (λ x. x.held) run.noted
       ∙ GivesReply-keeps (λ x. x.held) v h.submitter h.ask.request run.reply run.served
-      (λ user page old. counted_by (λ x. x.held ≡ v.held) v page old refl refl) (λ page count. refl) run.serves;
+      (λ user page old number. counted_by (λ x. x.held ≡ v.held) v page old number refl refl)
+      (λ page count number. refl) run.serves;
   taken = ap (λ x. x.taken) run.noted
       ∙ GivesReply-keeps (λ x. x.taken) v h.submitter h.ask.request run.reply run.served
-      (λ user page old. counted_by (λ x. x.taken ≡ v.taken) v page old refl refl) (λ page count. refl) run.serves;
+      (λ user page old number. counted_by (λ x. x.taken ≡ v.taken) v page old number refl refl)
+      (λ page count number. refl) run.serves;
   pending = ap (λ x. x.pending) run.noted
       ∙ GivesReply-keeps (λ x. x.pending) v h.submitter h.ask.request run.reply run.served
-      (λ user page old. counted_by (λ x. x.pending ≡ v.pending) v page old refl refl) (λ page count. refl) run.serves;
+      (λ user page old number. counted_by (λ x. x.pending ≡ v.pending) v page old number refl refl)
+      (λ page count number. refl) run.serves;
 }

@@ -16,6 +16,7 @@ use Rattle.like_requests.specs.declared.verdict.Verdict.TheVariants.{Accepted}
 use Rattle.like_core.specs.declared.sight.Sight.{Sight}
 use Rattle.like_core.specs.declared.worker_state.WorkerState.{WorkerState}
 use Rattle.like_core.specs.declared.worker_state.WorkerState.TheVariants as state
+use Rattle.like_core.specs.declared.log.Logged.{Logged}
 use Rattle.like_core.specs.declared.view.Addition.{Addition}
 use Rattle.like_core.specs.declared.view.PhaseMask.{PhaseMask}
 use Rattle.like_core.specs.PageSteps.{earliest_first, likes_of, step_adding}
@@ -24,7 +25,7 @@ use Rattle.like_core.proofs.PhaseMasks.{masks-before, split-known}
 use Rattle.like_core.specs.declared.limits.Limits.{Limits}
 use Rattle.like_core.specs.Phase.{IsJoined, IsSplit, is_hot_by, is_marked, split, split_by}
 use Rattle.like_core.specs.WorkerState.{IsRunning, RunsJoined, RunsSplit, RunsSome, phase_of, seen}
-use Rattle.like_core.specs.Post.{additions_in, answered, looked_at, pages_of, slices}
+use Rattle.like_core.specs.Post.{additions_in, answered, looked_at, number_of, pages_of, slices}
 use Rattle.like_tables.specs.declared.held.Held.{Held}
 use Rattle.like_promises.proofs.Accepted.{accepted_look, look_at-tests}
 use Rattle.like_promises.specs.declared.log.Ran.{Ran}
@@ -155,21 +156,21 @@ follows-run workload v after h stashed run here none served sized t was un has a
     (subst (λ w. All (IsAsked workload) w.held) (sym e.held) held) (subst (FitsStash workload) (sym e.taken) fits)
     in_order (subst (HasNothingLater after.taken after.ran) phase now_within) (λ place p. absurd (cc (e.pending, none, p)))
 
--- the worker after a look, where its post has then read these masks
-abbrev looking : WorkerView → Sight → List PhaseMask → WorkerView
-looking v sight masks = record v { post = record (looked_at v.post sight) { masks = masks } }
+-- the worker after a look with this number, where its post has then read these masks
+abbrev looking : WorkerView → Sight → List PhaseMask → ℕ → WorkerView
+looking v sight masks number = record v { post = record (looked_at v.post sight number) { masks = masks } }
 
 -- what a look says of a worker that is not gone
-saw-stands : (v : WorkerView) (sight : Sight) (masks : List PhaseMask) (s : WorkerState)
+saw-stands : (v : WorkerView) (sight : Sight) (masks : List PhaseMask) (number : ℕ) (s : WorkerState)
     → Stands v s
     → s ≢ state.Gone
-    → Stands (looking v sight masks) (seen s sight)
-saw-stands v sight masks (state.Runs k) b n = b
-saw-stands v sight masks (state.Answered k) b n = by_test sight.waits where
-  by_test : (w : Bool) → Stands (looking v sight masks) (cond w (state.Answered k) (state.Runs (k + 1)))
+    → Stands (looking v sight masks number) (seen s sight)
+saw-stands v sight masks number (state.Runs k) b n = b
+saw-stands v sight masks number (state.Answered k) b n = by_test sight.waits where
+  by_test : (w : Bool) → Stands (looking v sight masks number) (cond w (state.Answered k) (state.Runs (k + 1)))
   by_test true = b
   by_test false = (λ i t h. omega (arith, b.0.0 i t h), λ i e h. omega (arith, b.0.1 i e h))
-saw-stands v sight masks state.Gone b n = absurd (n refl)
+saw-stands v sight masks number state.Gone b n = absurd (n refl)
 
 -- and of the joined phase in which what it holds runs
 saw-next : (v : WorkerView) (sight : Sight) (s : WorkerState) → Stands v s → s ≢ state.Gone
@@ -227,14 +228,14 @@ saw-kept slice sight (state.Answered k) splits here phase page =
 saw-kept slice sight state.Gone splits here phase page = absurd (here refl)
 
 -- a look
-follows-saw : (workload : Workload) (v : WorkerView) (sight : Sight) (masks : List PhaseMask)
+follows-saw : (workload : Workload) (v : WorkerView) (sight : Sight) (masks : List PhaseMask) (number : ℕ)
     → AreMasksOf workload.hot masks
     → Follows workload v
     → IsSliceInSplit v.post v.slice
     → v.post.state ≢ state.Gone
     → v.pending ≡ None
-    → Follows workload (looking v sight masks)
-follows-saw workload v sight masks right f kept here none = record {
+    → Follows workload (looking v sight masks number)
+follows-saw workload v sight masks number right f kept here none = record {
   served = record {
     users =
         f.served.users;
@@ -264,7 +265,7 @@ follows-saw workload v sight masks right f kept here none = record {
   in_order = ap (λ zs. map entry_of v.ran ++ zs) (saw-next v sight v.post.state f.stands here) ∙ f.in_order;
   fits = f.fits;
   held = f.held;
-  stands = saw-stands v sight masks v.post.state f.stands here;
+  stands = saw-stands v sight masks number v.post.state f.stands here;
   trying = λ place e. absurd (cc (none, e));
 }
 
@@ -342,15 +343,15 @@ follows-answered workload v P f run none empty =
     }
 
 -- it merges its slice, and answers its phase
-follows-reported : (workload : Workload) (v : WorkerView) (adds : List Addition)
+follows-reported : (workload : Workload) (v : WorkerView) (adds : List Addition) (logged : List Logged)
     → Merges (phase_at v) v.slice (pages_of v.post) adds
     → Follows workload v
     → RunsSplit v.post.state
     → v.pending ≡ None
     → IsSliceInSplit v.post v.slice
     → HasPhaseMask v.post
-    → Follows workload (record (merged v adds) { post = answered (merged v adds).post })
-follows-reported workload v adds merges f run none kept has =
+    → Follows workload (record (merged v adds logged) { post = answered (merged v adds logged).post })
+follows-reported workload v adds logged merges f run none kept has =
     let odd = runs-phase IsSplit v.post.state run in
     let here = runs-weaker IsSplit (λ _. Unit {0}) v.post.state (λ _ _. tt) run in
     let alike = slices-alike workload v f.served here has in
@@ -363,9 +364,9 @@ follows-reported workload v adds merges f run none kept has =
       served = f.served;
       sized = record { slice = length-replicate (pages_of v.post) 0; users = f.sized.users };
       tallied = record {
-        likes = λ page. f.tallied.likes page ∙ sym (merge.merged-tally (seat_of v) adds merges f.sized.slice page);
+        likes = λ page. f.tallied.likes page ∙ sym (merge.merged-tally (seat_of v) adds logged merges f.sized.slice page);
         by_phase = λ phase page. f.tallied.by_phase phase page
-            ∙ sym (merge.merged-in (seat_of v) adds merges f.sized.slice phase page);
+            ∙ sym (merge.merged-in (seat_of v) adds logged merges f.sized.slice phase page);
         steps = ap (plain_told workload) (then-earliest v.post.did (map (step_adding v.post.worker) adds))
             ∙ plain_told-split workload (earliest_first v.post.did) (map (step_adding v.post.worker) adds)
             (All-map (λ s. is_split_in workload s.phase s.page ≡ true) (step_adding v.post.worker) adds
@@ -433,9 +434,10 @@ follows-works workload v ending answer after none f kept has (turns.tries_joined
     subst (Follows workload) (sym x)
     (follows-trying workload v place f (runs-weaker IsJoined (λ _. Unit {0}) v.post.state (λ _ _. tt) j) (λ _. e))
 follows-works workload v ending answer after none f kept has (turns.reports now s seen a m x) =
-    let is : after ≡ record (merged v m.0) { post = answered (merged v m.0).post } =
+    let merges = merged v m.0 now.post.logged in
+    let is : after ≡ record merges { post = answered merges.post } =
     x ∙ ap {A = WorkerView} (λ w. record w { post = answered w.post }) m.1.1 in
-    subst (Follows workload) (sym is) (follows-reported workload v m.0 m.1.0 f s none kept has)
+    subst (Follows workload) (sym is) (follows-reported workload v m.0 now.post.logged m.1.0 f s none kept has)
 follows-works workload v ending answer after none f kept has (turns.idles s seen stuck a x) =
     subst (Follows workload) (sym x) f
 follows-works workload v ending answer after none f kept has (turns.tries_split place s seen room next a x) =
@@ -455,13 +457,13 @@ pub follows-turn : (workload : Workload) (v : WorkerView) (answer : Turn) (after
     → Follows workload after
 follows-turn workload v answer after none kept has right (turns.is_gone gone a x) f = subst (Follows workload) (sym x) f
 follows-turn workload v answer after none kept has right (turns.waits sight here i w a x) f =
-    subst (Follows workload) (sym x) (follows-saw workload v sight v.post.masks f.served.hot_alike f kept here none)
-follows-turn workload v answer after none kept has right (turns.works sight mask here i w x) f =
-    let all = masks-before workload.hot (saw v sight mask).post.masks after.post.masks
-    (works-keeps (saw v sight mask) sight.ending answer after x).masks right in
-    follows-works workload (saw v sight mask) sight.ending answer after none
-    (follows-saw workload v sight (saw v sight mask).post.masks all f kept here none)
-    (splits-after v.post v.slice sight mask kept) (has-after v.post sight mask has) x
+    subst (Follows workload) (sym x) (follows-saw workload v sight v.post.masks (number_of after.post) f.served.hot_alike f kept here none)
+follows-turn workload v answer after none kept has right (turns.works sight mask number here i w x) f =
+    let all = masks-before workload.hot (saw v sight mask number).post.masks after.post.masks
+    (works-keeps (saw v sight mask number) sight.ending answer after x).masks right in
+    follows-works workload (saw v sight mask number) sight.ending answer after none
+    (follows-saw workload v sight (saw v sight mask number).post.masks number all f kept here none)
+    (splits-after v.post v.slice sight mask number kept) (has-after v.post sight mask number has) x
 
 -- a worker that runs a phase that is joined runs a joined phase
 runs-joined : (s : WorkerState) → RunsSome (λ _. Unit {0}) s → IsJoined (phase_of s) → RunsSome IsJoined s

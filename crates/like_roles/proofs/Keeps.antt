@@ -5,7 +5,7 @@ use Rattle.like_requests.specs.declared.request.Request.{Request}
 use Rattle.like_requests.specs.declared.request.Taken.{Taken}
 use Rattle.like_core.specs.PhaseMasks.{KeepsMasks}
 use Rattle.like_core.specs.declared.view.PhaseMask.{PhaseMask}
-use Rattle.like_core.specs.Post.{answered}
+use Rattle.like_core.specs.Post.{answered, number_of}
 use Rattle.like_core.specs.WorkerState.{phase_of, seen}
 use Rattle.like_core.proofs.PhaseMasks.{masks-both}
 use Rattle.like_tables.specs.Share.{Share}
@@ -47,15 +47,15 @@ both u v w a b = record {
   masks = masks-both u.post.masks v.post.masks w.post.masks a.masks b.masks;
 }
 
-counted-keeps : (v : WorkerView) (page old : ℕ) → TakesNothing v (counted v page old)
-counted-keeps v page old = counted_by (TakesNothing v) v page old (untaken v _ _ refl refl) (untaken v _ _ refl refl)
+counted-keeps : (v : WorkerView) (page old number : ℕ) → TakesNothing v (counted v page old number)
+counted-keeps v page old number = counted_by (TakesNothing v) v page old number (untaken v _ _ refl refl) (untaken v _ _ refl refl)
 
 serves-keeps : (v : WorkerView) (submitter : ℕ) (r : Request) (reply : Reply) (w : WorkerView)
     → GivesReply v submitter r reply w
     → TakesNothing v w
 serves-keeps v submitter r reply w (refuses n a e) = untaken v v w e refl
 serves-keeps v submitter r reply w (likes page a o p l e) =
-    let c = counted-keeps v page e.0 in
+    let c = counted-keeps v page e.0 (number_of w.post) in
     subst (TakesNothing v) (sym e.1) (record {
       share = refl;
       marks = c.marks;
@@ -86,7 +86,8 @@ works-keeps v ending answer after (turns.retires j e ended a x) = untaken v _ af
 works-keeps v ending answer after (turns.acknowledges j e ended seen a x) = untaken v _ after x refl
 works-keeps v ending answer after (turns.tries_joined place j e next seen a x) = untaken v _ after x refl
 works-keeps v ending answer after (turns.reports now s seen a m x) =
-    untaken v (record (merged v m.0) { post = answered (merged v m.0).post }) after
+    let merges = merged v m.0 now.post.logged in
+    untaken v (record merges { post = answered merges.post }) after
     (x ∙ ap {A = WorkerView} (λ w. record w { post = answered w.post }) m.1.1) refl
 works-keeps v ending answer after (turns.idles s seen stuck a x) = untaken v v after x refl
 works-keeps v ending answer after (turns.tries_split place s seen room next a x) = untaken v _ after x refl
@@ -95,8 +96,8 @@ works-keeps v ending answer after (turns.tries_split place s seen room next a x)
 pub turns-keeps : (v : WorkerView) (answer : Turn) (after : WorkerView) → Turns v answer after → TakesNothing v after
 turns-keeps v answer after (turns.is_gone gone a x) = untaken v v after x refl
 turns-keeps v answer after (turns.waits sight here i w a x) = untaken v _ after x refl
-turns-keeps v answer after (turns.works sight mask here i w x) =
-    both v (turns.saw v sight mask) after
+turns-keeps v answer after (turns.works sight mask number here i w x) =
+    both v (turns.saw v sight mask number) after
     (record {
       share = refl;
       marks = refl;
@@ -106,7 +107,7 @@ turns-keeps v answer after (turns.works sight mask here i w x) =
       ended = refl;
       masks = saw-masks (phase_of (seen v.post.state sight) == phase_at v) (phase_of (seen v.post.state sight) % 2 == 1);
     })
-    (works-keeps (turns.saw v sight mask) sight.ending answer after x)
+    (works-keeps (turns.saw v sight mask number) sight.ending answer after x)
   where
     to : ℕ
     to = phase_of (seen v.post.state sight)

@@ -6,8 +6,9 @@ use Rattle.like_tables.specs.declared.held.Held.{Held}
 use Rattle.like_seat.specs.Merge as merge
 use Rattle.like_roles.specs.worker.Merges.{Merges}
 use Rattle.like_seat.specs.StationView.{StationView, phase_at}
+use Rattle.like_core.specs.PageSteps.{step_adding}
 use Rattle.like_core.specs.Post.{pages_of}
-use Rattle.like_roles.proofs.PageOrder.{merge_of}
+use Rattle.like_seat.proofs.WholeMerge.{merge_of}
 use Rattle.like_promises.specs.declared.log.Added.{Added}
 use Rattle.like_roles.specs.declared.worker.desk.Desk.{Desk}
 use Rattle.like_roles.specs.worker.Desk.{HasNoted, view_of}
@@ -60,14 +61,16 @@ HaveNoted-more s d0 d e adds phase page old n have has phase_is n_is = record {
 -- the worker has merged its slice
 pub IsMerged-noted : (s t : StationView Held) (d e : Desk) (adds : List Addition)
     → Merges (phase_at s) s.slice (pages_of s.post) adds
-    → t ≡ merge.merged s adds
+    → t ≡ merge.merged s adds t.post.logged
+    → merge.LogsSteps (map (step_adding s.post.worker) adds) s.post.logged t.post.logged
     → HaveNoted d e adds
     → IsMerged (view_of s d) (view_of t e)
-IsMerged-noted s t d e adds merges is have = (
+IsMerged-noted s t d e adds merges is logs have = (
   adds,
   (
     merges,
     (λ k. view_of (is k) (have.rest k))
-        ∙ (λ k. record (view_of (merge.merged s adds) d) { adds = have.noted k }),
+        ∙ (λ k. record (view_of (merge.merged s adds t.post.logged) d) { adds = have.noted k }),
+    logs,
   ),
 )

@@ -6,6 +6,7 @@ use Rattle.std.proofs.lemmas.List.{get_or_past}
 use Rattle.std.proofs.lemmas.List.Elements.{All-head, All-tail}
 use Rattle.std.proofs.lemmas.List.Sums.{sum_by-append, sum_by-cons}
 use Rattle.like_core.proofs.Steps.{then-additions}
+use Rattle.like_core.specs.declared.log.Logged.{Logged}
 use Rattle.like_core.specs.declared.view.Addition.{Addition}
 use Rattle.like_core.specs.Post.{additions_in, pages_of}
 use Rattle.like_core.proofs.core.Labels.{one_before-next}
@@ -99,13 +100,13 @@ module _ (test : ℕ → Bool) (phase : ℕ) (slice : List ℕ) (page : ℕ) whe
             ∙ sym (ap (λ (k : ℕ). cond (test phase) k 0) none ∙ cond_same (test phase) 0))
       ]
 
-module _ {W : Type 0} (s : StationView W) (adds : List Addition)
+module _ {W : Type 0} (s : StationView W) (adds : List Addition) (logged : List Logged)
     (merges : Merges (phase_at s) s.slice (pages_of s.post) adds) (sized : length s.slice ≡ pages_of s.post) where
   -- a page has as many likes after a merge as before, added and in the slice
-  pub merged-tally : (page : ℕ) → tally_of (merged s adds) page ≡ tally_of s page
+  pub merged-tally : (page : ℕ) → tally_of (merged s adds logged) page ≡ tally_of s page
   merged-tally page =
       let f : Addition → ℕ = λ a. cond (a.page == page) a.likes 0 in
-      let none : get_or (merged s adds).slice page 0 ≡ 0 = same_everywhere (pages_of s.post) page 0 in
+      let none : get_or (merged s adds logged).slice page 0 ≡ 0 = same_everywhere (pages_of s.post) page 0 in
       let new : sum_by f adds ≡ get_or s.slice page 0 =
       merging-all (λ _. true) (phase_at s) s.slice page (pages_of s.post) adds merges sized in
       let now = ap (sum_by f) (then-additions s.post.worker s.post.did adds) in
@@ -114,12 +115,12 @@ module _ {W : Type 0} (s : StationView W) (adds : List Addition)
 
   -- and in each phase
   pub merged-in : (phase page : ℕ)
-      → additions_in (merged s adds).post phase page
-      + cond (phase_at s == phase) (get_or (merged s adds).slice page 0) 0
+      → additions_in (merged s adds logged).post phase page
+      + cond (phase_at s == phase) (get_or (merged s adds logged).slice page 0) 0
       ≡ additions_in s.post phase page + cond (phase_at s == phase) (get_or s.slice page 0) 0
   merged-in phase page =
       let f : Addition → ℕ = λ a. cond ((a.phase == phase) && (a.page == page)) a.likes 0 in
-      let none : cond (phase_at s == phase) (get_or (merged s adds).slice page 0) 0 ≡ 0 =
+      let none : cond (phase_at s == phase) (get_or (merged s adds logged).slice page 0) 0 ≡ 0 =
       ap (λ (k : ℕ). cond (phase_at s == phase) k 0) (same_everywhere (pages_of s.post) page 0)
       ∙ cond_same (phase_at s == phase) 0
       in

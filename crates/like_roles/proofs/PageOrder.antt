@@ -1,22 +1,24 @@
 -- How the merge of a slice goes from page to page, in the order of the pages.
 use Rattle.std.proofs.Common.{◌≡◌, ℕ, zero, suc, ◌≢◌, ◌+◌, ◌-◌, ◌<◌, ◌≤◌, ◌==◌, Bool, not, cond, List, [], ◌∷◌, ◌++◌, length, map, get_or, set, replicate, refl, ap, sym, ◌∙◌, inl, inr, arith, subst, append-nil}
 use Rattle.std.proofs.lemmas.Bool.{cases_lt, eq-eqb, ne_eqb}
-use Rattle.std.proofs.lemmas.List.{length-set, map-append, map-id, map_push, get_or-set_same, get_or-set_other}
+use Rattle.std.proofs.lemmas.List.{length-set, map-append, map-id, get_or-set_same, get_or-set_other}
 use Rattle.std.proofs.lemmas.List.Elements.{All-nil, All-push}
 use Rattle.std.proofs.lemmas.List.FromFn.{filter_of_map_range_with_len_more}
 use Rattle.std.specs.List.{filter, range_with_len}
-use Rattle.like_core.proofs.Steps.{then-push}
-use Rattle.like_core.specs.declared.page_step.PageStep.{PageStep}
+use Rattle.like_core.specs.declared.log.LogEntry.TheVariants.{Did}
+use Rattle.like_core.specs.declared.log.Logged.{Logged}
 use Rattle.like_core.specs.declared.view.Addition.{Addition}
-use Rattle.like_core.specs.PageSteps.{step_adding, then_steps}
+use Rattle.like_core.specs.Log.{numbered}
+use Rattle.like_core.specs.PageSteps.{step_adding}
 use Rattle.like_core.specs.Post.{pages_of}
 use Rattle.like_tables.specs.Liked.{AreUnliked, IsNextLiked}
 use Rattle.like_roles.specs.worker.Merges.{Merges, liked_below}
 use Rattle.like_limits.specs.Buckets.{buckets, run_factor}
-use Rattle.like_seat.specs.Merge.{merged}
+use Rattle.like_seat.specs.Merge.{LogsSteps, merged}
 use Rattle.like_seat.specs.StationView.{StationView, phase_at}
 use Rattle.like_seat.specs.Steps.{IsNext, NoneFrom, merged_page}
 use Rattle.like_seat.proofs.Filling.{bucket-run}
+use Rattle.like_seat.proofs.WholeMerge.{logs-more, merge_of, merged_with, then-more, zeros}
 
 -- the pages that a slice has likes of, and one page more
 pub liked-next : (slice : List ℕ) (n : ℕ)
@@ -68,28 +70,12 @@ above : (xs ys : List ℕ) (n x : ℕ)
     → get_or (set xs n x) i 0 ≡ get_or ys i 0
 above xs ys n x after i h = get_or-set_other xs n i x 0 (λ e. absurd (omega arith)) ∙ after i (omega arith)
 
--- a list of zeros
-zeros : (xs : List ℕ) → ((i : ℕ) → i < length xs → get_or xs i 0 ≡ 0) → xs ≡ replicate (length xs) 0
-zeros [] h = refl
-zeros (x ∷ xs) h =
-    let first : x ≡ 0 = h 0 (omega arith) in
-    let rest : xs ≡ replicate (length xs) 0 = zeros xs (λ i k. h (suc i) (omega arith)) in
-    ap (λ y. y ∷ xs) first ∙ ap (λ ys. 0 ∷ ys) rest
-
 module _ {W : Type 0} where
-  -- the seat after pages were merged by these additions, with this slice
-  abbrev pub merged_with : StationView W → List Addition → List ℕ → StationView W
-  merged_with s adds slice = record s {
-    post = record s.post {
-      did = then_steps s.post.did (map (step_adding s.post.worker) adds);
-    };
-    slice = slice;
-  }
-
   -- the first n pages are merged, by these additions
   pub record Merging (s0 s : StationView W) (n : ℕ) (adds : List Addition) : Type 0 where
     pub merges : Merges (phase_at s0) s0.slice n adds
-    pub rest : s ≡ merged_with s0 adds s.slice
+    pub rest : s ≡ merged_with s0 adds s.slice s.post.logged
+    pub logs : LogsSteps (map (step_adding s0.post.worker) adds) s0.post.logged s.post.logged
     pub sized : length s.slice ≡ length s0.slice
     pub emptied : (page : ℕ) → page < n → get_or s.slice page 0 ≡ 0
     pub left : (page : ℕ) → n ≤ page → get_or s.slice page 0 ≡ get_or s0.slice page 0
@@ -103,30 +89,23 @@ module _ {W : Type 0} where
       phase_is = All-nil (λ (a : Addition). a.phase ≡ phase_at s);
     };
     rest = refl;
+    logs = record { since = []; made = refl; logged = refl };
     sized = refl;
     emptied = λ page h. absurd (omega arith);
     left = λ page h. refl;
   }
 
-  -- the addition that merges a page, where its count was this
-  abbrev pub merge_of : StationView W → ℕ → ℕ → Addition
-  merge_of s page old =
-      record { phase = phase_at s; page = page; old = old; likes = get_or s.slice page 0 }
-
   -- the next page is merged, where its count was this
-  pub Merging-page : (s0 s t : StationView W) (n old : ℕ) (adds : List Addition) → Merging s0 s n adds → n < length s.slice
-      → get_or s.slice n 0 ≢ 0 → t ≡ merged_page s n old
+  pub Merging-page : (s0 s t : StationView W) (n old number : ℕ) (adds : List Addition) → Merging s0 s n adds
+      → n < length s.slice → get_or s.slice n 0 ≢ 0 → t ≡ merged_page s n old number
       → Merging s0 t (n + 1) (adds ++ merge_of s n old ∷ [])
-  Merging-page s0 s t n old adds m inside liked is =
+  Merging-page s0 s t n old number adds m inside liked is =
       let new : Addition = merge_of s n old in
       let phase : phase_at s ≡ phase_at s0 = ap {A = StationView W} (λ x. phase_at x) m.rest in
       let same : get_or s.slice n 0 ≡ get_or s0.slice n 0 = m.left n (omega arith) in
       let slice : t.slice ≡ set s.slice n 0 = ap {A = StationView W} (λ x. x.slice) is in
-      let step : Addition → PageStep = step_adding s0.post.worker in
-      let did : step new ∷ then_steps s0.post.did (map step adds) ≡ then_steps s0.post.did (map step (adds ++ new ∷ [])) =
-      sym (then-push s0.post.did (map step adds) (step new))
-      ∙ ap (then_steps s0.post.did) (sym (map_push step adds new)) in
-      let walks : Merging s0 (merged_page s n old) (n + 1) (adds ++ new ∷ []) = record {
+      let entry : Logged = numbered number (Did (step_adding s.post.worker new)) in
+      let walks : Merging s0 (merged_page s n old number) (n + 1) (adds ++ new ∷ []) = record {
         merges = record {
           pages_are = map-append (λ (a : Addition). a.page) adds (new ∷ [])
               ∙ ap (λ (pages : List ℕ). pages ++ n ∷ []) m.merges.pages_are
@@ -135,13 +114,18 @@ module _ {W : Type 0} where
           phase_is = All-push (λ (a : Addition). a.phase ≡ phase_at s0) adds new m.merges.phase_is phase;
         };
         rest =
-            ap {A = StationView W} (λ x. merged_with x (new ∷ []) (set s.slice n 0)) m.rest
+            ap {A = StationView W} (λ x. merged_with x (new ∷ []) (set s.slice n 0) (entry ∷ s.post.logged)) m.rest
             ∙ (λ k. record s0 {
               post =
-                  record s0.post { did = did k };
+                  record s0.post {
+                    did = then-more s0.post.worker s0.post.did adds new k;
+                    logged = entry ∷ s.post.logged;
+                  };
               slice =
                   set s.slice n 0;
             });
+        logs = logs-more s0.post.worker s.post.worker number adds new s0.post.logged s.post.logged m.logs
+            (ap {A = StationView W} (λ x. x.post.worker) m.rest);
         sized = length-set s.slice n 0 ∙ m.sized;
         emptied = below s.slice n 0 (λ _. 0) inside refl m.emptied;
         left = above s.slice s0.slice n 0 m.left;
@@ -160,6 +144,7 @@ module _ {W : Type 0} where
           phase_is = m.merges.phase_is;
         };
         rest = m.rest;
+        logs = m.logs;
         sized = m.sized;
         emptied = λ page h. elim (cases_lt page n) [
           | inl earlier ↦ m.emptied page earlier
@@ -186,28 +171,33 @@ module _ {W : Type 0} where
 
   -- all pages are merged
   pub Merging-end : (s0 s : StationView W) (adds : List Addition) → Merging s0 s (pages_of s0.post) adds
-      → length s0.slice ≡ pages_of s0.post → s ≡ merged s0 adds
+      → length s0.slice ≡ pages_of s0.post → s ≡ merged s0 adds s.post.logged
   Merging-end s0 s adds m pages =
       let slice : s.slice ≡ replicate (pages_of s0.post) 0 =
       zeros s.slice (λ i k. m.emptied i (omega (arith, m.sized, pages))) ∙ ap (λ n. replicate n 0) (m.sized ∙ pages) in
-      m.rest ∙ ap (merged_with s0 adds) slice
+      m.rest ∙ ap (λ xs. merged_with s0 adds xs s.post.logged) slice
 
   -- a page is merged, and those before it that have no like
-  pub Merging-next : (s0 s t : StationView W) (from page old : ℕ) (adds : List Addition) → Merging s0 s from adds
-      → IsNextLiked s.slice from page → t ≡ merged_page s page old
+  pub Merging-next : (s0 s t : StationView W) (from page old number : ℕ) (adds : List Addition)
+      → Merging s0 s from adds → IsNextLiked s.slice from page → t ≡ merged_page s page old number
       → Merging s0 t (page + 1) (adds ++ merge_of s page old ∷ [])
-  Merging-next s0 s t from page old adds m next is =
-      Merging-page s0 s t page old adds
+  Merging-next s0 s t from page old number adds m next is =
+      Merging-page s0 s t page old number adds
       (Merging-unliked s0 s from page adds m next.after next.least) next.there next.liked is
 
   -- no page is left
   pub Merging-done : (s0 s t : StationView W) (from : ℕ) (adds : List Addition) → Merging s0 s from adds
       → from ≤ length s.slice → AreUnliked s.slice from (length s.slice) → t ≡ s → length s0.slice ≡ pages_of s0.post
-      → Merges (phase_at s0) s0.slice (pages_of s0.post) adds × (t ≡ merged s0 adds)
+      → Merges (phase_at s0) s0.slice (pages_of s0.post) adds × (t ≡ merged s0 adds t.post.logged)
+      × LogsSteps (map (step_adding s0.post.worker) adds) s0.post.logged t.post.logged
   Merging-done s0 s t from adds m within none is pages =
       let all = subst (λ k. Merging s0 s k adds) (m.sized ∙ pages)
       (Merging-unliked s0 s from (length s.slice) adds m within none) in
-      (all.merges, is ∙ Merging-end s0 s adds all pages)
+      let same : s.post.logged ≡ t.post.logged = sym (ap {A = StationView W} (λ x. x.post.logged) is) in (
+        all.merges,
+        is ∙ Merging-end s0 s adds all pages ∙ ap (merged s0 adds) same,
+        subst (LogsSteps (map (step_adding s0.post.worker) adds) s0.post.logged) same all.logs,
+      )
 
 -- in a run a page has the bucket of its number, so the next page by buckets is the next page
 pub IsNextLiked-run : (slice : List ℕ) (from page : ℕ) → length slice ≤ buckets → IsNext run_factor slice from page

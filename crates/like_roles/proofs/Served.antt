@@ -25,23 +25,23 @@ runs-joined (state.Answered k) r even = absurd r
 runs-joined state.Gone r even = absurd r
 
 -- what holds with one more like in the slice, and with one more on the board, holds once a like is counted
-pub counted_by : (P : WorkerView → Type 0) (v : WorkerView) (page old : ℕ)
-    → P (sliced v page) → P (with_addition v page old 1) → P (counted v page old)
-counted_by P v page old in_slice on_board = by_test (slices v.post page) where
-  by_test : (b : Bool) → P (cond b (sliced v page) (with_addition v page old 1))
+pub counted_by : (P : WorkerView → Type 0) (v : WorkerView) (page old number : ℕ)
+    → P (sliced v page) → P (with_addition v page old 1 number) → P (counted v page old number)
+counted_by P v page old number in_slice on_board = by_test (slices v.post page) where
+  by_test : (b : Bool) → P (cond b (sliced v page) (with_addition v page old 1 number))
   by_test true = in_slice
   by_test false = on_board
 
 -- what no like and no read changes, no answer changes
 pub GivesReply-keeps : {X : Type 0} (f : WorkerView → X) (v : WorkerView) (submitter : ℕ) (r : Request) (reply : Reply)
     (w : WorkerView)
-    → ((user page old : ℕ) → f (liked v user page old) ≡ f v)
-    → ((page count : ℕ) → f (shown v page count) ≡ f v)
+    → ((user page old number : ℕ) → f (liked v user page old number) ≡ f v)
+    → ((page count number : ℕ) → f (shown v page count number) ≡ f v)
     → GivesReply v submitter r reply w
     → f w ≡ f v
 GivesReply-keeps f v submitter r reply w k l (refuses n a e) = ap f e
-GivesReply-keeps f v submitter r reply w k l (likes page a o p s e) = ap f e.1 ∙ k r.user page e.0
-GivesReply-keeps f v submitter r reply w k l (looks page count a o p s n e) = ap f e ∙ l page count
+GivesReply-keeps f v submitter r reply w k l (likes page a o p s e) = ap f e.1 ∙ k r.user page e.0 _
+GivesReply-keeps f v submitter r reply w k l (looks page count a o p s n e) = ap f e ∙ l page count _
 
 -- an answer changes no state, and no list of what was run
 pub GivesReply-state : (v : WorkerView) (submitter : ℕ) (r : Request) (reply : Reply) (w : WorkerView)
@@ -49,14 +49,15 @@ pub GivesReply-state : (v : WorkerView) (submitter : ℕ) (r : Request) (reply :
     → w.post.state ≡ v.post.state
 GivesReply-state v submitter r reply w s =
     GivesReply-keeps (λ x. x.post.state) v submitter r reply w
-    (λ user page old. counted_by (λ x. x.post.state ≡ v.post.state) v page old refl refl) (λ page count. refl) s
+    (λ user page old number. counted_by (λ x. x.post.state ≡ v.post.state) v page old number refl refl)
+    (λ page count number. refl) s
 
 pub GivesReply-ran : (v : WorkerView) (submitter : ℕ) (r : Request) (reply : Reply) (w : WorkerView)
     → GivesReply v submitter r reply w
     → w.ran ≡ v.ran
 GivesReply-ran v submitter r reply w s =
     GivesReply-keeps (λ x. x.ran) v submitter r reply w
-    (λ user page old. counted_by (λ x. x.ran ≡ v.ran) v page old refl refl) (λ page count. refl) s
+    (λ user page old number. counted_by (λ x. x.ran ≡ v.ran) v page old number refl refl) (λ page count number. refl) s
 
 -- a request is answered, and its entry is put at the end of what was run
 pub Runs-noted : (v w : WorkerView) (h : Held) (stashed : Bool) (reply : Reply) (phase : ℕ) (ran : List Ran)

@@ -187,8 +187,8 @@ turns-pends v answer after none (turns.is_gone gone a x) =
     subst (λ y. Pends y after) (sym a) (ap (λ y. y.pending) x ∙ none)
 turns-pends v answer after none (turns.waits sight here i w a x) =
     subst (λ y. Pends y after) (sym a) (ap (λ y. y.pending) x ∙ none)
-turns-pends v answer after none (turns.works sight mask here i w x) =
-    works-pends (turns.saw v sight mask) sight.ending answer after none x
+turns-pends v answer after none (turns.works sight mask number here i w x) =
+    works-pends (turns.saw v sight mask number) sight.ending answer after none x
 
 -- who answers that it is gone is gone
 works-retired : (v : WorkerView) (ending : Bool) (answer : Turn) (after : WorkerView)
@@ -209,5 +209,5 @@ pub turns-retired : (v : WorkerView) (answer : Turn) (after : WorkerView)
     → after.post.state ≡ state.Gone
 turns-retired v answer after (turns.is_gone gone a x) r = ap (λ y. y.post.state) x ∙ gone
 turns-retired v answer after (turns.waits sight here i w a x) r = cc (a, r)
-turns-retired v answer after (turns.works sight mask here i w x) r =
-    works-retired (turns.saw v sight mask) sight.ending answer after x r
+turns-retired v answer after (turns.works sight mask number here i w x) r =
+    works-retired (turns.saw v sight mask number) sight.ending answer after x r

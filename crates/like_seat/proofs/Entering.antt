@@ -40,18 +40,21 @@ idle-gone s is runs = absurd (subst RunsSplit is runs)
 
 -- the post when it runs a phase, as it has looked by now
 abbrev pub ran : WorkerSeatView → WorkerSeatView → ℕ → WorkerSeatView
-ran post looked phase = record post { state = Runs phase; last = looked.last; looks = looked.looks; slots = [] }
+ran post looked phase =
+    record post { state = Runs phase; last = looked.last; looks = looked.looks; logged = looked.logged; slots = [] }
 
 -- so it does after a look that showed the next phase, and after it came back
-pub ran-looked : (post looked : WorkerSeatView) (sight : Sight) (k : ℕ) → looked ≡ looked_at post sight
+pub ran-looked : (post looked : WorkerSeatView) (sight : Sight) (k number : ℕ) → looked ≡ looked_at post sight number
     → post.state ≡ Answered k → sight.waits ≡ false → looked ≡ ran post looked (k + 1)
-ran-looked post looked sight k look is goes =
+ran-looked post looked sight k number look is goes =
     let runs : seen post.state sight ≡ Runs (k + 1) =
     ap (λ s. seen s sight) is ∙ ap (λ (b : Bool). cond b (Answered k) (Runs (k + 1))) goes in
-    subst (λ (p : WorkerSeatView). p ≡ ran post p (k + 1)) (sym look) (λ i. record (looked_at post sight) { state = runs i })
+    subst (λ (p : WorkerSeatView). p ≡ ran post p (k + 1)) (sym look)
+    (λ i. record (looked_at post sight number) { state = runs i })
 
-pub ran-returned : (post looked : WorkerSeatView) (phase : ℕ) → looked ≡ returned post phase → looked ≡ ran post looked phase
-ran-returned post looked phase back = subst (λ (p : WorkerSeatView). p ≡ ran post p phase) (sym back) refl
+pub ran-returned : (post looked : WorkerSeatView) (phase number : ℕ) → looked ≡ returned post phase number
+    → looked ≡ ran post looked phase
+ran-returned post looked phase number back = subst (λ (p : WorkerSeatView). p ≡ ran post p phase) (sym back) refl
 
 -- who ran no split phase may enter the phase that it runs
 pub MayEnter-kept : {W C : Type 0} (post looked : WorkerSeatView) (t : Tables W C) (phase : ℕ) → IsKept post t
@@ -261,11 +264,11 @@ stays (state.Answered k) sight runs = absurd (runs k refl)
 stays state.Gone sight runs = refl
 
 -- a look that leaves the phase
-pub IsKept-looked : {W C : Type 0} (post now : WorkerSeatView) (t : Tables W C) (sight : Sight) → IsKept post t
-    → now ≡ looked_at post sight → seen post.state sight ≡ post.state → IsKept now t
-IsKept-looked {W} {C} post now t sight k look same =
-    let at : WorkerSeatView = record (looked_at post sight) { state = post.state } in
-    let is : now ≡ at = look ∙ (λ i. record (looked_at post sight) { state = same i }) in
+pub IsKept-looked : {W C : Type 0} (post now : WorkerSeatView) (t : Tables W C) (sight : Sight) (number : ℕ)
+    → IsKept post t → now ≡ looked_at post sight number → seen post.state sight ≡ post.state → IsKept now t
+IsKept-looked {W} {C} post now t sight number k look same =
+    let at : WorkerSeatView = record (looked_at post sight number) { state = post.state } in
+    let is : now ≡ at = look ∙ (λ i. record (looked_at post sight number) { state = same i }) in
     let keeps : IsKept at t = record {
       run = k.run;
       service = k.service;

@@ -7,6 +7,7 @@ use Rattle.std.proofs.lemmas.List.Sums.{sum_by-set}
 use Rattle.like_core.specs.declared.worker_state.WorkerState.{WorkerState}
 use Rattle.like_core.specs.declared.worker_state.WorkerState.TheVariants as state
 use Rattle.like_core.specs.Phase.{IsSplit, is_hot_by, is_marked}
+use Rattle.like_core.specs.declared.log.Logged.{Logged}
 use Rattle.like_core.specs.declared.page_step.PageStep.{PageStep}
 use Rattle.like_core.specs.Additions.{all_added}
 use Rattle.like_core.specs.OpeningLimits.{AreLimits, has_slots}
@@ -139,7 +140,7 @@ pub sum-zeros : (n : ℕ) → sum (replicate n 0) ≡ 0
 sum-zeros n = sum_by-replicate (λ x. x) n 0 ∙ omega arith
 
 -- the tables of a post that made a step in its phase, which leaves the split pages
-pub Kept-written : {W C : Type 0} (post : WorkerSeatView) (d : List PageStep)
+pub Kept-written : {W C : Type 0} (post : WorkerSeatView) (d : List PageStep) (logged : List Logged)
     (t after : Tables W C)
     → IsKept post t
     → after.marks.items ≡ t.marks.items → after.state ≡ t.state → after.held ≡ t.held
@@ -147,9 +148,9 @@ pub Kept-written : {W C : Type 0} (post : WorkerSeatView) (d : List PageStep)
     → sum (by_page after.slice (pages_of post)) ≡ sum after.slice.counts
     → after.likes.likes ≡ all_added (additions_among d) + sum (by_page after.slice (pages_of post))
     → after.likes.likes ≤ post.opening.limits.likes
-    → IsKept (record post { did = d }) after
-Kept-written {W} {C} post d t after k marks state_is held splits long is sums likes few =
-    let now : WorkerSeatView = record post { did = d } in
+    → IsKept (record post { did = d; logged = logged }) after
+Kept-written {W} {C} post d logged t after k marks state_is held splits long is sums likes few =
+    let now : WorkerSeatView = record post { did = d; logged = logged } in
     let split : SplitsPages now after.slice = λ page.
     subst (λ (s : SplitPages). (is_split s page ≡ true)
     ↔ (RunsSplit post.state × (page < pages_of post) × (slices post page ≡ true))) (sym splits) (k.splits page) in
@@ -178,12 +179,12 @@ Kept-written {W} {C} post d t after k marks state_is held splits long is sums li
     }
 
 -- the tables of a post that read or glanced
-pub Kept-read : {W C : Type 0} (post now : WorkerSeatView) (d : List PageStep) (t : Tables W C)
-    → IsKept post t → now ≡ record post { did = d } → additions_among d ≡ additions_among post.did
+pub Kept-read : {W C : Type 0} (post now : WorkerSeatView) (d : List PageStep) (logged : List Logged) (t : Tables W C)
+    → IsKept post t → now ≡ record post { did = d; logged = logged } → additions_among d ≡ additions_among post.did
     → IsKept now t
-Kept-read {W} {C} post now d t k is same =
+Kept-read {W} {C} post now d logged t k is same =
     subst (λ (p : WorkerSeatView). IsKept p t) (sym is)
-    (Kept-written post d t t k refl refl refl refl refl k.slice k.sums
+    (Kept-written post d logged t t k refl refl refl refl refl k.slice k.sums
     (k.likes ∙ sym (ap (λ xs. all_added xs + sum (by_page t.slice (pages_of post))) same))
     (omega (arith, k.likes, k.seat.few)))
 

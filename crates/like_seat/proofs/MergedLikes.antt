@@ -5,6 +5,7 @@ use Rattle.std.proofs.lemmas.Bool.{cases_lt}
 use Rattle.std.proofs.lemmas.List.{get_or_past, get_or-replicate, length-replicate}
 use Rattle.std.proofs.lemmas.List.Elements.{All-head, All-tail}
 use Rattle.std.proofs.lemmas.List.Sums.{sum_by-append, sum_by-cons, sum_by-set}
+use Rattle.like_core.specs.declared.log.Logged.{Logged}
 use Rattle.like_core.specs.declared.view.Addition.{Addition}
 use Rattle.like_core.specs.Additions.{added_in, added_to, all_added}
 use Rattle.like_core.specs.Post.{pages_of}
@@ -19,12 +20,12 @@ pub all_added-push : (xs : List Addition) (a : Addition) → all_added (xs ++ a 
 all_added-push xs a = sum_by-append (λ (b : Addition). b.likes) xs (a ∷ []) ∙ omega arith
 
 -- the merge of a page leaves the number of likes
-pub merged_page-likes : {W : Type 0} (s : StationView W) (page old : ℕ)
+pub merged_page-likes : {W : Type 0} (s : StationView W) (page old number : ℕ)
     → page < length s.slice
-    → likes_of (merged_page s page old) ≡ likes_of s
-merged_page-likes s page old there =
+    → likes_of (merged_page s page old number) ≡ likes_of s
+merged_page-likes s page old number there =
     let likes : ℕ = get_or s.slice page 0 in
-    let less : sum (merged_page s page old).slice + likes ≡ sum s.slice =
+    let less : sum (merged_page s page old number).slice + likes ≡ sum s.slice =
     omega (arith, sum_by-set (λ x. x) s.slice page 0 0 there) in
     let more = all_added-push (additions_among s.post.did) (record { phase = phase_at s; page = page; old = old; likes = likes }) in
     omega (arith, less, more)
@@ -63,13 +64,13 @@ added_in-phase phase page k (a ∷ adds) phases =
     by_phase false = refl
 
 -- a page has as many likes after a merge as before, added and in the slice
-pub merged-tally : {W : Type 0} (s : StationView W) (adds : List Addition)
+pub merged-tally : {W : Type 0} (s : StationView W) (adds : List Addition) (logged : List Logged)
     → MergesAll s.post.opening.factor (phase_at s) s.slice adds
     → (page : ℕ)
-    → tally_of (merged s adds) page ≡ tally_of s page
-merged-tally s adds merges page =
+    → tally_of (merged s adds logged) page ≡ tally_of s page
+merged-tally s adds logged merges page =
     let f : Addition → ℕ = λ a. cond (a.page == page) a.likes 0 in
-    let none : get_or (merged s adds).slice page 0 ≡ 0 = same_everywhere (pages_of s.post) page 0 in
+    let none : get_or (merged s adds logged).slice page 0 ≡ 0 = same_everywhere (pages_of s.post) page 0 in
     let more = ap (added_to page) (then-additions s.post.worker s.post.did adds) in
     omega (arith, none, more, merges.sums page, sum_by-append f (additions_among s.post.did) adds)
 
@@ -79,4 +80,4 @@ pub IsMerged-tally : {W : Type 0} (s t : StationView W)
     → (page : ℕ)
     → tally_of t page ≡ tally_of s page
 IsMerged-tally {W} s t m page =
-    ap (λ (u : StationView W). tally_of u page) m.1.1 ∙ merged-tally s m.0 m.1.0 page
+    ap (λ (u : StationView W). tally_of u page) m.1.1 ∙ merged-tally s m.0 t.post.logged m.1.0 page

@@ -35,22 +35,25 @@ IsKept-reported post t phase k none is =
     (omega (arith, k.likes, k.seat.few)) k.seat.few_pages k.seat.limits k.seat.within k.seat.waiting
 
 -- a page's likes were added to its count, and taken out of the slice
-pub IsKept-merged : {W C : Type 0} (post : WorkerSeatView) (t : Tables W C) (page old likes : ℕ) (after : SplitSlice)
+pub IsKept-merged : {W C : Type 0} (post : WorkerSeatView) (t : Tables W C) (page old likes number : ℕ)
+    (after : SplitSlice)
     → IsKept post t
     → has_split t.slice page ≡ true
     → likes ≡ likes_in t.slice page
     → after ≡ with_likes t.slice page 0
     → sum after.counts + likes ≡ sum t.slice.counts
     → IsSplitSlice after
-    → IsKept (added post page old likes) (record t { slice = after })
-IsKept-merged {W} {C} post t page old likes after k split likes_are is total lawful =
+    → IsKept (added post page old likes number) (record t { slice = after })
+IsKept-merged {W} {C} post t page old likes number after k split likes_are is total lawful =
     let n : ℕ = pages_of post in
     let there = ((k.splits page).0 split).1 in
     let sums : sum (by_page after n) ≡ sum after.counts =
     ap (λ (s : SplitSlice). sum (by_page s n)) is
     ∙ sum-written t.slice n page 0 (sum after.counts) k.slice split there k.sums (omega (arith, total, likes_are)) in
     let more = all_added-push (additions_among post.did) (addition (phase_of post.state) page old likes) in
-    Kept-written post (added post page old likes).did t (record t { slice = after }) k refl refl refl (ap (λ (s : SplitSlice). s.splits) is)
+    let now : WorkerSeatView = added post page old likes number in
+    Kept-written post now.did now.logged t (record t { slice = after }) k refl refl refl
+    (ap (λ (s : SplitSlice). s.splits) is)
     (ap (λ (s : SplitSlice). length s.counts) is ∙ length-set t.slice.counts (bucket_in t.slice page) 0) lawful sums
     (omega (arith, k.likes, k.sums, total, sums, more)) (omega (arith, k.likes, k.seat.few))
 

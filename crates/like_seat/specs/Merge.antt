@@ -1,6 +1,9 @@
 -- The merge of a whole slice.
-use Rattle.std.specs.Prelude.{◌≡◌, ℕ, List, map, replicate, slice_index, All}
+use Rattle.std.specs.Prelude.{◌≡◌, ℕ, List, [], ◌++◌, map, replicate, slice_index, All}
 use Rattle.std.specs.List.Sorted.{IsStrictlyIncreasing}
+use Rattle.like_core.specs.declared.log.LogEntry.TheVariants.{Did}
+use Rattle.like_core.specs.declared.log.Logged.{Logged}
+use Rattle.like_core.specs.declared.page_step.PageStep.{PageStep}
 use Rattle.like_core.specs.declared.view.Addition.{Addition}
 use Rattle.like_core.specs.Additions.{added_to}
 use Rattle.like_core.specs.PageSteps.{step_adding, then_steps}
@@ -16,11 +19,18 @@ pub record MergesAll (factor phase : ℕ) (slice : List ℕ) (adds : List Additi
   pub sums : (page : ℕ) → added_to page adds ≡ slice_index slice page
   pub in_order : IsStrictlyIncreasing (map (λ a. bucket factor a.page) adds)
 
--- the slice is added to the board by these additions, and emptied
-abbrev pub merged : {W : Type 0} → StationView W → List Addition → StationView W
-merged s adds = record s {
+-- a seat's entries in the board's log go on with these steps, one after the other, each with a number
+pub record LogsSteps (steps : List PageStep) (before after : List Logged) : Type 0 where
+  pub since : List Logged
+  pub made : map (λ e. e.entry) since ≡ map (λ s. Did s) (then_steps [] steps)
+  pub logged : after ≡ since ++ before
+
+-- the slice is added to the board by these additions, after which these are its entries, and emptied
+abbrev pub merged : {W : Type 0} → StationView W → List Addition → List Logged → StationView W
+merged s adds logged = record s {
   post = record s.post {
     did = then_steps s.post.did (map (step_adding s.post.worker) adds);
+    logged = logged;
   };
   slice = replicate (pages_of s.post) 0;
 }
@@ -29,7 +39,8 @@ merged s adds = record s {
 abbrev pub IsMerged : {W : Type 0} → StationView W → StationView W → Type 0
 IsMerged s after =
     (adds : List Addition)
-    × (MergesAll s.post.opening.factor (phase_at s) s.slice adds × (after ≡ merged s adds))
+    × (MergesAll s.post.opening.factor (phase_at s) s.slice adds × (after ≡ merged s adds after.post.logged)
+    × LogsSteps (map (step_adding s.post.worker) adds) s.post.logged after.post.logged)
 
 -- the slice is merged, and then its phase answered
 abbrev pub MergesAndReports : {W : Type 0} → StationView W → StationView W → Type 0

@@ -1,8 +1,8 @@
--- What each step of a seat does to it.
+-- What each step of a seat does to it. One that has an entry in the board's log has its number in the view after it.
 use Rattle.std.specs.Prelude.{◌≡◌, ◌≢◌, ℕ, ◌+◌, ◌%◌, ◌<◌, ◌≤◌, ◌==◌, if◌then◌else◌, true, false, List, [], ◌∷◌, ◌++◌, drop, length, replicate, slice_index, slice_set, Option, Some, MatchOption}
 use Rattle.like_core.specs.declared.sight.Sight.{Sight}
 use Rattle.like_core.specs.declared.view.PhaseMask.{PhaseMask}
-use Rattle.like_core.specs.Post.{added, additions_of, has_glanced, has_read, looked_at, pages_of, returned, slices}
+use Rattle.like_core.specs.Post.{added, additions_of, has_glanced, has_read, looked_at, number_of, pages_of, returned, slices}
 use Rattle.like_core.specs.WorkerState.{IsRunning, IsSightOf, SeesEndingStill, phase_of, seen}
 use Rattle.like_core.specs.declared.view.WorkerSeatView.{WorkerSeatView}
 use Rattle.like_limits.specs.Buckets.{bucket}
@@ -32,19 +32,19 @@ masks_entered masks phase mask =
 abbrev pub masks_in : List PhaseMask → ℕ → ℕ → ℕ → List PhaseMask
 masks_in masks from to mask = if to == from then masks else masks_entered masks to mask
 
--- the post after a look: where it enters a split phase it has also read that phase's mask, which is this
-abbrev pub saw_at : WorkerSeatView → Sight → ℕ → WorkerSeatView
-saw_at post sight mask = record (looked_at post sight) {
+-- the post after a look, with this number: where it enters a split phase it has also read that phase's mask, which is this
+abbrev pub saw_at : WorkerSeatView → Sight → ℕ → ℕ → WorkerSeatView
+saw_at post sight mask number = record (looked_at post sight number) {
   masks = masks_in post.masks (phase_of post.state) (phase_of (seen post.state sight)) mask;
 }
 
 -- the seat after a look
-abbrev pub saw : {W : Type 0} → StationView W → Sight → ℕ → StationView W
-saw s sight mask = record s { post = saw_at s.post sight mask }
+abbrev pub saw : {W : Type 0} → StationView W → Sight → ℕ → ℕ → StationView W
+saw s sight mask number = record s { post = saw_at s.post sight mask number }
 
 -- a worker's seat looks, and sees this
 abbrev pub Looks : {W : Type 0} → StationView W → Sight → StationView W → Type 0
-Looks s sight after = (mask : ℕ) × (after ≡ saw s sight mask)
+Looks s sight after = (mask : ℕ) × (after ≡ saw s sight mask (number_of after.post))
 
 -- a look, and what it shows: the phase that the seat is in, or the next; and the end of a phase that it has shown before.
 -- The seat then runs a phase, unless it waits
@@ -55,17 +55,18 @@ pub record LooksAndEnters {W : Type 0} (s : StationView W) (shown : Sight) (afte
   pub runs : shown.waits ≡ false → IsRunning after.post.state
   pub seat : IsStation after
 
--- the post after it came back into a phase; of a split one it has also read that phase's mask, which is this
-abbrev pub returned_at : WorkerSeatView → ℕ → ℕ → WorkerSeatView
-returned_at post phase mask = record (returned post phase) { masks = masks_entered post.masks phase mask }
+-- the post after it came back into a phase, with this number; of a split one it has also read that phase's mask, which is
+-- this
+abbrev pub returned_at : WorkerSeatView → ℕ → ℕ → ℕ → WorkerSeatView
+returned_at post phase mask number = record (returned post phase number) { masks = masks_entered post.masks phase mask }
 
 -- the seat after it came back into a phase
-abbrev pub came_back : {W : Type 0} → StationView W → ℕ → ℕ → StationView W
-came_back s phase mask = record s { post = returned_at s.post phase mask }
+abbrev pub came_back : {W : Type 0} → StationView W → ℕ → ℕ → ℕ → StationView W
+came_back s phase mask number = record s { post = returned_at s.post phase mask number }
 
 -- a seat comes back, into some phase
 abbrev pub ComesBack : {W : Type 0} → StationView W → StationView W → Type 0
-ComesBack s after = (phase : ℕ) × ((mask : ℕ) × (after ≡ came_back s phase mask))
+ComesBack s after = (phase : ℕ) × ((mask : ℕ) × (after ≡ came_back s phase mask (number_of after.post)))
 
 -- one more like of a page in the slice, after all looks so far
 abbrev pub sliced : {W : Type 0} → StationView W → ℕ → StationView W
@@ -74,9 +75,9 @@ sliced s page = record s {
   sliced = s.sliced ++ sliced_like page (length s.post.looks) ∷ [];
 }
 
--- n is added to a page's count on the board, which was this before
-abbrev pub with_addition : {W : Type 0} → StationView W → ℕ → ℕ → ℕ → StationView W
-with_addition s page old n = record s { post = added s.post page old n }
+-- n is added to a page's count on the board, which was this before, with this number
+abbrev pub with_addition : {W : Type 0} → StationView W → ℕ → ℕ → ℕ → ℕ → StationView W
+with_addition s page old n number = record s { post = added s.post page old n number }
 
 -- the user's last like is of this page
 abbrev pub liked_last : {W : Type 0} → StationView W → ℕ → ℕ → StationView W
@@ -89,7 +90,7 @@ CountsLike s user page old after =
     MatchOption old
     ((slices s.post page ≡ true) × (after ≡ liked_last (sliced s page) user page))
     (λ count. (slices s.post page ≡ false)
-    × (after ≡ liked_last (with_addition s page count 1) user page))
+    × (after ≡ liked_last (with_addition s page count 1 (number_of after.post)) user page))
 
 -- a like of a page that is not sliced is counted, whatever the page's count was
 abbrev pub CountsOnBoard : {W : Type 0} → StationView W → ℕ → ℕ → StationView W → Type 0
@@ -100,7 +101,7 @@ pub record Reads {W : Type 0} (s : StationView W) (user page : ℕ) (shown : See
     : Type 0 where
   pub last : shown.last ≡ last_of s.last user
   pub own : additions_of s.post page ≤ shown.count
-  pub read : after ≡ record s { post = has_read s.post page shown.count }
+  pub read : after ≡ record s { post = has_read s.post page shown.count (number_of after.post) }
 
 -- a page that is sliced is glanced at for a user's look: the user's last like is shown, and the page's count with the
 -- seat's slice of it, which has all likes that the seat has counted
@@ -110,7 +111,7 @@ pub record Glances {W : Type 0} (s : StationView W) (user page : ℕ) (shown : S
   pub last : shown.last ≡ last_of s.last user
   pub counts : shown.count ≡ count + slice_index s.slice page
   pub own : tally_of s page ≤ shown.count
-  pub glanced : after ≡ record s { post = has_glanced s.post page count }
+  pub glanced : after ≡ record s { post = has_glanced s.post page count (number_of after.post) }
 
 -- one more waits, behind all others
 abbrev pub holding : {W : Type 0} → StationView W → W → StationView W
@@ -120,10 +121,10 @@ holding s w = record s { held = record s.held { held = s.held.held ++ w ∷ [] }
 abbrev pub without_first : {W : Type 0} → StationView W → StationView W
 without_first s = record s { held = record s.held { held = drop 1 s.held.held } }
 
--- a page's likes are added to its count, which was this, and its slice is emptied
-abbrev pub merged_page : {W : Type 0} → StationView W → ℕ → ℕ → StationView W
-merged_page s page old =
-    let t = with_addition s page old (slice_index s.slice page) in
+-- a page's likes are added to its count, which was this, with this number, and its slice is emptied
+abbrev pub merged_page : {W : Type 0} → StationView W → ℕ → ℕ → ℕ → StationView W
+merged_page s page old number =
+    let t = with_addition s page old (slice_index s.slice page) number in
     record t { slice = slice_set s.slice page 0 }
 
 -- no page with its bucket from `from` on has a like in the slice
@@ -143,7 +144,7 @@ pub record MergesPage {W : Type 0} (s : StationView W) (from : ℕ) (m : Merged)
     : Type 0 where
   pub next : IsNext s.post.opening.factor s.slice from m.page
   pub likes : m.likes ≡ slice_index s.slice m.page
-  pub merged : after ≡ merged_page s m.page m.old
+  pub merged : after ≡ merged_page s m.page m.old (number_of after.post)
 
 -- the first page, by the pages' buckets from `from` on, that has a like is merged, if there is one
 abbrev pub MergesNext : {W : Type 0} → StationView W → ℕ → Option Merged → StationView W → Type 0

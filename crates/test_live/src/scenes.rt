@@ -99,15 +99,15 @@ macro_rules! look {
     };
 }
 
-// A glance at a page that the user liked last.
+// A glance at a page that the user liked last, with its answer.
 macro_rules! glance_at {
-    ($seat:literal, $user:literal, $page:literal, $count:literal) => {
+    ($seat:literal, $user:literal, $page:literal, $answer:ident, $count:literal) => {
         Step::Seat(
             $seat,
             OnSeat::Glance(
                 $user,
                 $page,
-                GlanceAnswer::Seen(Seen {
+                GlanceAnswer::$answer(Seen {
                     last: Some($page),
                     count: $count,
                 }),
@@ -133,12 +133,12 @@ macro_rules! shown {
     };
 }
 
-// A glance at page 0.
+// A glance at page 0, which is split.
 macro_rules! glance {
     ($seat:literal, $user:literal, $count:literal) => {
         Step::Seat(
             $seat,
-            OnSeat::Glance($user, 0, GlanceAnswer::Seen(seen!($count))),
+            OnSeat::Glance($user, 0, GlanceAnswer::Glimpsed(seen!($count))),
         )
     };
 }
@@ -252,7 +252,7 @@ const BATCH: &[Call; 5] = &[
 const BATCH_ANSWERS: &[Answer; 5] = &[
     Answer::Like(LikeAnswer::Liked),
     Answer::Like(LikeAnswer::Refused(Verdict::OtherHome)),
-    Answer::Glance(GlanceAnswer::Seen(seen!(11))),
+    Answer::Glance(GlanceAnswer::Glimpsed(seen!(11))),
     Answer::Look(LookAnswer::Waits),
     Answer::Look(LookAnswer::NoRoom),
 ];
@@ -511,8 +511,9 @@ static LIVE_SLOTS: Calls = Calls {
             like!(1, 1, 999_999),
             like!(0, 2, 5),
             like!(1, 3, 5),
-            glance_at!(0, 0, 999_999, 2),
-            glance_at!(1, 1, 999_999, 1),
+            glance_at!(0, 0, 999_999, Glimpsed, 2),
+            glance_at!(1, 1, 999_999, Glimpsed, 1),
+            glance_at!(0, 2, 5, Seen, 2),
         ],
         CHANGE,
         &[retire!(0), retire!(1)],
@@ -624,7 +625,7 @@ static LIKES_THE_LAST: Calls = Calls {
             0,
             OnSeat::Like(0, 100_000, LikeAnswer::Refused(Verdict::UnknownPage)),
         ),
-        glance_at!(0, 0, 99_999, 8),
+        glance_at!(0, 0, 99_999, Seen, 8),
     ]],
 };
 

@@ -27,6 +27,7 @@ use Rattle.like_core.specs.views.Reads.{IsCounted}
 use Rattle.like_core.specs.views.Posts.{posts_before, posts_of}
 use Rattle.like_core.specs.views.Tallies.{room}
 use Rattle.like_core.specs.views.Layout.{mask_place, slot_in, slot_place, word_of}
+use Rattle.like_core.specs.views.Order.{IsOrder}
 use Rattle.like_core.specs.views.Shows.{Shows, ShowsSome, FitsWorker, FitsCoord, FixesMask, IsStep}
 use Rattle.like_core.proofs.views.Ordered.{applied_now, past_now}
 use Rattle.like_core.proofs.Slots.{choice-same, mask-below, mask_by-plain, mask_by-slots, mask_of_slots-same}
@@ -91,7 +92,11 @@ counts z words views place c page some_state at may =
     (λ v f. f))
     in
     let permits : Permits (numbers z s) (CoordRead page) =
-    record { there = on; suits = tt; leaves_last = tt; room = tt } in (
+    record { there = on; suits = tt; leaves_last = tt; room = tt } in
+    let order : IsOrder z s (set views place (Coord d)) some_state.log =
+    other_step_keeps_order z s s views some_state.log place (Coord c) (Coord d) at (same_coord c d refl) (omega arith)
+    (λ _. refl) some_state.order
+    in (
       record {
         moment = moment_of z words views some_state;
         place = place;
@@ -100,6 +105,7 @@ counts z words views place c page some_state at may =
         changed = word_of page;
         word = found;
         shows_after = after_it;
+        goes_on = order;
       },
       record {
         state = s;
@@ -107,9 +113,8 @@ counts z words views place c page some_state at may =
         shows = after_it;
         tallied = tallied_on z.limits s s views place (Coord c) (Coord d) (λ _. refl) at
             (λ _. refl) some_state.tallied;
-        steps = some_state.steps;
-        order = other_step_keeps_order z s s views some_state.steps place (Coord c) (Coord d) at
-            (same_coord c d refl) (omega arith) (λ _. refl) some_state.order;
+        log = some_state.log;
+        order = order;
       },
     )
 
@@ -174,8 +179,8 @@ chooses z words views place c d changed word some_state at all_in joined rest la
           (λ v f. f);
       tallied = tallied_on z.limits s s views place (Coord c) (Coord d) (λ _. refl) at
           (λ page. ap (λ (e : CoordSeatView). room z.limits page (Coord e)) rest) some_state.tallied;
-      steps = some_state.steps;
-      order = other_step_keeps_order z s s views some_state.steps place (Coord c) (Coord d) at
+      log = some_state.log;
+      order = other_step_keeps_order z s s views some_state.log place (Coord c) (Coord d) at
           (same_coord c d (ap (λ (e : CoordSeatView). e.joined) rest)) (omega arith) (λ _. refl) some_state.order;
     }
 

@@ -24,6 +24,7 @@ use Rattle.like_core.specs.core.Table.{Permits}
 use Rattle.like_core.specs.core.State.{CoreState, numbers}
 use Rattle.like_core.specs.word.ShownWord.{shown_word}
 use Rattle.like_core.specs.views.Views.{looked_coord, announced_coord, released_coord, mask_released, saw_all_gone, SawAllIn, MayAnnounce, MayRelease}
+use Rattle.like_core.specs.views.Order.{IsOrder}
 use Rattle.like_core.specs.views.Shows.{Shows, ShowsSome, FitsWorker, FitsCoord, IsStep, mask_in}
 use Rattle.like_core.proofs.Updates.{update-same, update-other}
 use Rattle.like_core.proofs.core.Moved.{moved_in_phase, moves_by}
@@ -92,7 +93,11 @@ surveys z words views place c some_state at =
     (omega arith) sh.board.phase sh.board.mask sh.board.chosen
     (choice_forgot z words views c d refl (of_coord z s words views place c sh at).0) fits (λ v f. f)
     in
-    let permits : Permits (numbers z s) CoordLook = record { there = tt; suits = tt; leaves_last = tt; room = tt } in (
+    let permits : Permits (numbers z s) CoordLook = record { there = tt; suits = tt; leaves_last = tt; room = tt } in
+    let order : IsOrder z s (set views place (Coord d)) some_state.log =
+    other_step_keeps_order z s s views some_state.log place (Coord c) (Coord d) at (same_coord c d refl) (omega arith)
+    (λ _. refl) some_state.order
+    in (
       record {
         number = sees.number ∙ sym old.phase.present;
         within = subst (λ n. n ≤ z.limits.last_phase) (sym old.phase.present) p.within;
@@ -107,6 +112,7 @@ surveys z words views place c some_state at =
           changed = 0;
           word = found;
           shows_after = after_it;
+          goes_on = order;
         };
       },
       record {
@@ -115,9 +121,8 @@ surveys z words views place c some_state at =
         shows = after_it;
         tallied = tallied_on z.limits s s views place (Coord c) (Coord d) (λ _. refl) at
             (λ _. refl) some_state.tallied;
-        steps = some_state.steps;
-        order = other_step_keeps_order z s s views some_state.steps place (Coord c) (Coord d) at
-            (same_coord c d refl) (omega arith) (λ _. refl) some_state.order;
+        log = some_state.log;
+        order = order;
       },
     )
 
@@ -167,7 +172,6 @@ announces z words views place c some_state at may =
       state = f.state;
       number = f.number;
       ending = λ _ _. refl;
-      labels = f.labels;
       masks = f.masks;
       slots = f.slots;
     }
@@ -178,7 +182,6 @@ announces z words views place c some_state at may =
         opening = old.seats.opening;
         made = old.seats.made;
         unmade = old.seats.unmade;
-        unlabelled = old.seats.unlabelled;
         joined = λ at_place v found. workers v (old.seats.joined at_place v found);
       };
       phase = record {
@@ -212,6 +215,10 @@ announces z words views place c some_state at may =
     (choice_same z words views c d refl (of_coord z s words views place c sh at).0)
     fits
     workers
+    in
+    let order : IsOrder z t (set views place (Coord d)) some_state.log =
+    other_step_keeps_order z s t views some_state.log place (Coord c) (Coord d) at (same_coord c d refl) (omega arith)
+    (λ _. refl) some_state.order
     in (
       record {
         moment = moment_of z words views some_state;
@@ -221,6 +228,7 @@ announces z words views place c some_state at may =
         changed = 0;
         word = word;
         shows_after = after_it;
+        goes_on = order;
       },
       record {
         state = t;
@@ -228,9 +236,8 @@ announces z words views place c some_state at may =
         shows = after_it;
         tallied = tallied_on z.limits s t views place (Coord c) (Coord d) (λ _. refl) at
             (λ _. refl) some_state.tallied;
-        steps = some_state.steps;
-        order = other_step_keeps_order z s t views some_state.steps place (Coord c) (Coord d) at
-            (same_coord c d refl) (omega arith) (λ _. refl) some_state.order;
+        log = some_state.log;
+        order = order;
       },
     )
 
@@ -338,7 +345,6 @@ releases z words views place c seen some_state at may seen_is =
       ending = λ runs _.
           let is = running_is (λ _. Unit {0}) v.state runs in
           absurd (subst (IsIn s.phase) (f.state ∙ is.1) (now.all_in v.worker f.there));
-      labels = f.labels;
       masks = λ i m inside.
           let own : PhaseMask = get_or v.masks i m in
           let before = f.masks i m inside in
@@ -355,7 +361,6 @@ releases z words views place c seen some_state at may seen_is =
         opening = old.seats.opening;
         made = old.seats.made;
         unmade = old.seats.unmade;
-        unlabelled = old.seats.unlabelled;
         joined = λ at_place v found. workers v (old.seats.joined at_place v found);
       };
       phase = record {
@@ -396,6 +401,10 @@ releases z words views place c seen some_state at may seen_is =
     (choice_same z words views c d refl known.0)
     fits
     workers
+    in
+    let order : IsOrder z t (set views place (Coord d)) some_state.log =
+    other_step_keeps_order z s t views some_state.log place (Coord c) (Coord d) at (same_coord c d refl) (omega arith)
+    (λ _. refl) some_state.order
     in (
       record {
         moment = moment_of z words views some_state;
@@ -405,6 +414,7 @@ releases z words views place c seen some_state at may seen_is =
         changed = 0;
         word = released_word z seen;
         shows_after = after_it;
+        goes_on = order;
       },
       record {
         state = t;
@@ -412,8 +422,7 @@ releases z words views place c seen some_state at may seen_is =
         shows = after_it;
         tallied = tallied_on z.limits s t views place (Coord c) (Coord d) (λ _. refl) at
             (λ _. refl) some_state.tallied;
-        steps = some_state.steps;
-        order = other_step_keeps_order z s t views some_state.steps place (Coord c) (Coord d) at
-            (same_coord c d refl) (omega arith) (λ _. refl) some_state.order;
+        log = some_state.log;
+        order = order;
       },
     )

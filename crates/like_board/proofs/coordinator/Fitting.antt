@@ -15,7 +15,6 @@ same_seats z s c d same k =
       opening = k.opening;
       made = k.made;
       unmade = k.unmade;
-      unlabelled = k.unlabelled;
       joined = k.joined;
     })
 

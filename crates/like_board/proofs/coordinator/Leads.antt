@@ -259,7 +259,6 @@ splits z s words views place c sh at room =
         opening = old.seats.opening;
         made = omega arith;
         unmade = λ i past below. old.seats.unmade i (omega arith) below;
-        unlabelled = λ i phase page past below. old.seats.unlabelled i phase page (omega arith) below;
         joined = old.seats.joined;
       };
       phase = same_phase z s c d refl old.phase;
@@ -273,7 +272,6 @@ splits z s words views place c sh at room =
       state = old.seats.unmade c.made (omega arith) room;
       number = tt;
       ending = λ _ saw. absurd (saw);
-      labels = λ phase page. old.seats.unlabelled c.made phase page (omega arith) room;
       masks = All-nil (λ (m : PhaseMask). (m.phase ≤ s.phase) × (m.mask ≡ s.hot m.phase));
       slots = λ _. refl;
     }

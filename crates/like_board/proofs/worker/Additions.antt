@@ -1,5 +1,5 @@
 -- An addition to a page's word is its events, and keeps what the board shows.
-use Rattle.std.proofs.Common.{◌≡◌, ◌≢◌, ℕ, ◌+◌, ◌-◌, ◌%◌, ◌^◌, ◌<◌, ◌≤◌, ◌==◌, ◌&&◌, Bool, true, false, cond, inl, inr, List, ◌∷◌, ◌++◌, All, length, get_or, set, replicate, subst, ap, sym, ◌∙◌, refl, eq-eqb, arith, fold}
+use Rattle.std.proofs.Common.{◌≡◌, ◌≢◌, ℕ, ◌+◌, ◌-◌, ◌%◌, ◌^◌, ◌<◌, ◌≤◌, ◌==◌, Bool, true, false, cond, inl, inr, List, ◌∷◌, ◌++◌, All, length, get_or, set, replicate, subst, ap, sym, ◌∙◌, refl, append-nil, eq-eqb, arith, fold}
 use Rattle.std.proofs.lemmas.Bool.{cases_eq, cases_lt, ne_eqb}
 use Rattle.std.proofs.lemmas.List.{length-append, length-replicate}
 use Rattle.std.proofs.lemmas.List.Elements.{All-get_or}
@@ -9,6 +9,7 @@ use Rattle.like_core.specs.declared.worker_state.WorkerState.TheVariants.{Runs}
 use Rattle.like_core.specs.declared.shown.Shown.TheVariants.{Old}
 use Rattle.like_core.specs.declared.limits.Limits.{Limits}
 use Rattle.like_core.specs.declared.opening.Opening.{Opening}
+use Rattle.like_core.specs.declared.log.LogEntry.TheVariants.{Did}
 use Rattle.like_core.specs.declared.page_step.PageCall.TheVariants.{Add}
 use Rattle.like_core.specs.declared.page_step.PageStep.{PageStep}
 use Rattle.like_core.specs.declared.view.PageCount.{PageCount}
@@ -18,11 +19,11 @@ use Rattle.like_core.specs.declared.view.View.TheVariants.{Coord, Worker}
 use Rattle.like_limits.specs.Limits.{max_count}
 use Rattle.like_core.specs.Functions.{update}
 use Rattle.like_core.specs.core.Table.{IsShown}
-use Rattle.like_core.specs.core.State.{CoreState, Label, is_split_now, labelled, after, numbers}
+use Rattle.like_core.specs.core.State.{CoreState, Label, is_split_now, after, numbers}
 use Rattle.like_core.specs.core.Moves.{Reached, makes}
 use Rattle.like_core.specs.WorkerState.{IsIn, phase_of}
 use Rattle.like_core.specs.Post.{MayAdd, slices, added}
-use Rattle.like_core.specs.Additions.{added_to, added_in}
+use Rattle.like_core.specs.Additions.{added_to}
 use Rattle.like_core.specs.PageSteps.{additions_among, page_step}
 use Rattle.like_core.specs.views.Views.{likes_merged, adding}
 use Rattle.like_core.specs.views.Reads.{IsCounted}
@@ -32,63 +33,32 @@ use Rattle.like_core.specs.views.Tallies.{Tallied, room}
 use Rattle.like_core.proofs.views.ViewSums.{added_posts, paged, added_to-le}
 use Rattle.like_core.proofs.views.Ordered.{applied_now}
 use Rattle.like_core.specs.views.Layout.{word_of}
-use Rattle.like_core.specs.views.Shows.{Shows, ShowsSome, FitsWorker, FitsCoord, IsPageStep}
-use Rattle.like_core.proofs.Updates.{update-same, update-other, update_cases}
+use Rattle.like_core.specs.views.Shows.{Shows, ShowsSome, FitsWorker, FitsCoord, IsEntry}
+use Rattle.like_core.proofs.Updates.{update-same, update-other}
 use Rattle.like_core.proofs.core.Moved.{moved_in_phase, moves_by, moves_by_all}
-use Rattle.like_core.proofs.core.Labels.{label, labelled-append, labels_else, labels_here, added_in-push, added_in_else, added_to_here, added_to_else}
+use Rattle.like_core.proofs.core.Labels.{label, added_to_here, added_to_else}
 use Rattle.like_core.proofs.core.Adding.{Adding, with_applied, adds_either}
 use Rattle.like_core.proofs.views.KeptOrder.{page_step_keeps_order}
 use Rattle.like_core.proofs.views.KeptCounts.{addition_before, counted_on}
 use Rattle.like_core.proofs.views.ViewLists.{sum_part, sum_set, sum_swap}
 use Rattle.like_board.proofs.worker.Moves.{moment_of, one_seat}
 use Rattle.like_board.proofs.worker.WorkerSteps.{running_is}
-use Rattle.like_board.proofs.worker.Pages.{KeepsOthers, slices_are, page_steps}
+use Rattle.like_board.proofs.worker.Pages.{slices_are, page_steps}
 
 -- what stands of likes that worker i applied to a page in phase k
 abbrev pub applied_by : CoreState → ℕ → ℕ → ℕ → ℕ → List Label
 applied_by s i page n = update s.applied page (s.applied page ++ replicate n (label i s.phase))
 
--- the likes of the others keep their labels
-others_keep : (s : CoreState) (i page n : ℕ) → KeepsOthers s (applied_by s i page n) i
-others_keep s i page n j phase q other =
-    let more : List Label = replicate n (label i s.phase) in
-    let P : ℕ → List Label → Type 0 = λ r l. labelled j phase l ≡ labelled j phase (s.applied r) in
-    let none = labels_else i j s.phase phase n other in
-    let joined = labelled-append j phase (s.applied page) more in
-    update_cases P s.applied page (s.applied page ++ more) (omega arith) (λ r apart. refl) q
-
--- the own view's additions are the labels
-own_labels : (z : Opening) (s : CoreState) (v : WorkerSeatView) (page count n : ℕ)
-    → FitsWorker z s v
-    → phase_of v.state ≡ s.phase
-    → (phase q : ℕ)
-    → labelled v.worker phase (applied_by s v.worker page n q) ≡ added_in phase q (additions_among (added v page count n).did)
-own_labels z s v page count n f present phase q =
-    let more : List Label = replicate n (label v.worker s.phase) in
-    let P : ℕ → List Label → Type 0 =
-    λ r l. labelled v.worker phase l ≡ added_in phase r (additions_among (added v page count n).did) in
-    let here : P page (s.applied page ++ more) =
-    labelled-append v.worker phase (s.applied page) more ∙
-    ((λ m. f.labels phase page m + labels_here v.worker s.phase phase page n m) ∙
-    (ap (λ (k : ℕ). added_in phase page (additions_among v.did) + cond ((k == phase) && (page == page)) n 0) (sym present) ∙
-    sym (added_in-push (additions_among v.did) (phase_of v.state) page count n phase page)))
-    in
-    update_cases P s.applied page (s.applied page ++ more) here
-    (λ r other. f.labels phase r ∙ sym (added_in_else (additions_among v.did) (phase_of v.state) page count n phase r other))
-    q
-
 -- the view fits after its addition
-fits_added : (z : Opening) (s : CoreState) (v : WorkerSeatView) (page count n : ℕ) (rest : ℕ → List ℕ)
+fits_added : (z : Opening) (s : CoreState) (v : WorkerSeatView) (page count n number : ℕ) (rest : ℕ → List ℕ)
     → FitsWorker z s v
-    → phase_of v.state ≡ s.phase
-    → FitsWorker z (record s { unmerged = rest; applied = applied_by s v.worker page n }) (added v page count n)
-fits_added z s v page count n rest f present = record {
+    → FitsWorker z (record s { unmerged = rest; applied = applied_by s v.worker page n }) (added v page count n number)
+fits_added z s v page count n number rest f = record {
   opening = f.opening;
   there = f.there;
   state = f.state;
   number = f.number;
   ending = f.ending;
-  labels = own_labels z s v page count n f present;
   masks = f.masks;
   slots = f.slots;
 }
@@ -107,32 +77,34 @@ applied_else s i page n q other =
 
 -- so the likes are applied to the page
 applies_to : (s : CoreState) (i page n : ℕ) (rest : ℕ → List ℕ)
-    → AppliesTo page n s (with_applied s rest page (replicate n (label i s.phase)))
+    → AppliesTo i page n s (with_applied s rest page (replicate n (label i s.phase)))
 applies_to s i page n rest = record {
   phase = refl;
-  likes = λ other. elim (cases_eq page other) [
-    | inl here ↦
-        let long = applied_here s i page n in
-        subst (λ q. length (applied_by s i page n q) ≡ length (s.applied q) + cond (page == q) n 0) here
-        (long ∙ ap (λ (b : Bool). length (s.applied page) + cond b n 0) (sym (eq-eqb page page refl)))
-    | inr apart ↦
-        let same = applied_else s i page n other (λ is. apart (sym is)) in
-        let none = ap (λ (b : Bool). cond {A = ℕ} b n 0) (ne_eqb page other apart) in
-        omega arith
-  ];
+  likes = λ other.
+      let now : List Label = s.applied page ++ replicate n (label i s.phase) in
+      elim (cases_eq page other) [
+        | inl here ↦
+            subst (λ q. applied_by s i page n q ≡ s.applied q ++ replicate (cond (page == q) n 0) (label i s.phase)) here
+            (update-same s.applied page now
+            ∙ ap (λ (b : Bool). s.applied page ++ replicate (cond b n 0) (label i s.phase)) (sym (eq-eqb page page refl)))
+        | inr apart ↦
+            update-other s.applied page now other (λ is. apart (sym is))
+            ∙ sym (append-nil (s.applied other))
+            ∙ ap (λ (b : Bool). s.applied other ++ replicate (cond b n 0) (label i s.phase)) (sym (ne_eqb page other apart))
+      ];
 }
 
 -- what the views have added and may still add, after an addition
-tallied_added : (l : Limits) (s : CoreState) (views : List View) (place : ℕ) (v : WorkerSeatView) (page count n : ℕ)
-    (rest : ℕ → List ℕ)
+tallied_added : (l : Limits) (s : CoreState) (views : List View) (place : ℕ) (v : WorkerSeatView)
+    (page count n number : ℕ) (rest : ℕ → List ℕ)
     → get_elem? views place ≡ some (Worker v)
     → phase_of v.state ≡ s.phase
     → added_to page (additions_among v.did) + n ≤ l.likes
     → Tallied l s views
     → Tallied l (record s { unmerged = rest; applied = applied_by s v.worker page n })
-    (set views place (Worker (added v page count n)))
-tallied_added l s views place v page count n rest at present few old =
-    let w : WorkerSeatView = added v page count n in
+    (set views place (Worker (added v page count n number)))
+tallied_added l s views place v page count n number rest at present few old =
+    let w : WorkerSeatView = added v page count n number in
     λ q.
     elim (cases_eq q page) [
       | inl same ↦
@@ -154,22 +126,22 @@ tallied_added l s views place v page count n rest at present few old =
 
 -- the counts that the coordinator read have none of it: in their phases nobody runs any more
 counted_added : (z : Opening) (s : CoreState) (words : List ℕ) (views : List View) (place : ℕ) (v : WorkerSeatView)
-    (page count n : ℕ)
+    (page count n number : ℕ)
     → (sh : Shows z s words views)
     → get_elem? views place ≡ some (Worker v)
     → s.state v.worker ≡ Runs s.phase
     → phase_of v.state ≡ s.phase
-    → All (IsCounted z.counts (posts_before (posts_of (set views place (Worker (added v page count n)))))) sh.coord.counted
-counted_added z s words views place v page count n sh at runs present =
+    → All (IsCounted z.counts (posts_before (posts_of (set views place (Worker (added v page count n number)))))) sh.coord.counted
+counted_added z s words views place v page count n number sh at runs present =
     let old : FitsWorker z s v = sh.seats.each place (Worker v) at in
     let coord : FitsCoord z s sh.coord = sh.seats.each 0 (Coord sh.coord) sh.seats.first in
     counted_on z.counts (posts_before (posts_of views))
-    (posts_before (posts_of (set views place (Worker (added v page count n))))) sh.coord.counted
+    (posts_before (posts_of (set views place (Worker (added v page count n number))))) sh.coord.counted
     (λ k d inside.
     let r : PageCount = get_or sh.coord.counted k d in
     let of = coord.choice.counted k d inside in
     elim (cases_lt r.phase s.phase) [
-      | inl over ↦ addition_before views place v page count n (r.phase + 1) r.page at (omega arith)
+      | inl over ↦ addition_before views place v page count n number (r.phase + 1) r.page at (omega arith)
       | inr not ↦
           let within = of.0 in
           absurd (subst (IsIn s.phase) runs ((of.1 (omega arith)).0 v.worker old.there))
@@ -193,14 +165,14 @@ some_likes v page n may = by_test (slices v page) refl
 
 -- an addition is its events
 pub adds : (z : Opening) (words : List ℕ) (views : List View) (place : ℕ) (v : WorkerSeatView) (page n : ℕ)
-    → ShowsSome z words views
+    → (some_state : ShowsSome z words views)
     → get_elem? views place ≡ some (Worker v)
     → MayAdd v page n
-    → IsPageStep z (likes_merged v page n) (makes (adding v page)) (Old (get_or words (word_of page) 0))
-    (page_step v.worker (phase_of v.state) page (get_or words (word_of page) 0) (Add n)) (Worker v)
-    (Worker (added v page (get_or words (word_of page) 0) n))
+    → IsEntry z (likes_merged v page n) (makes (adding v page)) (Old (get_or words (word_of page) 0))
+    (Did (page_step v.worker (phase_of v.state) page (get_or words (word_of page) 0) (Add n))) (Worker v)
+    (Worker (added v page (get_or words (word_of page) 0) n (length some_state.log)))
     × ShowsSome z (set words (word_of page) ((get_or words (word_of page) 0 + n) % 2 ^ 64))
-    (set views place (Worker (added v page (get_or words (word_of page) 0) n)))
+    (set views place (Worker (added v page (get_or words (word_of page) 0) n (length some_state.log))))
     × (added_to page (additions_among v.did) ≤ get_or words (word_of page) 0)
 adds z words views place v page n some_state at may =
     let s = some_state.state in
@@ -241,16 +213,16 @@ adds z words views place v page n some_state at may =
     let t : CoreState = with_applied s a.rest page (replicate n (label i s.phase)) in
     let word : ℕ = (get_or words (word_of page) 0 + n) % 2 ^ 64 in
     let count : ℕ = get_or words (word_of page) 0 in
-    let w : WorkerSeatView = added v page count n in
+    let number : ℕ = length some_state.log in
+    let w : WorkerSeatView = added v page count n number in
     let long = applied_here s i page n in
     let word_is : word ≡ get_or z.counts page 0 + length (applied_by s i page n page) = omega arith in
     let shows : Shows z t (set words (word_of page) word) (set views place (Worker w)) =
     page_steps z s a.rest (applied_by s i page n) words views place v w page word sh at refl refl on word_is
     (λ q other. applied_else s i page n q other)
     a.merged
-    (others_keep s i page n)
-    (fits_added z s v page count n a.rest old present)
-    (counted_added z s words views place v page count n sh at (here ∙ ap Runs now) present)
+    (fits_added z s v page count n number a.rest old)
+    (counted_added z s words views place v page count n number sh at (here ∙ ap Runs now) present)
     in
     let last : CoreState = after z (fold (after z) s (likes_merged v page n)) (adding v page) in
     let reached : Reached z last =
@@ -260,36 +232,34 @@ adds z words views place v page n some_state at may =
     in
     let some_are : 1 ≤ n = some_likes v page n may in
     let step : PageStep = page_step v.worker (phase_of v.state) page count (Add n) in
-    let order : IsOrder z t (set views place (Worker w)) (step ∷ some_state.steps) =
-    page_step_keeps_order z s t views some_state.steps place v page count (Add n)
+    let order : IsOrder z t (set views place (Worker w)) (Did step ∷ some_state.log) =
+    page_step_keeps_order z s t views some_state.log place v page count (Add n)
     (record { mine = at; once = one_seat z s words views place v sh at; present = present; finds = found }) some_are
     (applies_to s i page n a.rest) some_state.order
     in (
       record {
-        is_step = record {
-          moment = moment_of z words views some_state;
-          place = place;
-          mine = at;
-          happen = record {
-            before = a.before;
-            permits = a.permits;
-            tells = subst (λ (k : ℕ). IsShown (numbers z (fold (after z) s (likes_merged v page n))) (adding v page)
-                (Old k)) (sym found) a.tells;
-          };
-          changed = word_of page;
-          word = word;
-          shows_after = subst (λ (u : CoreState). Shows z u (set words (word_of page) word)
-              (set views place (Worker w))) {x = t} {y = last} (sym {a = last} {b = t} a.leads) shows;
+        moment = moment_of z words views some_state;
+        place = place;
+        mine = at;
+        happen = record {
+          before = a.before;
+          permits = a.permits;
+          tells = subst (λ (k : ℕ). IsShown (numbers z (fold (after z) s (likes_merged v page n))) (adding v page)
+              (Old k)) (sym found) a.tells;
         };
-        last = subst (λ (u : CoreState). IsOrder z u (set views place (Worker w)) (step ∷ some_state.steps)) {x = t}
+        changed = word_of page;
+        word = word;
+        shows_after = subst (λ (u : CoreState). Shows z u (set words (word_of page) word)
+            (set views place (Worker w))) {x = t} {y = last} (sym {a = last} {b = t} a.leads) shows;
+        goes_on = subst (λ (u : CoreState). IsOrder z u (set views place (Worker w)) (Did step ∷ some_state.log)) {x = t}
             {y = last} (sym {a = last} {b = t} a.leads) order;
       },
       record {
         state = t;
         reachable = subst (Reached z) {x = last} {y = t} a.leads reached;
         shows = shows;
-        tallied = tallied_added z.limits s views place v page count n a.rest at present few some_state.tallied;
-        steps = step ∷ some_state.steps;
+        tallied = tallied_added z.limits s views place v page count n number a.rest at present few some_state.tallied;
+        log = Did step ∷ some_state.log;
         order = order;
       },
       omega arith,

@@ -78,7 +78,6 @@ fits_worker_moved z s i state v other f = record {
   state = update-other s.state i state v.worker other ∙ f.state;
   number = f.number;
   ending = f.ending;
-  labels = f.labels;
   masks = f.masks;
   slots = f.slots;
 }
@@ -104,7 +103,6 @@ fits_coord_moved z s c i state there has_seat none stays gone f =
         made = f.seats.made;
         unmade = λ j past below.
             update-other s.state i state j (λ eq. absurd (omega arith)) ∙ f.seats.unmade j past below;
-        unlabelled = f.seats.unlabelled;
         joined = λ place v at.
             fits_worker_moved z s i state v (joined_other c i place v none at) (f.seats.joined place v at);
       };
@@ -311,7 +309,7 @@ pub worker_moves : (z : Opening) (s : CoreState) (words : List ℕ) (views : Lis
     (state : WorkerState) (word : ℕ)
     → (sh : Shows z s words views)
     → get_elem? views place ≡ some (Worker v)
-    → w ≡ record v { state = w.state; last = w.last; looks = w.looks; slots = w.slots }
+    → w ≡ record v { state = w.state; last = w.last; looks = w.looks; logged = w.logged; slots = w.slots }
     → word ≡ shown_word z (moved s v.worker state)
     → FitsWorker z (moved s v.worker state) w
     → w.slots ≡ take (length w.slots) sh.coord.slots

@@ -1,5 +1,5 @@
 -- A step on a page's word keeps what the board shows.
-use Rattle.std.proofs.Common.{◌≡◌, ◌≢◌, ℕ, ◌+◌, ◌<◌, ◌≤◌, true, inl, inr, List, [], All, length, take, get_or, set, subst, ap, sym, ◌∙◌, refl, arith}
+use Rattle.std.proofs.Common.{◌≡◌, ◌≢◌, ℕ, ◌+◌, ◌<◌, ◌≤◌, true, inl, inr, List, [], All, length, take, get_or, set, subst, ap, sym, ◌∙◌, arith}
 use Rattle.std.proofs.Math.ListN.{length-set}
 use Rattle.std.proofs.lemmas.List.{get_or-set_same, get_or-set_other}
 use Rattle.std.proofs.lemmas.Bool.{cases_eq}
@@ -8,23 +8,20 @@ use lib.ListN.{get_elem?}
 use Rattle.like_core.specs.declared.sight.CoordSight.{CoordSight}
 use Rattle.like_core.specs.declared.opening.Opening.{Opening}
 use Rattle.like_core.specs.declared.view.WorkerSeatView.{WorkerSeatView}
-use Rattle.like_core.specs.declared.view.CoordSeatView.{CoordSeatView}
 use Rattle.like_core.specs.declared.view.View.{View}
 use Rattle.like_core.specs.declared.view.View.TheVariants.{Coord, Worker, Spent}
 use Rattle.like_core.specs.core.Numbers.{CoordSees}
 use Rattle.like_core.specs.Phase.{is_marked, split_by}
 use Rattle.like_core.specs.WorkerState.{phase_of}
 use Rattle.like_core.specs.Post.{slices, KnowsSlices}
-use Rattle.like_core.specs.core.State.{CoreState, Label, is_split_now, labelled, numbers}
+use Rattle.like_core.specs.core.State.{CoreState, Label, is_split_now, numbers}
 use Rattle.like_core.specs.word.ShownWord.{shown_word}
-use Rattle.like_core.specs.views.Views.{seats_of}
 use Rattle.like_core.specs.views.Reads.{IsCounted}
 use Rattle.like_core.specs.views.Posts.{posts_before, posts_of}
 use Rattle.like_core.specs.views.Layout.{word_of}
 use Rattle.like_core.specs.views.Shows.{Shows, Fits, FitsWorker}
 use Rattle.like_core.proofs.PhaseMasks.{split-known}
 use Rattle.like_core.proofs.views.Apart.{word_of-past, word_of-order, word_of-injective}
-use Rattle.like_core.proofs.views.ViewLists.{joined_other, worker_other}
 use Rattle.like_board.proofs.worker.Moves.{if_some, keeps_elsewhere, worker_steps}
 
 -- what the post knows of slices is what is split in the state
@@ -42,50 +39,32 @@ slices_are z s v page f present knows =
 abbrev pub with_likes : CoreState → (ℕ → List ℕ) → (ℕ → List Label) → CoreState
 with_likes s unmerged applied = record s { unmerged = unmerged; applied = applied }
 
--- the likes of all workers but one have the labels that they had
-abbrev pub KeepsOthers : CoreState → (ℕ → List Label) → ℕ → Type 0
-KeepsOthers s applied i =
-    (j phase page : ℕ) → j ≢ i → labelled j phase (applied page) ≡ labelled j phase (s.applied page)
-
--- a view of another worker keeps fitting
-fits_worker_else : (z : Opening) (s : CoreState) (unmerged : ℕ → List ℕ) (applied : ℕ → List Label) (i : ℕ)
-    (v : WorkerSeatView)
-    → KeepsOthers s applied i
-    → v.worker ≢ i
+-- other likes change nothing that a worker's view tells
+pub fits_likes : (z : Opening) (s : CoreState) (unmerged : ℕ → List ℕ) (applied : ℕ → List Label) (v : WorkerSeatView)
     → FitsWorker z s v
     → FitsWorker z (with_likes s unmerged applied) v
-fits_worker_else z s unmerged applied i v keeps other f = record {
+fits_likes z s unmerged applied v f = record {
   opening = f.opening;
   there = f.there;
   state = f.state;
   number = f.number;
   ending = f.ending;
-  labels = λ phase page. keeps v.worker phase page other ∙ f.labels phase page;
   masks = f.masks;
   slots = f.slots;
 }
 
--- the view of another seat keeps fitting
-fits_else : (z : Opening) (s : CoreState) (unmerged : ℕ → List ℕ) (applied : ℕ → List Label) (i : ℕ)
-    → KeepsOthers s applied i
-    → (u : View)
-    → seats_of i u ≡ 0
-    → ((c : CoordSeatView) → u ≡ Coord c → i < c.made)
+-- nor what any view tells
+fits_view : (z : Opening) (s : CoreState) (unmerged : ℕ → List ℕ) (applied : ℕ → List Label) (u : View)
     → Fits z s u
     → Fits z (with_likes s unmerged applied) u
-fits_else z s unmerged applied i keeps (Coord c) none has_seat f =
-    let seated = has_seat c refl in
+fits_view z s unmerged applied (Coord c) f =
     let t : CoreState = with_likes s unmerged applied in
     record {
       seats = record {
         opening = f.seats.opening;
         made = f.seats.made;
         unmade = f.seats.unmade;
-        unlabelled = λ j phase page past below.
-            keeps j phase page (λ same. absurd (omega arith)) ∙ f.seats.unlabelled j phase page past below;
-        joined = λ place v at.
-            fits_worker_else z s unmerged applied i v keeps (joined_other c i place v none at)
-            (f.seats.joined place v at);
+        joined = λ place v at. fits_likes z s unmerged applied v (f.seats.joined place v at);
       };
       phase = record {
         present = f.phase.present;
@@ -111,9 +90,8 @@ fits_else z s unmerged applied i keeps (Coord c) none has_seat f =
         masks = f.choice.masks;
       };
     }
-fits_else z s unmerged applied i keeps (Worker v) none has_seat f =
-    fits_worker_else z s unmerged applied i v keeps (worker_other i v none) f
-fits_else z s unmerged applied i keeps Spent none has_seat f = tt
+fits_view z s unmerged applied (Worker v) f = fits_likes z s unmerged applied v f
+fits_view z s unmerged applied Spent f = tt
 
 -- after a step on a page's word, with a new view of its own that fits, the words and the views show the state after
 pub page_steps : (z : Opening) (s : CoreState) (unmerged : ℕ → List ℕ) (applied : ℕ → List Label) (words : List ℕ)
@@ -126,12 +104,11 @@ pub page_steps : (z : Opening) (s : CoreState) (unmerged : ℕ → List ℕ) (ap
     → word ≡ get_or z.counts page 0 + length (applied page)
     → ((q : ℕ) → q ≢ page → length (applied q) ≡ length (s.applied q))
     → ((j : ℕ) → unmerged j ≡ [])
-    → KeepsOthers s applied v.worker
     → FitsWorker z (with_likes s unmerged applied) w
     → All (IsCounted z.counts (posts_before (posts_of (set views place (Worker w))))) sh.coord.counted
     → Shows z (with_likes s unmerged applied) (set words (word_of page) word) (set views place (Worker w))
 page_steps z s unmerged applied words views place v w page word sh at number same_slots on word_is others merged
-    keeps fits counted =
+    fits counted =
     let wide = sh.board.width in
     let past : 96 ≤ word_of page = word_of-past page in
     let inside = word_of-order page (length z.counts) on in
@@ -156,5 +133,5 @@ page_steps z s unmerged applied words views place v w page word sh at number sam
     merged
     fits
     (subst (λ (l : List ℕ). l ≡ take (length l) sh.coord.slots) (sym same_slots) (sh.seats.slots place v at))
-    (λ u none seat f. fits_else z s unmerged applied v.worker keeps u none seat f)
+    (λ u none seat f. fits_view z s unmerged applied u f)
     counted

@@ -9,6 +9,8 @@ use lib.ListN.{get_elem?}
 use Rattle.like_core.specs.declared.worker_state.WorkerState.TheVariants.{Runs}
 use Rattle.like_core.specs.declared.event.Event.TheVariants.{Read, Hot}
 use Rattle.like_core.specs.declared.shown.Shown.TheVariants.{Count, Hot as HotShown}
+use Rattle.like_core.specs.declared.log.LogEntry.TheVariants.{Did}
+use Rattle.like_core.specs.declared.log.Logged.{Logged}
 use Rattle.like_core.specs.declared.opening.Opening.{Opening}
 use Rattle.like_core.specs.declared.view.PhaseMask.{PhaseMask}
 use Rattle.like_core.specs.declared.page_step.PageCall.{PageCall}
@@ -26,13 +28,13 @@ use Rattle.like_core.specs.WorkerState.{phase_of, IsRunning, RunsSplit}
 use Rattle.like_core.specs.Post.{MayRead, MayGlance, KnowsSlices, slices, has_read, has_glanced, with_mask, with_slot, slots_read, MayReadSlot}
 use Rattle.like_core.specs.OpeningLimits.{has_slots}
 use Rattle.like_core.specs.Slots.{IsChoice}
-use Rattle.like_core.specs.Additions.{added_before, added_in, added_to}
+use Rattle.like_core.specs.Additions.{added_before, added_to}
 use Rattle.like_core.specs.PageSteps.{additions_among, page_step}
 use Rattle.like_core.specs.views.Order.{ComesNext, IsOrder}
 use Rattle.like_core.proofs.views.ViewSums.{added_posts, paged}
 use Rattle.like_core.proofs.views.Ordered.{applied_now}
 use Rattle.like_core.specs.views.Layout.{mask_place, slot_in, slot_place, word_of}
-use Rattle.like_core.specs.views.Shows.{Shows, ShowsSome, FitsWorker, IsPageStep, IsStep, mask_in}
+use Rattle.like_core.specs.views.Shows.{Shows, ShowsSome, FitsWorker, IsEntry, IsStep, mask_in}
 use Rattle.like_core.proofs.core.Moved.{moved_in_phase}
 use Rattle.like_core.proofs.Slots.{choice-same, mask_by-plain, mask_by-slots, mask_of_slots-same}
 use Rattle.like_core.proofs.views.KeptOrder.{applies_none, other_step_keeps_order, page_step_keeps_order, same_worker}
@@ -56,16 +58,16 @@ taken_before front whole n within same =
 -- keeps what is shown; and the count has the worker's own additions and is below the bound of all counts
 abbrev pub IsRead : Opening → List ℕ → List View → ℕ → WorkerSeatView → ℕ → Move → PageCall → WorkerSeatView → Type 0
 IsRead z words views place v page move call w =
-    IsPageStep z [] move (Count (get_or words (word_of page) 0))
-    (page_step v.worker (phase_of v.state) page (get_or words (word_of page) 0) call) (Worker v) (Worker w)
+    IsEntry z [] move (Count (get_or words (word_of page) 0))
+    (Did (page_step v.worker (phase_of v.state) page (get_or words (word_of page) 0) call)) (Worker v) (Worker w)
     × ShowsSome z (set words (word_of page) (get_or words (word_of page) 0)) (set views place (Worker w))
     × (added_to page (additions_among v.did) ≤ get_or words (word_of page) 0)
     × (get_or words (word_of page) 0 < total_bound)
 
--- a read or a glance, after which the view has these steps, is the move, if that changes nothing, shows
+-- a read or a glance, after which the view has these steps and entries, is the move, if that changes nothing, shows
 -- the count and is permitted, and if the order is kept
 reads_word : (z : Opening) (words : List ℕ) (views : List View) (place : ℕ) (v : WorkerSeatView) (page : ℕ)
-    (move : Move) (call : PageCall) (ds : List PageStep)
+    (move : Move) (call : PageCall) (ds : List PageStep) (logged : List Logged)
     → (some_state : ShowsSome z words views)
     → get_elem? views place ≡ some (Worker v)
     → IsRunning v.state
@@ -78,13 +80,13 @@ reads_word : (z : Opening) (words : List ℕ) (views : List View) (place : ℕ) 
     → is_split_now z some_state.state page ≡ slices v page
     → MayMove z some_state.state move)
     → additions_among ds ≡ additions_among v.did
-    → ((steps : List PageStep) → ComesNext z some_state.state views place v page (get_or words (word_of page) 0)
-    → IsOrder z some_state.state views steps
-    → IsOrder z some_state.state (set views place (Worker (record v { did = ds })))
-    (page_step v.worker (phase_of v.state) page (get_or words (word_of page) 0) call ∷ steps))
-    → IsRead z words views place v page move call (record v { did = ds })
-reads_word z words views place v page move call ds some_state at running may_there knows stays shown permitted same_adds
-    keep_order =
+    → (ComesNext z some_state.state views place v page (get_or words (word_of page) 0)
+    → IsOrder z some_state.state views some_state.log
+    → IsOrder z some_state.state (set views place (Worker (record v { did = ds; logged = logged })))
+    (Did (page_step v.worker (phase_of v.state) page (get_or words (word_of page) 0) call) ∷ some_state.log))
+    → IsRead z words views place v page move call (record v { did = ds; logged = logged })
+reads_word z words views place v page move call ds logged some_state at running may_there knows stays shown permitted
+    same_adds keep_order =
     let s = some_state.state in
     let sh = some_state.shows in
     let i = v.worker in
@@ -104,7 +106,7 @@ reads_word z words views place v page move call ds some_state at running may_the
     let part = sum_part (paged page) views place (Worker v) at in
     let count : ℕ = get_or words (word_of page) 0 in
     let found : count ≡ get_or z.counts page 0 + length (s.applied page) = sh.board.pages page on in
-    let w : WorkerSeatView = record v { did = ds } in
+    let w : WorkerSeatView = record v { did = ds; logged = logged } in
     let fits : FitsWorker z s w =
     record {
       opening = old.opening;
@@ -112,7 +114,6 @@ reads_word z words views place v page move call ds some_state at running may_the
       state = old.state;
       number = old.number;
       ending = old.ending;
-      labels = λ phase other. old.labels phase other ∙ ap (added_in phase other) (sym same_adds);
       masks = old.masks;
       slots = old.slots;
     }
@@ -121,34 +122,31 @@ reads_word z words views place v page move call ds some_state at running may_the
     page_steps z s s.unmerged s.applied words views place v w page count sh at refl refl on found
     (λ q other. refl)
     sh.merged
-    (λ j phase q other. refl)
     fits
     (counted_same z.counts views place (Worker v) (Worker w) sh.coord.counted at (λ k p. ap (added_before k p) same_adds)
     sh.counted)
     in
     let step : PageStep = page_step v.worker (phase_of v.state) page count call in
-    let order : IsOrder z s (set views place (Worker w)) (step ∷ some_state.steps) =
-    keep_order some_state.steps
+    let order : IsOrder z s (set views place (Worker w)) (Did step ∷ some_state.log) =
+    keep_order
     (record { mine = at; once = one_seat z s words views place v sh at; present = present; finds = found })
     some_state.order
     in (
       record {
-        is_step = record {
-          moment = moment_of z words views some_state;
-          place = place;
-          mine = at;
-          happen = record {
-            before = tt;
-            permits = permitted (here ∙ ap Runs now) old.there on same;
-            tells = subst (λ (n : ℕ). IsShownBy z s move (Count n)) (sym found) shown;
-          };
-          changed = word_of page;
-          word = count;
-          shows_after = subst (λ (t : CoreState). Shows z t (set words (word_of page) count)
-              (set views place (Worker w))) (sym stays) shows;
+        moment = moment_of z words views some_state;
+        place = place;
+        mine = at;
+        happen = record {
+          before = tt;
+          permits = permitted (here ∙ ap Runs now) old.there on same;
+          tells = subst (λ (n : ℕ). IsShownBy z s move (Count n)) (sym found) shown;
         };
-        last = subst (λ (t : CoreState). IsOrder z t (set views place (Worker w)) (step ∷ some_state.steps)) (sym stays)
-            order;
+        changed = word_of page;
+        word = count;
+        shows_after = subst (λ (t : CoreState). Shows z t (set words (word_of page) count)
+            (set views place (Worker w))) (sym stays) shows;
+        goes_on = subst (λ (t : CoreState). IsOrder z t (set views place (Worker w)) (Did step ∷ some_state.log))
+            (sym stays) order;
       },
       record {
         state = s;
@@ -157,7 +155,7 @@ reads_word z words views place v page move call ds some_state at running may_the
         tallied = tallied_on z.limits s s views place (Worker v) (Worker w) (λ _. refl) at
             (λ q. ap (λ xs. z.limits.likes - added_to q xs) same_adds)
             some_state.tallied;
-        steps = step ∷ some_state.steps;
+        log = Did step ∷ some_state.log;
         order = order;
       },
       omega arith,
@@ -173,38 +171,38 @@ reads_word z words views place v page move call ds some_state at running may_the
 -- a read is the event
 pub reads : (z : Opening) (words : List ℕ) (views : List View) (place : ℕ) (v : WorkerSeatView) (page : ℕ)
     → MayRead v page
-    → ShowsSome z words views
+    → (some_state : ShowsSome z words views)
     → get_elem? views place ≡ some (Worker v)
     → IsRead z words views place v page (makes (Read v.worker page)) ReadCall
-    (has_read v page (get_or words (word_of page) 0))
+    (has_read v page (get_or words (word_of page) 0) (length some_state.log))
 reads z words views place v page may some_state at =
     let count : ℕ = get_or words (word_of page) 0 in
-    let w : WorkerSeatView = has_read v page count in
+    let w : WorkerSeatView = has_read v page count (length some_state.log) in
     reads_word z words views place v page
-    (makes (Read v.worker page)) ReadCall w.did some_state at may.runs may.there may.known refl refl
+    (makes (Read v.worker page)) ReadCall w.did w.logged some_state at may.runs may.there may.known refl refl
     (λ runs there on
     same. record { there = (there, on); suits = (runs, same ∙ may.plain); leaves_last = tt; room = tt })
     refl
-    (λ steps next. page_step_keeps_order z some_state.state some_state.state views steps place v page count ReadCall next tt
-    (applies_none page some_state.state))
+    (λ next. page_step_keeps_order z some_state.state some_state.state views some_state.log place v page count ReadCall next
+    tt (applies_none v.worker page some_state.state))
 
 -- a glance is the move
 pub glances : (z : Opening) (words : List ℕ) (views : List View) (place : ℕ) (v : WorkerSeatView) (page : ℕ)
     → MayGlance v page
-    → ShowsSome z words views
+    → (some_state : ShowsSome z words views)
     → get_elem? views place ≡ some (Worker v)
     → IsRead z words views place v page (glances_at v.worker page) GlanceCall
-    (has_glanced v page (get_or words (word_of page) 0))
+    (has_glanced v page (get_or words (word_of page) 0) (length some_state.log))
 glances z words views place v page may some_state at =
     let count : ℕ = get_or words (word_of page) 0 in
-    let w : WorkerSeatView = has_glanced v page count in
+    let w : WorkerSeatView = has_glanced v page count (length some_state.log) in
     reads_word z words views place v page
-    (glances_at v.worker page) GlanceCall w.did some_state at may.runs may.there may.known refl refl
+    (glances_at v.worker page) GlanceCall w.did w.logged some_state at may.runs may.there may.known refl refl
     (λ runs there on
     same. record { there = there; known = on; runs = runs; sliced = same ∙ may.sliced })
     refl
-    (λ steps next. page_step_keeps_order z some_state.state some_state.state views steps place v page count GlanceCall next tt
-    (applies_none page some_state.state))
+    (λ next. page_step_keeps_order z some_state.state some_state.state views some_state.log place v page count GlanceCall
+    next tt (applies_none v.worker page some_state.state))
 
 -- a read of a word after which the view w has the additions and reads that it had keeps what the board shows
 word_reads : (z : Opening) (words : List ℕ) (views : List View) (place : ℕ) (v w : WorkerSeatView) (word : ℕ)
@@ -233,6 +231,17 @@ word_reads z words views place v w word some_state at rest fits slots =
     (counted_same z.counts views place (Worker v) (Worker w) sh.coord.counted at
     (λ k p. ap (λ (x : WorkerSeatView). added_before k p (additions_among x.did)) rest) sh.counted))
 
+-- it leaves the order
+word_leaves_order : (z : Opening) (words : List ℕ) (views : List View) (place : ℕ) (v : WorkerSeatView)
+    (masks : List PhaseMask) (slots : List ℕ)
+    → (some_state : ShowsSome z words views)
+    → get_elem? views place ≡ some (Worker v)
+    → IsOrder z some_state.state (set views place (Worker (record v { masks = masks; slots = slots }))) some_state.log
+word_leaves_order z words views place v masks slots some_state at =
+    let w : WorkerSeatView = record v { masks = masks; slots = slots } in
+    other_step_keeps_order z some_state.state some_state.state views some_state.log place (Worker v) (Worker w) at
+    (same_worker v w refl refl refl) (omega arith) (λ _. refl) some_state.order
+
 -- and so what the views show of some state
 word_read : (z : Opening) (words : List ℕ) (views : List View) (place : ℕ) (v : WorkerSeatView) (masks : List PhaseMask)
     (slots : List ℕ) (word : ℕ)
@@ -250,9 +259,8 @@ word_read z words views place v masks slots word some_state at shows =
       reachable = some_state.reachable;
       shows = shows;
       tallied = tallied_on z.limits s s views place (Worker v) (Worker w) (λ _. refl) at (λ _. refl) some_state.tallied;
-      steps = some_state.steps;
-      order = other_step_keeps_order z s s views some_state.steps place (Worker v) (Worker w) at
-          (same_worker v w refl refl) (omega arith) (λ _. refl) some_state.order;
+      log = some_state.log;
+      order = word_leaves_order z words views place v masks slots some_state at;
     }
 
 -- a read of the mask word that tells the phase's mask is the event
@@ -283,7 +291,6 @@ tells_mask z words views place v mask some_state at split_phase mask_is =
       state = old.state;
       number = old.number;
       ending = old.ending;
-      labels = old.labels;
       masks = All-cons P (record { phase = phase_of v.state; mask = mask }) v.masks
           (omega arith, found_is ∙ ap s.hot (sym present)) old.masks;
       slots = λ _. refl;
@@ -303,6 +310,7 @@ tells_mask z words views place v mask some_state at split_phase mask_is =
         changed = mask_place;
         word = get_or words mask_place 0;
         shows_after = shows;
+        goes_on = word_leaves_order z words views place v w.masks w.slots some_state at;
       },
       word_read z words views place v w.masks w.slots mask_place some_state at shows,
     )
@@ -391,7 +399,6 @@ reads_slot z words views place v slot some_state at may =
       state = old.state;
       number = old.number;
       ending = old.ending;
-      labels = old.labels;
       masks = old.masks;
       slots = λ not_split. absurd (not_split may.split);
     }

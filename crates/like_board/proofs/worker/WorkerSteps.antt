@@ -1,10 +1,11 @@
 -- Each step of a worker is the event, and keeps what the board shows.
-use Rattle.std.proofs.Common.{◌≡◌, ◌≢◌, ℕ, ◌+◌, ◌%◌, ◌≤◌, nat_lt, Bool, true, false, cond, ◌⊎◌, inl, inr, IsTrue, ◌↔◌, MatchBool, List, [], get_or, set, subst, ap, sym, ◌∙◌, refl, arith}
+use Rattle.std.proofs.Common.{◌≡◌, ◌≢◌, ℕ, ◌+◌, ◌%◌, ◌≤◌, nat_lt, Bool, true, false, cond, ◌⊎◌, inl, inr, IsTrue, ◌↔◌, MatchBool, List, [], ◌∷◌, length, get_or, set, subst, ap, sym, ◌∙◌, refl, arith}
 use Rattle.std.proofs.lemmas.Bool.{cond-true, cond-false, lt-ltb, le-ltb}
 use mathlib.Core.Option.{some}
 use lib.ListN.{get_elem?}
 use Rattle.like_core.specs.declared.worker_state.WorkerState.{WorkerState}
 use Rattle.like_core.specs.declared.worker_state.WorkerState.TheVariants.{Runs, Answered, Gone}
+use Rattle.like_core.specs.declared.log.LogEntry.TheVariants.{Saw}
 use Rattle.like_core.specs.declared.sight.Sight.{Sight}
 use Rattle.like_core.specs.declared.event.Event.TheVariants.{Look, Acknowledge, Report, Retire}
 use Rattle.like_core.specs.declared.shown.Shown.TheVariants.{Seen, Done}
@@ -21,16 +22,17 @@ use Rattle.like_core.specs.core.Table.{Permits}
 use Rattle.like_core.specs.core.State.{CoreState, numbers}
 use Rattle.like_core.specs.core.Moves.{LetsReturn, MayReturn, Reached, after_return, comes_back}
 use Rattle.like_core.specs.word.ShownWord.{shown_word}
-use Rattle.like_core.specs.views.Shows.{Shows, ShowsSome, FitsWorker, IsMove, IsStep}
+use Rattle.like_core.specs.views.Order.{IsOrder}
+use Rattle.like_core.specs.views.Shows.{Shows, ShowsSome, FitsWorker, IsEntry, IsStep}
 use Rattle.like_core.specs.views.Serves.{moved}
 use Rattle.like_core.proofs.Updates.{update-same}
 use Rattle.like_core.proofs.core.Moved.{moved_in_phase, moves_back, moves_by}
 use Rattle.like_core.proofs.core.Staying.{looked_in}
 use Rattle.like_core.proofs.word.Serving.{even_runs, serves, worker_sees}
-use Rattle.like_core.proofs.views.KeptOrder.{other_step_keeps_order, same_worker}
+use Rattle.like_core.proofs.views.KeptOrder.{look_keeps_order, other_step_keeps_order, same_worker}
 use Rattle.like_core.specs.Post.{looked_at, answered, retired, returned}
 use Rattle.like_board.specs.Plays.{Looked, phase_at, sight_at}
-use Rattle.like_board.proofs.worker.Moves.{moment_of, worker_moves}
+use Rattle.like_board.proofs.worker.Moves.{moment_of, one_seat, worker_moves}
 use Rattle.like_board.proofs.Tallying.{tallied_on}
 
 -- the phase that a worker runs
@@ -108,12 +110,12 @@ looked_gone phase Gone is = refl
 
 -- a look of a worker that is not gone is the event
 pub looks : (z : Opening) (words : List ℕ) (views : List View) (place : ℕ) (v : WorkerSeatView)
-    → ShowsSome z words views
+    → (some_state : ShowsSome z words views)
     → get_elem? views place ≡ some (Worker v)
     → v.state ≢ Gone
-    → Looked z (get_or words 0 0) v
+    → Looked z (get_or words 0 0) (length some_state.log) v
     × ShowsSome z (set words 0 (get_or words 0 0))
-    (set views place (Worker (looked_at v (sight_at z (get_or words 0 0) v.state))))
+    (set views place (Worker (looked_at v (sight_at z (get_or words 0 0) v.state) (length some_state.log))))
 looks z words views place v some_state at there =
     let s = some_state.state in
     let sh = some_state.shows in
@@ -131,7 +133,7 @@ looks z words views place v some_state at there =
     looks_at z.limits.last_phase s.phase (s.state i) sight (p.runs i) (p.answered i) not_gone p.within sees.number sees.waits in
     let state : WorkerState = looked s.phase (s.state i) in
     let t : CoreState = moved s i state in
-    let w : WorkerSeatView = looked_at v sight in
+    let w : WorkerSeatView = looked_at v sight (length some_state.log) in
     let found : ℕ = get_or words 0 0 in
     let fits : FitsWorker z t w =
     record {
@@ -140,7 +142,6 @@ looks z words views place v some_state at there =
       state = update-same s.state i state ∙ (sym la.goes ∙ ap (λ st. seen st sight) old.state);
       number = (let e = sees.number in omega arith);
       ending = λ _ saw. sym sees.ending ∙ saw;
-      labels = old.labels;
       masks = old.masks;
       slots = λ _. refl;
     }
@@ -155,6 +156,10 @@ looks z words views place v some_state at there =
     in
     let permits : Permits (numbers z s) (Look i) =
     record { there = old.there; suits = not_gone; leaves_last = tt; room = tt }
+    in
+    let order : IsOrder z t (set views place (Worker w)) (Saw i sight.number ∷ some_state.log) =
+    look_keeps_order z s t views some_state.log place v w sight.number at (one_seat z s words views place v sh at)
+    sees.number (record { worker = refl; did = refl; logged = refl }) refl (λ _. refl) some_state.order
     in (
       record {
         can = subst (λ (st : WorkerState). IsSightOf st sight) old.state la.can;
@@ -168,6 +173,7 @@ looks z words views place v some_state at there =
           changed = 0;
           word = found;
           shows_after = shows_after;
+          goes_on = order;
         };
       },
       record {
@@ -175,9 +181,8 @@ looks z words views place v some_state at there =
         reachable = moves_by z s (Look i) some_state.reachable permits;
         shows = shows_after;
         tallied = tallied_on z.limits s t views place (Worker v) (Worker w) (λ _. refl) at (λ _. refl) some_state.tallied;
-        steps = some_state.steps;
-        order = other_step_keeps_order z s t views some_state.steps place (Worker v) (Worker w) at
-            (same_worker v w refl refl) (omega arith) (λ _. refl) some_state.order;
+        log = Saw i sight.number ∷ some_state.log;
+        order = order;
       },
     )
 
@@ -212,7 +217,6 @@ answers z s words views place v phase reached sh at runs present =
       state = update-same s.state i state ∙ ap Answered (sym present ∙ sym (ap phase_of runs));
       number = old.number;
       ending = λ running _. absurd running;
-      labels = old.labels;
       masks = old.masks;
       slots = λ _. refl;
     }
@@ -250,7 +254,12 @@ acknowledges z words views place v some_state at joined saw =
     }
     in
     let reaches = moves_by z s (Acknowledge v.worker) some_state.reachable permits in
-    let after_it = answers z s words views place v runs.0 some_state.reachable sh at runs.1 present in (
+    let t : CoreState = moved s v.worker (Answered s.phase) in
+    let after_it = answers z s words views place v runs.0 some_state.reachable sh at runs.1 present in
+    let order : IsOrder z t (set views place (Worker (answered v))) some_state.log =
+    other_step_keeps_order z s t views some_state.log place (Worker v) (Worker (answered v)) at
+    (same_worker v (answered v) refl refl refl) (omega arith) (λ _. refl) some_state.order
+    in (
       record {
         moment = moment_of z words views some_state;
         place = place;
@@ -259,19 +268,16 @@ acknowledges z words views place v some_state at joined saw =
         changed = 0;
         word = answered_word z (get_or words 0 0) v.worker;
         shows_after = after_it;
+        goes_on = order;
       },
       record {
-        state = moved s v.worker (Answered s.phase);
+        state = t;
         reachable = reaches;
         shows = after_it;
-        tallied =
-            tallied_on z.limits s (moved s v.worker (Answered s.phase)) views place (Worker v)
-            (Worker (answered v))
-            (λ _. refl) at (λ _. refl) some_state.tallied;
-        steps = some_state.steps;
-        order = other_step_keeps_order z s (moved s v.worker (Answered s.phase)) views some_state.steps place
-            (Worker v) (Worker (answered v)) at
-            (same_worker v (answered v) refl refl) (omega arith) (λ _. refl) some_state.order;
+        tallied = tallied_on z.limits s t views place (Worker v) (Worker (answered v)) (λ _. refl) at (λ _. refl)
+            some_state.tallied;
+        log = some_state.log;
+        order = order;
       },
     )
 
@@ -306,7 +312,12 @@ reports z words views place v some_state at split saw =
     }
     in
     let reaches = moves_by z s (Report v.worker) some_state.reachable permits in
-    let after_it = answers z s words views place v runs.0 some_state.reachable sh at runs.1 present in (
+    let t : CoreState = moved s v.worker (Answered s.phase) in
+    let after_it = answers z s words views place v runs.0 some_state.reachable sh at runs.1 present in
+    let order : IsOrder z t (set views place (Worker (answered v))) some_state.log =
+    other_step_keeps_order z s t views some_state.log place (Worker v) (Worker (answered v)) at
+    (same_worker v (answered v) refl refl refl) (omega arith) (λ _. refl) some_state.order
+    in (
       record {
         moment = moment_of z words views some_state;
         place = place;
@@ -315,19 +326,16 @@ reports z words views place v some_state at split saw =
         changed = 0;
         word = answered_word z (get_or words 0 0) v.worker;
         shows_after = after_it;
+        goes_on = order;
       },
       record {
-        state = moved s v.worker (Answered s.phase);
+        state = t;
         reachable = reaches;
         shows = after_it;
-        tallied =
-            tallied_on z.limits s (moved s v.worker (Answered s.phase)) views place (Worker v)
-            (Worker (answered v))
-            (λ _. refl) at (λ _. refl) some_state.tallied;
-        steps = some_state.steps;
-        order = other_step_keeps_order z s (moved s v.worker (Answered s.phase)) views some_state.steps place
-            (Worker v) (Worker (answered v)) at
-            (same_worker v (answered v) refl refl) (omega arith) (λ _. refl) some_state.order;
+        tallied = tallied_on z.limits s t views place (Worker v) (Worker (answered v)) (λ _. refl) at (λ _. refl)
+            some_state.tallied;
+        log = some_state.log;
+        order = order;
       },
     )
 
@@ -358,7 +366,6 @@ retires z words views place v some_state at joined =
       state = update-same s.state i Gone;
       number = old.number;
       ending = λ running _. absurd running;
-      labels = old.labels;
       masks = old.masks;
       slots = λ _. refl;
     }
@@ -375,6 +382,10 @@ retires z words views place v some_state at joined =
     refl
     (λ _ is. absurd (subst (IsIn s.phase) here is))
     (λ odd _. absurd (omega arith))
+    in
+    let order : IsOrder z (moved s i Gone) (set views place (Worker (retired v))) some_state.log =
+    other_step_keeps_order z s (moved s i Gone) views some_state.log place (Worker v) (Worker (retired v)) at
+    (same_worker v (retired v) refl refl refl) (omega arith) (λ _. refl) some_state.order
     in (
       record {
         moment = moment_of z words views some_state;
@@ -384,6 +395,7 @@ retires z words views place v some_state at joined =
         changed = 0;
         word = retired_word z (get_or words 0 0) i;
         shows_after = after_it;
+        goes_on = order;
       },
       record {
         state = moved s i Gone;
@@ -393,10 +405,8 @@ retires z words views place v some_state at joined =
             tallied_on z.limits s (moved s i Gone) views place (Worker v) (Worker (retired v))
             (λ _. refl) at
             (λ _. refl) some_state.tallied;
-        steps = some_state.steps;
-        order = other_step_keeps_order z s (moved s i Gone) views some_state.steps place (Worker v)
-            (Worker (retired v)) at
-            (same_worker v (retired v) refl refl) (omega arith) (λ _. refl) some_state.order;
+        log = some_state.log;
+        order = order;
       },
     )
 
@@ -405,21 +415,22 @@ taken_word : (word taken after new found : ℕ) → after + taken ≡ word → n
 taken_word word taken after new found back new_is is = omega arith
 
 -- what a worker makes of the board that comes back
-pub record BackAt (z : Opening) (words : List ℕ) (views : List View) (place : ℕ) (v : WorkerSeatView) (new phase : ℕ)
-    : Type 0 where
+pub record BackAt (z : Opening) (words : List ℕ) (views : List View) (place : ℕ) (v : WorkerSeatView)
+    (new number phase : ℕ) : Type 0 where
   pub within : phase ≤ z.limits.last_phase
-  pub step : IsMove z (comes_back v.worker) (Seen (running_sight phase)) (Worker v) (Worker (returned v phase))
-  pub shows : ShowsSome z (set words 0 new) (set views place (Worker (returned v phase)))
+  pub step : IsEntry z [] (comes_back v.worker) (Seen (running_sight phase)) (Saw v.worker phase) (Worker v)
+      (Worker (returned v phase number))
+  pub shows : ShowsSome z (set words 0 new) (set views place (Worker (returned v phase number)))
 
 -- a worker that is gone comes back, where the word is that of a phase that isn't ending
 pub returns : (z : Opening) (words : List ℕ) (views : List View) (place : ℕ) (v : WorkerSeatView) (new : ℕ)
-    → ShowsSome z words views
+    → (some_state : ShowsSome z words views)
     → get_elem? views place ≡ some (Worker v)
     → v.state ≡ Gone
     → LetsReturn z.limits
     → get_or words 0 0 % 2 ≡ 0
     → new + (form_of z.limits.form).retirement v.worker ≡ get_or words 0 0
-    → BackAt z words views place v new (phase_at z (get_or words 0 0))
+    → BackAt z words views place v new (length some_state.log) (phase_at z (get_or words 0 0))
 returns z words views place v new some_state at gone lets even new_is =
     let s = some_state.state in
     let sh = some_state.shows in
@@ -434,7 +445,7 @@ returns z words views place v new some_state at gone lets even new_is =
     let running : s.ending ≡ false = even_runs f z s serving (ap (λ n. n % 2) (sym sh.board.phase) ∙ even) in
     let may : MayReturn z s i = record { lets = lets; there = old.there; gone = here; running = running } in
     let t : CoreState = after_return s i in
-    let w : WorkerSeatView = returned v phase in
+    let w : WorkerSeatView = returned v phase (length some_state.log) in
     let fits : FitsWorker z t w =
     record {
       opening = old.opening;
@@ -442,7 +453,6 @@ returns z words views place v new some_state at gone lets even new_is =
       state = update-same s.state i (Runs s.phase) ∙ ap Runs (sym present);
       number = omega (arith, present);
       ending = λ _ saw. (let clash : false ≡ true = saw in absurd (cc));
-      labels = old.labels;
       masks = old.masks;
       slots = λ _. refl;
     }
@@ -455,6 +465,10 @@ returns z words views place v new some_state at gone lets even new_is =
     refl
     (λ none _. let ending = none lets in absurd (cc))
     (λ _ gone_now. absurd (cc))
+    in
+    let order : IsOrder z t (set views place (Worker w)) (Saw i phase ∷ some_state.log) =
+    look_keeps_order z s t views some_state.log place v w phase at (one_seat z s words views place v sh at) present
+    (record { worker = refl; did = refl; logged = refl }) refl (λ _. refl) some_state.order
     in
     record {
       within = subst (λ n. n ≤ z.limits.last_phase) (sym present) p.within;
@@ -470,14 +484,14 @@ returns z words views place v new some_state at gone lets even new_is =
         changed = 0;
         word = new;
         shows_after = shows_after;
+        goes_on = order;
       };
       shows = record {
         state = t;
         reachable = moves_back z s i some_state.reachable may;
         shows = shows_after;
         tallied = tallied_on z.limits s t views place (Worker v) (Worker w) (λ _. refl) at (λ _. refl) some_state.tallied;
-        steps = some_state.steps;
-        order = other_step_keeps_order z s t views some_state.steps place (Worker v) (Worker w) at
-            (same_worker v w refl refl) (omega arith) (λ _. refl) some_state.order;
+        log = Saw i phase ∷ some_state.log;
+        order = order;
       };
     }

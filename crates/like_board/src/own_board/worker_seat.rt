@@ -32,7 +32,7 @@ pub struct OwnWorkerSeat {
 impl OwnWorkerSeat {
     ghost use Rattle.like_core.specs.declared.worker_state.WorkerState.TheVariants.{Gone};
     ghost use Rattle.like_core.specs.WorkerState.{IsSightOf, RunsJoined, RunsSplit, SawEnding, SeesEndingStill, phase_of, seen};
-    ghost use Rattle.like_core.specs.Post.{MayAdd, MayRead, looked_at, answered, retired, added, has_read, with_mask};
+    ghost use Rattle.like_core.specs.Post.{MayAdd, MayRead, number_of, looked_at, answered, retired, added, has_read, with_mask};
     ghost use Rattle.like_core.specs.Additions.{added_to};
     ghost use Rattle.like_core.specs.views.Actions.{Looks, Acknowledges, Reports, Retires, Adds, Reads, ReadsMask};
     ghost use Rattle.like_board.specs.Own.{own_place, own_view, own_views, IsPresentCount, Knows, ShowsPhase, Steps};
@@ -43,7 +43,8 @@ impl OwnWorkerSeat {
         requires here { Knows board.old (own_place self.old) (Worker (own_view self.old)) }
         requires there { (own_view self.old).state ≢ Gone }
         ensures place { own_place self.new ≡ own_place self.old }
-        ensures view { own_view self.new ≡ looked_at (own_view self.old) result }
+        ensures view { own_view self.new
+            ≡ looked_at (own_view self.old) result (number_of (own_view self.new)) }
         ensures sight { IsSightOf (own_view self.old).state result }
         ensures within { let v = own_view self.old in
             phase_of (seen v.state result) ≤ v.opening.limits.last_phase }
@@ -105,7 +106,8 @@ impl OwnWorkerSeat {
         requires here { Knows board.old (own_place self.old) (Worker (own_view self.old)) }
         requires may { MayAdd (own_view self.old) page n }
         ensures place { own_place self.new ≡ own_place self.old }
-        ensures view { own_view self.new ≡ added (own_view self.old) page result n }
+        ensures view { own_view self.new
+            ≡ added (own_view self.old) page result n (number_of (own_view self.new)) }
         ensures own { added_to page (additions_among (own_view self.old).did) ≤ result }
         ensures event { Adds (own_view self.old) page n result (own_view self.new) }
         ensures board { Steps board.old board.new (own_place self.old) (Worker (own_view self.new)) }
@@ -122,7 +124,8 @@ impl OwnWorkerSeat {
         requires here { Knows board.old (own_place self.old) (Worker (own_view self.old)) }
         requires may { MayRead (own_view self.old) page }
         ensures place { own_place self.new ≡ own_place self.old }
-        ensures view { own_view self.new ≡ has_read (own_view self.old) page result }
+        ensures view { own_view self.new
+            ≡ has_read (own_view self.old) page result (number_of (own_view self.new)) }
         ensures own { added_to page (additions_among (own_view self.old).did) ≤ result }
         ensures event { Reads (own_view self.old) page result (own_view self.new) }
         ensures board { Steps board.old board.new (own_place self.old) (Worker (own_view self.new)) }

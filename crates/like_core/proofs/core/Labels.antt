@@ -41,21 +41,16 @@ labels_else i j now phase n other =
     (ap (λ b. b && (now == phase)) (ne_eqb i j (λ same. other (sym same))))
 
 -- likes of one's own count as the addition does
-pub labels_here : (i now phase page n : ℕ)
-    → labelled i phase (replicate n (label i now)) ≡ cond ((now == phase) && (page == page)) n 0
-labels_here i now phase page n =
+pub labels_here : (i now phase n : ℕ) → labelled i phase (replicate n (label i now)) ≡ cond (now == phase) n 0
+labels_here i now phase n =
     let test : Label → Bool = λ l. (l.worker == i) && (l.phase == phase) in
     elim (cases_eq now phase) [
       | inl same ↦
           let own : test (label i now) ≡ true = λ m. eq-eqb i i refl m && eq-eqb now phase same m in
-          let there : ((now == phase) && (page == page)) ≡ true =
-          λ m. eq-eqb now phase same m && eq-eqb page page refl m in
-          count_all test (label i now) n own ∙ sym (cond-true ((now == phase) && (page == page)) n 0 there)
+          count_all test (label i now) n own ∙ sym (cond-true (now == phase) n 0 (eq-eqb now phase same))
       | inr other ↦
           let own : test (label i now) ≡ false = λ m. eq-eqb i i refl m && ne_eqb now phase other m in
-          let there : ((now == phase) && (page == page)) ≡ false =
-          ap (λ b. b && (page == page)) (ne_eqb now phase other) in
-          count_none test (label i now) n own ∙ sym (cond-false ((now == phase) && (page == page)) n 0 there)
+          count_none test (label i now) n own ∙ sym (cond-false (now == phase) n 0 (ne_eqb now phase other))
     ]
 
 -- one more addition
@@ -114,22 +109,6 @@ added_before-next (a ∷ additions) phase q =
       sum_by-cons (λ (b : Addition). cond (nat_lt b.phase phase && (b.page == q)) b.likes 0) a additions,
       sum_by-cons (λ (b : Addition). cond ((b.phase == phase) && (b.page == q)) b.likes 0) a additions,
     )
-
--- one more addition, of another page
-pub added_in_else : (additions : List Addition) (now page old n phase q : ℕ)
-    → q ≢ page
-    → added_in phase q (additions ++ addition now page old n ∷ []) ≡ added_in phase q additions
-added_in_else additions now page old n phase q other =
-    let no_page : ((now == phase) && (page == q)) ≡ false =
-    never (now == phase) (page == q) (ne_eqb page q (λ same. other (sym same))) in
-    let none : cond {A = ℕ} ((now == phase) && (page == q)) n 0 ≡ 0 =
-    cond-false ((now == phase) && (page == q)) n 0 no_page in
-    let more = added_in-push additions now page old n phase q in
-    omega arith
-  where
-    never : (a b : Bool) → b ≡ false → (a && b) ≡ false
-    never true b is = is
-    never false b is = refl
 
 -- one more addition, of some page
 pub added_to-push : (additions : List Addition) (now page old n q : ℕ)

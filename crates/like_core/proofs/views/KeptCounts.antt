@@ -27,16 +27,16 @@ same_before views place a b at same k p =
     ∙ before_posts k p views
 
 -- an addition counts for none before its phase, nor for one that is not later
-pub addition_before : (views : List View) (place : ℕ) (v : WorkerSeatView) (page old n k p : ℕ)
+pub addition_before : (views : List View) (place : ℕ) (v : WorkerSeatView) (page old n number k p : ℕ)
     → get_elem? views place ≡ some (Worker v)
     → k ≤ phase_of v.state
-    → posts_before (posts_of (set views place (Worker (added v page old n)))) k p ≡ posts_before (posts_of views) k p
-addition_before views place v page old n k p at past =
+    → posts_before (posts_of (set views place (Worker (added v page old n number)))) k p ≡ posts_before (posts_of views) k p
+addition_before views place v page old n number k p at past =
     let now : ℕ = phase_of v.state in
     let push = added_before-push (additions_among v.did) now page old n k p in
     let none = not_before now k n (page == p) past in
-    sym (before_posts k p (set views place (Worker (added v page old n))))
-    ∙ sum_set (before_in k p) views place (Worker v) (Worker (added v page old n)) at (omega arith)
+    sym (before_posts k p (set views place (Worker (added v page old n number))))
+    ∙ sum_set (before_in k p) views place (Worker v) (Worker (added v page old n number)) at (omega arith)
     ∙ before_posts k p views
 
 -- counts stay those up to their phases, where as much was added before

@@ -30,6 +30,12 @@ module _ {A : Type 0} where
     | inr there ↦ inr ((λ same. there.0 (omega arith)), there.1)
   ]
 
+  -- the new one stands there
+  pub put_here : (l : List A) (i : ℕ) (a b : A) → get_elem? l i ≡ some a → get_elem? (set l i b) i ≡ some b
+  put_here [] i a b e = absurd (some-ne-none a (sym e))
+  put_here (x ∷ xs) zero a b e = refl
+  put_here (x ∷ xs) (suc i) a b e = put_here xs i a b e
+
   -- what stands at another place than the one that is replaced stays
   pub kept : (l : List A) (i j : ℕ) (a : A) → j ≢ i → get_elem? (set l i a) j ≡ get_elem? l j
   kept [] i j a other = refl

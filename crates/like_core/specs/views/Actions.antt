@@ -1,5 +1,7 @@
 -- What each call at a board does: it takes a seat's view to the next, and is one move, or some likes and their merge.
+-- Looks, returns and steps at pages come last in the log.
 use Rattle.std.specs.Prelude.{ℕ, []}
+use Rattle.like_core.specs.declared.log.LogEntry.TheVariants.{Saw, Did}
 use Rattle.like_core.specs.declared.sight.Sight.{Sight}
 use Rattle.like_core.specs.declared.sight.CoordSight.{CoordSight}
 use Rattle.like_core.specs.declared.page_step.PageCall.TheVariants.{Add, Read as ReadCall, Glance as GlanceCall}
@@ -12,11 +14,12 @@ use Rattle.like_core.specs.core.Moves.{comes_back, glances, makes}
 use Rattle.like_core.specs.PageSteps.{page_step}
 use Rattle.like_core.specs.WorkerState.{phase_of, running_sight}
 use Rattle.like_core.specs.views.Views.{likes_merged, adding, mask_released}
-use Rattle.like_core.specs.views.Shows.{IsMove, IsPageStep, IsStep}
+use Rattle.like_core.specs.views.Shows.{IsEntry, IsStep}
 
 -- the worker looks at the phase word, and sees this
 abbrev pub Looks : WorkerSeatView → Sight → WorkerSeatView → Type 0
-Looks v sight w = IsStep v.opening (Look v.worker) (Seen sight) (Worker v) (Worker w)
+Looks v sight w =
+    IsEntry v.opening [] (makes (Look v.worker)) (Seen sight) (Saw v.worker sight.number) (Worker v) (Worker w)
 
 -- the worker acknowledges the end of a joined phase
 abbrev pub Acknowledges : WorkerSeatView → WorkerSeatView → Type 0
@@ -33,26 +36,26 @@ Retires v w = IsStep v.opening (Retire v.worker) Done (Worker v) (Worker w)
 -- the worker comes back, and sees the phase that it then runs
 abbrev pub ComesBack : WorkerSeatView → WorkerSeatView → Type 0
 ComesBack v w =
-    IsMove v.opening (comes_back v.worker) (Seen (running_sight (phase_of w.state)))
-    (Worker v) (Worker w)
+    IsEntry v.opening [] (comes_back v.worker) (Seen (running_sight (phase_of w.state)))
+    (Saw v.worker (phase_of w.state)) (Worker v) (Worker w)
 
--- the worker adds n to a page's count, which was this before. Like a read and a glance, that comes last in the order
+-- the worker adds n to a page's count, which was this before
 abbrev pub Adds : WorkerSeatView → ℕ → ℕ → ℕ → WorkerSeatView → Type 0
 Adds v page n count w =
-    IsPageStep v.opening (likes_merged v page n) (makes (adding v page)) (Old count)
-    (page_step v.worker (phase_of v.state) page count (Add n)) (Worker v) (Worker w)
+    IsEntry v.opening (likes_merged v page n) (makes (adding v page)) (Old count)
+    (Did (page_step v.worker (phase_of v.state) page count (Add n))) (Worker v) (Worker w)
 
 -- the worker reads a page's count, which is this
 abbrev pub Reads : WorkerSeatView → ℕ → ℕ → WorkerSeatView → Type 0
 Reads v page count w =
-    IsPageStep v.opening [] (makes (Read v.worker page)) (Count count)
-    (page_step v.worker (phase_of v.state) page count ReadCall) (Worker v) (Worker w)
+    IsEntry v.opening [] (makes (Read v.worker page)) (Count count)
+    (Did (page_step v.worker (phase_of v.state) page count ReadCall)) (Worker v) (Worker w)
 
 -- the worker glances at the count of a page that is sliced, which is this
 abbrev pub Glances : WorkerSeatView → ℕ → ℕ → WorkerSeatView → Type 0
 Glances v page count w =
-    IsPageStep v.opening [] (glances v.worker page) (Count count)
-    (page_step v.worker (phase_of v.state) page count GlanceCall) (Worker v) (Worker w)
+    IsEntry v.opening [] (glances v.worker page) (Count count)
+    (Did (page_step v.worker (phase_of v.state) page count GlanceCall)) (Worker v) (Worker w)
 
 -- the worker reads the mask of its phase's hot pages, which is this
 abbrev pub ReadsMask : WorkerSeatView → ℕ → WorkerSeatView → Type 0

@@ -1,24 +1,26 @@
--- One order of all that some posts did at pages; and what follows from it.
+-- One order of all that some posts made; and what follows from it.
 use Rattle.std.specs.Prelude.{◌≡◌, ℕ, ◌==◌, ◌<◌, ◌≤◌, All, List, [], count_by, slice_index}
 use Rattle.std.specs.List.{sum_by}
+use Rattle.like_core.specs.declared.log.LogEntry.{LogEntry}
 use Rattle.like_core.specs.declared.opening.Opening.{Opening}
-use Rattle.like_core.specs.declared.page_step.PageStep.{PageStep}
-use Rattle.like_core.specs.PageSteps.{AreInTurn, additions_among, steps_by, stretches_of}
+use Rattle.like_core.specs.Log.{PhasesRise, logged_by, steps_in}
+use Rattle.like_core.specs.PageSteps.{AreInTurn, additions_among, stretches_of}
 use Rattle.like_core.specs.declared.view.WorkerSeatView.{WorkerSeatView}
 use Rattle.like_core.specs.views.Posts.{last_count, posts_added, posts_before, posts_of}
 use Rattle.like_core.specs.views.Reads.{HaveBetween}
 use Rattle.like_core.specs.views.Places.{ArePlaced, AreTiles, Counting}
-use Rattle.like_core.specs.views.Order.{HasDone}
+use Rattle.like_core.specs.views.Order.{HasMade}
 use Rattle.like_core.specs.views.Shows.{Moment}
 
--- one order of all that these posts did at pages, the latest step first: each step found what those before it left,
--- phases never fall, and none is later than this; what each post did are its worker's steps; no worker has two posts, and
--- one without a post has no step
-pub record IsOrderOf (first : ℕ → ℕ) (phase : ℕ) (posts : List WorkerSeatView) (steps : List PageStep) : Type 0 where
-  pub in_turn : AreInTurn first phase steps
-  pub each : All (HasDone steps) posts
+-- one order of all that these posts made, the latest entry first: each step at a page found what those before it left;
+-- phases never fall, and none is later than this; what each post made are its worker's entries, with their numbers; no
+-- worker has two posts, and one without a post has no entry
+pub record IsOrderOf (first : ℕ → ℕ) (phase : ℕ) (posts : List WorkerSeatView) (log : List LogEntry) : Type 0 where
+  pub in_turn : AreInTurn first phase (steps_in log)
+  pub rising : PhasesRise phase log
+  pub each : All (HasMade log) posts
   pub once : (i : ℕ) → count_by (λ v. v.worker == i) posts ≤ 1
-  pub others : (i : ℕ) → count_by (λ v. v.worker == i) posts ≡ 0 → steps_by i steps ≡ []
+  pub others : (i : ℕ) → count_by (λ v. v.worker == i) posts ≡ 0 → logged_by i log ≡ []
 
 -- how many additions of posts pass a test
 abbrev pub posts_passing : List WorkerSeatView → Counting
@@ -33,24 +35,24 @@ pub record HavePlaces (first : ℕ → ℕ) (posts : List WorkerSeatView) : Type
 -- the law of bounds: each step lies between what all have added
 abbrev pub OrderGivesBounds : Type 0
 OrderGivesBounds =
-    (counts : List ℕ) (phase : ℕ) (posts : List WorkerSeatView) (steps : List PageStep)
-    → IsOrderOf (slice_index counts) phase posts steps
+    (counts : List ℕ) (phase : ℕ) (posts : List WorkerSeatView) (log : List LogEntry)
+    → IsOrderOf (slice_index counts) phase posts log
     → All (HaveBetween counts (posts_before posts) phase) posts
 
 -- the law of places: stretches tile, and calls have their places
 abbrev pub OrderGivesPlaces : Type 0
 OrderGivesPlaces =
-    (first : ℕ → ℕ) (phase : ℕ) (posts : List WorkerSeatView) (steps : List PageStep)
-    → IsOrderOf first phase posts steps → HavePlaces first posts
+    (first : ℕ → ℕ) (phase : ℕ) (posts : List WorkerSeatView) (log : List LogEntry)
+    → IsOrderOf first phase posts log → HavePlaces first posts
 
 -- nothing was added in a later phase
 abbrev pub OrderGivesPast : Type 0
 OrderGivesPast =
-    (first : ℕ → ℕ) (phase later page : ℕ) (posts : List WorkerSeatView) (steps : List PageStep)
-    → IsOrderOf first phase posts steps → phase < later
+    (first : ℕ → ℕ) (phase later page : ℕ) (posts : List WorkerSeatView) (log : List LogEntry)
+    → IsOrderOf first phase posts log → phase < later
     → posts_before posts later page ≡ posts_added posts page
 
--- all that was done at pages up to a moment has one order, so at each moment all this holds
+-- all that was made up to a moment has one order, so at each moment all this holds
 abbrev pub MomentsAreOrdered : Type 0
 MomentsAreOrdered =
-    (z : Opening) (m : Moment z) → IsOrderOf (slice_index z.counts) m.shown.state.phase (posts_of m.views) m.shown.steps
+    (z : Opening) (m : Moment z) → IsOrderOf (slice_index z.counts) m.shown.state.phase (posts_of m.views) m.shown.log

@@ -1,5 +1,5 @@
 -- The rule of a board: its words and the views of all seats show a state of the core.
-use Rattle.std.specs.Prelude.{◌≡◌, ◌⊎◌, ℕ, Bool, false, ◌+◌, ◌^◌, ◌<◌, ◌≤◌, All, nat_lt, true, if◌then◌else◌, List, [], ◌∷◌, length, take, slice_index, slice_set, IfSome, IsSome, fold}
+use Rattle.std.specs.Prelude.{◌≡◌, ◌⊎◌, ℕ, Bool, false, ◌+◌, ◌^◌, ◌<◌, ◌≤◌, All, nat_lt, true, if◌then◌else◌, List, [], ◌∷◌, ◌++◌, length, take, slice_index, slice_set, IfSome, IsSome, fold}
 use Rattle.std.specs.List.{sum_by}
 use mathlib.Core.Option.{some}
 use lib.ListN.{get_elem?}
@@ -7,7 +7,7 @@ use Rattle.like_core.specs.declared.worker_state.WorkerState.TheVariants.{Runs}
 use Rattle.like_core.specs.declared.event.Event.{Event}
 use Rattle.like_core.specs.declared.shown.Shown.{Shown}
 use Rattle.like_core.specs.declared.opening.Opening.{Opening}
-use Rattle.like_core.specs.declared.page_step.PageStep.{PageStep}
+use Rattle.like_core.specs.declared.log.LogEntry.{LogEntry}
 use Rattle.like_core.specs.declared.view.WorkerSeatView.{WorkerSeatView}
 use Rattle.like_core.specs.declared.view.CoordSeatView.{CoordSeatView}
 use Rattle.like_core.specs.declared.view.View.{View}
@@ -18,13 +18,12 @@ use Rattle.like_core.specs.OpeningLimits.{AreLimits, has_slots}
 use Rattle.like_core.specs.Slots.{IsChoice, mask_by}
 use Rattle.like_core.specs.PhaseMasks.{mask_of}
 use Rattle.like_core.specs.core.Numbers.{AllIn, AllGone, CoordSees}
-use Rattle.like_core.specs.core.State.{CoreState, after, labelled, numbers}
+use Rattle.like_core.specs.core.State.{CoreState, after, numbers}
 use Rattle.like_core.specs.core.Reachable.{Reachable, PermitsAll}
 use Rattle.like_core.specs.core.Moves.{IsShownBy, LetsReturn, MayMove, Move, makes, NoneReturns, Reached, after_move}
 use Rattle.like_core.specs.core.Exclusive.{NoneUnmerged}
 use Rattle.like_core.specs.word.ShownWord.{shown_word}
 use Rattle.like_core.specs.WorkerState.{IsRunning, RunsSplit, SawEnding, SawNoLater}
-use Rattle.like_core.specs.Additions.{added_in}
 use Rattle.like_core.specs.views.Views.{seats_of}
 use Rattle.like_core.specs.views.Reads.{IsCounted}
 use Rattle.like_core.specs.views.Posts.{posts_before, posts_of}
@@ -32,7 +31,6 @@ use Rattle.like_core.specs.views.Tallies.{Tallied}
 use Rattle.like_core.specs.views.Places.{count_after}
 use Rattle.like_core.specs.views.Order.{IsOrder}
 use Rattle.like_core.specs.views.Layout.{phase_place, mask_place, slot_in, word_of}
-use Rattle.like_core.specs.PageSteps.{additions_among}
 
 -- an opening that a board may have
 pub record IsOpening (z : Opening) : Type 0 where
@@ -54,9 +52,6 @@ pub record FitsWorker (z : Opening) (s : CoreState) (v : WorkerSeatView) : Type 
   pub number : SawNoLater s.phase v.last
   -- if it runs a phase and saw that ending, it is ending
   pub ending : IsRunning v.state → SawEnding v.last → s.ending ≡ true
-  -- in each phase it added as many likes to a page as have its label there
-  pub labels : (phase page : ℕ)
-      → labelled v.worker phase (s.applied page) ≡ added_in phase page (additions_among v.did)
   -- each mask that it read is its phase's, and none is of a later phase
   pub masks : All (λ m. (m.phase ≤ s.phase) × (m.mask ≡ s.hot m.phase)) v.masks
   -- it knows slots in a split phase alone
@@ -68,9 +63,6 @@ pub record KnowsSeats (z : Opening) (s : CoreState) (c : CoordSeatView) : Type 0
   pub made : c.made ≤ z.workers
   -- a worker whose seat is not made yet runs phase 0
   pub unmade : (i : ℕ) → c.made ≤ i → i < z.workers → s.state i ≡ Runs 0
-  -- and no like has its label
-  pub unlabelled : (i phase page : ℕ) → c.made ≤ i → i < z.workers
-      → labelled i phase (s.applied page) ≡ 0
   -- what the seats that were given back knew is true
   pub joined : (place : ℕ) (v : WorkerSeatView) → get_elem? c.joined place ≡ some v
       → FitsWorker z s v
@@ -176,9 +168,9 @@ pub record ShowsSome (z : Opening) (words : List ℕ) (views : List View) : Type
   pub shows : Shows z state words views
   -- no count can wrap by what may still be added
   pub tallied : Tallied z.limits state views
-  -- all that the views did at pages has one order
-  pub steps : List PageStep
-  pub order : IsOrder z state views steps
+  -- all that the views made has one order, the log
+  pub log : List LogEntry
+  pub order : IsOrder z state views log
 
 -- a moment of a board, between two steps: its words, the views of all its seats, and what these show
 pub record Moment (z : Opening) : Type 0 where
@@ -217,8 +209,9 @@ pub record Happen (z : Opening) (s : CoreState) (events : List Event) (move : Mo
   pub tells : IsShownBy z (fold (after z) s events) move shown
 
 -- one step of a seat, whose view goes from v to w: at some moment these events happen, and this move is made last. Then
--- at most one word has changed and the seat's view is w, and the words and views show the state after the move
-pub record IsSteps (z : Opening) (events : List Event) (move : Move) (shown : Shown) (v w : View)
+-- at most one word has changed and the seat's view is w, the words and views show the state after the move, and the log
+-- of the moment goes on with these entries
+pub record IsSteps (z : Opening) (events : List Event) (move : Move) (shown : Shown) (entries : List LogEntry) (v w : View)
     : Type 0 where
   pub moment : Moment z
   -- the seat's place among the views
@@ -231,17 +224,17 @@ pub record IsSteps (z : Opening) (events : List Event) (move : Move) (shown : Sh
   pub shows_after :
       Shows z (after_move z (fold (after z) moment.shown.state events) move)
       (slice_set moment.words changed word) (slice_set moment.views place w)
+  pub goes_on :
+      IsOrder z (after_move z (fold (after z) moment.shown.state events) move)
+      (slice_set moment.views place w) (entries ++ moment.shown.log)
 
--- one step of a seat that does this at a page: the order of the moment goes on, and this comes last in it
-pub record IsPageStep (z : Opening) (events : List Event) (move : Move) (shown : Shown) (step : PageStep) (v w : View)
-    : Type 0 where
-  pub is_step : IsSteps z events move shown v w
-  pub last : IsOrder z (after_move z (fold (after z) is_step.moment.shown.state events) move)
-      (slice_set is_step.moment.views is_step.place w) (step ∷ is_step.moment.shown.steps)
+-- one step of a seat with this entry, which comes last in the log: its number is how many entries the log had
+abbrev pub IsEntry : Opening → List Event → Move → Shown → LogEntry → View → View → Type 0
+IsEntry z events move shown entry v w = IsSteps z events move shown (entry ∷ []) v w
 
--- one step of a seat is this move
+-- one step of a seat is this move, and has no entry
 abbrev pub IsMove : Opening → Move → Shown → View → View → Type 0
-IsMove z move shown v w = IsSteps z [] move shown v w
+IsMove z move shown v w = IsSteps z [] move shown [] v w
 
 -- one step of a seat is this event
 abbrev pub IsStep : Opening → Event → Shown → View → View → Type 0

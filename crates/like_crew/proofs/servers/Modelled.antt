@@ -194,7 +194,8 @@ module _ (all_open ending : Bool) where
   works-modelled v saw_end answer after inboxes k e none (turns.tries_joined place j h next seen a x) =
       absurd (cc (none, ap (λ y. y.pending) x))
   works-modelled v saw_end answer after inboxes k e none (turns.reports now s seen a m x) =
-      let is : after ≡ record (turns.merged v m.0) { post = answered (turns.merged v m.0).post } =
+      let merges = turns.merged v m.0 now.post.logged in
+      let is : after ≡ record merges { post = answered merges.post } =
       x ∙ ap {A = WorkerView} (λ w. record w { post = answered w.post }) m.1.1 in
       fresh.reports s (sym e ∙ seen) (ap (λ y. far y inboxes) is)
   works-modelled v saw_end answer after inboxes k e none (turns.idles s seen stuck a x) =
@@ -326,8 +327,8 @@ none-tried all_open phase ending u v answer inboxes a none looks (turns.waits si
     let now = waits-state u.post.state sight phase i w shown.0 in
     fresh.waits now.0
     (far-is v inboxes u.post.state _ _ (ap (λ y. y.post.state) x ∙ now.1) refl (ap (λ y. length y.held.held) x))
-none-tried all_open phase ending u v answer inboxes a none looks (turns.works sight mask here i w x) =
-    let v1 : WorkerView = saw u sight mask in
+none-tried all_open phase ending u v answer inboxes a none looks (turns.works sight mask number here i w x) =
+    let v1 : WorkerView = saw u sight mask number in
     let shown = subst (λ l. IsSomeAnd l (λ sight. (sight.number ≡ phase) × (sight.ending ≡ ending)))
     (works-last v1 sight.ending answer v x) (looks here) in
     let k = knows-items u inboxes a in
@@ -354,8 +355,8 @@ one-tried all_open phase ending s tried after asked answer submitter i j took a 
 one-tried all_open phase ending s tried after asked answer submitter i j took a lists looks q here hands none gives
     (turns.waits sight there shows w told x) = absurd (cc (told, q))
 one-tried all_open phase ending s tried after asked answer submitter i j took a lists looks q here hands none gives
-    (turns.works sight mask there shows w x) =
-    let v1 : WorkerView = saw s.worker sight mask in
+    (turns.works sight mask number there shows w x) =
+    let v1 : WorkerView = saw s.worker sight mask number in
     let o = tries-one v1 sight.ending asked tried submitter q x in
     let shown = subst (λ l. IsSomeAnd l (λ sight. (sight.number ≡ phase) × (sight.ending ≡ ending)))
     (gives-last tried took answer after gives ∙ works-last v1 sight.ending asked tried x) (looks there) in

@@ -1,5 +1,5 @@
 -- A turn leaves whose post it is; and it makes one look, unless its worker is gone.
-use Rattle.std.proofs.Common.{◌≡◌, ◌≢◌, ℕ, Bool, true, false, cond, List, [], ◌∷◌, ◌++◌, Option, Some, refl, ap, ◌∙◌}
+use Rattle.std.proofs.Common.{◌≡◌, ◌≢◌, ℕ, Bool, true, false, List, [], ◌∷◌, ◌++◌, Option, Some, refl, ap, ◌∙◌}
 use Rattle.like_requests.specs.declared.request.Numbered.{Numbered}
 use Rattle.like_requests.specs.declared.request.Request.{Request}
 use Rattle.like_requests.specs.declared.request.Taken.{Taken}
@@ -7,15 +7,15 @@ use Rattle.like_core.specs.declared.sight.Sight.{Sight}
 use Rattle.like_core.specs.declared.view.Look.{Look}
 use Rattle.like_core.specs.declared.worker_state.WorkerState.TheVariants.{Gone}
 use Rattle.like_core.specs.PageSteps.{look_after}
-use Rattle.like_core.specs.Post.{slices}
 use Rattle.like_tables.specs.declared.held.Held.{Held}
 use Rattle.like_promises.specs.declared.reply.Reply.{Reply}
 use Rattle.like_roles.specs.declared.turn.Turn.{Turn}
 use Rattle.like_roles.specs.declared.turn.Turn.TheVariants.{Try}
-use Rattle.like_roles.specs.worker.Serve.{Runs, GivesReply, refuses, likes, looks, sliced, with_addition, liked}
+use Rattle.like_roles.specs.worker.Serve.{Runs, GivesReply}
 use Rattle.like_roles.specs.worker.Turns as turns
 use Rattle.like_roles.specs.worker.Turns.{Gives, TakesAsk, Turns, Works, saw, settled, with_taken, without_first}
 use Rattle.like_roles.specs.worker.WorkerView.{WorkerView}
+use Rattle.like_roles.proofs.Served.{GivesReply-keeps, counted_by}
 use Rattle.like_crew.specs.Server.{ServerView}
 use Rattle.like_crew.specs.ServerTurns.{ServerTurns, tries, tries_none}
 
@@ -23,18 +23,12 @@ use Rattle.like_crew.specs.ServerTurns.{ServerTurns, tries, tries_none}
 abbrev told : WorkerView → ℕ × Option Sight × List Look
 told v = (v.post.worker, v.post.last, v.post.looks)
 
-liked-told : (v : WorkerView) (user page old : ℕ) → told (liked v user page old) ≡ told v
-liked-told v user page old = by_test (slices v.post page) where
-  by_test : (b : Bool) → told (cond b (sliced v page) (with_addition v page old 1)) ≡ told v
-  by_test true = refl
-  by_test false = refl
-
 serves-told : (v : WorkerView) (submitter : ℕ) (r : Request) (reply : Reply) (w : WorkerView)
     → GivesReply v submitter r reply w
     → told w ≡ told v
-serves-told v submitter r reply w (refuses n a e) = ap told e
-serves-told v submitter r reply w (likes page a o p l e) = ap told e.1 ∙ liked-told v r.user page e.0
-serves-told v submitter r reply w (looks page count a o p s n e) = ap told e
+serves-told v submitter r reply w =
+    GivesReply-keeps told v submitter r reply w
+    (λ user page old number. counted_by (λ x. told x ≡ told v) v page old number refl refl) (λ page count number. refl)
 
 runs-told : (v : WorkerView) (h : Held) (stashed : Bool) (after : WorkerView)
     → Runs v h stashed after
@@ -59,9 +53,9 @@ pub turns-whose : (v : WorkerView) (answer : Turn) (after : WorkerView)
     → after.post.worker ≡ v.post.worker
 turns-whose v answer after (turns.is_gone gone a x) = ap (λ (w : WorkerView). w.post.worker) x
 turns-whose v answer after (turns.waits sight here i w a x) = ap (λ (w : WorkerView). w.post.worker) x
-turns-whose v answer after (turns.works sight mask here i w x) =
+turns-whose v answer after (turns.works sight mask number here i w x) =
     ap (λ (t : ℕ × Option Sight × List Look). t.0)
-    (works-told (saw v sight mask) sight.ending answer after x)
+    (works-told (saw v sight mask number) sight.ending answer after x)
 
 takes-told : (v : WorkerView) (place : ℕ) (ask : Numbered) (answer : Turn) (after : WorkerView)
     → TakesAsk v place ask answer after
@@ -106,9 +100,9 @@ turns-looks v answer after (turns.waits sight there i w a x) here = record {
   last = ap (λ (u : WorkerView). u.post.last) x;
   looks = ap (λ (u : WorkerView). u.post.looks) x;
 }
-turns-looks v answer after (turns.works sight mask there i w x) here =
-    looks-on v (saw v sight mask) after (record { sight = sight; last = refl; looks = refl })
-    (works-told (saw v sight mask) sight.ending answer after x)
+turns-looks v answer after (turns.works sight mask number there i w x) here =
+    looks-on v (saw v sight mask number) after (record { sight = sight; last = refl; looks = refl })
+    (works-told (saw v sight mask number) sight.ending answer after x)
 
 -- a whole turn
 pub server-looks : (answer : Turn) (s t : ServerView)

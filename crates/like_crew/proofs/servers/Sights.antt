@@ -12,16 +12,17 @@ use Rattle.like_core.specs.declared.worker_state.WorkerState.{WorkerState}
 use Rattle.like_core.specs.declared.worker_state.WorkerState.TheVariants as state
 use Rattle.like_core.specs.Phase.{IsJoined, IsSplit}
 use Rattle.like_core.specs.WorkerState.{IsSightOf, RunsSome, phase_of, seen}
-use Rattle.like_core.specs.Post.{answered, slices}
+use Rattle.like_core.specs.Post.{answered, number_of}
 use Rattle.like_tables.specs.declared.held.Held.{Held}
 use Rattle.like_promises.specs.declared.log.Took.{Took}
 use Rattle.like_promises.specs.declared.reply.Reply.{Reply}
 use Rattle.like_roles.specs.declared.turn.Turn.{Turn}
 use Rattle.like_roles.specs.declared.turn.Turn.TheVariants as turn
-use Rattle.like_roles.specs.worker.Serve.{Runs, GivesReply, refuses, likes, looks, sliced, with_addition, liked}
+use Rattle.like_roles.specs.worker.Serve.{Runs, GivesReply}
 use Rattle.like_roles.specs.worker.Turns as turns
 use Rattle.like_roles.specs.worker.Turns.{Gives, TakesAsk, Turns, Works, merged, saw, settled, with_taken, without_first}
 use Rattle.like_roles.specs.worker.WorkerView.{WorkerView, phase_at, submitter_at}
+use Rattle.like_roles.proofs.Served.{GivesReply-keeps, counted_by}
 use Rattle.like_roles.proofs.Effects.{Runs-effects}
 use Rattle.like_crew.specs.Server.{IsRising, NoneAbove}
 
@@ -84,11 +85,11 @@ not_gone (state.Runs k) sight h = λ e. cc e
 not_gone (state.Answered k) sight h = λ e. cc e
 not_gone state.Gone sight h = absurd h
 
-seen-look : (v : WorkerView) (sight : Sight) (mask : ℕ)
+seen-look : (v : WorkerView) (sight : Sight) (mask number : ℕ)
     → IsSightOf v.post.state sight
     → HasSeen v
-    → HasSeen (saw v sight mask)
-seen-look v sight mask i h = (
+    → HasSeen (saw v sight mask number)
+seen-look v sight mask number i h = (
   above-look v.post.last v.taken sight.number h.0
       (if_some_le v.post.last (phase_of v.post.state) sight.number (h.1 (not_gone v.post.state sight i))
       (later v.post.state sight i)),
@@ -102,18 +103,13 @@ running_here P (state.Answered k) r = absurd r
 running_here P state.Gone r = absurd r
 
 -- a request that runs leaves the last sight
-liked-last : (v : WorkerView) (user page old : ℕ) → (liked v user page old).post.last ≡ v.post.last
-liked-last v user page old = by_test (slices v.post page) where
-  by_test : (b : Bool) → (cond b (sliced v page) (with_addition v page old 1)).post.last ≡ v.post.last
-  by_test true = refl
-  by_test false = refl
-
 pub serves-last : (v : WorkerView) (submitter : ℕ) (r : Request) (reply : Reply) (w : WorkerView)
     → GivesReply v submitter r reply w
     → w.post.last ≡ v.post.last
-serves-last v submitter r reply w (refuses n a e) = ap (λ x. x.post.last) e
-serves-last v submitter r reply w (likes page a o p l e) = ap (λ x. x.post.last) e.1 ∙ liked-last v r.user page e.0
-serves-last v submitter r reply w (looks page count a o p s n e) = ap (λ x. x.post.last) e
+serves-last v submitter r reply w =
+    GivesReply-keeps (λ x. x.post.last) v submitter r reply w
+    (λ user page old number. counted_by (λ x. x.post.last ≡ v.post.last) v page old number refl refl)
+    (λ page count number. refl)
 
 runs-seen : (v : WorkerView) (h : Held) (stashed : Bool) (after : WorkerView)
     → Runs v h stashed after
@@ -144,7 +140,8 @@ works-seen v ending answer after (turns.acknowledges j e ended seen a x) h =
     subst HasSeen (sym x) (answered-seen v IsJoined j h)
 works-seen v ending answer after (turns.tries_joined place j e next seen a x) h = subst HasSeen (sym x) h
 works-seen v ending answer after (turns.reports now s seen a m x) h =
-    let is : after ≡ record (merged v m.0) { post = answered (merged v m.0).post } =
+    let merges = merged v m.0 now.post.logged in
+    let is : after ≡ record merges { post = answered merges.post } =
     x ∙ ap {A = WorkerView} (λ w. record w { post = answered w.post }) m.1.1 in
     subst HasSeen (sym is) (answered-seen v IsSplit s h)
 works-seen v ending answer after (turns.idles s seen stuck a x) h = subst HasSeen (sym x) h
@@ -156,9 +153,9 @@ pub turns-seen : (v : WorkerView) (answer : Turn) (after : WorkerView)
     → HasSeen v
     → HasSeen after
 turns-seen v answer after (turns.is_gone gone a x) h = subst HasSeen (sym x) h
-turns-seen v answer after (turns.waits sight here i w a x) h = subst HasSeen (sym x) (seen-look v sight 0 i h)
-turns-seen v answer after (turns.works sight mask here i w x) h =
-    works-seen (saw v sight mask) sight.ending answer after x (seen-look v sight mask i h)
+turns-seen v answer after (turns.waits sight here i w a x) h = subst HasSeen (sym x) (seen-look v sight 0 (number_of after.post) i h)
+turns-seen v answer after (turns.works sight mask number here i w x) h =
+    works-seen (saw v sight mask number) sight.ending answer after x (seen-look v sight mask number i h)
 
 -- a worker that tries a submitter has looked, and is there
 pub record IsTrying (v : WorkerView) : Type 0 where
@@ -186,8 +183,8 @@ pub turns-tries : (v : WorkerView) (answer : Turn) (after : WorkerView) (submitt
     → IsTrying after
 turns-tries v answer after submitter (turns.is_gone gone a x) r = cc (a, r)
 turns-tries v answer after submitter (turns.waits sight here i w a x) r = cc (a, r)
-turns-tries v answer after submitter (turns.works sight mask here i w x) r =
-    works-tries (saw v sight mask) sight.ending answer after sight submitter refl x r
+turns-tries v answer after submitter (turns.works sight mask number here i w x) r =
+    works-tries (saw v sight mask number) sight.ending answer after sight submitter refl x r
 
 -- what was taken so far was taken in no later phase than the present one
 earlier : (v : WorkerView)

@@ -62,8 +62,8 @@ turns-gone : (v : WorkerView) (answer : Turn) (after : WorkerView)
 turns-gone v answer after gone (turns.is_gone was told x) = told
 turns-gone v answer after gone (turns.waits sight here i w told x) =
     absurd (still-there v.post.state sight here (sym (ap (λ y. y.post.state) x) ∙ gone))
-turns-gone v answer after gone (turns.works sight mask here i w x) =
-    works-gone (saw v sight mask) sight.ending answer after gone x
+turns-gone v answer after gone (turns.works sight mask number here i w x) =
+    works-gone (saw v sight mask number) sight.ending answer after gone x
 
 -- what is given makes nobody gone
 gives-state : (v : WorkerView) (took : Taken) (answer : Turn) (after : WorkerView)
@@ -92,7 +92,7 @@ turns-stays : (v : WorkerView) (answer : Turn) (after : WorkerView)
     → (answer ≡ turn.Retired) × (after.post.state ≡ state.Gone)
 turns-stays v answer after gone (turns.is_gone was told x) = (told, ap (λ y. y.post.state) x ∙ gone)
 turns-stays v answer after gone (turns.waits sight here i w told x) = absurd (here gone)
-turns-stays v answer after gone (turns.works sight mask here i w x) = absurd (here gone)
+turns-stays v answer after gone (turns.works sight mask number here i w x) = absurd (here gone)
 
 pub stays-gone : (answer : Turn) (s t : ServerView)
     → s.worker.post.state ≡ state.Gone

@@ -1,18 +1,18 @@
 -- A turn of a worker that notes no additions notes none.
-use Rattle.std.proofs.Common.{◌≡◌, ℕ, ◌++◌, Bool, true, false, cond, List, [], ◌∷◌, length, refl, ap, ◌∙◌, append-nil}
+use Rattle.std.proofs.Common.{◌≡◌, ℕ, ◌++◌, Bool, true, false, List, [], ◌∷◌, length, refl, ap, ◌∙◌, append-nil}
 use Rattle.like_requests.specs.declared.request.Numbered.{Numbered}
 use Rattle.like_requests.specs.declared.request.Request.{Request}
 use Rattle.like_requests.specs.declared.request.Taken.{Taken}
 use Rattle.like_core.specs.declared.view.Addition.{Addition}
-use Rattle.like_core.specs.Post.{slices}
 use Rattle.like_tables.specs.declared.held.Held.{Held}
 use Rattle.like_promises.specs.declared.log.Added.{Added}
 use Rattle.like_promises.specs.declared.reply.Reply.{Reply}
 use Rattle.like_roles.specs.declared.turn.Turn.{Turn}
-use Rattle.like_roles.specs.worker.Serve.{Runs, GivesReply, refuses, likes, looks, noted, noted_if, sliced, with_addition, liked}
+use Rattle.like_roles.specs.worker.Serve.{Runs, GivesReply, noted, noted_if}
 use Rattle.like_roles.specs.worker.Turns as turns
 use Rattle.like_roles.specs.worker.Turns.{Gives, TakesAsk, Turns, Works, saw, settled, with_taken, without_first}
 use Rattle.like_roles.specs.worker.WorkerView.{WorkerView, phase_at}
+use Rattle.like_roles.proofs.Served.{GivesReply-keeps, counted_by}
 
 -- what it has noted
 abbrev adds_of : WorkerView → List Added
@@ -22,19 +22,15 @@ adds_of v = v.adds
 noted-none : (v : WorkerView) (adds : List Addition) → v.notes ≡ false → v.adds ++ noted v adds ≡ v.adds
 noted-none v adds n = ap (λ (b : Bool). v.adds ++ noted_if b (length v.ran) adds) n ∙ append-nil v.adds
 
-liked-adds : (v : WorkerView) (user page old : ℕ) → v.notes ≡ false → adds_of (liked v user page old) ≡ v.adds
-liked-adds v user page old n = by_test (slices v.post page) where
-  by_test : (b : Bool) → adds_of (cond b (sliced v page) (with_addition v page old 1)) ≡ v.adds
-  by_test true = refl
-  by_test false = noted-none v (record { phase = phase_at v; page = page; old = old; likes = 1 } ∷ []) n
-
 serves-adds : (v : WorkerView) (submitter : ℕ) (r : Request) (reply : Reply) (w : WorkerView)
     → v.notes ≡ false
     → GivesReply v submitter r reply w
     → w.adds ≡ v.adds
-serves-adds v submitter r reply w n (refuses not a e) = ap adds_of e
-serves-adds v submitter r reply w n (likes page a o p l e) = ap adds_of e.1 ∙ liked-adds v r.user page e.0 n
-serves-adds v submitter r reply w n (looks page count a o p s least e) = ap adds_of e
+serves-adds v submitter r reply w n =
+    GivesReply-keeps adds_of v submitter r reply w
+    (λ user page old number. counted_by (λ x. adds_of x ≡ v.adds) v page old number refl
+    (noted-none v (record { phase = phase_at v; page = page; old = old; likes = 1 } ∷ []) n))
+    (λ page count number. refl)
 
 runs-adds : (v : WorkerView) (h : Held) (stashed : Bool) (after : WorkerView)
     → v.notes ≡ false
@@ -63,8 +59,8 @@ pub turns-adds : (v : WorkerView) (answer : Turn) (after : WorkerView)
     → after.adds ≡ v.adds
 turns-adds v answer after n (turns.is_gone gone a x) = ap adds_of x
 turns-adds v answer after n (turns.waits sight here i w a x) = ap adds_of x
-turns-adds v answer after n (turns.works sight mask here i w x) =
-    works-adds (saw v sight mask) sight.ending answer after n x
+turns-adds v answer after n (turns.works sight mask number here i w x) =
+    works-adds (saw v sight mask number) sight.ending answer after n x
 
 takes-adds : (v : WorkerView) (place : ℕ) (ask : Numbered) (answer : Turn) (after : WorkerView)
     → v.notes ≡ false

@@ -237,7 +237,7 @@ impl<P: Glances> LiveSeat<P> {
             return GlanceAnswer::Refused(self.refusal(user, page));
         };
         if accepted.split {
-            return GlanceAnswer::Seen(self.station.glance(accepted.placed, page));
+            return GlanceAnswer::Glimpsed(self.station.glance(accepted.placed, page));
         }
         GlanceAnswer::Seen(self.station.read_at(accepted.placed, page))
     }

@@ -72,14 +72,14 @@ module _ (workload : Workload) where
   one_more phase page = record { phase = phase; page = page; call = Add 1; count = 0 }
 
   -- an accepted like is counted
-  pub counted-steps : (v : WorkerView) (e : Ran) (l : AcceptedRequest) (old : ℕ)
+  pub counted-steps : (v : WorkerView) (e : Ran) (l : AcceptedRequest) (old number : ℕ)
       → plain_told workload (earliest_first v.post.did) ≡ steps_ran workload v.ran
       → e.phase ≡ phase_at v
       → look_ran workload e ≡ None
       → like_ran workload e ≡ Some l
       → is_split_in workload (phase_at v) l.page ≡ slices v.post l.page
-      → plain_told workload (earliest_first (counted v l.page old).post.did) ≡ steps_ran workload (v.ran ++ e ∷ [])
-  counted-steps v e l old same now no_look like alike = by_test (slices v.post l.page) refl
+      → plain_told workload (earliest_first (counted v l.page old number).post.did) ≡ steps_ran workload (v.ran ++ e ∷ [])
+  counted-steps v e l old number same now no_look like alike = by_test (slices v.post l.page) refl
     where
       one : StepTold
       one = one_more (phase_at v) l.page
@@ -93,12 +93,12 @@ module _ (workload : Workload) where
 
       -- what the steps tell then
       tells : (b : Bool) → slices v.post l.page ≡ b
-          → plain_told workload (earliest_first (counted v l.page old).post.did)
-          ≡ plain_told workload (earliest_first (cond b (sliced v l.page) (with_addition v l.page old 1)).post.did)
-      tells b is = ap (λ t. plain_told workload (earliest_first (cond t (sliced v l.page) (with_addition v l.page old 1)).post.did)) is
+          → plain_told workload (earliest_first (counted v l.page old number).post.did)
+          ≡ plain_told workload (earliest_first (cond b (sliced v l.page) (with_addition v l.page old 1 number)).post.did)
+      tells b is = ap (λ t. plain_told workload (earliest_first (cond t (sliced v l.page) (with_addition v l.page old 1 number)).post.did)) is
 
       by_test : (b : Bool) → slices v.post l.page ≡ b
-          → plain_told workload (earliest_first (counted v l.page old).post.did) ≡ steps_ran workload (v.ran ++ e ∷ [])
+          → plain_told workload (earliest_first (counted v l.page old number).post.did) ≡ steps_ran workload (v.ran ++ e ∷ [])
       by_test true is = tells true is ∙ (same ∙ sym (steps_ran-none v.ran e (took true is)))
       by_test false is =
           tells false is

@@ -19,7 +19,7 @@ use Rattle.like_core.specs.declared.page_step.PageCall.TheVariants.{Add, Read}
 use Rattle.like_core.specs.declared.page_step.PageStep.{PageStep}
 use Rattle.like_core.specs.Additions.{added_in, added_to}
 use Rattle.like_core.specs.PageSteps.{additions_among, earliest_first, likes_of, page_step}
-use Rattle.like_core.specs.Post.{additions_of, additions_in, pages_of, slices}
+use Rattle.like_core.specs.Post.{additions_of, additions_in, number_of, pages_of, slices}
 use Rattle.like_core.proofs.core.Labels.{added_to-push, added_in-push}
 use Rattle.like_tables.specs.UserTable.{last_of}
 use Rattle.like_tables.specs.declared.held.Held.{Held}
@@ -192,29 +192,29 @@ one_more-at xs page other h =
     ]
 
 -- one more accepted like in the slice or on the board
-counted-one : (v : WorkerView) (page old other : ℕ) → page < length v.slice
-    → additions_of (counted v page old).post other + get_or (counted v page old).slice other 0
+counted-one : (v : WorkerView) (page old number other : ℕ) → page < length v.slice
+    → additions_of (counted v page old number).post other + get_or (counted v page old number).slice other 0
     ≡ (additions_of v.post other + get_or v.slice other 0) + cond (eqb page other) 1 0
-counted-one v page old other in_slice =
+counted-one v page old number other in_slice =
     counted_by (λ w. additions_of w.post other + get_or w.slice other 0
     ≡ (additions_of v.post other + get_or v.slice other 0) + cond (eqb page other) 1 0)
-    v page old (omega (arith, one_more-at v.slice page other in_slice))
-    (let push : additions_of (with_addition v page old 1).post other
+    v page old number (omega (arith, one_more-at v.slice page other in_slice))
+    (let push : additions_of (with_addition v page old 1 number).post other
     ≡ additions_of v.post other + cond (eqb page other) 1 0 =
     added_to-push (additions_among v.post.did) (phase_of v.post.state) page old 1 other in
     omega arith)
 
 -- and in its phase
-counted-in : (v : WorkerView) (page old other phase : ℕ) → page < length v.slice
-    → additions_in (counted v page old).post phase other
-    + cond (phase_at (counted v page old) == phase) (get_or (counted v page old).slice other 0) 0
+counted-in : (v : WorkerView) (page old number other phase : ℕ) → page < length v.slice
+    → additions_in (counted v page old number).post phase other
+    + cond (phase_at (counted v page old number) == phase) (get_or (counted v page old number).slice other 0) 0
     ≡ (additions_in v.post phase other + cond (phase_at v == phase) (get_or v.slice other 0) 0)
     + cond (phase_at v == phase) (cond (page == other) 1 0) 0
-counted-in v page old other phase in_slice =
+counted-in v page old number other phase in_slice =
     counted_by (λ w. additions_in w.post phase other + cond (phase_at w == phase) (get_or w.slice other 0) 0
     ≡ (additions_in v.post phase other + cond (phase_at v == phase) (get_or v.slice other 0) 0)
     + cond (phase_at v == phase) (cond (page == other) 1 0) 0)
-    v page old
+    v page old number
     (let more = ap (λ (k : ℕ). cond (phase_at v == phase) k 0) (one_more-at v.slice page other in_slice) in
     let parts = cond_sum (phase_at v == phase) (get_or v.slice other 0) (cond (page == other) 1 0) in
     omega arith)
@@ -231,23 +231,23 @@ counted-in v page old other phase in_slice =
     cond_both false c = refl
 
 -- and is an addition, if it is a step
-counted-reads : (workload : Workload) (v : WorkerView) (page old : ℕ)
+counted-reads : (workload : Workload) (v : WorkerView) (page old number : ℕ)
     → ArePlainReads workload v.post.did
-    → ArePlainReads workload (counted v page old).post.did
-counted-reads workload v page old reads =
-    counted_by (λ w. ArePlainReads workload w.post.did) v page old reads
+    → ArePlainReads workload (counted v page old number).post.did
+counted-reads workload v page old number reads =
+    counted_by (λ w. ArePlainReads workload w.post.did) v page old number reads
     (All-cons (λ s. likes_of s.call ≡ 0 → is_split_in workload s.phase s.page ≡ false)
     (page_step v.post.worker (phase_at v) page old (Add 1)) v.post.did (λ none. absurd (cc none)) reads)
 
 -- a like that is counted changes no size, and whom the worker serves as little
-counted-sized : (v : WorkerView) (page old : ℕ) → IsSized v → IsSized (counted v page old)
-counted-sized v page old s =
-    counted_by IsSized v page old (record { slice = length-set v.slice page _ ∙ s.slice; users = s.users }) s
+counted-sized : (v : WorkerView) (page old number : ℕ) → IsSized v → IsSized (counted v page old number)
+counted-sized v page old number s =
+    counted_by IsSized v page old number (record { slice = length-set v.slice page _ ∙ s.slice; users = s.users }) s
 
-counted-served : (workload : Workload) (v : WorkerView) (page old : ℕ)
+counted-served : (workload : Workload) (v : WorkerView) (page old number : ℕ)
     → IsServed workload v
-    → IsServed workload (counted v page old)
-counted-served workload v page old s = counted_by (IsServed workload) v page old s s
+    → IsServed workload (counted v page old number)
+counted-served workload v page old number s = counted_by (IsServed workload) v page old number s s
 
 -- one more entry that ran no like changes no number of a phase
 pub within-none : (workload : Workload) (ran : List Ran) (e : Ran) (page phase : ℕ)
@@ -321,7 +321,7 @@ unchanged workload v h stashed answer did same_adds served sized t none right st
     )
 
 -- an accepted like
-one_like : (workload : Workload) (v : WorkerView) (h : Held) (stashed : Bool) (page old : ℕ)
+one_like : (workload : Workload) (v : WorkerView) (h : Held) (stashed : Bool) (page old number : ℕ)
     → IsServed workload v
     → IsSized v
     → IsTallied workload v
@@ -331,16 +331,16 @@ one_like : (workload : Workload) (v : WorkerView) (h : Held) (stashed : Bool) (p
     → page < pages_of v.post
     → h.ask.request.user < v.last.share.users
     → is_split_in workload (phase_at v) page ≡ slices v.post page
-    → IsAfter workload v h stashed reply.Liked (liked v h.ask.request.user page old)
-one_like workload v h stashed page old served sized t like no_look right in_pages in_users alike =
+    → IsAfter workload v h stashed reply.Liked (liked v h.ask.request.user page old number)
+one_like workload v h stashed page old number served sized t like no_look right in_pages in_users alike =
     let e = ran_now v h stashed reply.Liked in
     let user = h.ask.request.user in
     let l : AcceptedRequest = record { user = user; page = page } in
     let more = likes_ran-push workload v.ran e (Some l) like in
     let in_slice : page < length v.slice = omega (arith, sized.slice) in
     let in_table : user < length v.last.last = omega (arith, sized.users) in
-    let s = counted-served workload v page old served in
-    let z = counted-sized v page old sized in (
+    let s = counted-served workload v page old number served in
+    let z = counted-sized v page old number sized in (
       record {
         users =
             served.users;
@@ -355,13 +355,13 @@ one_like workload v h stashed page old served sized t like no_look right in_page
       record {
         likes = λ other. ap (page_likes other) more ∙ page_likes-push other (likes_ran workload v.ran) l
             ∙ ap (λ n. n + cond (eqb page other) 1 0) (t.likes other)
-            ∙ sym (counted-one v page old other in_slice);
+            ∙ sym (counted-one v page old number other in_slice);
         by_phase = λ phase other.
             within-one workload v.ran e l other phase like
             ∙ ap (λ n. n + cond (phase_at v == phase) (cond (page == other) 1 0) 0) (t.by_phase phase other)
-            ∙ sym (counted-in v page old other phase in_slice);
-        steps = counted-steps workload v e l old t.steps refl no_look like alike;
-        reads = counted-reads workload v page old t.reads;
+            ∙ sym (counted-in v page old number other phase in_slice);
+        steps = counted-steps workload v e l old number t.steps refl no_look like alike;
+        reads = counted-reads workload v page old number t.reads;
         replies = HasRightAnswers-push workload v.ran e t.replies right;
         last = λ other. elim (cases_eq user other) [
           | inl same ↦
@@ -428,8 +428,8 @@ GivesReply-tallied workload v h stashed answer w served sized t asked kept alike
     let in_users : r.user < v.last.share.users =
     omega (arith, accepted_user workload.users (submitters workload) h.submitter r yes, served.users) in
     subst (λ y. IsAfter workload v h stashed answer y) (sym e.1)
-    (subst (λ y. IsAfter workload v h stashed y (liked v r.user page e.0)) (sym l)
-    (one_like workload v h stashed page e.0 served sized t like no_look right in_pages in_users (alike page)))
+    (subst (λ y. IsAfter workload v h stashed y (liked v r.user page e.0 (number_of w.post))) (sym l)
+    (one_like workload v h stashed page e.0 _ served sized t like no_look right in_pages in_users (alike page)))
 GivesReply-tallied workload v h stashed answer w served sized t asked kept alike plain (looks page count a o p s n e) =
     let r = h.ask.request in
     let V-is = sym (verdict_at-served workload v h.submitter r served) ∙ a in
@@ -449,7 +449,7 @@ GivesReply-tallied workload v h stashed answer w served sized t asked kept alike
     plain_told-push workload (earliest_first v.post.did) step (alike page ∙ unsliced)
     ∙ (ap (λ xs. xs ++ step_told step ∷ []) t.steps ∙ sym (steps_ran-push workload v.ran x (step_told step) took))
     in
-    let P : Reply → Type 0 = λ y. IsAfter workload v h stashed y (shown v page count) in
+    let P : Reply → Type 0 = λ y. IsAfter workload v h stashed y (shown v page count (number_of w.post)) in
     subst (λ y. IsAfter workload v h stashed answer y) (sym e)
     (subst P (sym s)
     (unchanged workload v h stashed seen (step ∷ v.post.did) refl served sized t none right steps

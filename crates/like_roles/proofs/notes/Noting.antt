@@ -13,7 +13,7 @@ use Rattle.like_core.specs.declared.page_step.PageStep.{PageStep}
 use Rattle.like_core.specs.declared.worker_state.WorkerState.{WorkerState}
 use Rattle.like_core.specs.declared.worker_state.WorkerState.TheVariants as state
 use Rattle.like_core.specs.WorkerState.{RunsSome, phase_of, seen}
-use Rattle.like_core.specs.Post.{slices}
+use Rattle.like_core.specs.Post.{number_of, slices}
 use Rattle.like_core.specs.PageSteps.{additions_among, page_step, stretch_of, stretches_of}
 use Rattle.like_core.proofs.Steps.{stretches-push}
 use Rattle.like_tables.specs.declared.held.Held.{Held}
@@ -109,7 +109,7 @@ no_stretch workload e did none =
     }) o)) none ∙ append-nil did
 
 -- an accepted like
-one_like : (workload : Workload) (v : WorkerView) (e : Ran) (page old user : ℕ)
+one_like : (workload : Workload) (v : WorkerView) (e : Ran) (page old number user : ℕ)
     → v.notes ≡ true
     → IsNoted workload v.post.did v.adds v.ran
     → IsUnmerged workload v.adds (state.Runs (phase_at v))
@@ -117,8 +117,8 @@ one_like : (workload : Workload) (v : WorkerView) (e : Ran) (page old user : ℕ
     → like_ran workload e ≡ Some (record { user = user; page = page })
     → look_ran workload e ≡ None
     → is_split_in workload (phase_at v) page ≡ slices v.post page
-    → IsNotedNow workload (phase_at v) (counted v page old) (v.ran ++ e ∷ [])
-one_like workload v e page old user notes was un now like no_look_ran alike = by_test (slices v.post page) refl
+    → IsNotedNow workload (phase_at v) (counted v page old number) (v.ran ++ e ∷ [])
+one_like workload v e page old number user notes was un now like no_look_ran alike = by_test (slices v.post page) refl
   where
     k : ℕ
     k = phase_at v
@@ -168,13 +168,13 @@ one_like workload v e page old user notes was un now like no_look_ran alike = by
     step : PageStep
     step = page_step v.post.worker k page old (Add 1)
 
-    on_board : is_split_in workload k page ≡ false → P (with_addition v page old 1)
+    on_board : is_split_in workload k page ≡ false → P (with_addition v page old 1 number)
     on_board is =
         let a : Added = noted_at (length v.ran) new in
         let all : List Added = v.adds ++ a ∷ [] in
         let count : (phase q : ℕ) → adds_to phase q (a ∷ []) ≡ one phase q =
         λ phase q. (sum_by-cons (λ (b : Added). cond {A = ℕ} (is_add_to phase q b) 1 0) a [] ∙ omega arith) in
-        subst (λ (xs : List Added). P (record (with_addition v page old 1) { adds = v.adds ++ xs }))
+        subst (λ (xs : List Added). P (record (with_addition v page old 1 number) { adds = v.adds ++ xs }))
         (sym (noted-each v (new ∷ []) notes)) (
           noted-push workload v.post.did (step ∷ v.post.did) v.adds (a ∷ []) all v.ran e one was by refl
               (record {
@@ -217,11 +217,11 @@ one_like workload v e page old user notes was un now like no_look_ran alike = by
         one_of Q a q zero d inside = q
         one_of Q a q (suc i) d inside = absurd (omega arith)
 
-    by_test : (b : Bool) → slices v.post page ≡ b → P (counted v page old)
+    by_test : (b : Bool) → slices v.post page ≡ b → P (counted v page old number)
     by_test true e' =
-        subst (λ (b : Bool). P (cond b (sliced v page) (with_addition v page old 1))) (sym e') (in_slice (alike ∙ e'))
+        subst (λ (b : Bool). P (cond b (sliced v page) (with_addition v page old 1 number))) (sym e') (in_slice (alike ∙ e'))
     by_test false e' =
-        subst (λ (b : Bool). P (cond b (sliced v page) (with_addition v page old 1))) (sym e') (on_board (alike ∙ e'))
+        subst (λ (b : Bool). P (cond b (sliced v page) (with_addition v page old 1 number))) (sym e') (on_board (alike ∙ e'))
 
 -- whatever the answer is, of a worker that notes its additions
 pub GivesReply-noted : (workload : Workload) (v : WorkerView) (h : Held) (stashed : Bool) (answer : Reply)
@@ -254,7 +254,7 @@ GivesReply-noted workload v h stashed answer w served notes was un asked alike (
     let like : like_ran workload x ≡ Some (record { user = r.user; page = page }) =
     like_ran-is workload x r asked.asked ∙ rw (yes, o, p) refl in
     let no_look_ran : look_ran workload x ≡ None = look_ran-is workload x r asked.asked ∙ rw (yes, o) refl in
-    let counts = one_like workload v x page e.0 r.user notes was un refl like no_look_ran (alike page) in
+    let counts = one_like workload v x page e.0 (number_of w.post) r.user notes was un refl like no_look_ran (alike page) in
     subst (λ u. IsNotedNow workload (phase_at v) u (v.ran ++ x ∷ [])) (sym e.1) (counts.0, counts.1)
 GivesReply-noted workload v h stashed answer w served notes was un asked alike (looks page count a o p s n e) =
     let r = h.ask.request in

@@ -7,7 +7,7 @@ use Rattle.like_requests.specs.declared.request.Request.{Request}
 use Rattle.like_requests.specs.declared.verdict.Verdict.{Verdict}
 use Rattle.like_requests.specs.declared.verdict.Verdict.TheVariants.{Accepted}
 use Rattle.like_core.specs.declared.view.Addition.{Addition}
-use Rattle.like_core.specs.Post.{has_read, additions_of, slices}
+use Rattle.like_core.specs.Post.{has_read, additions_of, number_of, slices}
 use Rattle.like_tables.specs.UserTable.{last_of, with_last}
 use Rattle.like_tables.specs.declared.held.Held.{Held}
 use Rattle.like_seat.specs.Steps as steps
@@ -44,32 +44,33 @@ noting v page old n = record v {
   } ∷ []);
 }
 
--- n is added to a page's count on the board, which was this before, and noted
-abbrev pub with_addition : WorkerView → ℕ → ℕ → ℕ → WorkerView
-with_addition v page old n =
-    noting (with_seat v (steps.with_addition (seat_of v) page old n)) page old n
+-- n is added to a page's count on the board, which was this before, with this number, and noted
+abbrev pub with_addition : WorkerView → ℕ → ℕ → ℕ → ℕ → WorkerView
+with_addition v page old n number =
+    noting (with_seat v (steps.with_addition (seat_of v) page old n number)) page old n
 
 -- one more like of a page in the slice
 abbrev pub sliced : WorkerView → ℕ → WorkerView
 sliced v page = with_seat v (steps.sliced (seat_of v) page)
 
--- one more like of a page: in the slice, where the page is sliced, else on the board, where its count was this
-abbrev pub counted : WorkerView → ℕ → ℕ → WorkerView
-counted v page old =
-    if slices v.post page then sliced v page else with_addition v page old 1
+-- one more like of a page: in the slice, where the page is sliced, else on the board, where its count was this, with this
+-- number
+abbrev pub counted : WorkerView → ℕ → ℕ → ℕ → WorkerView
+counted v page old number =
+    if slices v.post page then sliced v page else with_addition v page old 1 number
 
 -- a user's accepted like of a page is counted, and is the user's last like
-abbrev pub liked : WorkerView → ℕ → ℕ → ℕ → WorkerView
-liked v user page old =
-    let w = counted v page old in record w { last = with_last v.last user page }
+abbrev pub liked : WorkerView → ℕ → ℕ → ℕ → ℕ → WorkerView
+liked v user page old number =
+    let w = counted v page old number in record w { last = with_last v.last user page }
 
 -- one more like of a page is counted, whatever its count is, and is the user's last
 abbrev pub Likes : WorkerView → ℕ → ℕ → WorkerView → Type 0
-Likes v user page after = (old : ℕ) × (after ≡ liked v user page old)
+Likes v user page after = (old : ℕ) × (after ≡ liked v user page old (number_of after.post))
 
--- a page's count was read, and was this
-abbrev pub shown : WorkerView → ℕ → ℕ → WorkerView
-shown v page count = record v { post = has_read v.post page count }
+-- a page's count was read, and was this, with this number
+abbrev pub shown : WorkerView → ℕ → ℕ → ℕ → WorkerView
+shown v page count number = record v { post = has_read v.post page count number }
 
 -- a request of a submitter is answered, and this is what becomes of the worker: its list of what it ran aside
 pub data GivesReply (v : WorkerView) (submitter : ℕ) (r : Request) (reply : Reply)
@@ -81,7 +82,7 @@ pub data GivesReply (v : WorkerView) (submitter : ℕ) (r : Request) (reply : Re
       → reply ≡ Liked → Likes v r.user page after → GivesReply v submitter r reply after
   looks : (page count : ℕ) → verdict_at v submitter r ≡ Accepted → r.op ≡ Look → r.page ≡ Known page
       → reply ≡ Seen (last_of v.last r.user) count → additions_of v.post page ≤ count
-      → after ≡ shown v page count
+      → after ≡ shown v page count (number_of after.post)
       → GivesReply v submitter r reply after
 
 -- the entry of a request that runs now

@@ -1,5 +1,5 @@
 -- The turns of a worker, case by case.
-use Rattle.std.specs.Prelude.{◌≡◌, ◌≢◌, ◌⊎◌, ℕ, ◌+◌, ◌-◌, ◌%◌, ◌<◌, ◌≤◌, ◌==◌, count_by, ⊤, Bool, true, false, List, [], ◌∷◌, ◌++◌, length, slice_index, slice_index_or, slice_set, Some, None}
+use Rattle.std.specs.Prelude.{◌≡◌, ◌≢◌, ◌⊎◌, ℕ, ◌+◌, ◌-◌, ◌%◌, ◌<◌, ◌≤◌, ◌==◌, count_by, ⊤, Bool, true, false, List, [], ◌∷◌, ◌++◌, length, map, slice_index, slice_index_or, slice_set, Some, None}
 use Rattle.like_requests.specs.declared.request.Numbered.{Numbered}
 use Rattle.like_requests.specs.declared.request.Taken.{Taken}
 use Rattle.like_requests.specs.declared.request.Taken.TheVariants as taken
@@ -8,7 +8,9 @@ use Rattle.like_core.specs.declared.worker_state.WorkerState.TheVariants.{Gone}
 use Rattle.like_core.specs.WorkerState.{IsSightOf, RunsJoined, RunsSplit}
 use Rattle.like_core.specs.declared.view.Addition.{Addition}
 use Rattle.like_core.specs.PhaseMasks.{KeepsMasks}
-use Rattle.like_core.specs.Post.{looked_at, answered, retired, pages_of}
+use Rattle.like_core.specs.declared.log.Logged.{Logged}
+use Rattle.like_core.specs.PageSteps.{step_adding}
+use Rattle.like_core.specs.Post.{looked_at, answered, number_of, retired, pages_of}
 use Rattle.like_tables.specs.declared.held.Held.{Held}
 use Rattle.like_roles.specs.declared.turn.Turn.{Turn}
 use Rattle.like_roles.specs.declared.turn.Turn.TheVariants as turn
@@ -19,9 +21,10 @@ use Rattle.like_seat.specs.Steps as steps
 use Rattle.like_roles.specs.worker.WorkerView.{WorkerView, TookAllEnds, IsNextPlace, has_to_wait, phase_at, seat_of, submitter_at, with_seat}
 use Rattle.like_roles.specs.worker.Serve.{Runs, noted}
 
--- the worker after a look: where it enters a split phase it has also read that phase's mask, which is this
-abbrev pub saw : WorkerView → Sight → ℕ → WorkerView
-saw v sight mask = with_seat v (steps.saw (seat_of v) sight mask)
+-- the worker after a look, with this number: where it enters a split phase it has also read that phase's mask, which is
+-- this
+abbrev pub saw : WorkerView → Sight → ℕ → ℕ → WorkerView
+saw v sight mask number = with_seat v (steps.saw (seat_of v) sight mask number)
 
 -- without the first look that it held
 abbrev pub without_first : WorkerView → List Held → WorkerView
@@ -31,15 +34,16 @@ without_first v rest = record v { held = record v.held { held = rest } }
 abbrev pub trying : WorkerView → ℕ → WorkerView
 trying v place = record v { pending = Some place; cursor = (place + 1) % length v.ended }
 
--- the slice is added to the board by these additions, which are noted, and emptied
-abbrev pub merged : WorkerView → List Addition → WorkerView
-merged v adds = record (with_seat v (merge.merged (seat_of v) adds)) { adds = v.adds ++ noted v adds }
+-- the slice is added to the board by these additions, which are noted, and emptied; these are then the entries
+abbrev pub merged : WorkerView → List Addition → List Logged → WorkerView
+merged v adds logged = record (with_seat v (merge.merged (seat_of v) adds logged)) { adds = v.adds ++ noted v adds }
 
 -- a worker's slice is merged: one addition for each page with likes, which it notes if it notes its additions
 abbrev pub IsMerged : WorkerView → WorkerView → Type 0
 IsMerged v after =
     (adds : List Addition)
-    × (Merges (phase_at v) v.slice (pages_of v.post) adds × (after ≡ merged v adds))
+    × (Merges (phase_at v) v.slice (pages_of v.post) adds × (after ≡ merged v adds after.post.logged)
+    × merge.LogsSteps (map (step_adding v.post.worker) adds) v.post.logged after.post.logged)
 
 -- it cannot take a request in a split phase
 abbrev pub IsStuck : WorkerView → Type 0
@@ -75,10 +79,10 @@ pub data Works (v : WorkerView) (ending : Bool) (answer : Turn) (after : WorkerV
 pub data Turns (v : WorkerView) (answer : Turn) (after : WorkerView) : Type 0 where
   is_gone : v.post.state ≡ Gone → answer ≡ turn.Retired → after ≡ v → Turns v answer after
   waits : (sight : Sight) → v.post.state ≢ Gone → IsSightOf v.post.state sight → sight.waits ≡ true
-      → answer ≡ turn.Waiting → after ≡ record v { post = looked_at v.post sight }
+      → answer ≡ turn.Waiting → after ≡ record v { post = looked_at v.post sight (number_of after.post) }
       → Turns v answer after
-  works : (sight : Sight) (mask : ℕ) → v.post.state ≢ Gone → IsSightOf v.post.state sight
-      → sight.waits ≡ false → Works (saw v sight mask) sight.ending answer after
+  works : (sight : Sight) (mask number : ℕ) → v.post.state ≢ Gone → IsSightOf v.post.state sight
+      → sight.waits ≡ false → Works (saw v sight mask number) sight.ending answer after
       → Turns v answer after
 
 -- the request is the next one of the submitter at a place, which has one left, and its page exists, if it is known

@@ -3,7 +3,7 @@ ghost use Rattle.std.specs.Prelude.{◌≡◌, ◌≢◌, ◌^◌, ◌≤◌, fa
 ghost use Rattle.like_core.specs.declared.worker_state.WorkerState.TheVariants.{Gone};
 ghost use Rattle.like_core.specs.OpeningLimits.{AreLimits, has_slots};
 ghost use Rattle.like_core.specs.core.Moves.{LetsReturn};
-ghost use Rattle.like_core.specs.Post.{IsFresh, pages_of, returned};
+ghost use Rattle.like_core.specs.Post.{IsFresh, number_of, pages_of, returned};
 ghost use Rattle.like_limits.specs.Limits.{max_stash};
 ghost use Rattle.like_seat.specs.Kept.{IsOfService};
 ghost use Rattle.like_seat.specs.StationView.{IsStation};
@@ -69,7 +69,7 @@ pub fn come_back<P: Returns>(post: &mut P) -> Option<u64>
     requires gone { (P.view post.old).state ≡ Gone }
     requires lets { LetsReturn (P.view post.old).opening.limits }
     ensures board { P.board post.new ≡ P.board post.old }
-    ensures back { IfSome result (λ phase. P.view post.new ≡ returned (P.view post.old) phase) }
+    ensures back { IfSome result (λ phase. P.view post.new ≡ returned (P.view post.old) phase (number_of (P.view post.new))) }
     ensures within { IfSome result (λ phase. phase ≤ (P.view post.old).opening.limits.last_phase) }
     ensures none { IfNone result (P.view post.new ≡ P.view post.old) }
 {

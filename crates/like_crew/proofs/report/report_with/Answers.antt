@@ -79,7 +79,7 @@ returns-clause-report c =
     ∙ length-map c.args.setup.now.pages (λ (p : Page). p.count) in
     let logs = logs-are c.args.setup.now plans c.args.notes e h told.closed.masks told.closed.counted
     told.closed.phases in
-    let order = one-order c.args.setup.now plans c.args.notes e h told.closed.masks told.closed.steps told.closed.order
+    let order = one-order c.args.setup.now plans c.args.notes e h told.closed.masks told.closed.log told.closed.order
     told.closed.counted told.closed.phases in
     record {
       one_order = order;

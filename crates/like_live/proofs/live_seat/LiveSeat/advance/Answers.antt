@@ -24,7 +24,7 @@ returns-then-not-sight-clause-moves g c =
     ∙ c.self.invariant.live.split
     (subst (λ (w : WorkerState). IsJoined (phase_of w)) c.look_on-sight.ensures.stays joined) in
     subst (λ (u : LiveView). Moves u Runs after) c.self.view_is
-    (works sight saw.looks.0 saw.sight c.look_on-sight.ensures.goes_on
+    (works sight saw.looks.0 _ saw.sight c.look_on-sight.ensures.goes_on
     (subst (λ (u : LiveView). Works u sight.ending Runs after)
     (λ m. live_of (saw.looks.1 m) c.self.inside.found)
     (subst (λ (e : Bool). Works after e Runs after) (sym (not-true _ c.if-not-sight.true))
@@ -36,7 +36,7 @@ returns-clause-moves g c =
     let sight = c.look_on-sight.result in
     let looks = c.look_on-sight.ensures.looks.looks in
     subst (λ (u : LiveView). Moves u c.work-answer.result after) c.self.view_is
-    (works sight looks.0 c.look_on-sight.ensures.looks.sight c.look_on-sight.ensures.goes_on
+    (works sight looks.0 _ c.look_on-sight.ensures.looks.sight c.look_on-sight.ensures.goes_on
     (subst (λ (u : LiveView). Works u sight.ending c.work-answer.result after)
     (λ m. live_of (looks.1 m) c.self.inside.found)
     (subst (λ (e : Bool). Works (live_of c.look_on-sight.new.self c.self.inside.found) e c.work-answer.result after)

@@ -25,7 +25,7 @@ returns-clause-moves g c =
     let sight = c.look_with_slots-sight.result in
     let looks = c.look_with_slots-sight.ensures.looks in
     subst (λ (u : LiveView). Moves u c.work.result after) c.self.view_is
-    (works sight looks.0 c.look_with_slots-sight.ensures.sight c.if-sight.false
+    (works sight looks.0 _ c.look_with_slots-sight.ensures.sight c.if-sight.false
     (subst (λ (u : LiveView). Works u sight.ending c.work.result after)
     (λ m. live_of (looks.1 m) c.self.inside.found) c.work.ensures.works))
 

@@ -1,10 +1,15 @@
 use Rattle.std.proofs.Common.{refl}
 use Rattle.like_live.specs.Calls.{between, gone, runs}
-use Rattle.like_live.proofs.Calling.{GlancesNow-leaves}
+use Rattle.like_live.proofs.Calling.{GlancesNow-leaves, GlancesNow-tells}
 use Rattle.like_live.proofs.live_seat.LiveSeat.glance.Goals as goal
 
 pub returns-in-Runs-clause-case : goal.returns-in-Runs-clause-case
 returns-in-Runs-clause-case g c = runs c.turn.new.self c.in-Runs.ensures.case c.glance_now.ensures.case
+
+pub returns-in-Runs-clause-tells : goal.returns-in-Runs-clause-tells
+returns-in-Runs-clause-tells g c =
+    GlancesNow-tells c.turn.new.self c.glance_now.new.self c.args.user c.args.page c.glance_now.result
+    c.glance_now.ensures.case
 
 pub returns-in-Between-clause-case : goal.returns-in-Between-clause-case
 returns-in-Between-clause-case g c = between c.in-Between.ensures.case refl

@@ -24,7 +24,7 @@ returns-clause-case g c =
     let sight = c.look_with_slots-sight.result in
     let looks = c.look_with_slots-sight.ensures.looks in
     subst (λ (v : LiveView). RetireCase v c.work_or_retire.result after) c.self.view_is
-    (works sight looks.0 c.look_with_slots-sight.ensures.sight c.if-sight.false
+    (works sight looks.0 _ c.look_with_slots-sight.ensures.sight c.if-sight.false
     (subst (λ (v : LiveView). RetireWorks v sight.ending c.work_or_retire.result after)
     (λ m. live_of (looks.1 m) c.self.inside.found) c.work_or_retire.ensures.works))
 

@@ -1,6 +1,7 @@
 use Rattle.std.proofs.Common.{◌≡◌, true, ap, sym, subst, ◌∙◌}
 use Rattle.like_core.specs.declared.worker_state.WorkerState.TheVariants.{Gone}
 use Rattle.like_core.specs.OpeningLimits.{has_slots}
+use Rattle.like_core.specs.Post.{number_of}
 use Rattle.like_core.specs.core.Moves.{LetsReturn}
 use Rattle.like_core.specs.declared.view.WorkerSeatView.{WorkerSeatView}
 use Rattle.like_seat.specs.Kept.{IsKept, IsOfService, view_of}
@@ -17,7 +18,7 @@ invariant_of-self-2 g c =
     subst (λ (v : StationView g.row.W.Denot). v.post.state ≡ Gone) (sym c.self.view_is) c.requires.gone in
     IsKept-entered p back (g.P.Post.view c.enter_slots.new.post) c.self.inside.tables c.enter_slots.new.self
     c.in-Some.phase c.enter_slots.ensures.enters.0 c.self.invariant (idle-gone p.state gone)
-    (ran-returned p back c.in-Some.phase c.in-Some.ensures.back) c.enter_slots.ensures.enters.1 c.in-Some.ensures.within
+    (ran-returned p back c.in-Some.phase _ c.in-Some.ensures.back) c.enter_slots.ensures.enters.1 c.in-Some.ensures.within
 
 pub returns-clause-back : goal.returns-clause-back
 returns-clause-back g c = λ _.
@@ -30,15 +31,18 @@ returns-clause-back g c = λ _.
     let mask = c.enter_slots.ensures.enters.0 in
     let e = c.enter_slots.ensures.enters.1 in
     let entered : WorkerSeatView → WorkerSeatView = λ q. record q { masks = masks_entered q.masks phase mask } in
-    let after : g.P.Post.view c.enter_slots.new.post ≡ returned_at p phase mask =
-    ◌∙◌ {b = entered back} e.at_post (ap entered c.in-Some.ensures.back) in
+    let now = g.P.Post.view c.enter_slots.new.post in
+    let same_number : number_of back ≡ number_of now = sym (ap (λ (q : WorkerSeatView). number_of q) e.at_post) in
+    let after : now ≡ returned_at p phase mask (number_of now) =
+    ◌∙◌ {b = entered back} e.at_post
+    (ap entered c.in-Some.ensures.back ∙ ap (returned_at p phase mask) same_number) in
     let slice = empty-entered p back (g.P.Post.view c.enter_slots.new.post) t c.enter_slots.new.self phase mask
-    c.self.invariant (idle-gone p.state gone) (ran-returned p back phase c.in-Some.ensures.back) e in (
+    c.self.invariant (idle-gone p.state gone) (ran-returned p back phase _ c.in-Some.ensures.back) e in (
       phase,
       (
         mask,
         ◌∙◌ {a = view_of (g.P.Post.board c.enter_slots.new.post) (g.P.Post.view c.enter_slots.new.post) c.enter_slots.new.self}
-            {b = came_back (view_of (g.P.Post.board c.self.inside.post) p t) phase mask}
+            {b = came_back (view_of (g.P.Post.board c.self.inside.post) p t) phase mask (number_of now)}
             (λ m. record (view_of (g.P.Post.board c.self.inside.post) p t) {
               board = (c.enter_slots.ensures.board ∙ c.come_back.ensures.board) m;
               post = after m;
@@ -47,7 +51,7 @@ returns-clause-back g c = λ _.
               sliced = (e.rest m).sliced.likes;
               last = (e.rest m).last;
             })
-            (ap (λ s. came_back s phase mask) c.self.view_is),
+            (ap (λ s. came_back s phase mask (number_of now)) c.self.view_is),
       ),
     )
 
@@ -81,7 +85,7 @@ enter_slots-requires-clause-may g c =
     let gone : p.state ≡ Gone =
     subst (λ (v : StationView g.row.W.Denot). v.post.state ≡ Gone) (sym c.self.view_is) c.requires.gone in
     MayEnter-kept p back c.self.inside.tables c.in-Some.phase c.self.invariant (idle-gone p.state gone)
-    (ran-returned p back c.in-Some.phase c.in-Some.ensures.back)
+    (ran-returned p back c.in-Some.phase _ c.in-Some.ensures.back)
 
 pub enter_slots-requires-clause-service : goal.enter_slots-requires-clause-service
 enter_slots-requires-clause-service g c =
@@ -90,5 +94,5 @@ enter_slots-requires-clause-service g c =
     let slotted = subst (λ (v : StationView g.row.W.Denot). has_slots v.post.opening.limits ≡ true) (sym c.self.view_is)
     c.requires.slotted in
     subst IsOfService
-    (sym (opening-ran p back c.in-Some.phase (ran-returned p back c.in-Some.phase c.in-Some.ensures.back)))
+    (sym (opening-ran p back c.in-Some.phase (ran-returned p back c.in-Some.phase _ c.in-Some.ensures.back)))
     (c.self.invariant.service slotted)

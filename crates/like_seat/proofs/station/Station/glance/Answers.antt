@@ -1,6 +1,7 @@
 use Rattle.std.proofs.Common.{◌≡◌, true, ℕ, ◌+◌, ◌<◌, get_or, sym, refl, subst, ◌∙◌, arith}
 use Rattle.std.proofs.lemmas.List.Sums.{get_or-le-sum_by}
-use Rattle.like_core.specs.Post.{has_glanced, pages_of, slices}
+use Rattle.like_core.specs.declared.view.WorkerSeatView.{WorkerSeatView}
+use Rattle.like_core.specs.Post.{has_glanced, number_of, pages_of, slices}
 use Rattle.like_core.specs.WorkerState.{IsRunning}
 use Rattle.like_tables.specs.Placed.{IsPlaced}
 use Rattle.like_tables.specs.SplitSlice.{by_page}
@@ -35,7 +36,8 @@ returns-clause-glances g c =
 pub invariant_of-self : goal.invariant_of-self
 invariant_of-self g c =
     let p = g.P.Post.view c.self.inside.post in
-    Kept-read p (g.P.Post.view c.glance.new.self) (has_glanced p c.args.page c.glance.result).did
+    let now : WorkerSeatView = has_glanced p c.args.page c.glance.result (number_of (g.P.Post.view c.glance.new.self)) in
+    Kept-read p (g.P.Post.view c.glance.new.self) now.did now.logged
     c.self.inside.tables c.self.invariant c.glance.ensures.view refl
 
 pub returns-clause-seat : goal.returns-clause-seat

@@ -29,7 +29,7 @@ enter_slots-requires-clause-service g c =
     let asked = subst (λ (v : StationView g.row.W.Denot). has_slots v.post.opening.limits ≡ true) (sym c.self.view_is)
     c.requires.slotted in
     subst (λ (z : Opening). IsOfService z)
-    (sym (opening-ran p looked (k + 1) (ran-looked p looked c.look-sight.result k c.look-sight.ensures.view
+    (sym (opening-ran p looked (k + 1) (ran-looked p looked c.look-sight.result k _ c.look-sight.ensures.view
     (c.self.invariant.state ∙ c.in-Answered.is) (not-true c.look-sight.result.waits c.if-not-sight.true))))
     (c.self.invariant.service asked)
 

@@ -1,6 +1,6 @@
 use Rattle.std.proofs.Common.{◌≡◌, ℕ, ◌+◌, List, ◌∷◌, ◌++◌, [], length, get_or, refl, subst, ap, sym, ◌∙◌, arith}
 use Rattle.like_core.specs.declared.view.Addition.{Addition}
-use Rattle.like_core.specs.Post.{pages_of}
+use Rattle.like_core.specs.Post.{number_of, pages_of}
 use Rattle.like_limits.specs.Buckets.{bucket}
 use Rattle.like_tables.proofs.Tagged.{bucket-lt}
 use Rattle.like_seat.specs.StationView.{IsStation, StationView, likes_of}
@@ -34,11 +34,11 @@ loop-merged-preserved g c =
     record {
       within = omega (arith, from, bucket-lt f m.page);
       likes = ap (λ (x : StationView g.row.W.Denot). likes_of x) merges.merged
-          ∙ merged_page-likes s m.page m.old merges.next.there ∙ i.likes;
+          ∙ merged_page-likes s m.page m.old (number_of t.post) merges.next.there ∙ i.likes;
       merging = (
         now,
         subst (λ (n : ℕ). Merging f s0 t (n + 1) now) (sym from)
-            (Merging-next f s0 s c.loop-merged.from m.page m.old adds i.merging.1 next t merges.merged),
+            (Merging-next f s0 s c.loop-merged.from m.page m.old (number_of t.post) adds i.merging.1 next t merges.merged),
       );
     }
 

@@ -1,6 +1,6 @@
 use Rattle.std.proofs.Common.{◌≡◌, false, ℕ, ◌+◌, ◌^◌, ◌<◌, ◌≤◌, refl, sym, ap, subst, ◌∙◌, arith}
 use Rattle.like_core.specs.Additions.{addition}
-use Rattle.like_core.specs.Post.{added, pages_of, slices}
+use Rattle.like_core.specs.Post.{added, number_of, pages_of, slices}
 use Rattle.like_core.specs.WorkerState.{IsRunning, phase_of}
 use Rattle.like_core.specs.PageSteps.{additions_among}
 use Rattle.like_core.specs.declared.view.WorkerSeatView.{WorkerSeatView}
@@ -25,9 +25,10 @@ invariant_of-self-2 g c =
     let one_more : c.try_count.new.self.likes ≡ t.likes.likes + 1 = c.try_count.ensures.added c.if-not-try_count.false in
     let one = addition (phase_of p.state) page c.add.result 1 in
     let more = all_added-push (additions_among p.did) one in
+    let now : WorkerSeatView = added p page c.add.result 1 (number_of (g.P.Post.view c.add.new.self)) in
     subst (λ (q : WorkerSeatView). IsKept q (record t { likes = c.try_count.new.self; last = c.set_at.new.self }))
     (sym c.add.ensures.view)
-    (Kept-written p (added p page c.add.result 1).did t
+    (Kept-written p now.did now.logged t
     (record t { likes = c.try_count.new.self; last = c.set_at.new.self }) k refl refl refl refl refl k.slice k.sums (omega (arith, k.likes, more, one_more)) (omega (arith, few, most, one_more)))
 
 pub invariant_of-self : goal.invariant_of-self
@@ -45,14 +46,16 @@ returns-clause-counts g c = λ _.
     let t = c.self.inside.tables in
     let page : ℕ = c.args.page in
     let user : ℕ = c.args.placed.user in
-    let old : ℕ = c.add.result in (
+    let old : ℕ = c.add.result in
+    let number : ℕ = number_of (g.P.Post.view c.add.new.self) in (
       old,
       (
         c.requires.plain,
-        ◌∙◌ {b = liked_last (with_addition (view_of (g.P.Post.board c.self.inside.post) p t) page old 1) user page}
+        ◌∙◌ {b = liked_last (with_addition (view_of (g.P.Post.board c.self.inside.post) p t) page old 1 number) user page}
             (λ m. view_of (c.add.ensures.board m) (c.add.ensures.view m)
             (record t { likes = c.try_count.new.self; last = c.set_at.ensures.table m }))
-            (ap (λ (s : StationView g.row.W.Denot). liked_last (with_addition s page old 1) user page) c.self.view_is),
+            (ap (λ (s : StationView g.row.W.Denot). liked_last (with_addition s page old 1 number) user page)
+            c.self.view_is),
       ),
     )
 

@@ -33,7 +33,7 @@ invariant_of-self-2 g c =
     ap (λ (s : SplitSlice). sum (by_page s n)) c.add.ensures.counted
     ∙ sum-written t.slice n page (likes_in t.slice page + 1) (sum c.add.new.self.counts) k.slice split there k.sums
     (omega (arith, c.add.ensures.total)) in
-    Kept-written p p.did t _ k refl refl refl
+    Kept-written p p.did p.logged t _ k refl refl refl
     (ap (λ (s : SplitSlice). s.splits) c.add.ensures.counted)
     (ap (λ (s : SplitSlice). length s.counts) c.add.ensures.counted
     ∙ length-set t.slice.counts (bucket_in t.slice page) (likes_in t.slice page + 1)) c.add.ensures.slice sums

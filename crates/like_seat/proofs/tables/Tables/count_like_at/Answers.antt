@@ -1,7 +1,7 @@
 use Rattle.std.proofs.Common.{◌≡◌, ℕ, ◌+◌, true, get_or, length, length-set, set, sum, refl, sym, ap, subst, ◌∙◌, arith}
 use Rattle.like_core.specs.Additions.{addition}
 use Rattle.like_core.specs.PageSteps.{additions_among}
-use Rattle.like_core.specs.Post.{added, pages_of}
+use Rattle.like_core.specs.Post.{added, number_of, pages_of}
 use Rattle.like_core.specs.WorkerState.{phase_of}
 use Rattle.like_core.specs.declared.view.WorkerSeatView.{WorkerSeatView}
 use Rattle.like_tables.specs.SplitSlice.{SplitSlice, bucket_in, by_page, has_split, likes_in}
@@ -23,7 +23,7 @@ returns-then-is_sliced-clause-kept g c =
     ap (λ (s : SplitSlice). sum (by_page s n)) c.add.ensures.counted
     ∙ sum-written t.slice n page (likes_in t.slice page + 1) (sum c.add.new.self.counts) k.slice split c.requires.there
     k.sums (omega (arith, c.add.ensures.total)) in
-    Kept-written p p.did t _ k refl refl refl
+    Kept-written p p.did p.logged t _ k refl refl refl
     (ap (λ (s : SplitSlice). s.splits) c.add.ensures.counted)
     (ap (λ (s : SplitSlice). length s.counts) c.add.ensures.counted
     ∙ length-set t.slice.counts (bucket_in t.slice page) (likes_in t.slice page + 1)) c.add.ensures.slice sums
@@ -61,8 +61,9 @@ returns-clause-kept g c =
     let one = addition (phase_of p.state) page c.add-2.result 1 in
     let more = all_added-push (additions_among p.did) one in
     let after = record t { likes = c.count-2.new.self; last = c.set_at-2.new.self } in
+    let now : WorkerSeatView = added p page c.add-2.result 1 (number_of (g.P.Post.view c.add-2.new.self)) in
     subst (λ (q : WorkerSeatView). IsKept q after) (sym c.add-2.ensures.view)
-    (Kept-written p (added p page c.add-2.result 1).did t after k refl refl refl refl refl k.slice k.sums
+    (Kept-written p now.did now.logged t after k refl refl refl refl refl k.slice k.sums
     (omega (arith, k.likes, more, c.count-2.ensures.likes))
     (omega (arith, k.likes, c.requires.fits, c.count-2.ensures.likes)))
 

@@ -19,7 +19,7 @@ enter-requires-clause-run g c =
     let looked = g.P.Post.view c.look-sight.new.self in
     let k = c.in-Answered.phase in
     subst (λ (z : Opening). IsOfRun z c.args.self.now.marks.items)
-    (sym (opening-ran p looked (k + 1) (ran-looked p looked c.look-sight.result k c.look-sight.ensures.view
+    (sym (opening-ran p looked (k + 1) (ran-looked p looked c.look-sight.result k _ c.look-sight.ensures.view
     (c.requires.kept.state ∙ c.in-Answered.is) (not-true c.look-sight.result.waits c.if-not-sight.true))))
     (c.requires.kept.run c.requires.plain)
 

@@ -1,5 +1,5 @@
 use Rattle.std.proofs.Common.{◌≡◌, ℕ, set, refl, sym, ap, subst, ◌∙◌, get_or}
-use Rattle.like_core.specs.Post.{added, pages_of}
+use Rattle.like_core.specs.Post.{added, number_of, pages_of}
 use Rattle.like_core.specs.declared.view.WorkerSeatView.{WorkerSeatView}
 use Rattle.like_tables.specs.SplitSlice.{SplitSlice, by_page}
 use Rattle.like_tables.proofs.ByPage.{by_page-with_likes, get_or-by_page}
@@ -26,7 +26,7 @@ returns-clause-kept g c =
     let taken = c.take-likes.ensures in
     subst (λ (p : WorkerSeatView). IsKept p (record t { slice = c.take-likes.new.self })) (sym c.add-old.ensures.view)
     (IsKept-merged (g.P.Post.view c.args.post.now) t c.in-Some.page c.add-old.result c.take-likes.result
-    c.take-likes.new.self c.requires.kept c.in-Some.ensures.next.split taken.taken taken.emptied taken.total taken.slice)
+    (number_of (g.P.Post.view c.add-old.new.self)) c.take-likes.new.self c.requires.kept c.in-Some.ensures.next.split taken.taken taken.emptied taken.total taken.slice)
 
 pub returns-clause-merges : goal.returns-clause-merges
 returns-clause-merges g c =
@@ -40,8 +40,9 @@ returns-clause-merges g c =
     let there = ((k.splits page).0 next.split).1 in
     let likes : c.take-likes.result ≡ get_or (by_page t.slice n) page 0 =
     c.take-likes.ensures.taken ∙ sym (get_or-by_page t.slice n page 0 there) in
-    let posts : g.P.Post.view c.add-old.new.self ≡ added p page old (get_or (by_page t.slice n) page 0) =
-    c.add-old.ensures.view ∙ ap (λ (k : ℕ). added p page old k) likes in
+    let number : ℕ = number_of (g.P.Post.view c.add-old.new.self) in
+    let posts : g.P.Post.view c.add-old.new.self ≡ added p page old (get_or (by_page t.slice n) page 0) number =
+    c.add-old.ensures.view ∙ ap (λ (k : ℕ). added p page old k number) likes in
     let slices : by_page c.take-likes.new.self (pages_of (g.P.Post.view c.add-old.new.self))
     ≡ set (by_page t.slice n) page 0 =
     ap (λ (q : WorkerSeatView). by_page c.take-likes.new.self (pages_of q)) c.add-old.ensures.view

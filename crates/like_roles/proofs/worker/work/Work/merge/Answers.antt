@@ -5,7 +5,7 @@ use Rattle.like_core.specs.OpeningLimits.{has_slots}
 use Rattle.like_limits.specs.Buckets.{buckets, run_factor}
 use Rattle.like_limits.specs.Limits.{max_pages}
 use Rattle.like_tables.specs.declared.held.Held.{Held}
-use Rattle.like_core.specs.Post.{pages_of}
+use Rattle.like_core.specs.Post.{number_of, pages_of}
 use Rattle.like_core.specs.WorkerState.{RunsSplit, SawEnding, phase_of}
 use Rattle.like_seat.proofs.MergedLikes.{same_everywhere}
 use Rattle.like_seat.specs.Kept as kept
@@ -14,7 +14,8 @@ use Rattle.like_seat.specs.Steps.{IsNext, MergesNext, MergesPage, NoneFrom}
 use Rattle.like_seat.specs.declared.merged.Merged.{Merged}
 use Rattle.like_tables.specs.Liked.{IsNextLiked}
 use Rattle.std.proofs.lemmas.List.Sums.{sum_by-set}
-use Rattle.like_roles.proofs.PageOrder.{AreUnliked-run, IsNextLiked-run, Merging-done, Merging-next, Merging-start, merge_of}
+use Rattle.like_seat.proofs.WholeMerge.{merge_of}
+use Rattle.like_roles.proofs.PageOrder.{AreUnliked-run, IsNextLiked-run, Merging-done, Merging-next, Merging-start}
 use Rattle.like_roles.specs.declared.worker.desk.Desk.{Desk}
 use Rattle.like_roles.specs.worker.Desk.{IsSettled}
 use Rattle.like_roles.specs.worker.WorkerView.{WorkerView}
@@ -106,7 +107,7 @@ returns g c =
     let rest = AreUnliked-run s.slice l.from (few_pages s l.self.desk i.idle.settled) none in
     let whole = Merging-done first s t l.from adds i.merging.1.0 i.within rest done.1
     c.requires.idle.settled.sound.seat.sized in
-    let merged = IsMerged-noted first t c.args.self.now.desk l.self.desk adds whole.0 whole.1 i.merging.1.1 in
+    let merged = IsMerged-noted first t c.args.self.now.desk l.self.desk adds whole.0 whole.1 whole.2 i.merging.1.1 in
     record {
       idle = record {
         kept = c.merge_next.ensures.kept;
@@ -159,7 +160,7 @@ loop-merged-preserved g c =
       merging = (
         adds ++ merge_of s m.page m.old ∷ [],
         (
-          Merging-next first s t l.from m.page m.old adds i.merging.1.0 next merges.merged,
+          Merging-next first s t l.from m.page m.old (number_of t.post) adds i.merging.1.0 next merges.merged,
           HaveNoted-more s c.args.self.now.desk d e adds c.phase-phase.result m.page m.old m.likes i.merging.1.1 noted
               phase_is merges.likes,
         ),

@@ -1,6 +1,7 @@
 use Rattle.std.proofs.Common.{◌≡◌, ◌≢◌, false, true, refl, subst, ap, sym, ◌∙◌}
 use Rattle.like_core.specs.declared.sight.Sight.{Sight}
 use Rattle.like_core.specs.declared.worker_state.WorkerState.TheVariants.{Gone}
+use Rattle.like_core.specs.Post.{number_of}
 use Rattle.like_core.specs.WorkerState.{IsSightOf}
 use Rattle.like_core.specs.declared.view.WorkerSeatView.{WorkerSeatView}
 use Rattle.like_seat.specs.StationView.{StationView}
@@ -26,9 +27,9 @@ turn-waits : (s t : StationView Held) (d e : Desk) (sight : Sight)
     → Turns (view_of s d) Waiting (view_of t e)
 turn-waits s t d e sight looks rest there sees stays =
     let v = view_of s d in
-    let saw_is : view_of t e ≡ saw v sight looks.0 = λ m. view_of (looks.1 m) (rest m) in
+    let saw_is : view_of t e ≡ saw v sight looks.0 (number_of t.post) = λ m. view_of (looks.1 m) (rest m) in
     waits sight there sees stays refl
-    (saw_is ∙ ap (λ (p : WorkerSeatView). record v { post = p }) (saw-waiting v.post sight looks.0 stays))
+    (saw_is ∙ ap (λ (p : WorkerSeatView). record v { post = p }) (saw-waiting v.post sight looks.0 (number_of t.post) stays))
 
 -- one that looked, and worked
 turn-works : (s t : StationView Held) (d e : Desk) (sight : Sight) (answer : Turn) (after : WorkerView)
@@ -40,8 +41,8 @@ turn-works : (s t : StationView Held) (d e : Desk) (sight : Sight) (answer : Tur
     → Works (view_of t e) sight.ending answer after
     → Turns (view_of s d) answer after
 turn-works s t d e sight answer after looks rest there sees goes does =
-    let saw_is : view_of t e ≡ saw (view_of s d) sight looks.0 = λ m. view_of (looks.1 m) (rest m) in
-    works sight looks.0 there sees goes (subst (λ v. Works v sight.ending answer after) saw_is does)
+    let saw_is : view_of t e ≡ saw (view_of s d) sight looks.0 (number_of t.post) = λ m. view_of (looks.1 m) (rest m) in
+    works sight looks.0 (number_of t.post) there sees goes (subst (λ v. Works v sight.ending answer after) saw_is does)
 
 pub returns-then-sight-clause-case : goal.returns-then-sight-clause-case
 returns-then-sight-clause-case g c =

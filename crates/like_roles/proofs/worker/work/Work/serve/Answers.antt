@@ -1,5 +1,5 @@
 use Rattle.std.proofs.Common.{ℕ, refl, ap, sym, subst, ◌∙◌}
-use Rattle.like_core.specs.Post.{has_read, pages_of}
+use Rattle.like_core.specs.Post.{has_read, number_of, pages_of}
 use Rattle.like_promises.specs.declared.reply.Reply.TheVariants.{Refused, Seen}
 use Rattle.like_requests.specs.Setup.{IsThere}
 use Rattle.like_requests.specs.declared.request.Request.{Request}
@@ -44,7 +44,7 @@ returns-in-Look g c =
       board = ap (λ (x : StationView Held). x.board) read;
       serves = looks page count is.0 (ap (λ (r : Request). r.op) is.1) (ap (λ (r : Request). r.page) is.1)
           (ap (λ x. Seen x count) last) seen.reads.own
-          (ap (λ (x : StationView Held). view_of x d) {y = record s { post = has_read s.post page count }} read);
+          (ap (λ (x : StationView Held). view_of x d) {y = record s { post = has_read s.post page count (number_of (g.P.Post.view after.post)) }} read);
     }
 
 pub like-requires-clause-there : goal.like-requires-clause-there
