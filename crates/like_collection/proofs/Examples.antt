@@ -2,7 +2,8 @@
 use Rattle.std.proofs.Common.{◌≡◌, ℕ, [], ◌∷◌, None, Some, false, refl}
 use Rattle.like_promises.specs.declared.log.Ran.{Ran}
 use Rattle.like_promises.specs.declared.reply.Reply.TheVariants.{Liked}
-use Rattle.like_promises.specs.Collected.{answer_at, answer_of, entries_of}
+use Rattle.like_promises.specs.Collected.{answer_of, entries_of}
+use Rattle.like_promises.specs.Workload.{nth}
 
 -- a like by a submitter, as it ran
 abbrev ran : ℕ → ℕ → Ran
@@ -13,8 +14,8 @@ of_request : entries_of 1 2 (ran 0 2 ∷ ran 1 2 ∷ ran 1 1 ∷ ran 1 2 ∷ [])
 of_request = refl
 
 -- numbers count from 1
-of_number_1 : answer_at ((answer_of (ran 0 1) ∷ []) ∷ []) 0 1 ≡ Some (answer_of (ran 0 1))
+of_number_1 : nth (answer_of (ran 0 1) ∷ []) 1 ≡ Some (answer_of (ran 0 1))
 of_number_1 = refl
 
-of_number_0 : answer_at ((answer_of (ran 0 1) ∷ []) ∷ []) 0 0 ≡ None
+of_number_0 : nth (answer_of (ran 0 1) ∷ []) 0 ≡ None
 of_number_0 = refl

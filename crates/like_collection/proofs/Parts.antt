@@ -12,7 +12,7 @@ use Rattle.std.specs.Option.{option_to_list}
 use Rattle.like_promises.specs.declared.answer.Answer.{Answer}
 use Rattle.like_promises.specs.declared.log.WorkerLog.{WorkerLog}
 use Rattle.like_promises.specs.declared.replies.Replies.{Replies}
-use Rattle.like_promises.specs.Collected.{IsCollected, answer_at, answer_of, entries_in, entries_of, rows_of}
+use Rattle.like_promises.specs.Collected.{IsCollected, answer_of, entries_in, entries_of, rows_of}
 use Rattle.like_promises.specs.Workload.{nth}
 use Rattle.like_collection.specs.Parts.{AreParts, IsPart, own, own_sizes, row_in}
 use Rattle.like_collection.specs.Entries.{is_of}
@@ -249,7 +249,7 @@ module _ (sizes : List ℕ) (logs : List WorkerLog) (parts : List Replies) (some
     each = λ submitter number.
         entries-by_log submitter number logs
         ∙ one-of (λ (log : WorkerLog). map answer_of (entries_of submitter number log.ran.items)) logs (worker submitter)
-        (option_to_list (answer_at rows submitter number)) (mod-lt submitter some)
+        (option_to_list (nth (get_or rows submitter []) number)) (mod-lt submitter some)
         (λ i other at differs.
         let own = at-place parts i (omega (arith, are.all, slice_get_within logs i other at)) in
         let is : IsPart (length logs) sizes i other own.0 = are.each i other own.0 at own.1 in

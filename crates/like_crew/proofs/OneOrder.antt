@@ -23,6 +23,7 @@ use Rattle.like_board.specs.Seats.{seat_view}
 use Rattle.like_core.specs.declared.view.WorkerSeatView.{WorkerSeatView}
 use Rattle.like_promises.specs.declared.log.Ran.{Ran}
 use Rattle.like_promises.specs.declared.log.WorkerLog.{WorkerLog}
+use Rattle.like_promises.specs.Collected.{entries_in}
 use Rattle.like_promises.specs.EndToEnd.{runs_of}
 use Rattle.like_promises.specs.Likes.{initial_count, likes_within}
 use Rattle.like_promises.specs.Replies.{HasRightCounts}
@@ -31,8 +32,8 @@ use Rattle.like_promises.specs.Workload.{Workload}
 use Rattle.like_roles.proofs.notes.Noted.{count-none}
 use Rattle.like_serial.specs.RunLists.{FitsRunList}
 use Rattle.like_serial.specs.StepsTold.{plain_told, steps_ran}
-use Rattle.like_serial.proofs.Follows.{serial_is_between}
 use Rattle.like_serial.proofs.Logs.{logs_are_run_lists}
+use Rattle.like_serial.proofs.Reports.{seen_counts}
 use Rattle.like_serial.proofs.Serial.{no_run, runs_are_serial}
 use Rattle.like_serial.proofs.Weigh.{only, sum-weigh, weigh, weigh-append, weigh-filter}
 use Rattle.like_crew.specs.declared.outcome.Outcome.{Outcome}
@@ -174,8 +175,8 @@ module _ (setup : Setup) (plans : List (List Request)) (notes : Bool) (e : Outco
 -- so each count that a look was answered is between its bounds
 pub seen-counts : (workload : Workload) (workers : ℕ) (logs : List WorkerLog)
     → HasOneOrder workload workers (runs_of logs)
-    → All (λ log. HasRightCounts workload (runs_of logs) log.ran.items) logs
+    → All (λ log. HasRightCounts workload (entries_in logs) log.ran.items) logs
 seen-counts workload workers logs order worker d within =
-    subst (HasRightCounts workload (runs_of logs))
+    subst (HasRightCounts workload (entries_in logs))
     (run-at logs worker (get_or logs worker d) (slice_get-get_or logs worker d within))
-    (serial_is_between workload workers worker (runs_of logs) order.0 order.1)
+    (seen_counts workload workers worker logs order.0 order.1)

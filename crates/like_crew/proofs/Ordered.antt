@@ -5,7 +5,7 @@ use Rattle.std.proofs.Math.Nat.{le-max_left, le-max_right}
 use Rattle.std.proofs.lemmas.Bool.{cases_eq, cases_lt, eq-eqb, ne_eqb, le-ltb, lt-ltb}
 use Rattle.std.proofs.lemmas.List.Sums.{sum_by-append, sum_by-cons}
 use Rattle.like_promises.specs.declared.log.Took.{Took}
-use Rattle.like_promises.specs.Order.{Entry, block, entry_in, is_due, order, phases_of, took_to_wait}
+use Rattle.like_promises.specs.Order.{Entry, block, entry_in, is_due, order, phases_of, waited}
 use Rattle.like_promises.specs.Workload.{Workload}
 use Rattle.like_promises.proofs.Blocks.{is_prompt, order_below, order_below-more}
 
@@ -65,7 +65,7 @@ module _ (h : ℕ → ℕ → ℕ) where
 
   -- the block in which a request runs
   abbrev runs_in : Workload → Took → ℕ
-  runs_in workload t = cond (took_to_wait workload t) (t.phase + 1) t.phase
+  runs_in workload t = cond (waited workload t) (t.phase + 1) t.phase
 
   step : (n k v : ℕ) → cond (ltb n k) v 0 + cond (eqb n k) v 0 ≡ cond (ltb n (k + 1)) v 0
   step n k v =
@@ -90,7 +90,7 @@ module _ (h : ℕ → ℕ → ℕ) where
       → cond (ltb (runs_in workload t) k) (weight_taken t) 0
       + (cond (is_due workload k t) (weight_taken t) 0 + cond (is_prompt workload k t) (weight_taken t) 0)
       ≡ cond (ltb (runs_in workload t) (k + 1)) (weight_taken t) 0
-  runs-once workload k t = by_wait (took_to_wait workload t) where
+  runs-once workload k t = by_wait (waited workload t) where
     and-true : (b : Bool) → (b && true) ≡ b
     and-true true = refl
     and-true false = refl
@@ -147,7 +147,7 @@ module _ (h : ℕ → ℕ → ℕ) where
       sum_by-cons (λ (u : Took). cond (ltb (runs_in workload u) (k + 1)) (weight_taken u) 0) t taken
       ∙ ap (λ b. cond b (weight_taken t) 0
       + sum_by (λ u. cond (ltb (runs_in workload u) (k + 1)) (weight_taken u) 0) taken)
-      (lt-ltb (runs_in workload t) (k + 1) (early (took_to_wait workload t) first))
+      (lt-ltb (runs_in workload t) (k + 1) (early (waited workload t) first))
       ∙ ap (λ n. weight_taken t + n) (all-below workload taken k others)
       ∙ sym (sum_by-cons weight_taken t taken) where
         early : (w : Bool) → t.phase + 1 ≤ k → cond w (t.phase + 1) t.phase < k + 1

@@ -31,14 +31,16 @@ use Rattle.like_tables.specs.UserTable.{last_of}
 use Rattle.like_promises.specs.declared.log.Ran.{Ran}
 use Rattle.like_promises.specs.declared.log.Took.{Took}
 use Rattle.like_promises.specs.declared.log.WorkerLog.{WorkerLog}
-use Rattle.like_promises.specs.Likes.{initial_count, last_like, likes, likes_among}
+use Rattle.like_promises.specs.Likes.{initial_count, likes, likes_among}
+use Rattle.like_promises.specs.RunReport.{grew, workload_by}
+use Rattle.like_promises.specs.RunStore.{store_after}
 use Rattle.like_promises.proofs.LikesBelow.{likes_below}
 use Rattle.like_roles.proofs.choice.Choosing.{chosen-more}
 use Rattle.like_roles.proofs.choice.Releasing.{none-even}
 use Rattle.like_crew.proofs.additions.Earlier.{below-is}
 use Rattle.like_promises.specs.Serial.{run_of}
 use Rattle.like_roles.specs.coordinator.Choice.{AreTotals, likes_counted}
-use Rattle.like_promises.specs.HotPages.{chosen_below, hot_by, likes_lately}
+use Rattle.like_promises.specs.HotPages.{chosen_below, hot_by}
 use Rattle.like_promises.specs.Workload.{Workload, submitters}
 use Rattle.like_collection.specs.Entries.{IsRequest}
 use Rattle.like_core.specs.declared.view.WorkerSeatView.{WorkerSeatView}
@@ -49,7 +51,7 @@ use Rattle.like_crew.specs.Gathered.{AreTables}
 use Rattle.like_crew.proofs.Once.{RunsOnce}
 use Rattle.like_promises.specs.Log.{IsLog}
 use Rattle.like_crew.specs.Server.{NoneAbove, HasWorkedFor, IsLogOf, ReadMasksOf, ServerView}
-use Rattle.like_promises.specs.WorkloadOf.{workload_of_run, workload_of}
+use Rattle.like_promises.specs.WorkloadOf.{workload_of}
 use Rattle.like_crew.specs.Outcome.{IsOutcome, IsSeatLike}
 use Rattle.like_crew.specs.Site.{opening_of}
 use Rattle.like_crew.specs.Servers.{IsServer}
@@ -117,9 +119,9 @@ module _ (setup : Setup) (plans : List (List Request)) (notes : Bool) (e : Outco
   abbrev pub z : Opening
   z = opening_of setup
 
-  -- the run that is workload_of_run for, with the hot pages that its run lists tell
+  -- the run, with the hot pages that its entries tell
   abbrev pub served : Workload
-  served = workload_of_run setup plans (runs_of e.logs.items)
+  served = workload_by setup plans (entries_in e.logs.items)
 
   -- the server of a worker
   pub server-at : (worker : ℕ) (s : ServerView) → slice_get h.servers worker ≡ Some s
@@ -269,7 +271,7 @@ module _ (setup : Setup) (plans : List (List Request)) (notes : Bool) (e : Outco
 
   -- the counts that the coordinator read are the totals by the run lists
   are-totals : HaveMasks → HasCounted
-      → AreTotals (total (workload_of setup plans) (runs_of e.logs.items) z.counts) h.coord.counted
+      → AreTotals (total (workload_of setup plans) e.logs.items z.counts) h.coord.counted
   are-totals masks counted = λ k d within.
       let r : PageCount = get_or h.coord.counted k d in
       counted k d within
@@ -280,34 +282,34 @@ module _ (setup : Setup) (plans : List (List Request)) (notes : Bool) (e : Outco
   hot-is : (k : ℕ)
       → hot_by h.choice.hot (length h.coord.opening.counts)
       (likes_counted h.coord.opening.counts
-      (total (workload_of setup plans) (runs_of e.logs.items) z.counts)) k ≡ served.hot k
+      (total (workload_of setup plans) e.logs.items z.counts)) k ≡ served.hot k
   hot-is k =
       ap (λ (x : Opening). hot_by h.choice.hot (length x.counts)
-      (likes_counted x.counts (total (workload_of setup plans) (runs_of e.logs.items) z.counts)) k) h.opening
+      (likes_counted x.counts (total (workload_of setup plans) e.logs.items z.counts)) k) h.opening
       ∙ ap (λ o. hot_by o (length z.counts)
-      (likes_counted z.counts (total (workload_of setup plans) (runs_of e.logs.items) z.counts)) k) h.hot
+      (likes_counted z.counts (total (workload_of setup plans) e.logs.items z.counts)) k) h.hot
       ∙ ap (λ n. hot_by setup.hot n
-      (likes_counted z.counts (total (workload_of setup plans) (runs_of e.logs.items) z.counts)) k)
+      (likes_counted z.counts (total (workload_of setup plans) e.logs.items z.counts)) k)
       (length-map setup.pages (λ (p : Page). p.count))
-      ∙ hot-same (workload_of setup plans) (runs_of e.logs.items) z.counts setup.hot (length setup.pages) k
+      ∙ hot-same (workload_of setup plans) e.logs.items z.counts setup.hot (length setup.pages) k
 
   -- the phases were released with the masks of these pages
   pub masks-known : HaveMasks → HasCounted → (k : ℕ) → k ≤ e.phases → hot_known k ≡ served.hot k
   masks-known masks counted k within =
-      (h.chose (total (workload_of setup plans) (runs_of e.logs.items) z.counts) (are-totals masks counted)).masks k
+      (h.chose (total (workload_of setup plans) e.logs.items z.counts) (are-totals masks counted)).masks k
       (omega (arith, within, h.phases)) ∙ hot-is k
 
   -- the choices are those phases that have any
   pub chosen-are : HaveMasks → HasCounted → e.chosen.items ≡ chosen_below served.hot e.phases
   chosen-are masks counted =
-      h.chosen ∙ (h.chose (total (workload_of setup plans) (runs_of e.logs.items) z.counts)
+      h.chosen ∙ (h.chose (total (workload_of setup plans) e.logs.items z.counts)
       (are-totals masks counted)).chosen
       ∙ ap (λ (f : ℕ → ℕ). chosen_below f (h.coord.phase + 1)) (λ i k. hot-is k i)
       ∙ ap (λ n. chosen_below served.hot (n + 1)) (sym h.phases)
       ∙ chosen-more served.hot e.phases
       ∙ ap (λ m. chosen_below served.hot e.phases ++ cond (ltb 0 m) (record { phase = e.phases; mask = m } ∷ []) [])
       (none-even setup.hot (length setup.pages)
-      (likes_lately (workload_of setup plans) (runs_of e.logs.items)) e.phases h.joined)
+      (grew (workload_of setup plans) (entries_in e.logs.items)) e.phases h.joined)
       ∙ append-nil (chosen_below served.hot e.phases)
 
   pub logs-are : HaveMasks → HasCounted → SawNoneLater → AreLogs served setup.workers e.phases e.logs.items
@@ -356,8 +358,8 @@ pub last-likes-are : (workload : Workload) (workers : ℕ) (logs : List WorkerLo
     → slice_get last user ≡ Some (last_of log.last user))
     → AreLastLikes workload workers logs last
 last-likes-are workload workers logs last sized some each users told =
-    fill_by_all (λ user. last_like workload user
-    (run_of (runs_of logs) (worker_of workers (home (submitters workload) user)))) last workload.users None users
+    fill_by_all (λ user. (store_after workload
+    (run_of (runs_of logs) (worker_of workers (home (submitters workload) user)))).last user) last workload.users None users
     (λ user there.
     let worker : ℕ = worker_of workers (home (submitters workload) user) in
     let within : worker < length logs = omega (arith, mod-lt (home (submitters workload) user) some, sized) in
@@ -367,12 +369,12 @@ last-likes-are workload workers logs last sized some each users told =
           → slice_get logs (worker_of workers (home (submitters workload) user)) ≡ o
           → ((x : WorkerLog) × (slice_get logs (worker_of workers (home (submitters workload) user)) ≡ Some x))
           → slice_get last user
-          ≡ Some (last_like workload user
-          (run_of (runs_of logs) (worker_of workers (home (submitters workload) user))))
+          ≡ Some ((store_after workload
+          (run_of (runs_of logs) (worker_of workers (home (submitters workload) user)))).last user)
       by_log user there o e found =
           told user found.0 there (ap (λ n. slice_get logs (worker_of n (home (submitters workload) user))) sized ∙ found.1)
           ∙ ap Some ((each (worker_of workers (home (submitters workload) user)) found.0 found.1).last user
-          ∙ ap (last_like workload user)
+          ∙ ap (λ run. (store_after workload run).last user)
           (sym (run-at logs (worker_of workers (home (submitters workload) user)) found.0 found.1)))
 
 -- each request has one entry

@@ -1,37 +1,33 @@
 -- A report that is right end to end shows pages that are there and replies that can be shown.
-use Rattle.std.proofs.Common.{◌≡◌, ℕ, zero, suc, ◌<◌, Bool, true, false, List, [], ◌∷◌, length, map, take, get_or, cond, eqb, Option, None, Some, All, refl, sym, ap, ◌∙◌, subst, arith, zero-add}
+use Rattle.std.proofs.Common.{◌≡◌, ℕ, zero, suc, ◌<◌, Bool, true, false, List, [], ◌∷◌, length, map, take, get_or, cond, ◌==◌, Option, None, Some, All, refl, sym, ap, ◌∙◌, subst, arith, zero-add}
 use Rattle.std.proofs.lemmas.List.Elements.{All-from_recursion}
 use Rattle.std.proofs.lemmas.List.FromFn.{get_or-map-range_with_len, length-map-range_with_len}
 use Rattle.std.proofs.lemmas.Option.{get_or_from_slice_get, slice_get_within}
-use Rattle.std.specs.Prelude.{IsSomeAnd}
+use Rattle.std.specs.Prelude.{◌≢◌, option_map}
 use Rattle.std.specs.List.{AllByRecursion, cons_option, filter, slice_get}
 use Rattle.std.specs.Option.{ForSome, option_and_then, option_to_list}
-use Rattle.like_requests.specs.Pages.{Page}
 use Rattle.like_requests.specs.Setup.{IsPlan, IsThere}
-use Rattle.like_requests.specs.Verdict.{is_accepted}
-use Rattle.like_requests.specs.declared.request.Op.{Op}
-use Rattle.like_requests.specs.declared.request.Op.TheVariants.{Like, Look}
-use Rattle.like_requests.specs.declared.request.PageRef.{PageRef}
-use Rattle.like_requests.specs.declared.request.PageRef.TheVariants.{Known, Unknown}
 use Rattle.like_requests.specs.declared.request.Request.{Request}
+use Rattle.like_requests.specs.declared.verdict.Verdict.{Verdict}
+use Rattle.like_requests.specs.declared.verdict.Verdict.TheVariants.{Accepted}
 use Rattle.like_promises.proofs.RequestAt.{request_at-plan}
-use Rattle.like_promises.specs.Accepted.{AcceptedRequest}
-use Rattle.like_promises.proofs.Accepted.{accepted_like, like_of, like_ran-tests}
+use Rattle.like_promises.proofs.Asked.{like-there, refused-why}
+use Rattle.like_promises.specs.Asked.{asked_by, asks}
 use Rattle.like_promises.specs.declared.log.Ran.{Ran}
 use Rattle.like_promises.specs.declared.reply.Reply.{Reply}
 use Rattle.like_promises.specs.declared.reply.Reply.TheVariants.{Liked, Seen, Refused}
-use Rattle.like_promises.specs.Likes.{last_like, likes_ran}
-use Rattle.like_promises.specs.Replies.{HasRightAnswers, IsReplyTo, IsRightAnswer}
-use Rattle.like_promises.specs.Workload.{Workload, nth, request_at, request_of, submitters}
+use Rattle.like_promises.specs.Replies.{HasRightAnswers, IsRightAnswer, uncounted}
+use Rattle.like_promises.specs.Store.{Ask, Store, after, after_all, like, look, refuse, reply}
+use Rattle.like_promises.specs.Workload.{Workload, nth, request_at}
 use Rattle.like_promises.specs.declared.answer.Answer.{Answer}
 use Rattle.like_promises.specs.declared.report.Report.{Report}
-use Rattle.like_promises.specs.Collected.{answer_at, rows_of, answer_of, entries_of}
+use Rattle.like_promises.specs.Collected.{rows_of, answer_of, entries_of}
 use Rattle.like_collection.specs.Entries.{is_of}
 use Rattle.like_replies.specs.Reported.{reported}
 use Rattle.like_replies.specs.Rows.{IsShowable, IsWritable}
-use Rattle.like_promises.specs.OneThread.{store_after}
+use Rattle.like_promises.specs.RunStore.{start, store_after}
 use Rattle.like_promises.specs.RunReport.{IsRunOf}
-use Rattle.like_serial.proofs.OneThread.{last_like_is, serial_in}
+use Rattle.like_serial.proofs.OneThread.{serial_in}
 
 -- what holds of each element by its place holds of all
 all_from_get : {X : Type 0} (P : X → Type 0) (xs : List X)
@@ -69,20 +65,6 @@ all_map : {X Y : Type 0} (f : X → Y) (P : Y → Type 0) (xs : List X)
 all_map f P [] all = tt
 all_map f P (x ∷ xs) all = (all.0, all_map f P xs all.1)
 
--- a like of a page that is there
-abbrev LikesThere : List Page → AcceptedRequest → Type 0
-LikesThere pages l = l.page < length pages
-
--- the like that a request makes is of a page that is there
-likes_there : (pages : List Page) (b : Bool) (o : Op) (user : ℕ) (p : PageRef) (rest : List AcceptedRequest)
-    → IsThere (length pages) p
-    → AllByRecursion (LikesThere pages) rest
-    → AllByRecursion (LikesThere pages) (cons_option (cond b (like_of o user p) None) rest)
-likes_there pages false o user p rest there all = all
-likes_there pages true Like user (Known q) rest there all = (there, all)
-likes_there pages true Like user Unknown rest there all = all
-likes_there pages true Look user p rest there all = all
-
 module _ (workload : Workload) (planned : All (IsPlan workload.pages) workload.plans) where
   -- the page that a request of a plan knows is there
   in_plan : (plan : List Request) (number : ℕ) (r : Request) → IsPlan workload.pages plan
@@ -104,51 +86,70 @@ module _ (workload : Workload) (planned : All (IsPlan workload.pages) workload.p
             (subst (IsPlan workload.pages) (get_or_from_slice_get workload.plans submitter plan plan is)
             (planned submitter plan (slice_get_within workload.plans submitter plan is))) h
 
-  -- so are the pages of all accepted likes
-  ran_there : (entries : List Ran) → AllByRecursion (LikesThere workload.pages) (likes_ran workload entries)
-  ran_there [] = tt
-  ran_there (e ∷ rest) =
-      subst (λ o. AllByRecursion (LikesThere workload.pages) (cons_option o (likes_ran workload rest)))
-      (sym (like_ran-tests workload e))
-      (by_request (request_of workload e) (λ r at. asked_there e.submitter e.number r at) (ran_there rest)) where
-        by_request : (o : Option Request) → ((r : Request) → o ≡ Some r → IsThere (length workload.pages) r.page)
-            → AllByRecursion (LikesThere workload.pages) (likes_ran workload rest)
-            → AllByRecursion (LikesThere workload.pages)
-            (cons_option (option_and_then (accepted_like workload.users (submitters workload) e.submitter) o)
-            (likes_ran workload rest))
-        by_request None there all = all
-        by_request (Some r) there all =
-            likes_there workload.pages (is_accepted workload.users (submitters workload) e.submitter r) r.op r.user r.page
-            (likes_ran workload rest) (there r refl) all
+  -- a store whose last likes are of pages that are there
+  abbrev HasPages : Store → Type 0
+  HasPages s = (user : ℕ) → ForSome (s.last user) (λ p. p < length workload.pages)
 
-  -- and each last like
-  last_there : (user : ℕ) (entries : List Ran)
-      → ForSome (last_like workload user entries) (λ p. p < length workload.pages)
-  last_there user entries = λ p h.
-      all_get (λ q. q < length workload.pages) _ _ p
-      (all_map (λ (l : AcceptedRequest). l.page) (λ q. q < length workload.pages)
-      (filter (λ (l : AcceptedRequest). eqb l.user user) (likes_ran workload entries))
-      (all_filter (LikesThere workload.pages) (λ (l : AcceptedRequest). eqb l.user user) (likes_ran workload entries)
-      (ran_there entries))) h
+  -- so it is after a request of a plan
+  after_there : (s : Store) (a : Ask) → ((user page : ℕ) → a ≡ like user page → page < length workload.pages)
+      → HasPages s → HasPages (after s a)
+  after_there s (like who page) there has user = by (who == user) where
+    by : (b : Bool) → ForSome (cond b (Some page) (s.last user)) (λ p. p < length workload.pages)
+    by true = λ p h. subst (λ q. q < length workload.pages) (cc h) (there who page refl)
+    by false = has user
+  after_there s (look who page) there has user = has user
+  after_there s (refuse why) there has user = has user
 
-  -- an entry with a right answer can be shown
-  reply_shows : (before : List Ran) (submitter : ℕ) (r : Request) (given : Reply)
-      → IsReplyTo workload before submitter r given → IsShowable workload.pages given
-  reply_shows before submitter r Liked is = record { there = tt; answer = tt }
-  reply_shows before submitter r (Seen last count) is = record {
+  -- and after entries
+  ran_there : (s : Store) (entries : List Ran) → HasPages s → HasPages (after_all s (asks workload entries))
+  ran_there s [] has = has
+  ran_there s (e ∷ rest) has =
+      by (λ t kept. ran_there t rest kept) (request_at workload e.submitter e.number)
+      (λ r at. asked_there e.submitter e.number r at) where
+        by : ((t : Store) → HasPages t → HasPages (after_all t (asks workload rest)))
+            → (o : Option Request) → ((r : Request) → o ≡ Some r → IsThere (length workload.pages) r.page)
+            → HasPages (after_all s (cons_option (option_map (asked_by workload e.submitter) o) (asks workload rest)))
+        by more None there = more s has
+        by more (Some r) there =
+            more (after s (asked_by workload e.submitter r))
+            (after_there s (asked_by workload e.submitter r)
+            (like-there workload e.submitter r (length workload.pages) (there r refl)) has)
+
+  has_pages : (entries : List Ran) → HasPages (store_after workload entries)
+  has_pages entries = ran_there (start workload) entries (λ user p h. absurd (let no : None ≡ Some p = h in cc no))
+
+  -- a right reply can be shown
+  reply_shows : (s : Store) (a : Ask) (given : Reply) → HasPages s → ((why : Verdict) → a ≡ refuse why → why ≢ Accepted)
+      → uncounted (reply s a) ≡ uncounted given → IsShowable workload.pages given
+  reply_shows s a Liked has why is = record { there = tt; answer = tt }
+  reply_shows s (like user page) (Seen last count) has why is = absurd (cc is)
+  reply_shows s (look user page) (Seen last count) has why is = record {
     there =
-        subst (λ (o : Option ℕ). ForSome o (λ page. page < length workload.pages)) (sym is.2)
-        (last_there r.user before);
+        let same : s.last user ≡ last = cc is in
+        subst (λ (o : Option ℕ). ForSome o (λ p. p < length workload.pages)) same (has user);
     answer = tt;
   }
-  reply_shows before submitter r (Refused why) is = record { there = tt; answer = is.1 }
+  reply_shows s (refuse reason) (Seen last count) has why is = absurd (cc is)
+  reply_shows s (like user page) (Refused given) has why is = absurd (cc is)
+  reply_shows s (look user page) (Refused given) has why is = absurd (cc is)
+  reply_shows s (refuse reason) (Refused given) has why is = record {
+    there =
+        tt;
+    answer = let same : reason ≡ given = cc is in subst (λ w. w ≢ Accepted) same (why reason refl);
+  }
 
   entry_shows : (before : List Ran) (e : Ran) → IsRightAnswer workload before e → IsShowable workload.pages e.reply
-  entry_shows before e right = by_request (request_of workload e) right where
-    by_request : (o : Option Request) → IsSomeAnd o (λ r. IsReplyTo workload before e.submitter r e.reply)
+  entry_shows before e right = by_request (request_at workload e.submitter e.number) right where
+    by_request : (o : Option Request)
+        → option_map (λ a. uncounted (reply (store_after workload before) a)) (option_map (asked_by workload e.submitter) o)
+        ≡ Some (uncounted e.reply)
         → IsShowable workload.pages e.reply
-    by_request None h = absurd h
-    by_request (Some r) h = reply_shows before e.submitter r e.reply h
+    by_request None h = absurd (cc h)
+    by_request (Some r) h =
+        let same : uncounted (reply (store_after workload before) (asked_by workload e.submitter r)) ≡ uncounted e.reply =
+        cc h in
+        reply_shows (store_after workload before) (asked_by workload e.submitter r) e.reply (has_pages before)
+        (refused-why workload e.submitter r) same
 
   list_shows : (ran : List Ran) → HasRightAnswers workload ran
       → AllByRecursion (λ (e : Ran). IsShowable workload.pages e.reply) ran
@@ -162,7 +163,7 @@ module _ (workload : Workload) (planned : All (IsPlan workload.pages) workload.p
     all_show = list_shows serial (serial_in workload workers r serial h.one).answers
 
     -- so can each answer, which is that of an entry
-    answer_shows : (submitter place : ℕ) (a : Answer) → answer_at (rows_of r.replies) submitter (suc place) ≡ Some a
+    answer_shows : (submitter place : ℕ) (a : Answer) → nth (get_or (rows_of r.replies) submitter []) (suc place) ≡ Some a
         → IsShowable workload.pages a.reply
     answer_shows submitter place a at =
         let one : map answer_of (entries_of submitter (suc place) serial) ≡ a ∷ [] =
@@ -190,12 +191,11 @@ module _ (workload : Workload) (planned : All (IsPlan workload.pages) workload.p
         let sized = ap (λ (xs : List (Option ℕ)). length xs) h.one.last
         ∙ length-map-range_with_len last_of_user 0 workload.users in
         let known : user < workload.users = omega (arith, slice_get_within r.last.items user last at, sized) in
-        let is : last_like workload user serial ≡ last =
-        sym (last_like_is workload user serial)
-        ∙ sym (ap (λ (xs : List (Option ℕ)). get_or xs user None) h.one.last
+        let is : (store_after workload serial).last user ≡ last =
+        sym (ap (λ (xs : List (Option ℕ)). get_or xs user None) h.one.last
         ∙ get_or-map-range_with_len last_of_user 0 workload.users user user None known (zero-add user))
         ∙ get_or_from_slice_get r.last.items user last None at in
-        subst (λ x. ForSome x (λ page. page < length workload.pages)) is (last_there user serial)
+        subst (λ x. ForSome x (λ page. page < length workload.pages)) is (has_pages serial user)
 
     -- so the report may be written
     pub IsWritable-end_to_end : IsWritable workload.pages (reported r)

@@ -7,13 +7,14 @@ use Rattle.std.proofs.lemmas.List.Elements.{All-append, All-map, All-nil, filter
 use Rattle.std.specs.List.{All, AllByRecursion, filter, flat_map, range_with_len}
 use Rattle.std.specs.Option.{option_map_or}
 use Rattle.like_promises.specs.declared.log.Took.{Took}
-use Rattle.like_promises.specs.Order.{Entry, block, entry_in, is_due, order, phases_of, took_to_wait}
-use Rattle.like_promises.specs.Looks.{look_at}
+use Rattle.like_promises.specs.Asked.{asked}
+use Rattle.like_promises.specs.Order.{Entry, block, entry_in, is_due, must_wait, order, phases_of, waited}
+use Rattle.like_promises.specs.Store.{Ask, like, look, refuse}
 use Rattle.like_promises.specs.Workload.{Workload, is_split_in}
 
 -- taken in this phase, to run at once
 abbrev pub is_prompt : Workload → ℕ → Took → Bool
-is_prompt workload phase t = (t.phase == phase) && not (took_to_wait workload t)
+is_prompt workload phase t = (t.phase == phase) && not (waited workload t)
 
 -- how many of what was taken come out of the stash in a phase
 abbrev pub stashed_in : Workload → ℕ → List Took → ℕ
@@ -46,14 +47,16 @@ pub block-due : (workload : Workload) (xs : List Took) (t : Took) (k : ℕ)
 block-due workload xs t k d p none = simp (filter-append, d, p, none, append-nil, map-append)
 
 -- nothing waits in a joined phase
-pub took_to_wait-joined : (workload : Workload) (t : Took) → t.phase % 2 ≡ 0 → took_to_wait workload t ≡ false
-took_to_wait-joined workload t j = of_look (look_at workload t.submitter t.number) where
+pub waited-joined : (workload : Workload) (t : Took) → t.phase % 2 ≡ 0 → waited workload t ≡ false
+waited-joined workload t j = of_ask (asked workload t.submitter t.number) where
   even : eqb (t.phase % 2) 1 ≡ false
   even = rw j refl
 
-  of_look : (o : Option ℕ) → option_map_or (is_split_in workload t.phase) o false ≡ false
-  of_look None = refl
-  of_look (Some page) = rw even refl
+  of_ask : (o : Option Ask) → option_map_or (must_wait (is_split_in workload t.phase)) o false ≡ false
+  of_ask None = refl
+  of_ask (Some (like user page)) = refl
+  of_ask (Some (look user page)) = rw even refl
+  of_ask (Some (refuse why)) = refl
 
 -- what was taken before phase m runs in m at the latest
 pub nothing_prompt : (workload : Workload) (xs : List Took) (m k : ℕ)
@@ -85,7 +88,7 @@ nothing_due-joined workload (t ∷ xs) p j =
       not_due false e = rw e refl
       not_due true e =
           let same : t.phase ≡ p = omega (arith, eqb-true (t.phase + 1) (p + 1) e) in
-          rw (e, took_to_wait-joined workload t (ap (λ x. x % 2) same ∙ j)) refl
+          rw (e, waited-joined workload t (ap (λ x. x % 2) same ∙ j)) refl
 
 -- the block after a joined phase is empty as long as nothing later was taken
 pub block-after_joined : (workload : Workload) (xs : List Took) (p : ℕ)
@@ -148,12 +151,12 @@ not_prompt-other : (workload : Workload) (t : Took) (k : ℕ) → t.phase ≢ k 
 not_prompt-other workload t k h = rw (ne_eqb t.phase k h) refl
 
 not_prompt-waits : (workload : Workload) (t : Took) (k : ℕ)
-    → took_to_wait workload t ≡ true
+    → waited workload t ≡ true
     → is_prompt workload k t ≡ false
 not_prompt-waits workload t k w = rw w (and-false (eqb t.phase k))
 
 -- what runs in the phase of taking is the last of the order up to that phase
-pub order_below-prompt : (workload : Workload) (xs : List Took) (t : Took) → took_to_wait workload t ≡ false
+pub order_below-prompt : (workload : Workload) (xs : List Took) (t : Took) → waited workload t ≡ false
     → order_below workload (xs ++ t ∷ []) (t.phase + 1)
     ≡ order_below workload xs (t.phase + 1) ++ entry_in t.phase false t ∷ []
 order_below-prompt workload xs t w =
@@ -170,14 +173,14 @@ order_below-prompt workload xs t w =
 
 -- and changes nothing of the next block
 pub block-next-prompt : (workload : Workload) (xs : List Took) (t : Took)
-    → took_to_wait workload t ≡ false
+    → waited workload t ≡ false
     → block workload (xs ++ t ∷ []) (t.phase + 1) ≡ block workload xs (t.phase + 1)
 block-next-prompt workload xs t w =
     let due : is_due workload (t.phase + 1) t ≡ false = rw w (and-false (eqb (t.phase + 1) (t.phase + 1))) in
     block-other workload xs t (t.phase + 1) due (not_prompt-other workload t (t.phase + 1) (λ e. absurd (omega arith)))
 
 -- what has to wait changes nothing of the order up to its phase
-pub order_below-waits : (workload : Workload) (xs : List Took) (t : Took) → took_to_wait workload t ≡ true
+pub order_below-waits : (workload : Workload) (xs : List Took) (t : Took) → waited workload t ≡ true
     → order_below workload (xs ++ t ∷ []) (t.phase + 1) ≡ order_below workload xs (t.phase + 1)
 order_below-waits workload xs t w =
     order_below-alike workload (xs ++ t ∷ []) xs (t.phase + 1)
@@ -185,7 +188,7 @@ order_below-waits workload xs t w =
 
 -- and is the last of the next block, as long as nothing was taken in that phase
 pub block-next-waits : (workload : Workload) (xs : List Took) (t : Took)
-    → took_to_wait workload t ≡ true
+    → waited workload t ≡ true
     → AllByRecursion (λ s. s.phase + 1 ≤ t.phase + 1) xs
     → block workload (xs ++ t ∷ []) (t.phase + 1) ≡ block workload xs (t.phase + 1) ++ entry_in (t.phase + 1) true t ∷ []
 block-next-waits workload xs t w all =
@@ -195,7 +198,7 @@ block-next-waits workload xs t w all =
 
 -- what runs in the phase of taking adds nothing to what comes out of the stash
 pub stashed-prompt : (workload : Workload) (xs : List Took) (t : Took) (k : ℕ)
-    → took_to_wait workload t ≡ false
+    → waited workload t ≡ false
     → stashed_in workload k (xs ++ t ∷ []) ≡ stashed_in workload k xs
 stashed-prompt workload xs t k w = let due : is_due workload k t ≡ false = rw w (and-false (eqb (t.phase + 1) k)) in
     simp (filter-append, due, append-nil)

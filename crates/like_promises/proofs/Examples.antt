@@ -9,7 +9,7 @@ use Rattle.like_requests.specs.declared.verdict.Verdict.TheVariants.{UnknownUser
 use Rattle.like_promises.specs.declared.log.Took.{Took}
 use Rattle.like_promises.specs.declared.reply.Reply.TheVariants.{Liked, Seen, Refused}
 use Rattle.like_promises.specs.Asked.{asked}
-use Rattle.like_promises.specs.OneThread.{start}
+use Rattle.like_promises.specs.RunStore.{start}
 use Rattle.like_promises.specs.Order.{Entry, order}
 use Rattle.like_promises.specs.Store.{like, look, refuse, replies}
 use Rattle.like_promises.specs.Workload.{Workload}

@@ -1,4 +1,4 @@
-pub mod Accepted
+pub mod Asked
 pub mod Blocks
 pub mod Examples
 pub mod LikedPages

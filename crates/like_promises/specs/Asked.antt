@@ -1,5 +1,5 @@
 -- What requests ask of a store.
-use Rattle.std.specs.Prelude.{ℕ, ◌==◌, not, nat_lt, if◌then◌else◌, Option, option_map}
+use Rattle.std.specs.Prelude.{ℕ, ◌==◌, not, nat_lt, if◌then◌else◌, List, filter_map, Option, option_map}
 use Rattle.like_requests.specs.Verdict.{home}
 use Rattle.like_requests.specs.declared.request.Op.{Op}
 use Rattle.like_requests.specs.declared.request.Op.TheVariants.{Like, Look}
@@ -7,6 +7,7 @@ use Rattle.like_requests.specs.declared.request.PageRef.{PageRef}
 use Rattle.like_requests.specs.declared.request.PageRef.TheVariants.{Known, Unknown}
 use Rattle.like_requests.specs.declared.request.Request.{Request}
 use Rattle.like_requests.specs.declared.verdict.Verdict.TheVariants.{UnknownUser, OtherHome, UnknownPage}
+use Rattle.like_promises.specs.declared.log.Ran.{Ran}
 use Rattle.like_promises.specs.Store.{Ask, like, look, refuse}
 use Rattle.like_promises.specs.Workload.{Workload, request_at, submitters}
 
@@ -27,3 +28,7 @@ asked_by workload submitter r =
 -- what a submitter asks by this number, if it does
 abbrev pub asked : Workload → ℕ → ℕ → Option Ask
 asked workload submitter number = option_map (asked_by workload submitter) (request_at workload submitter number)
+
+-- what these entries ask, in their order
+abbrev pub asks : Workload → List Ran → List Ask
+asks workload entries = filter_map (λ e. asked workload e.submitter e.number) entries

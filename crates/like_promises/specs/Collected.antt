@@ -1,5 +1,5 @@
 -- What is collected from the entries of run lists: the answer of each request.
-use Rattle.std.specs.Prelude.{◌≡◌, ℕ, ◌==◌, ◌&&◌, List, [], filter, length, map, slice_index_or, Option}
+use Rattle.std.specs.Prelude.{◌≡◌, ℕ, ◌==◌, ◌&&◌, List, [], filter, length, map, slice_index_or}
 use Rattle.std.specs.List.{flat_map}
 use Rattle.std.specs.Option.{option_to_list}
 use Rattle.like_promises.specs.declared.answer.Answer.{Answer}
@@ -25,12 +25,9 @@ answer_of e = record { phase = e.phase; stashed = e.stashed; reply = e.reply }
 abbrev pub rows_of : Replies → List (List Answer)
 rows_of replies = map (λ row. row.items) replies.rows.items
 
--- the answer of a submitter's request with this number, if there is one
-abbrev pub answer_at : List (List Answer) → ℕ → ℕ → Option Answer
-answer_at rows submitter number = nth (slice_index_or rows submitter []) number
-
 -- there is an answer for each request, and that is the answer of its only entry; nothing else has an entry
 pub record IsCollected (sizes : List ℕ) (entries : List Ran) (rows : List (List Answer)) : Type 0 where
   pub sized : map length rows ≡ sizes
   pub each : (submitter number : ℕ)
-      → map answer_of (entries_of submitter number entries) ≡ option_to_list (answer_at rows submitter number)
+      → map answer_of (entries_of submitter number entries)
+      ≡ option_to_list (nth (slice_index_or rows submitter []) number)

@@ -6,7 +6,7 @@ use Rattle.like_core.specs.Phase.{IsJoined}
 use Rattle.like_tables.specs.Share.{worker_of}
 use Rattle.like_promises.specs.declared.log.Ran.{Ran}
 use Rattle.like_promises.specs.declared.log.WorkerLog.{WorkerLog}
-use Rattle.like_promises.specs.Likes.{initial_count, last_like, likes}
+use Rattle.like_promises.specs.Likes.{initial_count, likes}
 use Rattle.like_promises.specs.Replies.{HasRightCounts}
 use Rattle.like_promises.specs.HotPages.{chosen_below}
 use Rattle.like_promises.specs.Workload.{Workload, submitters}
@@ -15,7 +15,8 @@ use Rattle.like_promises.specs.Collected.{IsCollected, rows_of, entries_in}
 use Rattle.like_promises.specs.Serial.{HasOneOrder, run_of}
 use Rattle.like_requests.specs.declared.request.Request.{Request}
 use Rattle.like_requests.specs.declared.setup.Setup.{Setup}
-use Rattle.like_promises.specs.WorkloadOf.{workload_of_run}
+use Rattle.like_promises.specs.RunReport.{workload_by}
+use Rattle.like_promises.specs.RunStore.{store_after}
 use Rattle.like_promises.specs.Log.{IsLog}
 
 -- the run lists of all workers
@@ -37,8 +38,8 @@ AreCounts workload runs counts =
 -- the last like of each user is that of its worker's run list
 abbrev pub AreLastLikes : Workload → ℕ → List WorkerLog → List (Option ℕ) → Type 0
 AreLastLikes workload workers logs last =
-    last ≡ map (λ user. last_like workload user
-    (run_of (runs_of logs) (worker_of workers (home (submitters workload) user))))
+    last ≡ map (λ user. (store_after workload
+    (run_of (runs_of logs) (worker_of workers (home (submitters workload) user)))).last user)
     (range_with_len 0 workload.users)
 
 -- end to end: the run lists are those of one thread; logs, answers, final counts, last likes, shown counts, hot pages are
@@ -51,10 +52,10 @@ pub record IsEndToEnd (workload : Workload) (workers : ℕ) (r : Report) : Type 
   pub counts : AreCounts workload (runs_of r.logs.items) r.counts.items
   pub last : AreLastLikes workload workers r.logs.items r.last.items
   pub joined : IsJoined r.phases
-  pub seen : All (λ log. HasRightCounts workload (runs_of r.logs.items) log.ran.items) r.logs.items
+  pub seen : All (λ log. HasRightCounts workload (entries_in r.logs.items) log.ran.items) r.logs.items
   pub hot : r.hot.items ≡ chosen_below workload.hot r.phases
 
 -- a right report of settings and plans: end to end, with the hot pages that follow from its own run lists
 abbrev pub IsRightReport : Setup → List (List Request) → Report → Type 0
 IsRightReport setup plans r =
-    IsEndToEnd (workload_of_run setup plans (runs_of r.logs.items)) setup.workers r
+    IsEndToEnd (workload_by setup plans (entries_in r.logs.items)) setup.workers r

@@ -1,11 +1,8 @@
 -- Which pages are hot in a split phase.
-use Rattle.std.specs.Prelude.{ℕ, ◌+◌, ◌%◌, ◌^◌, ◌==◌, ◌||◌, nat_lt, nat_le, min, if◌then◌else◌, List, length, map, filter, Option, Some, None}
+use Rattle.std.specs.Prelude.{ℕ, ◌%◌, ◌^◌, ◌==◌, nat_lt, nat_le, min, if◌then◌else◌, List, length, map, filter, Option, Some, None}
 use Rattle.std.specs.List.{range_with_len, sum_by}
 use Rattle.like_limits.specs.Limits.{hot_pages}
 use Rattle.like_promises.specs.declared.chosen.Chosen.{Chosen}
-use Rattle.like_promises.specs.declared.log.Ran.{Ran}
-use Rattle.like_promises.specs.Likes.{likes_among}
-use Rattle.like_promises.specs.Workload.{Workload}
 
 -- at most this many phases have hot pages
 abbrev pub max_chosen : ℕ
@@ -29,13 +26,3 @@ hot_by None pages got phase = 0
 hot_by (Some least) pages got phase =
     let liked = liked_pages least pages got in
     if nat_lt (length (chosen_below liked phase)) max_chosen then liked phase else 0
-
--- how many accepted likes of a page ran in the two phases before this one, in all run lists
-abbrev pub likes_lately : Workload → List (List Ran) → ℕ → ℕ → ℕ
-likes_lately workload runs phase page =
-    sum_by (λ ran. likes_among workload page
-    (filter (λ e. (e.phase + 2 == phase) || (e.phase + 1 == phase)) ran)) runs
-
--- hot pages: each phase's mask, by the likes that ran in the two phases before it
-abbrev pub hot_in : Option ℕ → Workload → List (List Ran) → ℕ → ℕ
-hot_in hot workload runs = hot_by hot (length workload.pages) (likes_lately workload runs)

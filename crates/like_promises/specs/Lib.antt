@@ -1,6 +1,8 @@
 pub mod Workload
-pub mod Accepted
+pub mod Store
+pub mod Asked
 pub mod Likes
+pub mod RunStore
 pub mod Looks
 pub mod Order
 pub mod Replies
@@ -11,9 +13,6 @@ pub mod Serial
 pub mod EndToEnd
 pub mod WorkloadOf
 pub mod RunFault
-pub mod Store
-pub mod Asked
 pub mod OneThread
-pub mod Waits
 pub mod RunReport
 pub mod places

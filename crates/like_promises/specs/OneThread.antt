@@ -1,26 +1,14 @@
 -- The report of one thread, which has a store.
-use Rattle.std.specs.Prelude.{◌≡◌, ℕ, ◌≤◌, List, [], filter_map, length, map, slice_index_or, AllPairs, None}
+use Rattle.std.specs.Prelude.{◌≡◌, ℕ, ◌≤◌, List, [], length, map, slice_index_or, AllPairs}
 use Rattle.std.specs.List.{range_with_len}
 use Rattle.like_promises.specs.declared.log.Ran.{Ran}
 use Rattle.like_promises.specs.declared.report.Report.{Report}
-use Rattle.like_promises.specs.Asked.{asked}
+use Rattle.like_promises.specs.Asked.{asks}
 use Rattle.like_promises.specs.Collected.{IsCollected}
-use Rattle.like_promises.specs.Likes.{initial_count}
+use Rattle.like_promises.specs.RunStore.{start, store_after}
 use Rattle.like_promises.specs.Serial.{entries_by}
-use Rattle.like_promises.specs.Store.{Ask, Store, after_all, replies}
+use Rattle.like_promises.specs.Store.{replies}
 use Rattle.like_promises.specs.Workload.{Workload}
-
--- the store at first: the initial counts, and no last likes
-abbrev pub start : Workload → Store
-start workload = record { count = initial_count workload.pages; last = λ user. None }
-
--- what these entries ask, in their order
-abbrev pub asks : Workload → List Ran → List Ask
-asks workload entries = filter_map (λ e. asked workload e.submitter e.number) entries
-
--- the store after these entries
-abbrev pub store_after : Workload → List Ran → Store
-store_after workload entries = after_all (start workload) (asks workload entries)
 
 -- the report of one thread, which ran these entries: those of each worker, in their order, are its run list, and there
 -- are no others; phases never fall; the replies are those of the store; final counts and last likes are the store's at

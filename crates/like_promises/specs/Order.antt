@@ -1,16 +1,23 @@
--- In which order a worker runs what it has taken.
+-- In which order a worker runs what it has taken, and what has to wait.
 use Rattle.std.specs.Prelude.{ℕ, ◌+◌, ◌==◌, Bool, true, false, ◌&&◌, not, max, List, [], ◌∷◌, ◌++◌, map, filter}
 use Rattle.std.specs.List.{flat_map, range_with_len}
 use Rattle.std.specs.Option.{option_map_or}
 use Rattle.like_promises.specs.declared.log.Ran.{Ran}
 use Rattle.like_promises.specs.declared.log.Took.{Took}
-use Rattle.like_promises.specs.Looks.{look_at}
+use Rattle.like_promises.specs.Asked.{asked}
+use Rattle.like_promises.specs.Store.{Ask, like, look, refuse}
 use Rattle.like_promises.specs.Workload.{Workload, is_split_in}
 
--- whether what was taken had to wait: an accepted look at a page that is split in the phase cannot run in it
-abbrev pub took_to_wait : Workload → Took → Bool
-took_to_wait workload t =
-    option_map_or (is_split_in workload t.phase) (look_at workload t.submitter t.number) false
+-- whether what is asked has to wait, where these pages are split: a look at one of them
+abbrev pub must_wait : (ℕ → Bool) → Ask → Bool
+must_wait is_split (look user page) = is_split page
+must_wait is_split (like user page) = false
+must_wait is_split (refuse why) = false
+
+-- whether what was taken had to wait, in the phase in which it was taken
+abbrev pub waited : Workload → Took → Bool
+waited workload t =
+    option_map_or (must_wait (is_split_in workload t.phase)) (asked workload t.submitter t.number) false
 
 -- a place in the run order: which request runs in which phase, and whether it comes out of the stash
 pub record Entry : Type 0 where
@@ -31,13 +38,13 @@ entry_in phase stashed t =
 
 -- taken in the phase before this one, to wait
 abbrev pub is_due : Workload → ℕ → Took → Bool
-is_due workload phase t = (t.phase + 1 == phase) && took_to_wait workload t
+is_due workload phase t = (t.phase + 1 == phase) && waited workload t
 
 -- the block of a phase: first what was taken in the phase before and had to wait, then what need not wait in this one
 abbrev pub block : Workload → List Took → ℕ → List Entry
 block workload taken phase =
     map (entry_in phase true) (filter (is_due workload phase) taken)
-    ++ map (entry_in phase false) (filter (λ t. (t.phase == phase) && not (took_to_wait workload t)) taken)
+    ++ map (entry_in phase false) (filter (λ t. (t.phase == phase) && not (waited workload t)) taken)
 
 -- the number after the greatest phase of taking, and 0 where nothing was taken
 abbrev pub phases_of : List Took → ℕ

@@ -1,5 +1,5 @@
 -- The report of a run of settings and plans, as that of one thread.
-use Rattle.std.specs.Prelude.{◌≡◌, ℕ, ◌-◌, ◌≤◌, ◌==◌, nat_lt, List, All, AllPairs, filter, length, map, slice_get, Some}
+use Rattle.std.specs.Prelude.{◌≡◌, ℕ, ◌-◌, ◌≤◌, ◌==◌, List, All, AllPairs, filter, length, map, slice_get, Some}
 use Rattle.like_core.specs.Phase.{IsJoined}
 use Rattle.like_requests.specs.declared.request.Request.{Request}
 use Rattle.like_requests.specs.declared.setup.Setup.{Setup}
@@ -9,9 +9,9 @@ use Rattle.like_promises.specs.declared.log.WorkerLog.{WorkerLog}
 use Rattle.like_promises.specs.declared.report.Report.{Report}
 use Rattle.like_promises.specs.HotPages.{chosen_below, hot_by}
 use Rattle.like_promises.specs.Log.{TakesPlans}
-use Rattle.like_promises.specs.OneThread.{IsOneThread, store_after}
-use Rattle.like_promises.specs.Order.{entry_of}
-use Rattle.like_promises.specs.Waits.{block, is_due}
+use Rattle.like_promises.specs.OneThread.{IsOneThread}
+use Rattle.like_promises.specs.Order.{block, entry_of, is_due}
+use Rattle.like_promises.specs.RunStore.{count_at, store_after}
 use Rattle.like_promises.specs.Workload.{Workload}
 use Rattle.like_promises.specs.WorkloadOf.{workload_of}
 
@@ -35,11 +35,6 @@ pub record IsRunOf (workload : Workload) (workers : ℕ) (r : Report) (serial : 
       → IsLogOf workload workers worker r.phases log
   pub joined : IsJoined r.phases
   pub hot : r.hot.items ≡ chosen_below workload.hot r.phases
-
--- a page's count before a phase
-abbrev pub count_at : Workload → List Ran → ℕ → ℕ → ℕ
-count_at workload serial page phase =
-    (store_after workload (filter (λ e. nat_lt e.phase phase) serial)).count page
 
 -- how much a page's count grew in the two phases before this one
 abbrev pub grew : Workload → List Ran → ℕ → ℕ → ℕ

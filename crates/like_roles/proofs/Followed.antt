@@ -5,10 +5,9 @@ use Rattle.std.proofs.lemmas.List.{map-append, length-map, length-replicate}
 use Rattle.std.proofs.lemmas.List.Elements.{All-head, All-map, All-tail, All-push}
 use Rattle.std.specs.List.{All}
 use Rattle.std.specs.Option.{option_map_or}
-use Rattle.std.specs.Prelude.{option_and_then}
+use Rattle.std.specs.Prelude.{option_map}
 use Rattle.like_core.proofs.Steps.{all_then, then-earliest}
 use Rattle.like_requests.specs.Pages.{marks_of}
-use Rattle.like_requests.specs.Verdict.{is_accepted}
 use Rattle.like_requests.specs.declared.request.Numbered.{Numbered}
 use Rattle.like_requests.specs.declared.request.Request.{Request}
 use Rattle.like_requests.specs.declared.request.Taken.{Taken}
@@ -27,12 +26,13 @@ use Rattle.like_core.specs.Phase.{IsJoined, IsSplit, is_hot_by, is_marked, split
 use Rattle.like_core.specs.WorkerState.{IsRunning, RunsJoined, RunsSplit, RunsSome, phase_of, seen}
 use Rattle.like_core.specs.Post.{additions_in, answered, looked_at, number_of, pages_of, slices}
 use Rattle.like_tables.specs.declared.held.Held.{Held}
-use Rattle.like_promises.proofs.Accepted.{accepted_look, look_at-tests}
+use Rattle.like_promises.proofs.Asked.{must_wait-is}
+use Rattle.like_promises.specs.Asked.{asked_by}
 use Rattle.like_promises.specs.declared.log.Ran.{Ran}
 use Rattle.like_promises.specs.declared.log.Took.{Took}
 use Rattle.like_roles.specs.declared.turn.Turn.{Turn}
 use Rattle.like_roles.specs.worker.Follows.{FitsStash, Follows, IsAsked, IsAskedBy, IsInOrder, IsNoted, IsServed, IsSized, IsTallied, IsUnmerged, HasNothingLater, Stands, entry_held, next_joined}
-use Rattle.like_promises.specs.Order.{block, entry_of, order, took_to_wait}
+use Rattle.like_promises.specs.Order.{block, entry_of, must_wait, order, waited}
 use Rattle.like_roles.specs.worker.WorkerView.{is_look_at_sliced, WorkerView, has_to_wait, phase_at, seat_of, submitter_at}
 use Rattle.like_promises.specs.Looks.{page_looked_at}
 use Rattle.like_roles.specs.worker.Serve.{Runs, ran_now, verdict_at}
@@ -42,7 +42,7 @@ use Rattle.like_roles.specs.worker.Turns.{CanGive, Gives, TakesAsk, Turns, Works
 use Rattle.like_requests.specs.Setup.{IsThere}
 use Rattle.like_roles.specs.worker.Merges.{Merges}
 use Rattle.like_seat.specs.StationView.{HasPhaseMask, IsSliceInSplit}
-use Rattle.like_promises.proofs.Blocks.{order_below, stashed_in, block-next-prompt, block-next-waits, order-parts, order_below-prompt, order_below-waits, stashed-block, stashed-other, stashed-prompt, took_to_wait-joined}
+use Rattle.like_promises.proofs.Blocks.{order_below, stashed_in, block-next-prompt, block-next-waits, order-parts, order_below-prompt, order_below-waits, stashed-block, stashed-other, stashed-prompt, waited-joined}
 use Rattle.like_roles.proofs.Effects.{HasRunOne, Runs-effects}
 use Rattle.like_roles.proofs.InBlocks.{before-next, parity, parts, running-of_within, runs-phase, runs-weaker, within-of_running}
 use Rattle.like_roles.proofs.Keeps.{runs-keeps, works-keeps}
@@ -487,20 +487,13 @@ follows-settled workload v f = record {
 }
 
 -- what is taken has to wait where its request does
-took_to_wait-is : (workload : Workload) (t : Took) (r : Request) → request_at workload t.submitter t.number ≡ Some r
-    → took_to_wait workload t
+waited-is : (workload : Workload) (t : Took) (r : Request) → request_at workload t.submitter t.number ≡ Some r
+    → waited workload t
     ≡ is_look_at_sliced workload.users (submitters workload) (is_split_in workload t.phase) t.submitter r
-took_to_wait-is workload t r asked =
-    ap (λ o. option_map_or (is_split_in workload t.phase) o false) (look_at-tests workload t.submitter t.number)
-    ∙ ap (λ o. option_map_or (is_split_in workload t.phase)
-    (option_and_then (accepted_look workload.users (submitters workload) t.submitter) o) false) asked
-    ∙ by_test (is_accepted workload.users (submitters workload) t.submitter r)
-  where
-    by_test : (b : Bool)
-        → option_map_or (is_split_in workload t.phase) (cond b (page_looked_at r.op r.page) None) false
-        ≡ (b && option_map_or (is_split_in workload t.phase) (page_looked_at r.op r.page) false)
-    by_test true = refl
-    by_test false = refl
+waited-is workload t r asked =
+    ap (λ o. option_map_or (must_wait (is_split_in workload t.phase)) (option_map (asked_by workload t.submitter) o) false)
+    asked
+    ∙ must_wait-is workload t.submitter r (is_split_in workload t.phase)
 
 -- whether a request has to wait is the same by the workload and by the worker, which has read its split phase's mask
 waits-alike : (workload : Workload) (v : WorkerView) (submitter number : ℕ) (r : Request)
@@ -508,10 +501,10 @@ waits-alike : (workload : Workload) (v : WorkerView) (submitter number : ℕ) (r
     → IsServed workload v
     → IsRunning v.post.state
     → HasPhaseMask v.post
-    → took_to_wait workload (record { phase = phase_at v; submitter = submitter; number = number })
+    → waited workload (record { phase = phase_at v; submitter = submitter; number = number })
     ≡ has_to_wait v submitter r
 waits-alike workload v submitter number r asked s run has =
-    took_to_wait-is workload (record { phase = phase_at v; submitter = submitter; number = number }) r asked
+    waited-is workload (record { phase = phase_at v; submitter = submitter; number = number }) r asked
     ∙ ap (λ u. is_look_at_sliced u (submitters workload) (is_split_in workload (phase_at v)) submitter r) s.users
     ∙ ap (λ m. is_look_at_sliced v.last.share.users m (is_split_in workload (phase_at v)) submitter r) s.submitters_alike
     ∙ ap (λ xs. is_look_at_sliced v.last.share.users v.last.share.submitters
@@ -536,7 +529,7 @@ plain-prompt v submitter r page prompt accepted look =
 
 -- no more comes out of the stash in a phase where what is taken runs at once
 fits-prompt : (workload : Workload) (xs : List Took) (t : Took)
-    → took_to_wait workload t ≡ false
+    → waited workload t ≡ false
     → FitsStash workload xs
     → FitsStash workload (xs ++ t ∷ [])
 fits-prompt workload xs t w fits k = rw (stashed-prompt workload xs t k w) (fits k)
@@ -566,9 +559,9 @@ follows-takes : (workload : Workload) (v : WorkerView) (place : ℕ) (ask : Numb
 follows-takes workload v place ask answer after none f kept has run empty asked there room (turns.stashes w a x) =
     let t : Took = record { phase = phase_at v; submitter = submitter_at v place; number = ask.number } in
     let h : Held = held_from v place ask in
-    let to_wait : took_to_wait workload t ≡ true =
+    let to_wait : waited workload t ≡ true =
     waits-alike workload v (submitter_at v place) ask.number ask.request asked f.served run has ∙ w in
-    let not_even : IsJoined (phase_at v) → ⊥ = λ j. cc (to_wait, took_to_wait-joined workload t j) in
+    let not_even : IsJoined (phase_at v) → ⊥ = λ j. cc (to_wait, waited-joined workload t j) in
     let p = phase_at v in
     let odd : IsSplit p = elim (parity p) [
       | inl even ↦ absurd (not_even even)
@@ -610,7 +603,7 @@ follows-takes workload v place ask answer after none f kept has run empty asked 
     let t : Took = record { phase = phase_at v; submitter = submitter_at v place; number = ask.number } in
     let h : Held = held_from v place ask in
     let p = phase_at v in
-    let at_once : took_to_wait workload t ≡ false =
+    let at_once : waited workload t ≡ false =
     waits-alike workload v (submitter_at v place) ask.number ask.request asked f.served run has ∙ w in
     let within = within-of_running v (λ _. Unit {0}) v.post.state run f.stands in
     let more : All (λ u. u.phase ≤ p) (v.taken ++ t ∷ []) =

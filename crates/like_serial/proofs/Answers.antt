@@ -1,155 +1,133 @@
 -- The answers of a merge: a user's likes are all of one worker.
-use Rattle.std.proofs.Common.{◌≡◌, ℕ, suc, Bool, true, false, not, cond, eqb, nat_lt, ◌==◌, List, [], ◌∷◌, ◌++◌, map, filter, take, drop, length, slice_get, IsSomeAnd, Option, Some, None, option_and_then, true≢false, subst, ap, sym, ◌∙◌, refl, eq-eqb, eqb-true}
-use Rattle.std.specs.List.{cons_option}
-use Rattle.like_requests.specs.Verdict.{home, is_known}
+use Rattle.std.proofs.Common.{◌≡◌, ℕ, suc, Bool, true, false, not, cond, eqb, nat_lt, ◌==◌, List, [], ◌∷◌, ◌++◌, filter_map, take, drop, length, slice_get, Option, Some, None, true≢false, subst, ap, sym, ◌∙◌, refl, eq-eqb, eqb-true}
+use Rattle.std.specs.Prelude.{⊤, option_map}
+use Rattle.std.specs.List.{cons_option, last_or}
+use Rattle.like_requests.specs.Verdict.{home}
 use Rattle.like_requests.specs.declared.request.Op.{Op}
 use Rattle.like_requests.specs.declared.request.Op.TheVariants.{Like, Look}
 use Rattle.like_requests.specs.declared.request.PageRef.{PageRef}
-use Rattle.like_requests.specs.declared.request.PageRef.TheVariants.{Known}
+use Rattle.like_requests.specs.declared.request.PageRef.TheVariants.{Known, Unknown}
 use Rattle.like_requests.specs.declared.request.Request.{Request}
-use Rattle.like_requests.specs.declared.verdict.Verdict.{Verdict}
-use Rattle.like_requests.specs.declared.verdict.Verdict.TheVariants.{Accepted, UnknownUser, OtherHome, UnknownPage}
+use Rattle.like_requests.specs.declared.verdict.Verdict.TheVariants.{UnknownUser, OtherHome}
 use Rattle.like_tables.specs.Share.{worker_of}
 use Rattle.like_promises.specs.declared.log.Ran.{Ran}
-use Rattle.like_promises.specs.declared.reply.Reply.{Reply}
-use Rattle.like_promises.specs.declared.reply.Reply.TheVariants.{Liked, Seen, Refused}
-use Rattle.like_promises.specs.Accepted.{AcceptedRequest, accepted_as, verdict_on}
-use Rattle.like_promises.specs.Likes.{last_in, last_like, like_ran, likes_ran}
-use Rattle.like_promises.specs.Replies.{HasRightAnswers, IsReplyTo, IsRightAnswer}
-use Rattle.like_promises.specs.Workload.{Workload, request_of, submitters}
+use Rattle.like_promises.specs.declared.reply.Reply.TheVariants.{Seen}
+use Rattle.like_promises.specs.Asked.{asked, asked_by, asked_of, asks}
+use Rattle.like_promises.specs.Replies.{HasRightAnswers, IsRightAnswer, uncounted}
+use Rattle.like_promises.specs.RunStore.{start, store_after}
 use Rattle.like_promises.specs.Serial.{entries_by}
+use Rattle.like_promises.specs.Store.{Ask, like, look, refuse, reply}
+use Rattle.like_promises.specs.Workload.{Workload, request_at, submitters}
 use Rattle.like_serial.proofs.Parts.{at_place, passed, place_of_part, take_part}
 use Rattle.like_serial.proofs.Seen.{not_some, some_is}
+use Rattle.like_serial.proofs.Stores.{last_after, page_by}
 use Rattle.std.proofs.lemmas.List.Elements.{filter-append}
 
--- an accepted request is at its user's home
-home_test : (a b k : Bool)
-    → cond (not a) UnknownUser (cond (not b) OtherHome (cond (not k) UnknownPage Accepted)) ≡ Accepted
-    → b ≡ true
-home_test false b k e = cc
-home_test true false k e = cc
-home_test true true k e = refl
+-- who likes or looks is at home
+abbrev pub IsHome : ℕ → ℕ → Ask → Type 0
+IsHome submitters submitter (like user page) = home submitters user ≡ submitter
+IsHome submitters submitter (look user page) = home submitters user ≡ submitter
+IsHome submitters submitter (refuse why) = ⊤
 
-pub at_home : (workload : Workload) (submitter : ℕ) (r : Request)
-    → verdict_on workload submitter r ≡ Accepted
-    → home (submitters workload) r.user ≡ submitter
-at_home workload submitter r is =
-    eqb-true (home (submitters workload) r.user) submitter
-    (home_test (nat_lt r.user workload.users) (home (submitters workload) r.user == submitter) (is_known r.page) is)
+home_tests : (a b : Bool) (op : Op) (user : ℕ) (p : PageRef) (submitters submitter : ℕ)
+    → (b ≡ true → home submitters user ≡ submitter)
+    → IsHome submitters submitter
+    (cond (not a) (refuse UnknownUser) (cond (not b) (refuse OtherHome) (asked_of op user p)))
+home_tests true true Like user (Known page) submitters submitter is = is refl
+home_tests true true Look user (Known page) submitters submitter is = is refl
+home_tests true true Like user Unknown submitters submitter is = tt
+home_tests true true Look user Unknown submitters submitter is = tt
+home_tests true false op user p submitters submitter is = tt
+home_tests false b op user p submitters submitter is = tt
 
--- what is accepted has the verdict, and its user
-pub accepted_is : (kind : Op) (verdict : Verdict) (op : Op) (user : ℕ) (page : PageRef) (a : AcceptedRequest)
-    → accepted_as kind verdict op user page ≡ Some a
-    → (verdict ≡ Accepted) × (a.user ≡ user)
-accepted_is Like Accepted Like user (Known page) a is = (refl, ap (λ (x : AcceptedRequest). x.user) (sym (some_is _ a is)))
-accepted_is Look Accepted Look user (Known page) a is = (refl, ap (λ (x : AcceptedRequest). x.user) (sym (some_is _ a is)))
-accepted_is kind verdict op user page a is = absurd (not_some a is)
-
-pub like_at_home : (workload : Workload) (e : Ran) (l : AcceptedRequest)
-    → like_ran workload e ≡ Some l
-    → home (submitters workload) l.user ≡ e.submitter
-like_at_home workload e l is = by (request_of workload e) is where
-  by : (o : Option Request)
-      → option_and_then (λ r. accepted_as Like (verdict_on workload e.submitter r) r.op r.user r.page) o ≡ Some l
-      → home (submitters workload) l.user ≡ e.submitter
-  by None is = absurd (not_some l is)
+pub ask_home : (workload : Workload) (e : Ran) (a : Ask)
+    → asked workload e.submitter e.number ≡ Some a
+    → IsHome (submitters workload) e.submitter a
+ask_home workload e a is = by (request_at workload e.submitter e.number) is where
+  by : (o : Option Request) → option_map (asked_by workload e.submitter) o ≡ Some a
+      → IsHome (submitters workload) e.submitter a
+  by None is = absurd (not_some a is)
   by (Some r) is =
-      let a = accepted_is Like (verdict_on workload e.submitter r) r.op r.user r.page l is in
-      ap (home (submitters workload)) a.1 ∙ at_home workload e.submitter r a.0
+      subst (IsHome (submitters workload) e.submitter) (some_is _ a is)
+      (home_tests (nat_lt r.user workload.users) (home (submitters workload) r.user == e.submitter) r.op r.user r.page
+      (submitters workload) e.submitter (eqb-true (home (submitters workload) r.user) e.submitter))
 
 -- the likes of a user are all among those of its worker
-abbrev pub of_user : ℕ → List AcceptedRequest → List AcceptedRequest
-of_user user likes = filter (λ l. l.user == user) likes
-
 module _ (workload : Workload) (workers user : ℕ) where
   abbrev pub serving : ℕ
   serving = worker_of workers (home (submitters workload) user)
 
-  user_by : (e : Ran) (xs : List Ran) (o : Option AcceptedRequest)
-      → like_ran workload e ≡ o
-      → (b : Bool)
-      → eqb (worker_of workers e.submitter) serving ≡ b
-      → of_user user (likes_ran workload xs) ≡ of_user user (likes_ran workload (entries_by workers serving xs))
-      → of_user user (cons_option o (likes_ran workload xs))
-      ≡ of_user user
-      (likes_ran workload (cond b (e ∷ entries_by workers serving xs) (entries_by workers serving xs)))
-  user_by e xs None is false own same = same
-  user_by e xs None is true own same =
-      same
-      ∙ sym (ap (λ o. of_user user (cons_option o (likes_ran workload (entries_by workers serving xs)))) is)
-  user_by e xs (Some l) is b own same = by_user (eqb l.user user) refl b own where
-    by_user : (c : Bool)
-        → eqb l.user user ≡ c
-        → (b : Bool)
-        → eqb (worker_of workers e.submitter) serving ≡ b
-        → cond c (l ∷ of_user user (likes_ran workload xs)) (of_user user (likes_ran workload xs))
-        ≡ of_user user
-        (likes_ran workload (cond b (e ∷ entries_by workers serving xs) (entries_by workers serving xs)))
-    by_user c his true own =
-        ap (λ d. cond d (l ∷ of_user user (likes_ran workload xs)) (of_user user (likes_ran workload xs))) (sym his)
-        ∙ ap (λ zs. cond (eqb l.user user) (l ∷ zs) zs) same
-        ∙ sym (ap (λ o. of_user user (cons_option o (likes_ran workload (entries_by workers serving xs)))) is)
-    by_user false his false own = same
-    by_user true his false own =
-        let mine : worker_of workers e.submitter ≡ serving =
-        ap (worker_of workers) (sym (like_at_home workload e l is))
-        ∙ ap (λ u. worker_of workers (home (submitters workload) u)) (eqb-true l.user user his)
-        in
-        absurd (true≢false (sym (eq-eqb (worker_of workers e.submitter) serving mine) ∙ own))
+  abbrev pages : List Ask → List ℕ
+  pages given = filter_map (page_by user) given
 
-  pub user_likes : (xs : List Ran)
-      → of_user user (likes_ran workload xs) ≡ of_user user (likes_ran workload (entries_by workers serving xs))
+  abbrev own : List Ran → List Ran
+  own xs = entries_by workers serving xs
+
+  one_more : (e : Ran) (xs : List Ran) (b : Bool)
+      → eqb (worker_of workers e.submitter) serving ≡ b
+      → pages (asks workload xs) ≡ pages (asks workload (own xs))
+      → pages (asks workload (e ∷ xs)) ≡ pages (asks workload (cond b (e ∷ own xs) (own xs)))
+  one_more e xs true mine same = by (asked workload e.submitter e.number) where
+    by : (o : Option Ask) → pages (cons_option o (asks workload xs)) ≡ pages (cons_option o (asks workload (own xs)))
+    by None = same
+    by (Some a) = ap (cons_option (page_by user a)) same
+  one_more e xs false other same = by (asked workload e.submitter e.number) refl where
+    by_user : (c : Bool) (liker page : ℕ)
+        → eqb liker user ≡ c
+        → home (submitters workload) liker ≡ e.submitter
+        → cons_option (cond c (Some page) None) (pages (asks workload xs)) ≡ pages (asks workload (own xs))
+    by_user false liker page is at_home = same
+    by_user true liker page is at_home =
+        let mine : worker_of workers e.submitter ≡ serving =
+        ap (worker_of workers) (sym at_home ∙ ap (home (submitters workload)) (eqb-true liker user is))
+        in
+        absurd (true≢false (sym (eq-eqb (worker_of workers e.submitter) serving mine) ∙ other))
+
+    by : (o : Option Ask) → asked workload e.submitter e.number ≡ o
+        → pages (cons_option o (asks workload xs)) ≡ pages (asks workload (own xs))
+    by None is = same
+    by (Some (like liker page)) is = by_user (eqb liker user) liker page refl (ask_home workload e (like liker page) is)
+    by (Some (look looker page)) is = same
+    by (Some (refuse why)) is = same
+
+  user_likes : (xs : List Ran) → pages (asks workload xs) ≡ pages (asks workload (own xs))
   user_likes [] = refl
-  user_likes (e ∷ xs) =
-      user_by e xs (like_ran workload e) refl (eqb (worker_of workers e.submitter) serving) refl (user_likes xs)
+  user_likes (e ∷ xs) = one_more e xs (eqb (worker_of workers e.submitter) serving) refl (user_likes xs)
 
   pub last_of_own : (xs : List Ran)
-      → last_like workload user xs ≡ last_like workload user (entries_by workers serving xs)
-  last_of_own xs = ap (λ likes. last_in (map (λ (l : AcceptedRequest). l.page) likes)) (user_likes xs)
+      → (store_after workload xs).last user ≡ (store_after workload (own xs)).last user
+  last_of_own xs =
+      last_after (start workload) (asks workload xs) user ∙ ap (last_or None) (user_likes xs)
+      ∙ sym (last_after (start workload) (asks workload (own xs)) user)
 
--- a right answer is right after other entries, if they have the same last like of the request's user
-same_last : (workload : Workload) (before other : List Ran) (e : Ran)
-    → ((r : Request) → verdict_on workload e.submitter r ≡ Accepted
-    → last_like workload r.user before ≡ last_like workload r.user other)
-    → IsRightAnswer workload before e
-    → IsRightAnswer workload other e
-same_last workload before other e same right = by (request_of workload e) right where
-  by_reply : (r : Request) (reply : Reply)
-      → IsReplyTo workload before e.submitter r reply
-      → IsReplyTo workload other e.submitter r reply
-  by_reply r Liked is = is
-  by_reply r (Refused why) is = is
-  by_reply r (Seen last count) is = (is.0, is.1, is.2 ∙ same r is.0)
+-- so an answer is right after its worker's entries if it is right after all, and the other way round
+module _ (workload : Workload) (workers : ℕ) (before : List Ran) (e : Ran) where
+  abbrev mine : List Ran
+  mine = entries_by workers (worker_of workers e.submitter) before
 
-  by : (o : Option Request)
-      → IsSomeAnd o (λ r. IsReplyTo workload before e.submitter r e.reply)
-      → IsSomeAnd o (λ r. IsReplyTo workload other e.submitter r e.reply)
-  by None is = is
-  by (Some r) is = by_reply r e.reply is
+  reply_same : (a : Ask) → IsHome (submitters workload) e.submitter a
+      → uncounted (reply (store_after workload before) a) ≡ uncounted (reply (store_after workload mine) a)
+  reply_same (like user page) at_home = refl
+  reply_same (look user page) at_home =
+      ap (λ last. Seen last 0)
+      (last_of_own workload workers user before
+      ∙ ap (λ w. (store_after workload (entries_by workers w before)).last user) (ap (worker_of workers) at_home))
+  reply_same (refuse why) at_home = refl
 
--- so it is right after its worker's entries if it is right after all, and the other way round
-own_last : (workload : Workload) (workers : ℕ) (before : List Ran) (e : Ran) (r : Request)
-    → verdict_on workload e.submitter r ≡ Accepted
-    → last_like workload r.user before
-    ≡ last_like workload r.user (entries_by workers (worker_of workers e.submitter) before)
-own_last workload workers before e r is =
-    last_of_own workload workers r.user before
-    ∙ ap (λ w. last_like workload r.user (entries_by workers w before))
-    (ap (worker_of workers) (at_home workload e.submitter r is))
+  answer_same : option_map (λ a. uncounted (reply (store_after workload before) a)) (asked workload e.submitter e.number)
+      ≡ option_map (λ a. uncounted (reply (store_after workload mine) a)) (asked workload e.submitter e.number)
+  answer_same = by (asked workload e.submitter e.number) refl where
+    by : (o : Option Ask) → asked workload e.submitter e.number ≡ o
+        → option_map (λ a. uncounted (reply (store_after workload before) a)) o
+        ≡ option_map (λ a. uncounted (reply (store_after workload mine) a)) o
+    by None is = refl
+    by (Some a) is = ap Some (reply_same a (ask_home workload e a is))
 
-right_after_own : (workload : Workload) (workers : ℕ) (before : List Ran) (e : Ran)
-    → IsRightAnswer workload before e
-    → IsRightAnswer workload (entries_by workers (worker_of workers e.submitter) before) e
-right_after_own workload workers before e =
-    same_last workload before (entries_by workers (worker_of workers e.submitter) before) e
-    (own_last workload workers before e)
+  right_after_own : IsRightAnswer workload before e → IsRightAnswer workload mine e
+  right_after_own right = sym answer_same ∙ right
 
-right_after_all : (workload : Workload) (workers : ℕ) (before : List Ran) (e : Ran)
-    → IsRightAnswer workload (entries_by workers (worker_of workers e.submitter) before) e
-    → IsRightAnswer workload before e
-right_after_all workload workers before e =
-    same_last workload (entries_by workers (worker_of workers e.submitter) before) before e
-    (λ r is. sym (own_last workload workers before e r is))
+  right_after_all : IsRightAnswer workload mine e → IsRightAnswer workload before e
+  right_after_all right = answer_same ∙ right
 
 -- the place of an entry in its worker's run list
 pub own_part : (workers : ℕ) (before : List Ran) (e : Ran) (after : List Ran)

@@ -1,61 +1,34 @@
 -- The count that a look shows, by the entries before it in a merge.
-use Rattle.std.proofs.Common.{◌≡◌, ℕ, ◌+◌, Bool, true, false, not, cond, eqb, nat_lt, ◌==◌, List, [], ◌∷◌, ◌++◌, map, filter, filter_map, reverse, Option, Some, None, option_and_then, true≢false, subst, subst₂, ap, ap₂, sym, ◌∙◌, refl, arith, eqb-true}
+use Rattle.std.proofs.Common.{◌≡◌, ℕ, ◌+◌, Bool, true, false, not, cond, eqb, nat_lt, ◌==◌, List, [], ◌∷◌, ◌++◌, map, filter, reverse, Option, Some, None, option_and_then, true≢false, subst, subst₂, ap, ap₂, sym, ◌∙◌, refl, arith, eqb-true}
 use Rattle.std.specs.List.{cons_option}
 use Rattle.std.specs.Option.{option_map_or}
 use Rattle.std.proofs.lemmas.List.Elements.{filter_map-append}
-use Rattle.like_requests.specs.declared.request.Op.{Op}
-use Rattle.like_requests.specs.declared.request.Op.TheVariants.{Like, Look}
-use Rattle.like_requests.specs.declared.request.PageRef.{PageRef}
-use Rattle.like_requests.specs.declared.request.PageRef.TheVariants.{Known}
-use Rattle.like_requests.specs.declared.request.Request.{Request}
-use Rattle.like_requests.specs.declared.verdict.Verdict.{Verdict}
-use Rattle.like_requests.specs.declared.verdict.Verdict.TheVariants.{Accepted}
 use Rattle.like_promises.specs.declared.log.Ran.{Ran}
-use Rattle.like_promises.specs.Accepted.{AcceptedRequest, accepted_as, verdict_on}
-use Rattle.like_promises.specs.Likes.{initial_count, like_ran, likes_among}
-use Rattle.like_promises.specs.Looks.{count_in, look_at}
-use Rattle.like_promises.specs.Workload.{Workload, is_split_in, request_of}
+use Rattle.like_promises.specs.Asked.{asked, asks}
+use Rattle.like_promises.specs.Likes.{initial_count, likes_among}
+use Rattle.like_promises.specs.Looks.{count_in, look_ran, page_asked}
+use Rattle.like_promises.specs.Store.{Ask, like, look, refuse}
+use Rattle.like_promises.specs.Workload.{Workload, is_split_in}
 use Rattle.like_core.specs.declared.page_step.PageCall.TheVariants.{Add, Read}
 use Rattle.like_core.specs.declared.page_step.PageStep.{PageStep}
 use Rattle.like_core.specs.PageSteps.{AreInTurn, adds_to, likes_of}
-use Rattle.like_serial.specs.StepsTold.{StepTold, count_told, is_plain, look_or_like, step_ran, steps_ran, step_told}
+use Rattle.like_serial.specs.StepsTold.{StepTold, count_told, is_plain, step_asked, step_ran, steps_ran, step_told}
 use Rattle.like_serial.proofs.InTurn.{found_by_phase}
 use Rattle.like_serial.proofs.Parts.{Mapped, Passed, mapped, passed, reversed}
-use Rattle.like_serial.proofs.Seen.{not_some}
+use Rattle.like_serial.proofs.Seen.{not_some, some_is}
+use Rattle.like_serial.proofs.Stores.{adds_by}
 use Rattle.like_serial.proofs.Totals.{only-none, weigh-marks, weigh-reverse}
 use Rattle.like_serial.proofs.Weigh.{only, sum-weigh, weigh, weigh-alike, weigh-filter}
 
--- an accepted look is no accepted like
-not_both : (verdict : Verdict) (op : Op) (user : ℕ) (page : PageRef) (q : ℕ)
-    → option_and_then (λ (a : AcceptedRequest). Some a.page) (accepted_as Look verdict op user page) ≡ Some q
-    → accepted_as Like verdict op user page ≡ None
-not_both Accepted Like user (Known page) q is = absurd (not_some q is)
-not_both verdict op user page q is = refl
-
-pub look_likes_none : (workload : Workload) (e : Ran) (page : ℕ)
-    → look_at workload e.submitter e.number ≡ Some page
-    → like_ran workload e ≡ None
-look_likes_none workload e page is = by (request_of workload e) is where
-  by : (o : Option Request)
-      → option_and_then (λ (a : AcceptedRequest). Some a.page)
-      (option_and_then (λ r. accepted_as Look (verdict_on workload e.submitter r) r.op r.user r.page) o)
-      ≡ Some page
-      → option_and_then (λ r. accepted_as Like (verdict_on workload e.submitter r) r.op r.user r.page) o ≡ None
-  by None is = refl
-  by (Some r) is = not_both (verdict_on workload e.submitter r) r.op r.user r.page page is
-
--- how many accepted likes of the page an entry ran: 1 or 0
-abbrev pub is_like_of : ℕ → AcceptedRequest → ℕ
-is_like_of page l = cond (l.page == page) 1 0
-
+-- how many likes of the page an entry ran: 1 or 0
 abbrev pub likes_by : Workload → ℕ → Ran → ℕ
-likes_by workload page e = option_map_or (is_like_of page) (like_ran workload e) 0
+likes_by workload page e = option_map_or (adds_by page) (asked workload e.submitter e.number) 0
 
 pub likes-weigh : (workload : Workload) (page : ℕ) (xs : List Ran)
     → likes_among workload page xs ≡ weigh (likes_by workload page) xs
 likes-weigh workload page xs =
-    sum-weigh (is_like_of page) (filter_map (like_ran workload) xs)
-    ∙ weigh-marks (is_like_of page) (like_ran workload) xs
+    sum-weigh (adds_by page) (asks workload xs)
+    ∙ weigh-marks (adds_by page) (λ (e : Ran). asked workload e.submitter e.number) xs
 
 -- what a step that is told adds to a page in a phase
 abbrev pub told_adds : ℕ → ℕ → StepTold → ℕ
@@ -75,37 +48,33 @@ counts_there false b c n then = sym (only-none c)
 
 -- at a page that is plain in the phase, an entry's plain step adds what it likes
 module _ (workload : Workload) (phase page : ℕ) (plain : is_split_in workload phase page ≡ false) where
-  like_adds : (e : Ran) (l : AcceptedRequest) (b : Bool)
-      → is_split_in workload e.phase l.page ≡ b
+  like_adds : (e : Ran) (liked : ℕ) (b : Bool)
+      → is_split_in workload e.phase liked ≡ b
       → option_map_or (told_adds phase page)
-      (cond b None (Some (record { phase = e.phase; page = l.page; call = Add 1; count = 0 }))) 0
-      ≡ only (e.phase == phase) (is_like_of page l)
-  like_adds e l false is = refl
-  like_adds e l true is =
+      (cond b None (Some (record { phase = e.phase; page = liked; call = Add 1; count = 0 }))) 0
+      ≡ only (e.phase == phase) (cond (liked == page) 1 0)
+  like_adds e liked false is = refl
+  like_adds e liked true is =
       sym
-      (counts_there (eqb e.phase phase) (eqb l.page page) false 1
+      (counts_there (eqb e.phase phase) (eqb liked page) false 1
       (λ here there. absurd
       (true≢false
       (sym is
-      ∙ ap₂ (is_split_in workload) (eqb-true e.phase phase here) (eqb-true l.page page there)
+      ∙ ap₂ (is_split_in workload) (eqb-true e.phase phase here) (eqb-true liked page there)
       ∙ plain))))
 
-  entry_by : (e : Ran) (o : Option ℕ)
-      → look_at workload e.submitter e.number ≡ o
-      → (a : Option AcceptedRequest)
-      → like_ran workload e ≡ a
-      → option_map_or (told_adds phase page) (look_or_like workload e o a) 0
-      ≡ only (e.phase == phase) (option_map_or (is_like_of page) a 0)
-  entry_by e (Some q) is None has = ap (only (e.phase == phase)) (only-none (q == page))
-  entry_by e (Some q) is (Some l) has = absurd (not_some l (sym (look_likes_none workload e q is) ∙ has))
-  entry_by e None is None has = sym (only-none (e.phase == phase))
-  entry_by e None is (Some l) has = like_adds e l (is_split_in workload e.phase l.page) refl
+  asked_adds : (e : Ran) (o : Option Ask)
+      → option_map_or (told_adds phase page) (option_and_then (step_asked workload e) o) 0
+      ≡ only (e.phase == phase) (option_map_or (adds_by page) o 0)
+  asked_adds e None = sym (only-none (e.phase == phase))
+  asked_adds e (Some (like user liked)) = like_adds e liked (is_split_in workload e.phase liked) refl
+  asked_adds e (Some (look user looked)) = ap (only (e.phase == phase)) (only-none (looked == page))
+  asked_adds e (Some (refuse why)) = sym (only-none (e.phase == phase))
 
   pub entry_adds : (e : Ran)
       → option_map_or (told_adds phase page) (step_ran workload e) 0
       ≡ only (e.phase == phase) (likes_by workload page e)
-  entry_adds e =
-      entry_by e (look_at workload e.submitter e.number) refl (like_ran workload e) refl
+  entry_adds e = asked_adds e (asked workload e.submitter e.number)
 
   -- and a step that counts there is plain
   pub step_plain : (s : PageStep)
@@ -135,11 +104,25 @@ not_split : (b : Bool) → not b ≡ true → b ≡ false
 not_split false is = refl
 not_split true is = absurd (true≢false (sym is))
 
+-- the plain step of a look
+look_step : (workload : Workload) (e : Ran) (page : ℕ) → look_ran workload e ≡ Some page
+    → step_ran workload e ≡ Some (record { phase = e.phase; page = page; call = Read; count = count_in e.reply })
+look_step workload e page is = by (asked workload e.submitter e.number) is where
+  by : (o : Option Ask) → option_and_then page_asked o ≡ Some page
+      → option_and_then (step_asked workload e) o
+      ≡ Some (record { phase = e.phase; page = page; call = Read; count = count_in e.reply })
+  by None is = absurd (not_some page is)
+  by (Some (like user liked)) is = absurd (not_some page is)
+  by (Some (look user looked)) is =
+      ap (λ (q : ℕ). Some (record { phase = e.phase; page = q; call = Read; count = count_in e.reply }))
+      (some_is looked page is)
+  by (Some (refuse why)) is = absurd (not_some page is)
+
 -- the look at an entry: its read, among the steps
 module _ (workload : Workload) (last : ℕ) (steps : List PageStep) (before : List Ran) (e : Ran) (after : List Ran)
     (page : ℕ) (turn : AreInTurn (initial_count workload.pages) last steps)
     (marks : steps_ran workload (before ++ e ∷ after) ≡ map step_told (filter (is_plain workload) (reverse steps)))
-    (look : look_at workload e.submitter e.number ≡ Some page) where
+    (look : look_ran workload e ≡ Some page) where
   abbrev the_read : StepTold
   the_read = record { phase = e.phase; page = page; call = Read; count = count_in e.reply }
 
@@ -148,9 +131,7 @@ module _ (workload : Workload) (last : ℕ) (steps : List PageStep) (before : Li
   in_marks =
       sym marks ∙ filter_map-append (step_ran workload) before (e ∷ after)
       ∙ ap
-      (λ o. steps_ran workload before
-      ++ cons_option (look_or_like workload e o (like_ran workload e)) (steps_ran workload after))
-      look
+      (λ o. steps_ran workload before ++ cons_option o (steps_ran workload after)) (look_step workload e page look)
 
   shown : (m : Mapped step_told (filter (is_plain workload) (reverse steps)) (steps_ran workload before) the_read
       (steps_ran workload after))

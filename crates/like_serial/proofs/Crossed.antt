@@ -3,11 +3,12 @@ use Rattle.std.proofs.Common.{◌≡◌, ℕ, zero, suc, ◌≤◌, ◌==◌, Al
 use Rattle.std.proofs.lemmas.Bool.{cases_lt}
 use Rattle.like_promises.specs.declared.log.Ran.{Ran}
 use Rattle.like_promises.specs.declared.reply.Reply.TheVariants.{Liked, Seen}
-use Rattle.like_promises.specs.Likes.{Between, likes_within}
-use Rattle.like_promises.specs.Looks.{count_in, look_at}
+use Rattle.like_promises.specs.Likes.{likes_within}
+use Rattle.like_promises.specs.Looks.{count_in, look_ran}
 use Rattle.like_promises.specs.Replies.{HasRightAnswers, HasRightCounts, IsRightAnswer}
+use Rattle.like_promises.specs.RunStore.{Between}
 use Rattle.like_promises.specs.Workload.{Workload}
-use Rattle.like_serial.specs.Example.{CrossedLooksHaveNoOrder, crossed, crossed_runs, ran}
+use Rattle.like_serial.specs.Example.{CrossedLooksHaveNoOrder, crossed, crossed_all, crossed_runs, ran}
 use Rattle.like_promises.specs.Serial.{AreRising, IsSerial, run_of}
 use Rattle.like_serial.specs.RunLists.{AreRunLists}
 use Rattle.like_serial.proofs.Counts.{likes-weigh, likes_by}
@@ -31,8 +32,8 @@ right_two workload a b first second (suc zero) e at =
 right_two workload a b first second (suc (suc i)) e at = absurd (not_some e at)
 
 answers : (worker : ℕ) → HasRightAnswers crossed (run_of crossed_runs worker)
-answers zero = right_two crossed (ran 0 1 Liked) (ran 0 2 (Seen (Some 0) 0)) (refl, refl) (refl, refl, refl)
-answers (suc zero) = right_two crossed (ran 1 1 Liked) (ran 1 2 (Seen (Some 1) 0)) (refl, refl) (refl, refl, refl)
+answers zero = right_two crossed (ran 0 1 Liked) (ran 0 2 (Seen (Some 0) 0)) refl refl
+answers (suc zero) = right_two crossed (ran 1 1 Liked) (ran 1 2 (Seen (Some 1) 0)) refl refl
 answers (suc (suc worker)) = λ i e at. absurd (not_some e at)
 
 lists : AreRunLists crossed 2 crossed_runs
@@ -53,29 +54,29 @@ lists = record {
 
 -- the count of a list of two, whose first entry is no look
 bounded_two : (a b : Ran) (page : ℕ)
-    → look_at crossed a.submitter a.number ≡ None
-    → look_at crossed b.submitter b.number ≡ Some page
-    → Between crossed crossed_runs b.phase page (count_in b.reply) (likes_within crossed page (a ∷ []) b.phase)
+    → look_ran crossed a ≡ None
+    → look_ran crossed b ≡ Some page
+    → Between crossed crossed_all b.phase page (count_in b.reply) (likes_within crossed page (a ∷ []) b.phase)
     (likes_within crossed page [] b.phase)
-    → HasRightCounts crossed crossed_runs (a ∷ b ∷ [])
+    → HasRightCounts crossed crossed_all (a ∷ b ∷ [])
 bounded_two a b page none look bounds zero q e at is =
     absurd
-    (not_some q (sym none ∙ ap (λ (x : Ran). look_at crossed x.submitter x.number) (some_is a e at) ∙ is))
+    (not_some q (sym none ∙ ap (λ (x : Ran). look_ran crossed x) (some_is a e at) ∙ is))
 bounded_two a b page none look bounds (suc zero) q e at is =
     let same = some_is b e at in
     let pages : page ≡ q =
-    some_is page q (sym look ∙ ap (λ (x : Ran). look_at crossed x.submitter x.number) same ∙ is)
+    some_is page q (sym look ∙ ap (λ (x : Ran). look_ran crossed x) same ∙ is)
     in
     subst
-    (λ (x : Ran). Between crossed crossed_runs x.phase q (count_in x.reply) (likes_within crossed q (a ∷ []) x.phase)
+    (λ (x : Ran). Between crossed crossed_all x.phase q (count_in x.reply) (likes_within crossed q (a ∷ []) x.phase)
     (likes_within crossed q [] x.phase))
     same
     (subst
-    (λ p. Between crossed crossed_runs b.phase p (count_in b.reply) (likes_within crossed p (a ∷ []) b.phase)
+    (λ p. Between crossed crossed_all b.phase p (count_in b.reply) (likes_within crossed p (a ∷ []) b.phase)
     (likes_within crossed p [] b.phase)) pages bounds)
 bounded_two a b page none look bounds (suc (suc i)) q e at is = absurd (not_some e at)
 
-between : (worker : ℕ) → HasRightCounts crossed crossed_runs (run_of crossed_runs worker)
+between : (worker : ℕ) → HasRightCounts crossed crossed_all (run_of crossed_runs worker)
 between zero =
     bounded_two (ran 0 1 Liked) (ran 0 2 (Seen (Some 0) 0)) 1 refl refl
     (record { lower = omega arith; upper = omega arith })
@@ -105,7 +106,7 @@ stands : (serial : List Ran) (worker liked looked : ℕ) (a b : Ran)
     → IsSerial crossed 2 crossed_runs serial
     → run_of crossed_runs worker ≡ a ∷ b ∷ []
     → weigh (likes_by crossed liked) (a ∷ []) ≡ 1
-    → look_at crossed b.submitter b.number ≡ Some looked
+    → look_ran crossed b ≡ Some looked
     → count_in b.reply ≡ 0
     → Stands serial liked looked
 stands serial worker liked looked a b is run likes look shows =

@@ -4,13 +4,13 @@ use Rattle.std.specs.List.{range_with_len}
 use Rattle.like_requests.specs.Verdict.{home}
 use Rattle.like_tables.specs.Share.{worker_of}
 use Rattle.like_promises.specs.EndToEnd.{runs_of}
-use Rattle.like_promises.specs.Likes.{initial_count, last_like}
-use Rattle.like_promises.specs.OneThread.{store_after}
+use Rattle.like_promises.specs.Likes.{initial_count}
+use Rattle.like_promises.specs.RunStore.{store_after}
 use Rattle.like_promises.specs.Workload.{submitters}
 use Rattle.like_serial.specs.StoreLaws.{EndIsStore}
 use Rattle.like_serial.proofs.Answers.{last_of_own}
 use Rattle.like_serial.proofs.Follows.{likes-serial, map-alike}
-use Rattle.like_serial.proofs.OneThread.{count_is, last_like_is}
+use Rattle.like_serial.proofs.OneThread.{count_is}
 
 pub end_is_store : EndIsStore
 end_is_store workload workers logs serial is = (
@@ -18,6 +18,6 @@ end_is_store workload workers logs serial is = (
       (λ page. count_is workload serial page
       ∙ ap (λ n. initial_count workload.pages page + n) (sym (likes-serial workload workers (runs_of logs) serial page is))),
   map-alike (store_after workload serial).last _ (range_with_len 0 workload.users)
-      (λ user. last_like_is workload user serial ∙ last_of_own workload workers user serial
-      ∙ ap (last_like workload user) (is.own (worker_of workers (home (submitters workload) user)))),
+      (λ user. last_of_own workload workers user serial
+      ∙ ap (λ run. (store_after workload run).last user) (is.own (worker_of workers (home (submitters workload) user)))),
 )

@@ -2,12 +2,14 @@
 use Rattle.std.proofs.Common.{◌≡◌, ℕ, zero, suc, ◌+◌, ◌<◌, ◌≤◌, Bool, true, false, nat_lt, ◌==◌, List, [], ◌∷◌, ◌++◌, length, take, drop, map, filter, slice_get, Some, subst, ap, ap₂, sym, ◌∙◌, refl, arith, add-one}
 use Rattle.std.specs.List.{AllByRecursion}
 use Rattle.like_promises.specs.declared.log.Ran.{Ran}
-use Rattle.like_promises.specs.Likes.{Between, count_before, initial_count, likes, likes_among, likes_within}
-use Rattle.like_promises.specs.Looks.{count_in, look_at}
+use Rattle.like_promises.specs.Likes.{initial_count, likes, likes_among, likes_within}
+use Rattle.like_promises.specs.Looks.{count_in, look_ran}
+use Rattle.like_promises.specs.RunStore.{Between, count_at}
 use Rattle.like_promises.specs.Workload.{Workload}
 use Rattle.like_serial.specs.Laws.{SerialIsBetween}
 use Rattle.like_promises.specs.Serial.{IsSerial, run_of}
 use Rattle.like_serial.proofs.Counts.{likes-weigh, likes_by}
+use Rattle.like_serial.proofs.Growth.{count_at_is}
 use Rattle.like_serial.proofs.Interleaved.{with_key}
 use Rattle.like_serial.proofs.Parts.{at_place, passed, place_of_part, take_part}
 use Rattle.like_serial.proofs.Phases.{Rises, above, all_above, all_then, not_below, rises_of}
@@ -121,15 +123,8 @@ module _ (workload : Workload) (workers : ℕ) (runs : List (List Ran)) (serial 
   now phase e = only (e.phase == phase) (counted e)
 
   before-serial : (phase : ℕ)
-      → count_before workload runs phase page ≡ initial_count workload.pages page + weigh (early phase) serial
-  before-serial phase =
-      ap (λ n. initial_count workload.pages page + n)
-      (sum-weigh (λ ran. likes_among workload page (filter (λ e. nat_lt e.phase phase) ran)) runs
-      ∙ weigh-alike (λ ran. likes_among workload page (filter (λ e. nat_lt e.phase phase) ran))
-      (weigh (early phase)) runs
-      (λ ran. likes-weigh workload page (filter (λ (e : Ran). nat_lt e.phase phase) ran)
-      ∙ weigh-filter (λ (e : Ran). nat_lt e.phase phase) counted ran)
-      ∙ sym (same_counts workload workers runs serial is (early phase)))
+      → count_at workload serial page phase ≡ initial_count workload.pages page + weigh (early phase) serial
+  before-serial phase = count_at_is workload serial page phase
 
   within-weigh : (xs : List Ran) (phase : ℕ) → likes_within workload page xs phase ≡ weigh (now phase) xs
   within-weigh xs phase =
@@ -140,8 +135,8 @@ module _ (workload : Workload) (workers : ℕ) (runs : List (List Ran)) (serial 
       → serial ≡ before ++ e ∷ after
       → with_key (server_of workers) w before ≡ mine
       → with_key (server_of workers) w after ≡ yours
-      → look_at workload e.submitter e.number ≡ Some page
-      → Between workload runs e.phase page (count_in e.reply) (likes_within workload page mine e.phase)
+      → look_ran workload e ≡ Some page
+      → Between workload serial e.phase page (count_in e.reply) (likes_within workload page mine e.phase)
       (likes_within workload page yours e.phase)
   bounds before e after mine yours w parts fronts rests look =
       let k = e.phase in
@@ -174,9 +169,9 @@ module _ (workload : Workload) (workers : ℕ) (runs : List (List Ran)) (serial 
       ap (weigh (early (suc k))) parts ∙ weigh-append (early (suc k)) before (e ∷ after)
       in
       let first = before-serial k in
-      let second : count_before workload runs (k + 1) page
+      let second : count_at workload serial page (k + 1)
       ≡ initial_count workload.pages page + weigh (early (suc k)) serial =
-      ap (λ n. count_before workload runs n page) (add-one k) ∙ before-serial (suc k)
+      ap (count_at workload serial page) (add-one k) ∙ before-serial (suc k)
       in
       let own : likes_within workload page mine k ≤ weigh (now k) before =
       subst (λ n. n ≤ weigh (now k) before) (ap (weigh (now k)) fronts ∙ sym (within-weigh mine k))

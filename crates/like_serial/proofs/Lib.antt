@@ -13,11 +13,9 @@ pub mod Crossed
 pub mod Ordered
 pub mod Logs
 pub mod Stores
-pub mod Asks
 pub mod OneThread
 pub mod Ends
 pub mod Collected
 pub mod Growth
-pub mod Waits
 pub mod RunOrder
 pub mod Reports

@@ -6,8 +6,8 @@ use Rattle.like_promises.specs.declared.log.Ran.{Ran}
 use Rattle.like_promises.specs.declared.log.Took.{Took}
 use Rattle.like_promises.specs.declared.log.WorkerLog.{WorkerLog}
 use Rattle.like_promises.specs.EndToEnd.{runs_of}
-use Rattle.like_promises.specs.Log.{IsLog, numbers_taken}
-use Rattle.like_promises.specs.Order.{Entry, block, entry_in, entry_of, is_due, phases_of, took_to_wait}
+use Rattle.like_promises.specs.Log.{IsLog}
+use Rattle.like_promises.specs.Order.{Entry, block, entry_in, entry_of, is_due, phases_of, waited}
 use Rattle.like_promises.specs.Replies.{HasRightAnswers}
 use Rattle.like_promises.specs.Workload.{Workload}
 use Rattle.like_serial.specs.Laws.{LogsAreRunLists}
@@ -48,6 +48,10 @@ rises_unmap phase f (x ∷ xs) rises =
 any_all : {X : Type 0} (P : X → Type 0) (xs : List X) → ((x : X) → P x) → AllByRecursion P xs
 any_all P [] each = tt
 any_all P (x ∷ xs) each = (each x, any_all P xs each)
+
+-- the numbers of what was taken from a submitter
+abbrev numbers_taken : ℕ → List Took → List ℕ
+numbers_taken submitter taken = map (λ t. t.number) (filter (λ t. t.submitter == submitter) taken)
 
 -- whose what was taken is
 taken_own : (workers w : ℕ) (taken : List Took)
@@ -109,7 +113,7 @@ pub block_phase : (workload : Workload) (taken : List Took) (k : ℕ)
     → AllByRecursion (λ (e : Entry). e.phase ≡ k) (block workload taken k)
 block_phase workload taken k =
     let due : List Took = filter (is_due workload k) taken in
-    let prompt : List Took = filter (λ t. (t.phase == k) && not (took_to_wait workload t)) taken in
+    let prompt : List Took = filter (λ t. (t.phase == k) && not (waited workload t)) taken in
     all_append (λ (e : Entry). e.phase ≡ k) (map (entry_in k true) due) (map (entry_in k false) prompt)
     (all_map (λ (e : Entry). e.phase ≡ k) (entry_in k true) due
     (any_all (λ t. (entry_in k true t).phase ≡ k) due (λ t. refl)))
@@ -121,13 +125,13 @@ block_own : (workload : Workload) (workers w : ℕ) (taken : List Took) (k : ℕ
     → AllByRecursion (λ (e : Entry). worker_of workers e.submitter ≡ w) (block workload taken k)
 block_own workload workers w taken k all =
     let due : List Took = filter (is_due workload k) taken in
-    let prompt : List Took = filter (λ t. (t.phase == k) && not (took_to_wait workload t)) taken in
+    let prompt : List Took = filter (λ t. (t.phase == k) && not (waited workload t)) taken in
     let own : Took → Type 0 = λ t. worker_of workers t.submitter ≡ w in
     let mine : Entry → Type 0 = λ e. worker_of workers e.submitter ≡ w in
     all_append mine (map (entry_in k true) due) (map (entry_in k false) prompt)
     (all_map mine (entry_in k true) due (all_filter own (is_due workload k) taken all))
     (all_map mine (entry_in k false) prompt
-    (all_filter own (λ t. (t.phase == k) && not (took_to_wait workload t)) taken all))
+    (all_filter own (λ t. (t.phase == k) && not (waited workload t)) taken all))
 
 -- a log's run list
 pub record IsRunList (workload : Workload) (workers w : ℕ) (run : List Ran) : Type 0 where

@@ -23,8 +23,8 @@ rising (suc zero) = pairs_of phase_of (run_of ordered_runs 1) ((omega arith, tt)
 rising (suc (suc w)) = pairs_of phase_of [] tt
 
 answers : (w : ℕ) → HasRightAnswers crossed (run_of ordered_runs w)
-answers zero = right_two crossed (ran 0 1 Liked) (ran 0 2 (Seen (Some 0) 0)) (refl, refl) (refl, refl, refl)
-answers (suc zero) = right_two crossed (ran 1 1 Liked) (ran 1 2 (Seen (Some 1) 1)) (refl, refl) (refl, refl, refl)
+answers zero = right_two crossed (ran 0 1 Liked) (ran 0 2 (Seen (Some 0) 0)) refl refl
+answers (suc zero) = right_two crossed (ran 1 1 Liked) (ran 1 2 (Seen (Some 1) 1)) refl refl
 answers (suc (suc w)) = λ i e at. absurd (not_some e at)
 
 in_turn : AreInTurn (initial_count crossed.pages) 0 ordered_steps

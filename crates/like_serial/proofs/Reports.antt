@@ -1,32 +1,53 @@
 -- A report that is right end to end is that of one thread, and the other way round.
-use Rattle.std.proofs.Common.{◌≡◌, ℕ, zero, suc, ◌<◌, ◌≤◌, ◌==◌, List, [], ◌∷◌, filter, map, length, get_or, slice_get, Some, subst, ap, sym, ◌∙◌, refl, arith}
+use Rattle.std.proofs.Common.{◌≡◌, ℕ, zero, suc, ◌+◌, ◌<◌, ◌==◌, List, [], ◌∷◌, filter, map, length, get_or, slice_get, Some, subst, ap, sym, ◌∙◌, refl, arith}
 use Rattle.like_requests.specs.declared.request.Request.{Request}
 use Rattle.like_requests.specs.declared.setup.Setup.{Setup}
 use Rattle.like_promises.specs.declared.log.Ran.{Ran}
 use Rattle.like_promises.specs.declared.log.WorkerLog.{WorkerLog}
 use Rattle.like_promises.specs.declared.report.Report.{Report}
-use Rattle.like_promises.specs.Collected.{answer_of}
+use Rattle.like_promises.specs.Collected.{answer_of, entries_in}
 use Rattle.like_promises.specs.EndToEnd.{IsEndToEnd, runs_of}
-use Rattle.like_promises.specs.HotPages.{hot_by, likes_lately}
+use Rattle.like_promises.specs.HotPages.{hot_by}
+use Rattle.like_promises.specs.Looks.{count_in}
 use Rattle.like_promises.specs.Order.{Entry, entry_of}
 use Rattle.like_promises.specs.Replies.{HasRightAnswers, HasRightCounts}
-use Rattle.like_promises.specs.RunReport.{IsRunOf, grew, workload_by}
+use Rattle.like_promises.specs.RunReport.{IsRunOf, workload_by}
 use Rattle.like_promises.specs.Serial.{IsSerial, entries_by, run_of}
 use Rattle.like_promises.specs.Workload.{Workload}
-use Rattle.like_promises.specs.WorkloadOf.{workload_of, workload_of_run}
+use Rattle.like_promises.specs.WorkloadOf.{workload_of}
 use Rattle.like_serial.specs.StoreLaws.{OneThreadIsRight, RightIsOneThread}
 use Rattle.like_serial.proofs.Answers.{own_answers}
 use Rattle.like_serial.proofs.Collected.{entries_same}
 use Rattle.like_serial.proofs.Ends.{end_is_store}
 use Rattle.like_serial.proofs.Follows.{same_counts, serial_is_between}
-use Rattle.like_serial.proofs.Growth.{grew_is}
-use Rattle.like_serial.proofs.OneThread.{last_like_is, serial_in, serial_is_one_thread}
+use Rattle.like_serial.proofs.Growth.{between_same, grew_same}
+use Rattle.like_serial.proofs.OneThread.{serial_in, serial_is_one_thread}
 use Rattle.like_serial.proofs.Phases.{Rises, rises_of}
 use Rattle.like_serial.proofs.RunOrder.{block_of, in_order, rises_filter, rises_map}
 use Rattle.like_serial.proofs.Seen.{not_some, some_is}
 use Rattle.like_serial.proofs.Serial.{phase_of, server_of}
-use Rattle.like_serial.proofs.Waits.{due_same}
-use Rattle.like_serial.proofs.Weigh.{weigh}
+use Rattle.like_serial.proofs.Weigh.{weigh, weigh-append}
+
+-- all logs together have the entries of their run lists, and of a serial list
+entries_weigh : (f : Ran → ℕ) (logs : List WorkerLog) → weigh f (entries_in logs) ≡ weigh (weigh f) (runs_of logs)
+entries_weigh f [] = refl
+entries_weigh f (log ∷ logs) =
+    weigh-append f log.ran.items (entries_in logs) ∙ ap (λ n. weigh f log.ran.items + n) (entries_weigh f logs)
+
+entries_count : (workload : Workload) (workers : ℕ) (logs : List WorkerLog) (serial : List Ran)
+    → IsSerial workload workers (runs_of logs) serial
+    → (f : Ran → ℕ)
+    → weigh f serial ≡ weigh f (entries_in logs)
+entries_count workload workers logs serial is f =
+    same_counts workload workers (runs_of logs) serial is f ∙ sym (entries_weigh f logs)
+
+-- so each count in a run list has its bounds by the entries of all
+pub seen_counts : (workload : Workload) (workers worker : ℕ) (logs : List WorkerLog) (serial : List Ran)
+    → IsSerial workload workers (runs_of logs) serial
+    → HasRightCounts workload (entries_in logs) (run_of (runs_of logs) worker)
+seen_counts workload workers worker logs serial is i page e at seen =
+    between_same workload serial (entries_in logs) (entries_count workload workers logs serial is) e.phase page
+    (count_in e.reply) _ _ (serial_is_between workload workers worker (runs_of logs) serial is i page e at seen)
 
 -- a report that is right end to end is that of its serial list
 is_run : (workload : Workload) (workers : ℕ) (r : Report) (e : IsEndToEnd workload workers r)
@@ -58,9 +79,8 @@ is_run workload workers r e =
             ended = l.1;
             ran = λ phase.
                 ap (filter (λ (x : Entry). x.phase == phase)) l.0.ran ∙ block_of workload log.taken.items phase;
-            stashed = λ phase.
-                subst (λ n. n ≤ workload.stash) (due_same workload log.taken.items phase) (l.0.stashed phase);
-            last = λ user. l.0.last user ∙ sym (last_like_is workload user log.ran.items);
+            stashed = l.0.stashed;
+            last = l.0.last;
           };
       joined = e.joined;
       hot = e.hot;
@@ -112,11 +132,10 @@ module _ (workload : Workload) (workers : ℕ) (r : Report) (serial : List Ran) 
                   taken = l.taken;
                   rising = l.rising;
                   ran = in_order workload log.taken.items (map entry_of log.ran.items) (rises worker log at) l.ran;
-                  stashed = λ phase.
-                      subst (λ n. n ≤ workload.stash) (sym (due_same workload log.taken.items phase)) (l.stashed phase);
+                  stashed = l.stashed;
                   answers = subst (HasRightAnswers workload) (own worker log at)
                       (own_answers workload workers worker serial is.answers);
-                  last = λ user. l.last user ∙ last_like_is workload user log.ran.items;
+                  last = l.last;
                 },
                 l.ended,
               );
@@ -130,34 +149,33 @@ module _ (workload : Workload) (workers : ℕ) (r : Report) (serial : List Ran) 
           last = h.one.last ∙ end.1;
           joined = h.joined;
           seen = λ worker d there.
-              subst (HasRightCounts workload (runs_of r.logs.items)) (run_there r.logs.items worker d there)
-              (serial_is_between workload workers worker (runs_of r.logs.items) serial is);
+              subst (HasRightCounts workload (entries_in r.logs.items)) (run_there r.logs.items worker d there)
+              (seen_counts workload workers worker r.logs.items serial is);
           hot = h.hot;
         }
 
--- the hot pages of run lists are those of the serial list
-same_hot : (setup : Setup) (plans : List (List Request)) (runs : List (List Ran)) (serial : List Ran)
-    → ((f : Ran → ℕ) → weigh f serial ≡ weigh (weigh f) runs)
-    → workload_of_run setup plans runs ≡ workload_by setup plans serial
-same_hot setup plans runs serial same =
+-- the hot pages by all entries are those by the serial list
+same_hot : (setup : Setup) (plans : List (List Request)) (entries serial : List Ran)
+    → ((f : Ran → ℕ) → weigh f serial ≡ weigh f entries)
+    → workload_by setup plans serial ≡ workload_by setup plans entries
+same_hot setup plans entries serial same =
     let plain = workload_of setup plans in
-    let lately : likes_lately plain runs ≡ grew plain serial =
-    λ i phase page. grew_is plain runs serial phase page same i in
-    ap (λ got. record plain { hot = hot_by setup.hot (length plain.pages) got }) lately
+    ap (λ got. record plain { hot = hot_by setup.hot (length plain.pages) got }) (grew_same plain serial entries same)
 
 pub right_is_one_thread : RightIsOneThread
 right_is_one_thread setup plans r e =
-    let runs = runs_of r.logs.items in
-    let workload = workload_of_run setup plans runs in
+    let entries = entries_in r.logs.items in
+    let workload = workload_by setup plans entries in
     let serial = e.one_order.0 in
-    let same = same_hot setup plans runs serial (same_counts workload setup.workers runs serial e.one_order.1) in
-    (serial, subst (λ w. IsRunOf w setup.workers r serial) same (is_run workload setup.workers r e))
+    let same = same_hot setup plans entries serial
+    (entries_count workload setup.workers r.logs.items serial e.one_order.1) in
+    (serial, subst (λ w. IsRunOf w setup.workers r serial) (sym same) (is_run workload setup.workers r e))
 
 pub one_thread_is_right : OneThreadIsRight
 one_thread_is_right setup plans r one =
-    let runs = runs_of r.logs.items in
+    let entries = entries_in r.logs.items in
     let serial = one.0 in
     let workload = workload_by setup plans serial in
     let is = serial_in workload setup.workers r serial one.1.one in
-    let same = same_hot setup plans runs serial (same_counts workload setup.workers runs serial is) in
-    subst (λ w. IsEndToEnd w setup.workers r) (sym same) (is_right workload setup.workers r serial one.1)
+    let same = same_hot setup plans entries serial (entries_count workload setup.workers r.logs.items serial is) in
+    subst (λ w. IsEndToEnd w setup.workers r) same (is_right workload setup.workers r serial one.1)

@@ -1,22 +1,19 @@
 -- Run order, phase by phase: it is the blocks of what was asked, one after the other.
 use Rattle.std.proofs.Common.{◌≡◌, ℕ, zero, suc, ◌+◌, ◌≤◌, Bool, true, false, cond, ◌==◌, List, [], ◌∷◌, ◌++◌, filter, map, ap, ap₂, sym, ◌∙◌, refl, arith}
 use Rattle.like_promises.specs.declared.log.Took.{Took}
-use Rattle.like_promises.specs.Order as by_looks
-use Rattle.like_promises.specs.Order.{Entry, order, phases_of}
-use Rattle.like_promises.specs.Waits.{block}
+use Rattle.like_promises.specs.Order.{Entry, block, order, phases_of}
 use Rattle.like_promises.specs.Workload.{Workload}
 use Rattle.like_promises.proofs.Blocks.{order-enough, order_below, order_below-suc}
 use Rattle.like_serial.proofs.Interleaved.{all_of, all_of-own, with_key}
 use Rattle.like_serial.proofs.Logs.{all_filter, all_map, block_phase}
 use Rattle.like_serial.proofs.Phases.{Rises, above, all_above, sorted, sorted-same}
-use Rattle.like_serial.proofs.Waits.{block_same}
 
 -- run order is the blocks of the phases below a number
 below_is : (workload : Workload) (taken : List Took) (n : ℕ)
-    → order_below workload taken n ≡ all_of (by_looks.block workload taken) n
+    → order_below workload taken n ≡ all_of (block workload taken) n
 below_is workload taken zero = refl
 below_is workload taken (suc n) =
-    order_below-suc workload taken n ∙ ap (λ zs. zs ++ by_looks.block workload taken n) (below_is workload taken n)
+    order_below-suc workload taken n ∙ ap (λ zs. zs ++ block workload taken n) (below_is workload taken n)
 
 -- its entries of a phase are that phase's block
 pub block_of : (workload : Workload) (taken : List Took) (phase : ℕ)
@@ -25,8 +22,7 @@ block_of workload taken phase =
     let n = phases_of taken + 1 + suc phase in
     let key : Entry → ℕ = λ e. e.phase in
     ap (with_key key phase) (sym (order-enough workload taken n (omega arith)) ∙ below_is workload taken n)
-    ∙ all_of-own key (by_looks.block workload taken) n phase (block_phase workload taken) (omega arith)
-    ∙ block_same workload taken phase
+    ∙ all_of-own key (block workload taken) n phase (block_phase workload taken) (omega arith)
 
 -- what rises still rises in part, and under another name
 pub rises_filter : {X : Type 0} (phase : X → ℕ) (t : X → Bool) (xs : List X)
@@ -60,6 +56,6 @@ in_order workload taken xs rises each =
     let more = phases_of taken + 1 in
     let n = above key xs + more in
     sym (sorted-same key xs n rises (all_above key more xs))
-    ∙ blocks_are xs (by_looks.block workload taken) n (λ k. each k ∙ sym (block_same workload taken k))
+    ∙ blocks_are xs (block workload taken) n (λ k. each k)
     ∙ sym (below_is workload taken n)
     ∙ order-enough workload taken n (omega arith)

@@ -4,7 +4,7 @@ use Rattle.std.specs.List.{AllByRecursion}
 use Rattle.like_tables.specs.Share.{worker_of}
 use Rattle.like_promises.specs.declared.log.Ran.{Ran}
 use Rattle.like_promises.specs.Likes.{initial_count, likes_among}
-use Rattle.like_promises.specs.Looks.{count_in, look_at}
+use Rattle.like_promises.specs.Looks.{count_in, look_ran}
 use Rattle.like_promises.specs.Serial.{AreRising, HasExactCounts, IsSerial, run_of}
 use Rattle.like_promises.specs.Workload.{Workload}
 use Rattle.like_serial.specs.Laws.{RunsAreSerial}
@@ -119,7 +119,7 @@ module _ (workload : Workload) (workers last : ℕ) (runs : List (List Ran)) (st
         phase
 
     counts_at : (before : List Ran) (e : Ran) (page : ℕ)
-        → look_at workload e.submitter e.number ≡ Some page
+        → look_ran workload e ≡ Some page
         → (b : InBlock (λ k. with_key phase_of k m.entries) bound before e)
         → Passed (λ (d : Ran). d.phase == b.block) m.entries b.front e b.rest
         → count_in e.reply ≡ initial_count workload.pages page + likes_among workload page before

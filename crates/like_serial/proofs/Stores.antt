@@ -1,8 +1,8 @@
 -- What a store has after a list of things that were asked.
-use Rattle.std.proofs.Common.{◌≡◌, ℕ, zero, suc, ◌+◌, ◌-◌, ◌≤◌, Bool, true, false, cond, ◌==◌, List, [], ◌∷◌, filter_map, length, map, take, slice_get, subst, ap₂, Option, Some, None, ap, sym, ◌∙◌, refl, arith}
+use Rattle.std.proofs.Common.{◌≡◌, ℕ, zero, suc, ◌+◌, ◌≤◌, Bool, true, false, cond, ◌==◌, List, [], ◌∷◌, filter_map, length, map, take, slice_get, subst, ap₂, Option, Some, None, ap, sym, ◌∙◌, refl, arith}
 use Rattle.std.specs.Prelude.{option_map}
 use Rattle.std.specs.List.{cons_option, last_or}
-use Rattle.like_promises.specs.Likes.{last_in}
+use Rattle.like_promises.specs.Likes.{is_like_of}
 use Rattle.like_promises.specs.declared.log.Ran.{Ran}
 use Rattle.like_promises.specs.Store.{Ask, Store, after, after_all, like, look, refuse, replies, reply}
 use Rattle.like_serial.proofs.Parts.{head_is, tail_is}
@@ -12,9 +12,7 @@ use Rattle.like_serial.proofs.Weigh.{weigh}
 
 -- how many likes of a page it adds: 1 or 0
 abbrev pub adds_by : ℕ → Ask → ℕ
-adds_by page (like user liked) = cond (liked == page) 1 0
-adds_by page (look user looked) = 0
-adds_by page (refuse why) = 0
+adds_by page a = cond (is_like_of page a) 1 0
 
 count_one : (s : Store) (a : Ask) (page : ℕ) → (after s a).count page ≡ s.count page + adds_by page a
 count_one s (like user liked) page = refl
@@ -49,14 +47,6 @@ last_after s (a ∷ asks) user = last_after (after s a) asks user ∙ by a where
   by (like other page) = one (other == user) page
   by (look other page) = refl
   by (refuse why) = refl
-
--- the last element of a list
-pub last_is : {X : Type 0} (xs : List X) → last_in xs ≡ last_or None xs
-last_is [] = refl
-last_is (x ∷ xs) = ap (slice_get (x ∷ xs)) {x = length (x ∷ xs) - 1} {y = length xs} (omega arith) ∙ from x xs where
-  from : {X : Type 0} (x : X) (xs : List X) → slice_get (x ∷ xs) (length xs) ≡ last_or (Some x) xs
-  from x [] = refl
-  from x (y ∷ xs) = from y xs
 
 -- replies one by one, and all in a list
 length_replies : (s : Store) (asks : List Ask) → length (replies s asks) ≡ length asks

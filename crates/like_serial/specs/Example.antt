@@ -1,5 +1,6 @@
 -- An example: two workers like a page each, and then each looks at the page that the other liked.
 use Rattle.std.specs.Prelude.{ℕ, false, List, [], ◌∷◌, Some}
+use Rattle.std.specs.List.{flat_map}
 use Rattle.like_requests.specs.Pages.{Page}
 use Rattle.like_requests.specs.declared.request.Op.TheVariants.{Like, Look}
 use Rattle.like_requests.specs.declared.request.PageRef.TheVariants.{Known}
@@ -48,11 +49,15 @@ crossed_runs =
     ∷ (ran 1 1 Liked ∷ ran 1 2 (Seen (Some 1) 0) ∷ [])
     ∷ []
 
+-- the entries of both
+abbrev pub crossed_all : List Ran
+crossed_all = flat_map (λ run. run) crossed_runs
+
 -- each run list by itself is right, and each count is between its bounds; but no one thread replies so, and no order of
 -- page steps fits
 pub record CrossedLooksHaveNoOrder : Type 0 where
   pub lists : AreRunLists crossed 2 crossed_runs
-  pub between : (worker : ℕ) → HasRightCounts crossed crossed_runs (run_of crossed_runs worker)
+  pub between : (worker : ℕ) → HasRightCounts crossed crossed_all (run_of crossed_runs worker)
   pub apart : (serial : List Ran) → ¬ IsSerial crossed 2 crossed_runs serial
   pub unordered : (last : ℕ) (steps : List PageStep) → ¬ FitsRuns crossed crossed_runs last steps
 

@@ -26,4 +26,4 @@ LogsAreRunLists =
 abbrev pub SerialIsBetween : Type 0
 SerialIsBetween =
     (workload : Workload) (workers worker : ℕ) (runs : List (List Ran)) (serial : List Ran)
-    → IsSerial workload workers runs serial → HasRightCounts workload runs (run_of runs worker)
+    → IsSerial workload workers runs serial → HasRightCounts workload serial (run_of runs worker)

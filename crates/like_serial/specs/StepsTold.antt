@@ -1,10 +1,10 @@
 -- What replies tell of steps at pages.
-use Rattle.std.specs.Prelude.{ℕ, Bool, not, if◌then◌else◌, List, map, filter, Option, Some, None}
+use Rattle.std.specs.Prelude.{ℕ, Bool, not, if◌then◌else◌, List, map, filter, Option, Some, None, option_and_then}
 use Rattle.std.specs.List.{filter_map}
 use Rattle.like_promises.specs.declared.log.Ran.{Ran}
-use Rattle.like_promises.specs.Accepted.{AcceptedRequest}
-use Rattle.like_promises.specs.Likes.{like_ran}
-use Rattle.like_promises.specs.Looks.{count_in, look_ran}
+use Rattle.like_promises.specs.Asked.{asked}
+use Rattle.like_promises.specs.Looks.{count_in}
+use Rattle.like_promises.specs.Store.{Ask, like, look, refuse}
 use Rattle.like_promises.specs.Workload.{Workload, is_split_in}
 use Rattle.like_core.specs.declared.page_step.PageCall.{PageCall}
 use Rattle.like_core.specs.declared.page_step.PageCall.TheVariants.{Add, Read, Glance}
@@ -35,19 +35,19 @@ is_plain workload s = not (is_split_in workload s.phase s.page)
 abbrev pub plain_told : Workload → List PageStep → List StepTold
 plain_told workload steps = map step_told (filter (is_plain workload) steps)
 
--- the plain step of an entry with this accepted look or like: a look reads what it shows; a like of a page that is not
--- split in the phase adds 1
-abbrev pub look_or_like : Workload → Ran → Option ℕ → Option AcceptedRequest → Option StepTold
-look_or_like workload e (Some page) like =
+-- the plain step of an entry that asked this: a look reads what it shows; a like of a page that is not split in the
+-- phase adds 1
+abbrev pub step_asked : Workload → Ran → Ask → Option StepTold
+step_asked workload e (like user page) =
+    if is_split_in workload e.phase page then None
+    else Some (record { phase = e.phase; page = page; call = Add 1; count = 0 })
+step_asked workload e (look user page) =
     Some (record { phase = e.phase; page = page; call = Read; count = count_in e.reply })
-look_or_like workload e None (Some l) =
-    if is_split_in workload e.phase l.page then None
-    else Some (record { phase = e.phase; page = l.page; call = Add 1; count = 0 })
-look_or_like workload e None None = None
+step_asked workload e (refuse why) = None
 
 -- the plain step that an entry took, if it took one
 abbrev pub step_ran : Workload → Ran → Option StepTold
-step_ran workload e = look_or_like workload e (look_ran workload e) (like_ran workload e)
+step_ran workload e = option_and_then (step_asked workload e) (asked workload e.submitter e.number)
 
 -- the plain steps that the entries of a run list took
 abbrev pub steps_ran : Workload → List Ran → List StepTold

@@ -7,9 +7,10 @@ use Rattle.like_promises.specs.declared.log.Ran.{Ran}
 use Rattle.like_promises.specs.declared.log.WorkerLog.{WorkerLog}
 use Rattle.like_promises.specs.declared.report.Report.{Report}
 use Rattle.like_promises.specs.EndToEnd.{AreCounts, AreLastLikes, IsRightReport, runs_of}
-use Rattle.like_promises.specs.OneThread.{asks, start, store_after}
+use Rattle.like_promises.specs.Asked.{asks}
 use Rattle.like_promises.specs.Replies.{HasRightAnswers}
 use Rattle.like_promises.specs.RunReport.{IsReportOfOneThread}
+use Rattle.like_promises.specs.RunStore.{start, store_after}
 use Rattle.like_promises.specs.Serial.{HasExactCounts, IsSerial}
 use Rattle.like_promises.specs.Store.{replies}
 use Rattle.like_promises.specs.Workload.{Workload}

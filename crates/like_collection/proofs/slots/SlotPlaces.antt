@@ -4,7 +4,7 @@ use Rattle.std.proofs.lemmas.Bool.{cases_eq, cases_lt}
 use Rattle.std.proofs.lemmas.List.{get_or-map, get_or-replicate, get_or-set_other, get_or-set_same, get_or_past, length-map, length-replicate, length-set, map-set, set-get_or}
 use Rattle.std.specs.List.{slice_get}
 use Rattle.like_promises.specs.declared.answer.Answer.{Answer}
-use Rattle.like_promises.specs.Collected.{answer_at}
+use Rattle.like_promises.specs.Workload.{nth}
 use Rattle.like_collection.specs.Entries.{IsRequest}
 use Rattle.like_collection.specs.Slots.{IsSlot, slot_at, with_answer}
 
@@ -145,7 +145,7 @@ full_rows (row ∷ rows) zero place = full_row row place
 full_rows (row ∷ rows) (suc submitter) place = full_rows rows submitter place
 
 pub slot_at-full : (rows : List (List Answer)) (submitter number : ℕ)
-    → slot_at (map (map Some) rows) submitter number ≡ answer_at rows submitter number
+    → slot_at (map (map Some) rows) submitter number ≡ nth (get_or rows submitter []) number
 slot_at-full rows submitter zero = refl
 slot_at-full rows submitter (suc place) = full_rows rows submitter place
 

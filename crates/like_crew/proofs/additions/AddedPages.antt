@@ -1,42 +1,28 @@
 -- Accepted likes are of pages that are there, and so are the additions that are noted.
-use Rattle.std.proofs.Common.{◌≡◌, ℕ, zero, suc, ◌<◌, ◌≤◌, ◌==◌, Bool, true, false, cond, List, [], ◌∷◌, All, length, get_or, map, slice_get, Option, Some, None, option_and_then, refl, ap, ◌∙◌, subst, inl, inr, arith, sym}
+use Rattle.std.proofs.Common.{◌≡◌, ℕ, zero, suc, ◌<◌, ◌≤◌, ◌==◌, Bool, cond, List, [], ◌∷◌, All, length, get_or, map, slice_get, Option, Some, None, option_and_then, option_map, refl, ap, ◌∙◌, subst, inl, inr, arith, sym}
 use Rattle.std.specs.List.{cons_option, sum_by}
 use Rattle.std.proofs.lemmas.Bool.{cases_eq, cases_lt, cond-true, eq-eqb, ne_eqb}
 use Rattle.std.proofs.lemmas.List.Sums.{get_or-le-sum_by, sum_by-cons}
 use Rattle.std.proofs.lemmas.Option.{get_or_from_slice_get, slice_get_within}
-use Rattle.like_requests.specs.Pages.{Page}
 use Rattle.like_requests.specs.Setup.{AreThere, IsThere}
-use Rattle.like_requests.specs.Verdict.{is_accepted}
-use Rattle.like_requests.specs.declared.request.Op.{Op}
-use Rattle.like_requests.specs.declared.request.Op.TheVariants as op
-use Rattle.like_requests.specs.declared.request.PageRef.{PageRef}
-use Rattle.like_requests.specs.declared.request.PageRef.TheVariants.{Known, Unknown}
 use Rattle.like_requests.specs.declared.request.Request.{Request}
 use Rattle.like_core.specs.declared.view.Addition.{Addition}
 use Rattle.like_core.specs.Additions.{added_to}
 use Rattle.like_promises.proofs.RequestAt.{request_at-plan}
-use Rattle.like_promises.specs.Accepted.{AcceptedRequest}
-use Rattle.like_promises.proofs.Accepted.{accepted_like, like_of, like_ran-tests}
+use Rattle.like_promises.proofs.Asked.{like-there}
+use Rattle.like_promises.specs.Asked.{asked, asked_by}
 use Rattle.like_promises.specs.declared.log.Added.{Added}
 use Rattle.like_promises.specs.declared.log.Ran.{Ran}
 use Rattle.like_promises.specs.places.Adds.{IsOfLikes, addition_of}
-use Rattle.like_promises.specs.Likes.{like_ran, likes, likes_among}
-use Rattle.like_promises.specs.Workload.{Workload, nth, request_at, request_of, submitters}
+use Rattle.like_promises.specs.Likes.{likes, likes_among}
+use Rattle.like_promises.specs.Store.{Ask, like, look, refuse}
+use Rattle.like_promises.specs.Workload.{Workload, nth, request_at}
 use Rattle.like_roles.proofs.counts.Tallied.{likes_among-append, page_likes}
 use Rattle.like_crew.proofs.lists.Sums.{sum-of-map}
 
 -- a fact of each element is one of that at a place
 got : {A : Type 0} (P : A → Type 0) (xs : List A) (k : ℕ) (x : A) → All P xs → slice_get xs k ≡ Some x → P x
 got P xs k x all at = subst P (get_or_from_slice_get xs k x x at) (all k x (slice_get_within xs k x at))
-
--- the page of a like is the one that its request knows
-page-of : (pages : List Page) (o : Op) (user : ℕ) (page : PageRef) (l : AcceptedRequest)
-    → IsThere (length pages) page
-    → like_of o user page ≡ Some l
-    → l.page < length pages
-page-of pages op.Like user (Known page) l there is = subst (λ n. n < length pages) (cc is) there
-page-of pages op.Like user Unknown l there is = cc is
-page-of pages op.Look user page l there is = cc is
 
 module _ (workload : Workload) (plans : All (AreThere workload.pages) workload.plans) where
   -- the page of a request is there
@@ -55,33 +41,30 @@ module _ (workload : Workload) (plans : All (AreThere workload.pages) workload.p
         by_plan (Some plan) at same =
             numbered-there plan number r (got (AreThere workload.pages) workload.plans submitter plan plans at) same
 
-  -- and so is that of an accepted like
-  like-there : (e : Ran) (l : AcceptedRequest) → like_ran workload e ≡ Some l → l.page < length workload.pages
-  like-there e l is = by_request (request_of workload e) refl (sym (like_ran-tests workload e) ∙ is) where
-    by_test : (b : Bool) (r : Request) → IsThere (length workload.pages) r.page
-        → cond b (like_of r.op r.user r.page) None ≡ Some l → l.page < length workload.pages
-    by_test true r there same = page-of workload.pages r.op r.user r.page l there same
-    by_test false r there same = cc same
-
-    by_request : (o : Option Request) → request_of workload e ≡ o
-        → option_and_then (accepted_like workload.users (submitters workload) e.submitter) o ≡ Some l
-        → l.page < length workload.pages
+  -- and so is that of a like
+  liked-page : (e : Ran) (user page : ℕ) → asked workload e.submitter e.number ≡ Some (like user page)
+      → page < length workload.pages
+  liked-page e user page is = by_request (request_at workload e.submitter e.number) refl is where
+    by_request : (o : Option Request) → request_at workload e.submitter e.number ≡ o
+        → option_map (asked_by workload e.submitter) o ≡ Some (like user page) → page < length workload.pages
     by_request None at same = cc same
     by_request (Some r) at same =
-        by_test (is_accepted workload.users (submitters workload) e.submitter r) r
-        (asked-there e.submitter e.number r at) same
+        like-there workload e.submitter r (length workload.pages) (asked-there e.submitter e.number r at) user page
+        (cc same)
 
   -- a page with a like is there
   one-there : (e : Ran) (page : ℕ) → 1 ≤ likes_among workload page (e ∷ []) → page < length workload.pages
-  one-there e page some = by_like (like_ran workload e) refl some where
-    by_like : (o : Option AcceptedRequest) → like_ran workload e ≡ o → 1 ≤ page_likes page (cons_option o [])
+  one-there e page some = by_ask (asked workload e.submitter e.number) refl some where
+    by_ask : (o : Option Ask) → asked workload e.submitter e.number ≡ o → 1 ≤ page_likes page (cons_option o [])
         → page < length workload.pages
-    by_like None at one = absurd (omega arith)
-    by_like (Some l) at one = elim (cases_eq l.page page) [
-      | inl same ↦ subst (λ n. n < length workload.pages) same (like-there e l at)
-      | inr other ↦ absurd (let none : cond {A = ℕ} (l.page == page) 1 0 ≡ 0 =
-          ap (λ (b : Bool). cond {A = ℕ} b 1 0) (ne_eqb l.page page other) in omega arith)
+    by_ask None at one = absurd (omega arith)
+    by_ask (Some (like user liked)) at one = elim (cases_eq liked page) [
+      | inl same ↦ subst (λ n. n < length workload.pages) same (liked-page e user liked at)
+      | inr other ↦ absurd (let none : cond {A = ℕ} (liked == page) 1 0 ≡ 0 =
+          ap (λ (b : Bool). cond {A = ℕ} b 1 0) (ne_eqb liked page other) in omega arith)
     ]
+    by_ask (Some (look user looked)) at one = absurd (omega arith)
+    by_ask (Some (refuse why)) at one = absurd (omega arith)
 
   pub liked-there : (ran : List Ran) (page : ℕ) → 1 ≤ likes_among workload page ran → page < length workload.pages
   liked-there [] page some = absurd (omega arith)

@@ -15,7 +15,7 @@ use Rattle.like_core.specs.views.Reads.{HaveBetween}
 use Rattle.like_core.specs.views.Places.{ArePlaced, AreTiles, Counting, covers}
 use Rattle.like_core.specs.views.PostOrder.{HavePlaces, posts_passing}
 use Rattle.like_core.specs.views.Posts.{posts_before}
-use Rattle.like_core.specs.PageSteps.{additions_among, earliest_first, likes_of, stretch_of, stretches_of}
+use Rattle.like_core.specs.PageSteps.{additions_among, earliest_first, stretch_of, stretches_of}
 use Rattle.like_core.proofs.Steps.{all_split}
 use Rattle.std.proofs.lemmas.List.Elements.{All-map}
 use Rattle.like_board.specs.declared.worker_seat.WorkerSeat.{WorkerSeat}
@@ -27,19 +27,21 @@ use Rattle.like_promises.specs.declared.log.WorkerLog.{WorkerLog}
 use Rattle.like_promises.specs.places.Adds.{AddsItsLikes, addition_of}
 use Rattle.like_promises.specs.places.Calls.{calls_of}
 use Rattle.like_roles.specs.worker.Follows.{AreNoted}
-use Rattle.like_promises.specs.Likes.{Between, initial_count}
-use Rattle.like_promises.proofs.LikesBelow.{likes_below}
+use Rattle.like_promises.specs.Collected.{entries_in}
+use Rattle.like_promises.specs.Likes.{initial_count}
+use Rattle.like_promises.specs.RunStore.{count_at}
 use Rattle.like_promises.specs.Workload.{Workload}
 use Rattle.like_crew.specs.declared.outcome.Outcome.{Outcome}
 use Rattle.like_promises.specs.WorkloadOf.{workload_of}
 use Rattle.like_promises.specs.EndToEnd.{runs_of}
 use Rattle.like_crew.specs.Outcome.{IsOutcome, IsSeatLike}
 use Rattle.like_crew.specs.Server.{HasWorkedFor, IsLogOf, ServerView}
-use Rattle.like_promises.specs.places.Tiling.{all_noted}
+use Rattle.like_promises.specs.places.Tiling.{IsInTime, all_noted}
 use Rattle.like_crew.proofs.additions.AddedPages.{adds-there, none-liked}
 use Rattle.like_crew.proofs.additions.AddedPhases.{of-likes-same, ran-within}
 use Rattle.like_crew.proofs.lists.Pairs.{pairs-sum}
 use Rattle.like_crew.proofs.lists.Sums.{sum-of-map}
+use Rattle.like_crew.proofs.Hot.{count-before}
 use Rattle.like_crew.proofs.Whole.{HasCounted, HaveMasks, SawNoneLater, all-before, all-likes, at-post, hot_known, initial-at, known, left-at, logs-are, masks-known, posts, right-at-server, served, server-at, z}
 
 -- the additions that a log notes
@@ -66,22 +68,22 @@ pub record HasNoted (setup : Setup) (plans : List (List Request)) (notes : Bool)
   pub calls : calls_of (known setup plans notes e h) log.adds.items log.ran.items ≡ stretches_of s.worker.post.did
 
 -- steps that lie between what all seats have added lie so between the likes of the run lists
-stand-noted : (workload : Workload) (runs : List (List Ran)) (counts : List ℕ) (before : ℕ → ℕ → ℕ) (last : ℕ)
+stand-noted : (workload : Workload) (entries : List Ran) (counts : List ℕ) (before : ℕ → ℕ → ℕ) (last : ℕ)
     (post : WorkerSeatView)
     → ((page : ℕ) → get_or counts page 0 ≡ initial_count workload.pages page)
-    → ((phase page : ℕ) → before phase page ≡ likes_below workload page runs phase)
+    → ((phase page : ℕ)
+    → initial_count workload.pages page + before phase page ≡ count_at workload entries page phase)
     → HaveBetween counts before last post
-    → All (λ c. Between workload runs c.phase c.page c.old 0 c.likes) (stretches_of post.did)
-stand-noted workload runs counts before last post initial below stand =
-    All-map (λ (c : Addition). Between workload runs c.phase c.page c.old 0 c.likes) stretch_of
-    (earliest_first post.did)
-    (all_split (λ s. Between workload runs s.phase s.page s.found 0 (likes_of s.call)) post.did
+    → All (IsInTime workload entries) (stretches_of post.did)
+stand-noted workload entries counts before last post initial below stand =
+    All-map (IsInTime workload entries) stretch_of (earliest_first post.did)
+    (all_split (λ s. IsInTime workload entries (stretch_of s)) post.did
     (λ later s earlier is.
     let b = (stand later s earlier is).1 in
     let first = initial s.page in
     let past = below s.phase s.page in
     let upto = below (s.phase + 1) s.page in
-    record { lower = omega (arith, b.least); upper = omega (arith, b.most) }))
+    (omega (arith, b.least), omega (arith, b.most))))
 
 module _ (setup : Setup) (plans : List (List Request)) (notes : Bool) (e : Outcome) (h : IsOutcome setup plans notes e)
     (masks : HaveMasks setup plans notes e h) (counted : HasCounted setup plans notes e h)
@@ -221,7 +223,7 @@ module _ (setup : Setup) (plans : List (List Request)) (notes : Bool) (e : Outco
   pub stand-are : All (HaveBetween h.coord.opening.counts (posts_before (posts setup plans notes e h))
       h.coord.phase) (posts setup plans notes e h)
       → All (λ log. All
-      (λ c. Between (served setup plans notes e h) (runs_of e.logs.items) c.phase c.page c.old 0 c.likes)
+      (IsInTime (served setup plans notes e h) (entries_in e.logs.items))
       (calls_of (served setup plans notes e h) log.adds.items log.ran.items)) e.logs.items
   stand-are stand worker d within =
       let log : WorkerLog = get_or e.logs.items worker d in
@@ -231,7 +233,8 @@ module _ (setup : Setup) (plans : List (List Request)) (notes : Bool) (e : Outco
       let before : ℕ → ℕ → ℕ = posts_before (posts setup plans notes e h) in
       let post : HaveBetween counts before last n.0.worker.post =
       at-post setup plans notes e h (HaveBetween counts before last) stand worker n.0 n.1.0 in
-      subst (All (λ (c : Addition). Between (served setup plans notes e h) (runs_of e.logs.items) c.phase c.page c.old 0 c.likes))
+      subst (All (IsInTime (served setup plans notes e h) (entries_in e.logs.items)))
       (sym n.1.1.calls)
-      (stand-noted (served setup plans notes e h) (runs_of e.logs.items) counts before last n.0.worker.post first-same
-      (all-before setup plans notes e h masks) post)
+      (stand-noted (served setup plans notes e h) (entries_in e.logs.items) counts before last n.0.worker.post first-same
+      (λ phase page. ap (λ k. initial_count setup.pages page + k) (all-before setup plans notes e h masks phase page)
+      ∙ sym (count-before (served setup plans notes e h) e.logs.items page phase)) post)

@@ -1,4 +1,4 @@
--- What a worker's additions are of: its accepted likes.
+-- What a worker's additions are of: its likes.
 use Rattle.std.specs.Prelude.{◌≡◌, ℕ, ◌≤◌, ◌==◌, ◌&&◌, nat_le, Bool, true, false, if◌then◌else◌, All, List, drop, count_by, slice_get}
 use Rattle.std.specs.List.{AllPairs}
 use Rattle.std.specs.Option.{option_to_list}

@@ -3,17 +3,17 @@ use Rattle.std.proofs.Common.{◌≡◌, ℕ, Bool, true, false, not, cond, List
 use Rattle.std.proofs.lemmas.List.{map-append}
 use Rattle.std.proofs.lemmas.List.Elements.{All-head, All-tail, filter-append, filter_map-append}
 use Rattle.std.specs.List.{All, cons_option, filter}
+use Rattle.std.specs.Prelude.{option_and_then}
 use Rattle.like_core.specs.declared.page_step.PageCall.TheVariants.{Add}
 use Rattle.like_core.specs.declared.page_step.PageStep.{PageStep}
 use Rattle.like_core.specs.PageSteps.{earliest_first, page_step}
 use Rattle.like_core.specs.Post.{slices}
-use Rattle.like_promises.specs.Accepted.{AcceptedRequest}
-use Rattle.like_promises.specs.Likes.{like_ran}
+use Rattle.like_promises.specs.Asked.{asked}
+use Rattle.like_promises.specs.Store.{like}
 use Rattle.like_promises.specs.Workload.{Workload, is_split_in}
 use Rattle.like_promises.specs.declared.log.Ran.{Ran}
-use Rattle.like_serial.specs.StepsTold.{StepTold, is_plain, look_or_like, plain_told, step_ran, step_told, steps_ran}
+use Rattle.like_serial.specs.StepsTold.{StepTold, is_plain, plain_told, step_asked, step_ran, step_told, steps_ran}
 use Rattle.like_roles.specs.worker.Serve.{counted, sliced, with_addition}
-use Rattle.like_promises.specs.Looks.{look_ran}
 use Rattle.like_roles.specs.worker.WorkerView.{WorkerView, phase_at}
 
 module _ (workload : Workload) where
@@ -71,36 +71,35 @@ module _ (workload : Workload) where
   abbrev one_more : ℕ → ℕ → StepTold
   one_more phase page = record { phase = phase; page = page; call = Add 1; count = 0 }
 
-  -- an accepted like is counted
-  pub counted-steps : (v : WorkerView) (e : Ran) (l : AcceptedRequest) (old number : ℕ)
+  -- a like is counted
+  pub counted-steps : (v : WorkerView) (e : Ran) (user page old number : ℕ)
       → plain_told workload (earliest_first v.post.did) ≡ steps_ran workload v.ran
       → e.phase ≡ phase_at v
-      → look_ran workload e ≡ None
-      → like_ran workload e ≡ Some l
-      → is_split_in workload (phase_at v) l.page ≡ slices v.post l.page
-      → plain_told workload (earliest_first (counted v l.page old number).post.did) ≡ steps_ran workload (v.ran ++ e ∷ [])
-  counted-steps v e l old number same now no_look like alike = by_test (slices v.post l.page) refl
+      → asked workload e.submitter e.number ≡ Some (like user page)
+      → is_split_in workload (phase_at v) page ≡ slices v.post page
+      → plain_told workload (earliest_first (counted v page old number).post.did) ≡ steps_ran workload (v.ran ++ e ∷ [])
+  counted-steps v e user page old number same now ask alike = by_test (slices v.post page) refl
     where
       one : StepTold
-      one = one_more (phase_at v) l.page
+      one = one_more (phase_at v) page
 
       -- the step that the entry took
-      took : (b : Bool) → slices v.post l.page ≡ b → step_ran workload e ≡ cond b None (Some one)
+      took : (b : Bool) → slices v.post page ≡ b → step_ran workload e ≡ cond b None (Some one)
       took b is =
-          (λ m. look_or_like workload e (no_look m) (like m))
-          ∙ (ap (λ k. cond {A = Option StepTold} (is_split_in workload k l.page) None (Some (one_more k l.page))) now
+          ap (option_and_then (step_asked workload e)) ask
+          ∙ (ap (λ k. cond {A = Option StepTold} (is_split_in workload k page) None (Some (one_more k page))) now
           ∙ ap (λ s. cond {A = Option StepTold} s None (Some one)) (alike ∙ is))
 
       -- what the steps tell then
-      tells : (b : Bool) → slices v.post l.page ≡ b
-          → plain_told workload (earliest_first (counted v l.page old number).post.did)
-          ≡ plain_told workload (earliest_first (cond b (sliced v l.page) (with_addition v l.page old 1 number)).post.did)
-      tells b is = ap (λ t. plain_told workload (earliest_first (cond t (sliced v l.page) (with_addition v l.page old 1 number)).post.did)) is
+      tells : (b : Bool) → slices v.post page ≡ b
+          → plain_told workload (earliest_first (counted v page old number).post.did)
+          ≡ plain_told workload (earliest_first (cond b (sliced v page) (with_addition v page old 1 number)).post.did)
+      tells b is = ap (λ t. plain_told workload (earliest_first (cond t (sliced v page) (with_addition v page old 1 number)).post.did)) is
 
-      by_test : (b : Bool) → slices v.post l.page ≡ b
-          → plain_told workload (earliest_first (counted v l.page old number).post.did) ≡ steps_ran workload (v.ran ++ e ∷ [])
+      by_test : (b : Bool) → slices v.post page ≡ b
+          → plain_told workload (earliest_first (counted v page old number).post.did) ≡ steps_ran workload (v.ran ++ e ∷ [])
       by_test true is = tells true is ∙ (same ∙ sym (steps_ran-none v.ran e (took true is)))
       by_test false is =
           tells false is
-          ∙ (plain_told-push (earliest_first v.post.did) (page_step v.post.worker (phase_at v) l.page old (Add 1)) (alike ∙ is)
+          ∙ (plain_told-push (earliest_first v.post.did) (page_step v.post.worker (phase_at v) page old (Add 1)) (alike ∙ is)
           ∙ (ap (λ xs. xs ++ one ∷ []) same ∙ sym (steps_ran-push v.ran e one (took false is))))

@@ -1,18 +1,18 @@
 -- What running a request does to likes, replies and last likes.
-use Rattle.std.proofs.Common.{◌≡◌, ◌≢◌, ℕ, ◌+◌, ◌<◌, ◌≤◌, Bool, true, false, cond, not, eqb, ltb, ◌==◌, ◌&&◌, List, [], ◌∷◌, ◌++◌, length, count_by, get_or, set, map, take, Option, Some, None, refl, sym, ap, ◌∙◌, inl, inr, arith, append-nil, subst}
+use Rattle.std.proofs.Common.{◌≡◌, ◌≢◌, ℕ, ◌+◌, ◌<◌, ◌≤◌, Bool, true, false, cond, not, eqb, ltb, ◌==◌, ◌&&◌, List, [], ◌∷◌, ◌++◌, length, count_by, get_or, set, take, Option, Some, None, refl, sym, ap, ◌∙◌, inl, inr, arith, subst}
 use Rattle.std.proofs.Math.Seq.{take-append_seam}
 use Rattle.std.proofs.lemmas.Bool.{and_parts, cases_eq, cases_lt, eq-eqb, ltb-true, ne_eqb}
-use Rattle.std.proofs.lemmas.List.{length-append, length-set, map-append, get_or-set_same, get_or-set_other, take-append-le}
+use Rattle.std.proofs.lemmas.List.{length-append, length-set, get_or-set_same, get_or-set_other, take-append-le}
 use Rattle.std.proofs.lemmas.List.Elements.{All-cons, filter-append, filter_map-append}
-use Rattle.std.proofs.lemmas.List.Sums.{sum_by-append}
+use Rattle.std.proofs.lemmas.List.Sums.{fold-append, sum_by-append}
 use Rattle.std.proofs.lemmas.Option.{slice_get_within}
 use Rattle.std.specs.List.{cons_option, filter, slice_get}
-use Rattle.std.specs.Option.{option_to_list}
-use Rattle.std.specs.Prelude.{option_and_then, IsSomeAnd}
+use Rattle.std.specs.Prelude.{option_and_then, option_map}
 use Rattle.like_requests.specs.Pages.{marks_of}
 use Rattle.like_requests.specs.Verdict.{home, is_accepted, is_known, verdict_of}
 use Rattle.like_requests.specs.declared.request.PageRef.TheVariants as ref
 use Rattle.like_requests.specs.declared.request.Request.{Request}
+use Rattle.like_requests.specs.declared.verdict.Verdict.{Verdict}
 use Rattle.like_requests.specs.declared.verdict.Verdict.TheVariants as verdict
 use Rattle.like_core.specs.WorkerState.{phase_of}
 use Rattle.like_core.specs.declared.page_step.PageCall.TheVariants.{Add, Read}
@@ -23,68 +23,51 @@ use Rattle.like_core.specs.Post.{additions_of, additions_in, number_of, pages_of
 use Rattle.like_core.proofs.core.Labels.{added_to-push, added_in-push}
 use Rattle.like_tables.specs.UserTable.{last_of}
 use Rattle.like_tables.specs.declared.held.Held.{Held}
-use Rattle.like_promises.specs.Accepted.{AcceptedRequest}
-use Rattle.like_promises.proofs.Accepted.{accepted_like, accepted_look, like_ran-tests, look_at-tests}
+use Rattle.like_promises.proofs.Asked.{ask-accepted, ask-refused, asks-push}
+use Rattle.like_promises.specs.Asked.{asked, asked_by, asked_of, asks}
 use Rattle.like_promises.specs.declared.log.Ran.{Ran}
 use Rattle.like_promises.specs.declared.reply.Reply.{Reply}
 use Rattle.like_promises.specs.declared.reply.Reply.TheVariants as reply
 use Rattle.like_roles.specs.worker.Follows.{ArePlainReads, IsAsked, IsServed, IsSized, IsTallied}
-use Rattle.like_promises.specs.Likes.{last_in, like_ran, likes_among, likes_ran, likes_within}
-use Rattle.like_promises.specs.Looks.{look_ran, page_looked_at}
-use Rattle.like_promises.specs.Replies.{HasRightAnswers, IsReplyTo, IsRightAnswer}
+use Rattle.like_promises.specs.Likes.{is_like_of, likes_among, likes_within}
+use Rattle.like_promises.specs.Looks.{page_looked_at}
+use Rattle.like_promises.specs.Replies.{HasRightAnswers, IsRightAnswer, uncounted}
+use Rattle.like_promises.specs.RunStore.{start, store_after}
+use Rattle.like_promises.specs.Store as store
+use Rattle.like_promises.specs.Store.{Ask, Store, after, after_all, like, look, refuse}
 use Rattle.like_roles.specs.worker.Serve.{GivesReply, refuses, likes, looks, with_addition, counted, liked, shown, ran_now, verdict_at}
-use Rattle.like_promises.specs.Workload.{Workload, is_split_in, request_of, submitters}
+use Rattle.like_promises.specs.Workload.{Workload, is_split_in, submitters}
 use Rattle.like_requests.specs.Setup.{IsThere}
 use Rattle.like_roles.specs.worker.WorkerView.{WorkerView, phase_at}
-use Rattle.like_promises.proofs.Lists.{last_in-push, slice_get-at_end, slice_get-before}
+use Rattle.like_promises.proofs.Lists.{slice_get-at_end, slice_get-before}
 use Rattle.like_roles.proofs.Served.{counted_by}
 use Rattle.like_seat.specs.StationView.{IsSliceInSplit}
 use Rattle.like_roles.proofs.counts.Steps.{counted-steps, plain_told-push, steps_ran-none, steps_ran-push}
-use Rattle.like_serial.specs.StepsTold.{look_or_like, plain_told, step_ran, step_told, steps_ran}
+use Rattle.like_serial.specs.StepsTold.{plain_told, step_asked, step_ran, step_told, steps_ran}
 
--- how many of the likes are of the page
-abbrev pub page_likes : ℕ → List AcceptedRequest → ℕ
-page_likes page given = count_by (λ l. l.page == page) given
+-- how many of what is asked are likes of the page
+abbrev pub page_likes : ℕ → List Ask → ℕ
+page_likes page given = count_by (is_like_of page) given
 
--- the page of a user's last like among likes, if there is one
-abbrev last_page : ℕ → List AcceptedRequest → Option ℕ
-last_page user given = last_in (map (λ l. l.page) (filter (λ l. l.user == user) given))
+-- one thing more counts if it is a like of the page
+page_likes-push : (page : ℕ) (given : List Ask) (a : Ask)
+    → page_likes page (given ++ a ∷ []) ≡ page_likes page given + cond (is_like_of page a) 1 0
+page_likes-push page given a = sum_by-append (λ x. cond (is_like_of page x) 1 0) given (a ∷ []) ∙ omega arith
 
--- one more like counts for its page alone
-pub page_likes-push : (page : ℕ) (given : List AcceptedRequest) (l : AcceptedRequest)
-    → page_likes page (given ++ l ∷ []) ≡ page_likes page given + cond (eqb l.page page) 1 0
-page_likes-push page given l = sum_by-append (λ x. cond (eqb x.page page) 1 0) given (l ∷ []) ∙ omega arith
-
--- one more like is its user's last
-pub last_page-push_same : (user : ℕ) (given : List AcceptedRequest) (l : AcceptedRequest)
-    → eqb l.user user ≡ true
-    → last_page user (given ++ l ∷ []) ≡ Some l.page
-last_page-push_same user given l h =
-    simp (filter-append, h, map-append) (last_in-push (map (λ x. x.page) (filter (λ x. eqb x.user user) given)) l.page)
-
--- and no other user's
-pub last_page-push_other : (user : ℕ) (given : List AcceptedRequest) (l : AcceptedRequest)
-    → eqb l.user user ≡ false
-    → last_page user (given ++ l ∷ []) ≡ last_page user given
-last_page-push_other user given l h = simp (filter-append, h, append-nil)
-
--- the likes among entries, and then that of one more entry
-pub likes_ran-push : (workload : Workload) (ran : List Ran) (e : Ran) (o : Option AcceptedRequest)
-    → like_ran workload e ≡ o
-    → likes_ran workload (ran ++ e ∷ []) ≡ likes_ran workload ran ++ option_to_list o
-likes_ran-push workload ran e o h =
-    filter_map-append (like_ran workload) ran (e ∷ [])
-    ∙ ap (λ x. likes_ran workload ran ++ x) (ap (λ x. cons_option x []) h ∙ one o) where
-      one : (x : Option AcceptedRequest) → cons_option x [] ≡ option_to_list x
-      one None = refl
-      one (Some x) = refl
+-- the store after one entry more
+store-push : (workload : Workload) (ran : List Ran) (e : Ran) (a : Ask)
+    → asked workload e.submitter e.number ≡ Some a
+    → store_after workload (ran ++ e ∷ []) ≡ after (store_after workload ran) a
+store-push workload ran e a is =
+    ap (after_all (start workload)) (asks-push workload ran e a is)
+    ∙ fold-append after (start workload) (asks workload ran) (a ∷ [])
 
 -- the likes among two lists of entries
 pub likes_among-append : (workload : Workload) (page : ℕ) (xs ys : List Ran)
     → likes_among workload page (xs ++ ys) ≡ likes_among workload page xs + likes_among workload page ys
 likes_among-append workload page xs ys =
-    ap (page_likes page) (filter_map-append (like_ran workload) xs ys)
-    ∙ sum_by-append (λ x. cond (eqb x.page page) 1 0) (likes_ran workload xs) (likes_ran workload ys)
+    ap (page_likes page) (filter_map-append (λ (e : Ran). asked workload e.submitter e.number) xs ys)
+    ∙ sum_by-append (λ x. cond (is_like_of page x) 1 0) (asks workload xs) (asks workload ys)
 
 -- the verdict of the worker is that of the workload
 pub verdict_at-served : (workload : Workload) (v : WorkerView) (submitter : ℕ) (r : Request)
@@ -109,19 +92,27 @@ accepted-true users submitters submitter r h =
       by_tests true false k e = cc e
       by_tests false b k e = cc e
 
-pub accepted-false : (users submitters submitter : ℕ) (r : Request)
-    → verdict_of users submitters submitter r ≢ verdict.Accepted
-    → is_accepted users submitters submitter r ≡ false
-accepted-false users submitters submitter r h =
-    by_tests (ltb r.user users) (eqb (home submitters r.user) submitter) (is_known r.page) h where
-      by_tests : (a b k : Bool)
-          → cond (not a) verdict.UnknownUser
-          (cond (not b) verdict.OtherHome (cond (not k) verdict.UnknownPage verdict.Accepted)) ≢ verdict.Accepted
-          → (a && b && k) ≡ false
-      by_tests true true true e = absurd (e refl)
-      by_tests true true false e = refl
-      by_tests true false k e = refl
-      by_tests false b k e = refl
+-- what a held request asks, by the worker's verdict on it
+module _ (workload : Workload) (v : WorkerView) (h : Held) (served : IsServed workload v) (given : IsAsked workload h)
+  where
+    abbrev here : Verdict
+    here = verdict_at v h.submitter h.ask.request
+
+    same_verdict : here ≡ verdict_of workload.users (submitters workload) h.submitter h.ask.request
+    same_verdict = verdict_at-served workload v h.submitter h.ask.request served
+
+    known-ask : asked workload h.submitter h.ask.number ≡ Some (asked_by workload h.submitter h.ask.request)
+    known-ask = ap (option_map (asked_by workload h.submitter)) given.asked
+
+    pub refused-ask : here ≢ verdict.Accepted → asked workload h.submitter h.ask.number ≡ Some (refuse here)
+    refused-ask n =
+        known-ask
+        ∙ ap Some (ask-refused workload h.submitter h.ask.request (λ is. n (same_verdict ∙ is)) ∙ ap refuse (sym same_verdict))
+
+    pub accepted-ask : here ≡ verdict.Accepted
+        → asked workload h.submitter h.ask.number
+        ≡ Some (asked_of h.ask.request.op h.ask.request.user h.ask.request.page)
+    accepted-ask is = known-ask ∙ ap Some (ask-accepted workload h.submitter h.ask.request (sym same_verdict ∙ is))
 
 -- an accepted request's user is there
 pub accepted_user : (users submitters submitter : ℕ) (r : Request)
@@ -131,21 +122,6 @@ accepted_user users submitters submitter r a =
     let both = and_parts (ltb r.user users && eqb (home submitters r.user) submitter) (is_known r.page) a in
     let first = and_parts (ltb r.user users) (eqb (home submitters r.user) submitter) both.0 in
     ltb-true r.user users first.0
-
--- the like that an entry of a known request ran
-pub like_ran-is : (workload : Workload) (e : Ran) (r : Request)
-    → request_of workload e ≡ Some r
-    → like_ran workload e ≡ accepted_like workload.users (submitters workload) e.submitter r
-like_ran-is workload e r h =
-    like_ran-tests workload e ∙ ap (option_and_then (accepted_like workload.users (submitters workload) e.submitter)) h
-
--- the look that an entry of a known request ran
-pub look_ran-is : (workload : Workload) (e : Ran) (r : Request)
-    → request_of workload e ≡ Some r
-    → look_ran workload e ≡ accepted_look workload.users (submitters workload) e.submitter r
-look_ran-is workload e r h =
-    look_at-tests workload e.submitter e.number
-    ∙ ap (option_and_then (accepted_look workload.users (submitters workload) e.submitter)) h
 
 -- one more right answer
 pub HasRightAnswers-push : (workload : Workload) (ran : List Ran) (e : Ran)
@@ -170,11 +146,13 @@ HasRightAnswers-push workload ran e all right i f h =
           rw (front, ← it) right
     ]
 
--- an answer to the request of an entry
-right-by_request : (workload : Workload) (ran : List Ran) (e : Ran) (r : Request) → request_of workload e ≡ Some r
-    → IsReplyTo workload ran e.submitter r e.reply → IsRightAnswer workload ran e
-right-by_request workload ran e r h a =
-    subst (λ o. IsSomeAnd o (λ q. IsReplyTo workload ran e.submitter q e.reply)) (sym h) a
+-- an answer to what an entry asked
+right-by_ask : (workload : Workload) (ran : List Ran) (e : Ran) (a : Ask)
+    → asked workload e.submitter e.number ≡ Some a
+    → uncounted (store.reply (store_after workload ran) a) ≡ uncounted e.reply
+    → IsRightAnswer workload ran e
+right-by_ask workload ran e a is same =
+    ap (option_map (λ x. uncounted (store.reply (store_after workload ran) x))) is ∙ ap Some same
 
 -- one more of a number that stands at a place
 one_more-at : (xs : List ℕ) (page other : ℕ)
@@ -249,38 +227,38 @@ counted-served : (workload : Workload) (v : WorkerView) (page old number : ℕ)
     → IsServed workload (counted v page old number)
 counted-served workload v page old number s = counted_by (IsServed workload) v page old number s s
 
--- one more entry that ran no like changes no number of a phase
-pub within-none : (workload : Workload) (ran : List Ran) (e : Ran) (page phase : ℕ)
-    → like_ran workload e ≡ None
-    → likes_within workload page (ran ++ e ∷ []) phase ≡ likes_within workload page ran phase
-within-none workload ran e page phase none =
-    let p : Ran → Bool = λ x. x.phase == phase in
-    let last : (b : Bool) → page_likes page (likes_ran workload (cond b (e ∷ []) [])) ≡ 0 = last_is in
-    let e_is = last (p e) in
-    ap (likes_among workload page) (filter-append p ran (e ∷ []))
-    ∙ (likes_among-append workload page (filter p ran) (cond (p e) (e ∷ []) []) ∙ omega arith)
-  where
-    last_is : (b : Bool) → page_likes page (likes_ran workload (cond b (e ∷ []) [])) ≡ 0
-    last_is true = ap (page_likes page) (ap (λ (x : Option AcceptedRequest). cons_option x []) none)
-    last_is false = refl
-
--- one that ran a like adds it to those of its phase
-pub within-one : (workload : Workload) (ran : List Ran) (e : Ran) (l : AcceptedRequest) (page phase : ℕ)
-    → like_ran workload e ≡ Some l
+-- one entry more is one of its phase, if it asked for a like
+pub within-push : (workload : Workload) (ran : List Ran) (e : Ran) (a : Ask) (page phase : ℕ)
+    → asked workload e.submitter e.number ≡ Some a
     → likes_within workload page (ran ++ e ∷ []) phase
-    ≡ likes_within workload page ran phase + cond (e.phase == phase) (cond (l.page == page) 1 0) 0
-within-one workload ran e l page phase is =
+    ≡ likes_within workload page ran phase + cond (e.phase == phase) (cond (is_like_of page a) 1 0) 0
+within-push workload ran e a page phase is =
     let p : Ran → Bool = λ x. x.phase == phase in
     let e_is = last_is (p e) in
     ap (likes_among workload page) (filter-append p ran (e ∷ []))
     ∙ (likes_among-append workload page (filter p ran) (cond (p e) (e ∷ []) []) ∙ omega arith)
   where
     last_is : (b : Bool)
-        → page_likes page (likes_ran workload (cond b (e ∷ []) [])) ≡ cond b (cond (l.page == page) 1 0) 0
+        → page_likes page (asks workload (cond b (e ∷ []) [])) ≡ cond b (cond (is_like_of page a) 1 0) 0
     last_is true =
-        let one : page_likes page (l ∷ []) ≡ cond (l.page == page) 1 0 = omega arith in
-        ap (page_likes page) (ap (λ (x : Option AcceptedRequest). cons_option x []) is) ∙ one
+        let one : page_likes page (a ∷ []) ≡ cond (is_like_of page a) 1 0 = omega arith in
+        ap (page_likes page) (ap (λ (x : Option Ask). cons_option x []) is) ∙ one
     last_is false = refl
+
+-- and changes no number if it asked for none
+pub within-none : (workload : Workload) (ran : List Ran) (e : Ran) (a : Ask) (page phase : ℕ)
+    → asked workload e.submitter e.number ≡ Some a
+    → is_like_of page a ≡ false
+    → likes_within workload page (ran ++ e ∷ []) phase ≡ likes_within workload page ran phase
+within-none workload ran e a page phase is unlike =
+    let more = within-push workload ran e a page phase is in
+    let none : cond {A = ℕ} (e.phase == phase) (cond {A = ℕ} (is_like_of page a) 1 0) 0 ≡ 0 =
+    ap (λ (c : Bool). cond {A = ℕ} (e.phase == phase) (cond {A = ℕ} c 1 0) 0) unlike ∙ both (e.phase == phase) in
+    omega arith
+  where
+    both : (b : Bool) → cond {A = ℕ} b 0 0 ≡ 0
+    both true = refl
+    both false = refl
 
 -- what holds after an answer that is noted
 abbrev IsAfter : Workload → WorkerView → Held → Bool → Reply → WorkerView → Type 0
@@ -291,56 +269,64 @@ IsAfter workload v h stashed answer w =
 abbrev with_did : WorkerView → List PageStep → WorkerView
 with_did v did = record v { post = record v.post { did = did } }
 
--- an entry that is no accepted like changes neither likes nor last likes; this is what the post did then, which has added
+-- an entry that asked for no like changes neither likes nor last likes; this is what the post did then, which has added
 -- nothing
 unchanged : (workload : Workload) (v : WorkerView) (h : Held) (stashed : Bool) (answer : Reply) (did : List PageStep)
+    (a : Ask)
     → additions_among did ≡ additions_among v.post.did
     → IsServed workload v
     → IsSized v
     → IsTallied workload v
-    → like_ran workload (ran_now v h stashed answer) ≡ None → IsRightAnswer workload v.ran (ran_now v h stashed answer)
+    → asked workload h.submitter h.ask.number ≡ Some a
+    → ((page : ℕ) → is_like_of page a ≡ false)
+    → after (store_after workload v.ran) a ≡ store_after workload v.ran
+    → IsRightAnswer workload v.ran (ran_now v h stashed answer)
     → plain_told workload (earliest_first did) ≡ steps_ran workload (v.ran ++ ran_now v h stashed answer ∷ [])
     → ArePlainReads workload did
     → IsAfter workload v h stashed answer (with_did v did)
-unchanged workload v h stashed answer did same_adds served sized t none right steps reads =
+unchanged workload v h stashed answer did a same_adds served sized t ask unlike still right steps reads =
     let e = ran_now v h stashed answer in
-    let same : likes_ran workload (v.ran ++ e ∷ []) ≡ likes_ran workload v.ran =
-    likes_ran-push workload v.ran e None none ∙ append-nil _ in (
+    let same : (page : ℕ) → likes_among workload page (v.ran ++ e ∷ []) ≡ likes_among workload page v.ran =
+    λ page. (
+    let more = ap (page_likes page) (asks-push workload v.ran e a ask) ∙ page_likes-push page (asks workload v.ran) a in
+    let none : cond {A = ℕ} (is_like_of page a) 1 0 ≡ 0 = ap (λ (b : Bool). cond {A = ℕ} b 1 0) (unlike page) in
+    omega arith) in (
       served,
       sized,
       record {
-        likes = λ page. ap (page_likes page) same ∙ t.likes page
+        likes = λ page. same page ∙ t.likes page
             ∙ ap (λ xs. added_to page xs + get_or v.slice page 0) (sym same_adds);
-        by_phase = λ phase page. within-none workload v.ran e page phase none ∙ t.by_phase phase page
+        by_phase = λ phase page. within-none workload v.ran e a page phase ask (unlike page) ∙ t.by_phase phase page
             ∙ ap (λ xs. added_in phase page xs + cond (phase_at v == phase) (get_or v.slice page 0) 0) (sym same_adds);
         steps = steps;
         reads = reads;
         replies = HasRightAnswers-push workload v.ran e t.replies right;
-        last = λ user. t.last user ∙ ap (last_page user) (sym same);
+        last = λ user. t.last user ∙ ap (λ (s : Store). s.last user) (sym (store-push workload v.ran e a ask ∙ still));
       },
     )
 
--- an accepted like
+-- a like
 one_like : (workload : Workload) (v : WorkerView) (h : Held) (stashed : Bool) (page old number : ℕ)
     → IsServed workload v
     → IsSized v
     → IsTallied workload v
-    → like_ran workload (ran_now v h stashed reply.Liked) ≡ Some (record { user = h.ask.request.user; page = page })
-    → look_ran workload (ran_now v h stashed reply.Liked) ≡ None
-    → IsRightAnswer workload v.ran (ran_now v h stashed reply.Liked)
+    → asked workload h.submitter h.ask.number ≡ Some (like h.ask.request.user page)
     → page < pages_of v.post
     → h.ask.request.user < v.last.share.users
     → is_split_in workload (phase_at v) page ≡ slices v.post page
     → IsAfter workload v h stashed reply.Liked (liked v h.ask.request.user page old number)
-one_like workload v h stashed page old number served sized t like no_look right in_pages in_users alike =
+one_like workload v h stashed page old number served sized t ask in_pages in_users alike =
     let e = ran_now v h stashed reply.Liked in
     let user = h.ask.request.user in
-    let l : AcceptedRequest = record { user = user; page = page } in
-    let more = likes_ran-push workload v.ran e (Some l) like in
+    let a : Ask = like user page in
     let in_slice : page < length v.slice = omega (arith, sized.slice) in
     let in_table : user < length v.last.last = omega (arith, sized.users) in
     let s = counted-served workload v page old number served in
-    let z = counted-sized v page old number sized in (
+    let z = counted-sized v page old number sized in
+    let then : (other : ℕ)
+    → (store_after workload (v.ran ++ e ∷ [])).last other
+    ≡ cond (eqb user other) (Some page) ((store_after workload v.ran).last other) =
+    λ other. ap (λ (x : Store). x.last other) (store-push workload v.ran e a ask) in (
       record {
         users =
             served.users;
@@ -353,26 +339,27 @@ one_like workload v h stashed page old number served sized t like no_look right 
       },
       record { slice = z.slice; users = length-set v.last.last user (Some page) ∙ sized.users },
       record {
-        likes = λ other. ap (page_likes other) more ∙ page_likes-push other (likes_ran workload v.ran) l
+        likes = λ other.
+            ap (page_likes other) (asks-push workload v.ran e a ask) ∙ page_likes-push other (asks workload v.ran) a
             ∙ ap (λ n. n + cond (eqb page other) 1 0) (t.likes other)
             ∙ sym (counted-one v page old number other in_slice);
         by_phase = λ phase other.
-            within-one workload v.ran e l other phase like
+            within-push workload v.ran e a other phase ask
             ∙ ap (λ n. n + cond (phase_at v == phase) (cond (page == other) 1 0) 0) (t.by_phase phase other)
             ∙ sym (counted-in v page old number other phase in_slice);
-        steps = counted-steps workload v e l old number t.steps refl no_look like alike;
+        steps = counted-steps workload v e user page old number t.steps refl ask alike;
         reads = counted-reads workload v page old number t.reads;
-        replies = HasRightAnswers-push workload v.ran e t.replies right;
+        replies = HasRightAnswers-push workload v.ran e t.replies (right-by_ask workload v.ran e a ask refl);
         last = λ other. elim (cases_eq user other) [
           | inl same ↦
-              let now = last_page-push_same other (likes_ran workload v.ran) l (eq-eqb user other same) in
               subst (λ k. get_or (set v.last.last user (Some page)) k None ≡ Some page) same
               (get_or-set_same v.last.last user (Some page) None in_table)
-              ∙ sym now ∙ ap (last_page other) (sym more)
+              ∙ sym (then other
+              ∙ ap (λ (b : Bool). cond b (Some page) ((store_after workload v.ran).last other)) (eq-eqb user other same))
           | inr differs ↦
-              let now = last_page-push_other other (likes_ran workload v.ran) l (ne_eqb user other differs) in
-              get_or-set_other v.last.last user other (Some page) None (λ k. differs (sym k)) ∙ t.last other ∙ sym now
-              ∙ ap (last_page other) (sym more)
+              get_or-set_other v.last.last user other (Some page) None (λ k. differs (sym k)) ∙ t.last other
+              ∙ sym (then other
+              ∙ ap (λ (b : Bool). cond b (Some page) ((store_after workload v.ran).last other)) (ne_eqb user other differs))
         ];
       },
     )
@@ -399,52 +386,44 @@ pub GivesReply-tallied : (workload : Workload) (v : WorkerView) (h : Held) (stas
     → ((page : ℕ) → verdict_at v h.submitter h.ask.request ≡ verdict.Accepted
     → page_looked_at h.ask.request.op h.ask.request.page ≡ Some page → slices v.post page ≡ false)
     → GivesReply v h.submitter h.ask.request answer w → IsAfter workload v h stashed answer w
-GivesReply-tallied workload v h stashed answer w served sized t asked kept alike plain (refuses n a e) =
+GivesReply-tallied workload v h stashed answer w served sized t given kept alike plain (refuses n a e) =
     let r = h.ask.request in
     let V = verdict_at v h.submitter r in
     let V-is = verdict_at-served workload v h.submitter r served in
     let x = ran_now v h stashed (reply.Refused V) in
-    let no : is_accepted workload.users (submitters workload) h.submitter r ≡ false =
-    accepted-false workload.users (submitters workload) h.submitter r (λ k. n (V-is ∙ k)) in
-    let none : like_ran workload x ≡ None = like_ran-is workload x r asked.asked ∙ rw no refl in
-    let no_look : look_ran workload x ≡ None = look_ran-is workload x r asked.asked ∙ rw no refl in
-    let right = right-by_request workload v.ran x r asked.asked (sym V-is, n) in
+    let ask : asked workload h.submitter h.ask.number ≡ Some (refuse V) = refused-ask workload v h served given n in
     subst (λ y. IsAfter workload v h stashed answer y) (sym e)
     (subst (λ y. IsAfter workload v h stashed y v) (sym a)
-    (unchanged workload v h stashed (reply.Refused V) v.post.did refl served sized t none right
-    (t.steps ∙ sym (steps_ran-none workload v.ran x (λ m. look_or_like workload x (no_look m) (none m)))) t.reads))
-GivesReply-tallied workload v h stashed answer w served sized t asked kept alike plain (likes page a o p l e) =
+    (unchanged workload v h stashed (reply.Refused V) v.post.did (refuse V) refl served sized t ask (λ page. refl) refl
+    (right-by_ask workload v.ran x (refuse V) ask refl)
+    (t.steps ∙ sym (steps_ran-none workload v.ran x (ap (option_and_then (step_asked workload x)) ask))) t.reads))
+GivesReply-tallied workload v h stashed answer w served sized t given kept alike plain (likes page a o p l e) =
     let r = h.ask.request in
     let V-is = sym (verdict_at-served workload v h.submitter r served) ∙ a in
     let yes = accepted-true workload.users (submitters workload) h.submitter r V-is in
-    let x = ran_now v h stashed reply.Liked in
-    let like : like_ran workload x ≡ Some (record { user = r.user; page = page }) =
-    like_ran-is workload x r asked.asked ∙ rw (yes, o, p) refl in
-    let no_look : look_ran workload x ≡ None = look_ran-is workload x r asked.asked ∙ rw (yes, o) refl in
-    let right = right-by_request workload v.ran x r asked.asked (V-is, o) in
+    let ask : asked workload h.submitter h.ask.number ≡ Some (like r.user page) =
+    accepted-ask workload v h served given a ∙ rw (o, p) refl in
     let in_marks : IsThere (length (marks_of workload.pages)) (ref.Known page) =
-    subst (λ q. IsThere (length (marks_of workload.pages)) q) p asked.there in
+    subst (λ q. IsThere (length (marks_of workload.pages)) q) p given.there in
     let in_pages : page < pages_of v.post = omega (arith, ap length served.marks_alike) in
     let in_users : r.user < v.last.share.users =
     omega (arith, accepted_user workload.users (submitters workload) h.submitter r yes, served.users) in
     subst (λ y. IsAfter workload v h stashed answer y) (sym e.1)
     (subst (λ y. IsAfter workload v h stashed y (liked v r.user page e.0 (number_of w.post))) (sym l)
-    (one_like workload v h stashed page e.0 _ served sized t like no_look right in_pages in_users (alike page)))
-GivesReply-tallied workload v h stashed answer w served sized t asked kept alike plain (looks page count a o p s n e) =
+    (one_like workload v h stashed page e.0 _ served sized t ask in_pages in_users (alike page)))
+GivesReply-tallied workload v h stashed answer w served sized t given kept alike plain (looks page count a o p s n e) =
     let r = h.ask.request in
-    let V-is = sym (verdict_at-served workload v h.submitter r served) ∙ a in
-    let yes = accepted-true workload.users (submitters workload) h.submitter r V-is in
     let seen = reply.Seen (last_of v.last r.user) count in
     let x = ran_now v h stashed seen in
-    let none : like_ran workload x ≡ None = like_ran-is workload x r asked.asked ∙ rw (yes, o) refl in
-    let right = right-by_request workload v.ran x r asked.asked (V-is, o, t.last r.user) in
-    let look : look_ran workload x ≡ Some page = look_ran-is workload x r asked.asked ∙ rw (yes, o, p) refl in
+    let ask : asked workload h.submitter h.ask.number ≡ Some (look r.user page) =
+    accepted-ask workload v h served given a ∙ rw (o, p) refl in
+    let right = right-by_ask workload v.ran x (look r.user page) ask
+    (ap (λ last. reply.Seen last 0) (sym (t.last r.user))) in
     let now : ℕ = phase_at v in
     let looked : page_looked_at r.op r.page ≡ Some page = rw (o, p) refl in
     let unsliced = plain page a looked in
     let step : PageStep = page_step v.post.worker now page count Read in
-    let took : step_ran workload x ≡ Some (step_told step) =
-    ap (λ o. look_or_like workload x o (like_ran workload x)) look in
+    let took : step_ran workload x ≡ Some (step_told step) = ap (option_and_then (step_asked workload x)) ask in
     let steps : plain_told workload (earliest_first v.post.did ++ step ∷ []) ≡ steps_ran workload (v.ran ++ x ∷ []) =
     plain_told-push workload (earliest_first v.post.did) step (alike page ∙ unsliced)
     ∙ (ap (λ xs. xs ++ step_told step ∷ []) t.steps ∙ sym (steps_ran-push workload v.ran x (step_told step) took))
@@ -452,6 +431,7 @@ GivesReply-tallied workload v h stashed answer w served sized t asked kept alike
     let P : Reply → Type 0 = λ y. IsAfter workload v h stashed y (shown v page count (number_of w.post)) in
     subst (λ y. IsAfter workload v h stashed answer y) (sym e)
     (subst P (sym s)
-    (unchanged workload v h stashed seen (step ∷ v.post.did) refl served sized t none right steps
+    (unchanged workload v h stashed seen (step ∷ v.post.did) (look r.user page) refl served sized t ask (λ other. refl)
+    refl right steps
     (All-cons (λ q. likes_of q.call ≡ 0 → is_split_in workload q.phase q.page ≡ false) step v.post.did
     (λ _. alike page ∙ unsliced) t.reads)))

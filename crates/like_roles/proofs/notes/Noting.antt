@@ -5,7 +5,7 @@ use Rattle.std.proofs.lemmas.List.{map-append}
 use Rattle.std.proofs.lemmas.List.Elements.{All-push}
 use Rattle.std.proofs.lemmas.List.Sums.{sum_by-append, sum_by-cons}
 use Rattle.std.specs.Option.{option_to_list}
-use Rattle.std.specs.Prelude.{option_map}
+use Rattle.std.specs.Prelude.{option_and_then}
 use Rattle.like_core.specs.declared.sight.Sight.{Sight}
 use Rattle.like_core.specs.declared.view.Addition.{Addition}
 use Rattle.like_core.specs.declared.page_step.PageCall.TheVariants.{Add, Read}
@@ -17,21 +17,22 @@ use Rattle.like_core.specs.Post.{number_of, slices}
 use Rattle.like_core.specs.PageSteps.{additions_among, page_step, stretch_of, stretches_of}
 use Rattle.like_core.proofs.Steps.{stretches-push}
 use Rattle.like_tables.specs.declared.held.Held.{Held}
-use Rattle.like_promises.specs.Accepted.{AcceptedRequest}
+use Rattle.like_promises.specs.Asked.{asked}
 use Rattle.like_promises.specs.declared.log.Added.{Added}
 use Rattle.like_promises.specs.declared.log.Ran.{Ran}
 use Rattle.like_promises.specs.declared.reply.Reply.{Reply}
 use Rattle.like_promises.specs.places.Adds.{IsOfLikes, addition_of, is_add_to}
-use Rattle.like_promises.specs.places.Calls.{calls_of, stretch_seen}
+use Rattle.like_promises.specs.places.Calls.{calls_of, stretch_seen, stretch_shown}
 use Rattle.like_roles.specs.worker.Follows.{adds_to, IsAsked, IsNoted, IsServed, IsUnmerged}
-use Rattle.like_promises.specs.Looks.{count_in, look_ran}
-use Rattle.like_promises.specs.Likes.{like_ran, likes_within}
-use Rattle.like_roles.specs.worker.Serve.{GivesReply, refuses, likes, looks, sliced, with_addition, counted, noted_at, ran_now}
-use Rattle.like_promises.specs.Workload.{Workload, is_split_in, submitters}
+use Rattle.like_promises.specs.Looks.{count_in}
+use Rattle.like_promises.specs.Likes.{is_like_of, likes_within}
+use Rattle.like_promises.specs.Store.{Ask, like, look, refuse}
+use Rattle.like_roles.specs.worker.Serve.{GivesReply, refuses, likes, looks, sliced, with_addition, counted, noted_at, ran_now, verdict_at}
+use Rattle.like_promises.specs.Workload.{Workload, is_split_in}
 use Rattle.like_roles.specs.worker.WorkerView.{WorkerView, phase_at}
 use Rattle.like_roles.proofs.notes.Noted.{AddsLikes, apart, count-none, no-more, none-passes, noted-each, noted-push}
 use Rattle.like_roles.proofs.notes.Calls.{calls-adds, calls-entry}
-use Rattle.like_roles.proofs.counts.Tallied.{accepted-false, accepted-true, like_ran-is, look_ran-is, verdict_at-served, within-none, within-one}
+use Rattle.like_roles.proofs.counts.Tallied.{accepted-ask, refused-ask, within-none, within-push}
 
 -- numbers are tested alike from both sides
 flip : (a b : ℕ) → (a == b) ≡ (b == a)
@@ -40,21 +41,24 @@ flip a b = elim (cases_eq a b) [
   | inr other ↦ ne_eqb a b other ∙ sym (ne_eqb b a (λ same. other (sym same)))
 ]
 
--- an entry that ran an accepted like is one of its page in its phase
-adds-like : (workload : Workload) (e : Ran) (l : AcceptedRequest)
-    → like_ran workload e ≡ Some l
-    → AddsLikes workload e (λ phase page. cond ((e.phase == phase) && (l.page == page)) 1 0)
-adds-like workload e l is xs phase page =
-    within-one workload xs e l page phase is
-    ∙ ap (λ (n : ℕ). likes_within workload page xs phase + n) (both (e.phase == phase) (l.page == page))
+-- an entry that asked for a like is one of its page in its phase
+adds-like : (workload : Workload) (e : Ran) (a : Ask)
+    → asked workload e.submitter e.number ≡ Some a
+    → AddsLikes workload e (λ phase page. cond ((e.phase == phase) && is_like_of page a) 1 0)
+adds-like workload e a is xs phase page =
+    within-push workload xs e a page phase is
+    ∙ ap (λ (n : ℕ). likes_within workload page xs phase + n) (both (e.phase == phase) (is_like_of page a))
   where
     both : (b c : Bool) → cond {A = ℕ} b (cond c 1 0) 0 ≡ cond (b && c) 1 0
     both true c = refl
     both false c = refl
 
 -- another is none
-adds-none : (workload : Workload) (e : Ran) → like_ran workload e ≡ None → AddsLikes workload e (λ _ _. 0)
-adds-none workload e none xs phase page = within-none workload xs e page phase none ∙ omega arith
+adds-none : (workload : Workload) (e : Ran) (a : Ask)
+    → asked workload e.submitter e.number ≡ Some a
+    → ((page : ℕ) → is_like_of page a ≡ false)
+    → AddsLikes workload e (λ _ _. 0)
+adds-none workload e a is unlike xs phase page = within-none workload xs e a page phase is (unlike page) ∙ omega arith
 
 -- what stands of the additions, where an entry is noted
 abbrev IsNotedNow : Workload → ℕ → WorkerView → List Ran → Type 0
@@ -80,16 +84,17 @@ earlier workload adds k un i d inside is =
     ]
 
 -- an entry that is no accepted like, where its post has done this, and added nothing
-no_like : (workload : Workload) (v : WorkerView) (e : Ran) (did : List PageStep)
+no_like : (workload : Workload) (v : WorkerView) (e : Ran) (did : List PageStep) (a : Ask)
     → IsNoted workload v.post.did v.adds v.ran
     → All (λ a. is_split_in workload a.phase a.page ≡ true → a.phase < e.phase) v.adds
-    → like_ran workload e ≡ None
+    → asked workload e.submitter e.number ≡ Some a
+    → ((page : ℕ) → is_like_of page a ≡ false)
     → additions_among did ≡ additions_among v.post.did
     → stretches_of v.post.did ++ option_to_list (stretch_seen workload e) ≡ stretches_of did
     → IsNoted workload did v.adds (v.ran ++ e ∷ [])
-no_like workload v e did old before none same stretches =
+no_like workload v e did a old before ask unlike same stretches =
     noted-push workload v.post.did did v.adds [] v.adds v.ran e (λ _ _. 0) old
-    (adds-none workload e none) (sym (append-nil v.adds))
+    (adds-none workload e a ask unlike) (sym (append-nil v.adds))
     (no-more workload (v.ran ++ e ∷ []) v.adds (length v.ran) (λ _ _. 0) (λ _ _ _. refl) old.split)
     (λ i d inside is. (refl, before i d inside is))
     (same ∙ old.additions_are)
@@ -98,15 +103,9 @@ no_like workload v e did old before none same stretches =
 
 -- one that ran no look has none among the calls
 no_stretch : (workload : Workload) (e : Ran) (did : List Addition)
-    → look_ran workload e ≡ None
+    → stretch_seen workload e ≡ None
     → did ++ option_to_list (stretch_seen workload e) ≡ did
-no_stretch workload e did none =
-    ap (λ o. did ++ option_to_list (option_map (λ page. record {
-      phase = e.phase;
-      page = page;
-      old = count_in e.reply;
-      likes = 0;
-    }) o)) none ∙ append-nil did
+no_stretch workload e did none = ap (λ o. did ++ option_to_list o) none ∙ append-nil did
 
 -- an accepted like
 one_like : (workload : Workload) (v : WorkerView) (e : Ran) (page old number user : ℕ)
@@ -114,11 +113,10 @@ one_like : (workload : Workload) (v : WorkerView) (e : Ran) (page old number use
     → IsNoted workload v.post.did v.adds v.ran
     → IsUnmerged workload v.adds (state.Runs (phase_at v))
     → e.phase ≡ phase_at v
-    → like_ran workload e ≡ Some (record { user = user; page = page })
-    → look_ran workload e ≡ None
+    → asked workload e.submitter e.number ≡ Some (like user page)
     → is_split_in workload (phase_at v) page ≡ slices v.post page
     → IsNotedNow workload (phase_at v) (counted v page old number) (v.ran ++ e ∷ [])
-one_like workload v e page old number user notes was un now like no_look_ran alike = by_test (slices v.post page) refl
+one_like workload v e page old number user notes was un now ask alike = by_test (slices v.post page) refl
   where
     k : ℕ
     k = phase_at v
@@ -129,9 +127,12 @@ one_like workload v e page old number user notes was un now like no_look_ran ali
     one : ℕ → ℕ → ℕ
     one phase q = cond ((k == phase) && (page == q)) 1 0
 
+    no_look_ran : stretch_seen workload e ≡ None
+    no_look_ran = ap (option_and_then (stretch_shown e)) ask
+
     by : AddsLikes workload e one
     by xs phase q =
-        adds-like workload e (record { user = user; page = page }) like xs phase q
+        adds-like workload e (like user page) ask xs phase q
         ∙ ap (λ (j : ℕ). likes_within workload q xs phase + cond ((j == phase) && (page == q)) 1 0) now
 
     before : All (λ a. is_split_in workload a.phase a.page ≡ true → a.phase < e.phase) v.adds
@@ -234,41 +235,34 @@ pub GivesReply-noted : (workload : Workload) (v : WorkerView) (h : Held) (stashe
     → ((page : ℕ) → is_split_in workload (phase_at v) page ≡ slices v.post page)
     → GivesReply v h.submitter h.ask.request answer w
     → IsNotedNow workload (phase_at v) w (v.ran ++ ran_now v h stashed answer ∷ [])
-GivesReply-noted workload v h stashed answer w served notes was un asked alike (refuses n a e) =
-    let r = h.ask.request in
-    let V-is = verdict_at-served workload v h.submitter r served in
+GivesReply-noted workload v h stashed answer w served notes was un given alike (refuses n a e) =
     let x = ran_now v h stashed answer in
-    let no = accepted-false workload.users (submitters workload) h.submitter r (λ k. n (V-is ∙ k)) in
-    let none : like_ran workload x ≡ None = like_ran-is workload x r asked.asked ∙ rw no refl in
-    let no_look_ran : look_ran workload x ≡ None = look_ran-is workload x r asked.asked ∙ rw no refl in
+    let ask = refused-ask workload v h served given n in
     subst (λ u. IsNotedNow workload (phase_at v) u (v.ran ++ x ∷ [])) (sym e) (
-      no_like workload v x v.post.did was (earlier workload v.adds (phase_at v) un) none refl
-          (no_stretch workload x (stretches_of v.post.did) no_look_ran),
+      no_like workload v x v.post.did (refuse (verdict_at v h.submitter h.ask.request)) was
+          (earlier workload v.adds (phase_at v) un) ask (λ page. refl) refl
+          (no_stretch workload x (stretches_of v.post.did) (ap (option_and_then (stretch_shown x)) ask)),
       un,
     )
-GivesReply-noted workload v h stashed answer w served notes was un asked alike (likes page a o p l e) =
+GivesReply-noted workload v h stashed answer w served notes was un given alike (likes page a o p l e) =
     let r = h.ask.request in
-    let V-is = sym (verdict_at-served workload v h.submitter r served) ∙ a in
-    let yes = accepted-true workload.users (submitters workload) h.submitter r V-is in
     let x = ran_now v h stashed answer in
-    let like : like_ran workload x ≡ Some (record { user = r.user; page = page }) =
-    like_ran-is workload x r asked.asked ∙ rw (yes, o, p) refl in
-    let no_look_ran : look_ran workload x ≡ None = look_ran-is workload x r asked.asked ∙ rw (yes, o) refl in
-    let counts = one_like workload v x page e.0 (number_of w.post) r.user notes was un refl like no_look_ran (alike page) in
+    let ask : asked workload h.submitter h.ask.number ≡ Some (like r.user page) =
+    accepted-ask workload v h served given a ∙ rw (o, p) refl in
+    let counts = one_like workload v x page e.0 (number_of w.post) r.user notes was un refl ask (alike page) in
     subst (λ u. IsNotedNow workload (phase_at v) u (v.ran ++ x ∷ [])) (sym e.1) (counts.0, counts.1)
-GivesReply-noted workload v h stashed answer w served notes was un asked alike (looks page count a o p s n e) =
+GivesReply-noted workload v h stashed answer w served notes was un given alike (looks page count a o p s n e) =
     let r = h.ask.request in
-    let V-is = sym (verdict_at-served workload v h.submitter r served) ∙ a in
-    let yes = accepted-true workload.users (submitters workload) h.submitter r V-is in
     let x = ran_now v h stashed answer in
-    let none : like_ran workload x ≡ None = like_ran-is workload x r asked.asked ∙ rw (yes, o) refl in
-    let look : look_ran workload x ≡ Some page = look_ran-is workload x r asked.asked ∙ rw (yes, o, p) refl in
+    let ask : asked workload h.submitter h.ask.number ≡ Some (look r.user page) =
+    accepted-ask workload v h served given a ∙ rw (o, p) refl in
     let read : PageStep = page_step v.post.worker (phase_at v) page count Read in
     let took : stretch_seen workload x ≡ Some (stretch_of read) =
-    ap (option_map (λ (q : ℕ). record { phase = phase_at v; page = q; old = count_in x.reply; likes = 0 })) look
+    ap (option_and_then (stretch_shown x)) ask
     ∙ ap (λ (n : ℕ). Some (record { phase = phase_at v; page = page; old = n; likes = 0 })) (ap count_in s) in
     subst (λ u. IsNotedNow workload (phase_at v) u (v.ran ++ x ∷ [])) (sym e) (
-      no_like workload v x (read ∷ v.post.did) was (earlier workload v.adds (phase_at v) un) none refl
+      no_like workload v x (read ∷ v.post.did) (look r.user page) was (earlier workload v.adds (phase_at v) un) ask
+          (λ other. refl) refl
           (ap (λ o. stretches_of v.post.did ++ option_to_list o) took ∙ sym (stretches-push read v.post.did)),
       un,
     )

@@ -25,10 +25,11 @@ use Rattle.like_promises.specs.declared.log.Added.{Added}
 use Rattle.like_promises.specs.declared.log.Ran.{Ran}
 use Rattle.like_promises.specs.declared.log.Took.{Took}
 use Rattle.like_promises.specs.places.Adds.{IsOfLikes, AddsItsLikes, addition_of, is_add_to}
-use Rattle.like_promises.specs.Likes.{last_like, likes_among, likes_within}
+use Rattle.like_promises.specs.Likes.{likes_among, likes_within}
 use Rattle.like_promises.specs.places.Calls.{calls_of}
 use Rattle.like_promises.specs.Order.{Entry, entry_of, is_due, order}
 use Rattle.like_promises.specs.Replies.{HasRightAnswers}
+use Rattle.like_promises.specs.RunStore.{store_after}
 use Rattle.like_promises.specs.Workload.{Workload, is_split_in, request_at, submitters}
 use Rattle.like_serial.specs.StepsTold.{plain_told, steps_ran}
 use Rattle.like_requests.specs.Setup.{IsThere}
@@ -71,7 +72,7 @@ pub record AreTallied (workload : Workload) (present : ℕ) (did : List PageStep
   pub steps : plain_told workload (earliest_first did) ≡ steps_ran workload ran
   pub reads : ArePlainReads workload did
   pub replies : HasRightAnswers workload ran
-  pub last : (user : ℕ) → last_of table user ≡ last_like workload user ran
+  pub last : (user : ℕ) → last_of table user ≡ (store_after workload ran).last user
 
 abbrev pub IsTallied : Workload → WorkerView → Type 0
 IsTallied workload v = AreTallied workload (phase_at v) v.post.did v.slice v.ran v.last
@@ -200,5 +201,5 @@ pub record IsDone (workload : Workload) (v : WorkerView) : Type 0 where
   pub reads : ArePlainReads workload v.post.did
   pub noted : v.notes ≡ true → AreNoted workload v
   pub replies : HasRightAnswers workload v.ran
-  pub last : (user : ℕ) → last_of v.last user ≡ last_like workload user v.ran
+  pub last : (user : ℕ) → last_of v.last user ≡ (store_after workload v.ran).last user
   pub ended : TookAllEnds v.ended

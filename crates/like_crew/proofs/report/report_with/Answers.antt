@@ -10,9 +10,9 @@ use Rattle.like_promises.specs.places.Places.{ArePlaces, lists_in}
 use Rattle.like_promises.specs.declared.log.Added.{Added}
 use Rattle.like_promises.specs.declared.log.WorkerLog.{WorkerLog}
 use Rattle.like_tables.specs.Share.{worker_of}
-use Rattle.like_promises.specs.WorkloadOf.{workload_of_run, lists_of}
+use Rattle.like_promises.specs.RunReport.{workload_by}
+use Rattle.like_promises.specs.WorkloadOf.{lists_of}
 use Rattle.like_crew.specs.Gathered.{AreTables}
-use Rattle.like_promises.specs.EndToEnd.{runs_of}
 use Rattle.like_crew.proofs.additions.Tiled.{all-there, of-likes, placed-are, stand-are, tiles-are}
 use Rattle.like_crew.proofs.Once.{collected-at, memory-alone}
 use Rattle.like_crew.proofs.OneOrder.{one-order, seen-counts}
@@ -93,7 +93,7 @@ returns-clause-report c =
           e.counts.items refl pages
           (λ page there. told.totals page (omega (arith, there, pages)));
       last = last-likes-are
-          (workload_of_run c.args.setup.now plans (runs_of e.logs.items)) workers e.logs.items c.in_ok-last.last.items size
+          (workload_by c.args.setup.now plans (entries_in e.logs.items)) workers e.logs.items c.in_ok-last.last.items size
           c.requires.within.numbers.workers.0 (λ worker log at. (logs worker log at).0) c.in_ok-last.ensures.len
           (λ user log there at.
           c.in_ok-last.ensures.last user log there
@@ -101,7 +101,7 @@ returns-clause-report c =
           c.deref.ensures.value
           ∙ ap (λ n. slice_get e.logs.items (worker_of (length e.logs.items) (home n user))) many ∙ at));
       joined = h.joined;
-      seen = seen-counts (workload_of_run c.args.setup.now plans (runs_of e.logs.items)) workers e.logs.items order;
+      seen = seen-counts (workload_by c.args.setup.now plans (entries_in e.logs.items)) workers e.logs.items order;
       hot = chosen-are c.args.setup.now plans c.args.notes e h told.closed.masks told.closed.counted;
     }
 
