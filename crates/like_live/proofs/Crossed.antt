@@ -1,18 +1,20 @@
 -- Two looks that cross are not those of one thread.
-use Rattle.std.proofs.Common.{◌≡◌, ℕ, zero, suc, ◌+◌, ◌≤◌, ◌==◌, inl, inr, List, [], ◌∷◌, ◌++◌, filter, take, length, get_or, slice_get, Some, refl, ap, sym, ◌∙◌, subst, arith}
+use Rattle.std.proofs.Common.{◌≡◌, ℕ, zero, suc, ◌+◌, ◌≤◌, ◌<◌, ◌==◌, nat_lt, inl, inr, List, [], ◌∷◌, ◌++◌, filter, take, length, get_or, slice_get, Some, refl, ap, sym, ◌∙◌, subst, arith}
 use Rattle.std.proofs.lemmas.Bool.{cases_lt, ne_eqb}
 use Rattle.like_requests.specs.Verdict.{home}
 use Rattle.like_serial.proofs.Crossed.{take_most}
 use Rattle.like_serial.proofs.Follows.{weigh-filter_less}
 use Rattle.like_serial.proofs.Parts.{passed, place_of_part, take_part}
-use Rattle.like_serial.proofs.Phases.{pairs_of}
+use Rattle.like_serial.proofs.Increasing.{Increases, increases_at, increases_of, increases_pairs}
+use Rattle.like_serial.proofs.Phases.{all_then, below, pairs_of}
+use Rattle.like_serial.proofs.Totals.{same_in_all, weigh-all_alike}
 use Rattle.like_serial.proofs.Seen.{not_some, some_is}
-use Rattle.like_serial.proofs.Weigh.{sum-weigh, weigh}
+use Rattle.like_serial.proofs.Weigh.{only, sum-weigh, weigh, weigh-append, weigh-filter}
 use Rattle.like_live.specs.declared.opening.Opening.{Opening}
 use Rattle.like_live.specs.CrossedLooks.{CrossedLooksAreNotSerial, IsForTwo, like_and_look}
 use Rattle.like_live.specs.DeedStore.{ShowsLast}
 use Rattle.like_live.specs.Deeds.{Deed, counted, deed, showed}
-use Rattle.like_live.specs.SerialService.{IsSerialService, deeds_by}
+use Rattle.like_live.specs.StrictService.{IsStrictService, deeds_by}
 use Rattle.like_live.proofs.DeedLikes.{ShowsCount, count_after, fits_store, last_after, shows_count}
 use Rattle.like_live.proofs.DeedPhases.{phase_of_deed}
 use Rattle.like_live.proofs.DeedTotals.{likes_of_deed}
@@ -25,7 +27,7 @@ record Stands (serial : List Deed) (liked looked : ℕ) : Type 0 where
 
 stands : (o : Opening) (serial : List Deed) (deeds : List (List Deed)) (seat liked looked : ℕ) (a b : Deed)
     → o.seats ≡ 2
-    → IsSerialService o deeds serial
+    → IsStrictService o deeds serial
     → get_or deeds seat [] ≡ a ∷ b ∷ []
     → weigh (likes_of_deed liked) (a ∷ []) ≡ 1
     → ((n : ℕ) → ShowsCount n b.act → n ≡ 0)
@@ -47,14 +49,14 @@ stands o serial deeds seat liked looked a b two is own likes shows page =
       none = subst (λ n. weigh (likes_of_deed n) (take place serial) ≡ 0) page (omega (arith, shown, among));
     }
 
-apart : (o : Opening) (serial : List Deed) → IsForTwo o
-    → ¬ IsSerialService o (like_and_look 0 0 1 0 ∷ like_and_look 1 1 0 0 ∷ []) serial
-apart o serial two is =
-    let deeds = like_and_look 0 0 1 0 ∷ like_and_look 1 1 0 0 ∷ [] in
-    let a = stands o serial deeds 0 0 1 (deed 0 0 0 counted) (deed 0 0 1 (showed (record { last = Some 0; count = 0 })))
-    two.seats is refl refl (λ n e. sym e) refl in
-    let b = stands o serial deeds 1 1 0 (deed 0 1 1 counted) (deed 0 1 0 (showed (record { last = Some 1; count = 0 })))
-    two.seats is refl refl (λ n e. sym e) refl in
+apart : (o : Opening) (n m : ℕ) (serial : List Deed) → IsForTwo o
+    → ¬ IsStrictService o (like_and_look n 0 0 1 0 ∷ like_and_look m 1 1 0 0 ∷ []) serial
+apart o n m serial two is =
+    let deeds = like_and_look n 0 0 1 0 ∷ like_and_look m 1 1 0 0 ∷ [] in
+    let a = stands o serial deeds 0 0 1 (deed n 0 0 0 counted)
+    (deed (n + 1) 0 0 1 (showed (record { last = Some 0; count = 0 }))) two.seats is refl refl (λ k e. sym e) refl in
+    let b = stands o serial deeds 1 1 0 (deed m 0 1 1 counted)
+    (deed (m + 1) 0 1 0 (showed (record { last = Some 1; count = 0 }))) two.seats is refl refl (λ k e. sym e) refl in
     elim (cases_lt a.place b.place) [
       | inl less ↦
           let most = take_most (likes_of_deed 0) serial a.place b.place (omega (arith, less)) in
@@ -68,11 +70,54 @@ apart o serial two is =
           absurd (omega (arith, most, some, none))
     ]
 
+-- so a look shows no like with a greater number: user 0 is done by the time that user 1 likes the other page
+late : (o : Opening) (serial : List Deed) → IsForTwo o
+    → ¬ IsStrictService o (like_and_look 0 0 0 1 1 ∷ like_and_look 2 1 1 0 0 ∷ []) serial
+late o serial two is =
+    let a = deed 0 0 0 0 counted in
+    let b = deed 1 0 0 1 (showed (record { last = Some 0; count = 1 })) in
+    let own : (k : ℕ) → deeds_by 2 k serial ≡ get_or (like_and_look 0 0 0 1 1 ∷ like_and_look 2 1 1 0 0 ∷ []) k [] =
+    subst (λ n. (k : ℕ) → deeds_by n k serial ≡ get_or (like_and_look 0 0 0 1 1 ∷ like_and_look 2 1 1 0 0 ∷ []) k [])
+    two.seats is.own in
+    let p = passed (λ (d : Deed). home 2 d.user == 0) serial (a ∷ []) b [] (own 0) in
+    let f : Deed → ℕ = λ d. only (nat_lt d.number 2) (likes_of_deed 1 d) in
+    let none : weigh f serial ≡ 0 =
+    same_in_all (λ (d : Deed). home 2 d.user) f (λ (n : ℕ). n) (λ n. 0) serial []
+    (λ k. sym (weigh-filter (λ (d : Deed). home 2 d.user == k) f serial) ∙ ap (weigh f) (own k) ∙ by_seat k) in
+    let early : weigh (likes_of_deed 1) p.front ≡ weigh f p.front =
+    weigh-all_alike (likes_of_deed 1) f p.front
+    (all_then (λ (c : Deed). c.number < 1) (λ c. likes_of_deed 1 c ≡ f c) p.front
+    (λ c less. sym (ap (λ t. only t (likes_of_deed 1 c)) (below c.number 2 (omega (arith, less)))))
+    (increases_at (λ (c : Deed). c.number) p.front b p.rest
+    (subst (Increases (λ (c : Deed). c.number)) p.is (increases_of (λ (c : Deed). c.number) serial is.in_time))).0) in
+    let front : take (length p.front) serial ≡ p.front = ap (take (length p.front)) p.is ∙ take_part p.front b p.rest in
+    let shown = shows_count o (take (length p.front) serial) b (is.fits (length p.front) b
+    (subst (λ xs. slice_get xs (length p.front) ≡ Some b) (sym p.is) (place_of_part p.front b p.rest))) in
+    absurd (omega (
+      arith,
+      shown,
+      none,
+      early,
+      ap (λ xs. get_or xs 1 0) two.counts,
+      sum-weigh (likes_of_deed 1) (take (length p.front) serial),
+      ap (weigh (likes_of_deed 1)) front,
+      ap (weigh f) p.is,
+      weigh-append f p.front (b ∷ p.rest),
+    ))
+  where
+    by_seat : (k : ℕ)
+        → weigh (λ d. only (nat_lt d.number 2) (likes_of_deed 1 d))
+        (get_or (like_and_look 0 0 0 1 1 ∷ like_and_look 2 1 1 0 0 ∷ []) k [])
+        ≡ 0
+    by_seat zero = refl
+    by_seat (suc zero) = refl
+    by_seat (suc (suc k)) = refl
+
 module _ (o : Opening) (two : IsForTwo o) where
   abbrev both : List Deed
-  both = like_and_look 0 0 1 0 ++ like_and_look 1 1 0 1
+  both = like_and_look 0 0 0 1 0 ++ like_and_look 2 1 1 0 1
 
-  own : (seat : ℕ) → deeds_by 2 seat both ≡ get_or (like_and_look 0 0 1 0 ∷ like_and_look 1 1 0 1 ∷ []) seat []
+  own : (seat : ℕ) → deeds_by 2 seat both ≡ get_or (like_and_look 0 0 0 1 0 ∷ like_and_look 2 1 1 0 1 ∷ []) seat []
   own zero = refl
   own (suc zero) = refl
   own (suc (suc seat)) =
@@ -103,14 +148,16 @@ module _ (o : Opening) (two : IsForTwo o) where
       (ap (λ xs. get_or xs 0 0 + 1) (sym two.counts))
   counts (suc (suc (suc (suc i)))) d at = absurd (not_some d at)
 
-  in_order : IsSerialService o (like_and_look 0 0 1 0 ∷ like_and_look 1 1 0 1 ∷ []) both
+  in_order : IsStrictService o (like_and_look 0 0 0 1 0 ∷ like_and_look 2 1 1 0 1 ∷ []) both
   in_order = record {
-    own = λ seat. subst (λ n. deeds_by n seat both ≡ get_or (like_and_look 0 0 1 0 ∷ like_and_look 1 1 0 1 ∷ []) seat [])
+    own = λ seat. subst (λ n. deeds_by n seat both ≡ get_or (like_and_look 0 0 0 1 0 ∷ like_and_look 2 1 1 0 1 ∷ []) seat [])
         (sym two.seats) (own seat);
+    in_time = increases_pairs (λ (d : Deed). d.number) both
+        ((omega arith, (omega arith, (omega arith, tt))), ((omega arith, (omega arith, tt)), ((omega arith, tt), (tt, tt))));
     rising = pairs_of phase_of_deed both
         ((omega arith, (omega arith, (omega arith, tt))), ((omega arith, (omega arith, tt)), ((omega arith, tt), (tt, tt))));
     fits = λ i d at. fits_store o (take i both) d (lasts i d at) (counts i d at);
   }
 
 pub crossed_looks_are_not_serial : CrossedLooksAreNotSerial
-crossed_looks_are_not_serial = record { crossed = apart; ordered = in_order }
+crossed_looks_are_not_serial = record { crossed = apart; ordered = in_order; in_time = late }

@@ -1,14 +1,16 @@
 -- Each deed shows its user's last like among the deeds before it.
-use Rattle.std.proofs.Common.{◌≡◌, ℕ, zero, suc, ◌<◌, Bool, true, false, cond, eqb, List, [], ◌∷◌, ◌++◌, length, map, take, slice_get, Some, None, refl, ap, sym, ◌∙◌, subst, arith, append-nil, append_assoc}
+use Rattle.std.proofs.Common.{◌≡◌, ℕ, zero, suc, ◌<◌, Bool, true, false, cond, eqb, List, [], ◌∷◌, ◌++◌, drop, length, take, slice_get, Some, None, refl, ap, sym, ◌∙◌, subst, arith, append-nil, append_assoc}
 use Rattle.std.specs.List.{All, cons_option, last_or}
 use Rattle.std.proofs.lemmas.List.Elements.{All-tail, filter_map-append}
+use Rattle.like_core.specs.declared.log.Logged.{Logged}
+use Rattle.like_core.specs.Log.{latest_number}
 use Rattle.like_serial.proofs.Seen.{not_some, some_is}
 use Rattle.like_tables.specs.UserTable.{last_of}
 use Rattle.like_live.specs.declared.asked.Found.{Found}
 use Rattle.like_live.specs.LiveView.{LiveView}
-use Rattle.like_live.specs.Moves.{IsFoundAt}
+use Rattle.like_live.specs.Moves.{IsFoundAt, with_found}
 use Rattle.like_live.specs.DeedStore.{DeedsShowLasts, ShowsLast, store_of}
-use Rattle.like_live.specs.Deeds.{Deed, counted, deed, deed_found, deeds_of}
+use Rattle.like_live.specs.Deeds.{Deed, counted, deed, deed_found, deeds_found, deeds_of, made_since}
 use Rattle.like_live.specs.History.{HasDone, IsUnused, Told}
 use Rattle.like_live.proofs.DeedLikes.{last_is, page_counted, pages_counted}
 use Rattle.like_live.proofs.Histories.{last_or-append}
@@ -38,11 +40,6 @@ all_after-at P before (y ∷ xs) zero x all at =
 all_after-at P before (y ∷ xs) (suc i) x all at =
     subst (λ zs. P zs x) (append_assoc before (y ∷ []) (take i xs))
     (all_after-at P (before ++ y ∷ []) xs i x all.1 at)
-
--- found looks count no like
-pub pages_found : (user : ℕ) (found : List Found) → pages_counted user (map deed_found found) ≡ []
-pages_found user [] = refl
-pages_found user (f ∷ found) = pages_found user found
 
 module _ (first : LiveView) where
   -- a deed shows the last like of its user after those before it
@@ -76,26 +73,27 @@ module _ (first : LiveView) where
   }
 
   -- found looks show those of their users, one after the other
-  found_deeds : (v : LiveView) (found : List Found) → All (IsFoundAt v.station) found → (ds : List Deed) → HasLasts v ds
-      → HasLasts v (ds ++ map deed_found found)
-  found_deeds v [] shown ds k = no_deed v v ds refl k
-  found_deeds v (f ∷ found) shown ds k =
-      subst (HasLasts v) (append_assoc ds (deed_found f ∷ []) (map deed_found found))
-      (found_deeds v found (All-tail (IsFoundAt v.station) f found shown) (ds ++ deed_found f ∷ [])
-      (look_deed v v ds (deed_found f) refl (λ user. refl) (shown 0 f (omega arith)).last k))
+  found_deeds : (v : LiveView) (entries : List Logged) (found : List Found) → All (IsFoundAt v.station) found
+      → (ds : List Deed) → HasLasts v ds → HasLasts v (ds ++ deeds_found entries found)
+  found_deeds v entries [] shown ds k = no_deed v v ds refl k
+  found_deeds v entries (f ∷ found) shown ds k =
+      let d = deed_found (latest_number entries) f in
+      subst (HasLasts v) (append_assoc ds (d ∷ []) (deeds_found (drop 1 entries) found))
+      (found_deeds v (drop 1 entries) found (All-tail (IsFoundAt v.station) f found shown) (ds ++ d ∷ [])
+      (look_deed v v ds d refl (λ user. refl) (shown 0 f (omega arith)).last k))
 
   -- a like is its user's last
-  like_deed : (v w : LiveView) (ds : List Deed) (phase user page : ℕ) → user < length v.station.last.last
+  like_deed : (v w : LiveView) (ds : List Deed) (number phase user page : ℕ) → user < length v.station.last.last
       → ((other : ℕ) → last_of w.station.last other ≡ last_or (last_of v.station.last other) (cond (eqb user other) (page ∷ []) []))
-      → HasLasts v ds → HasLasts w (ds ++ deed phase user page counted ∷ [])
-  like_deed v w ds phase user page there more k = record {
+      → HasLasts v ds → HasLasts w (ds ++ deed number phase user page counted ∷ [])
+  like_deed v w ds number phase user page there more k = record {
     table = λ other.
         more other ∙ ap (λ o. last_or o (cond (eqb user other) (page ∷ []) [])) (k.table other)
         ∙ sym (last_or-append (last_of first.station.last other) (pages_counted other ds) (cond (eqb user other) (page ∷ []) []))
         ∙ ap (last_or (last_of first.station.last other))
         (ap (λ zs. pages_counted other ds ++ zs) (one (eqb user other))
-        ∙ sym (filter_map-append (λ (e : Deed). page_counted other e.user e.page e.act) ds (deed phase user page counted ∷ [])));
-    shows = all_after-append Shows [] ds (deed phase user page counted ∷ []) k.shows (tt, tt);
+        ∙ sym (filter_map-append (λ (e : Deed). page_counted other e.user e.page e.act) ds (deed number phase user page counted ∷ [])));
+    shows = all_after-append Shows [] ds (deed number phase user page counted ∷ []) k.shows (tt, tt);
   }
     where
       one : (b : Bool) → cond b (page ∷ []) [] ≡ cons_option (cond b (Some page) None) []
@@ -106,7 +104,7 @@ module _ (first : LiveView) where
       → HasLasts (next v s) (ds ++ done_by v s)
   lasts_next v (looks sight mask number can) ds is k = no_deed v _ ds refl k
   lasts_next v (finds found logged joined order shown logs) ds is k =
-      let all = found_deeds v found shown ds k in record { table = all.table; shows = all.shows }
+      let all = found_deeds v (made_since v (with_found v found logged)) found shown ds k in record { table = all.table; shows = all.shows }
   lasts_next v (acknowledges joined) ds is k = no_deed v _ ds refl k
   lasts_next v (reports adds logged split merges logs) ds is k = no_deed v _ ds refl k
   lasts_next v (retires joined) ds is k = no_deed v _ ds refl k
@@ -114,10 +112,10 @@ module _ (first : LiveView) where
   lasts_next v takes ds is k = no_deed v _ ds refl k
   lasts_next v (slices_like user page req) ds is k =
       let there = subst (λ n. user < n) (sym is.table) (user_there v.station user page req.accepted) in
-      like_deed v _ ds _ user page there (λ other. last-more v.station.last user page other there) k
+      like_deed v _ ds _ _ user page there (λ other. last-more v.station.last user page other there) k
   lasts_next v (adds_like user page old number req) ds is k =
       let there = subst (λ n. user < n) (sym is.table) (user_there v.station user page req.accepted) in
-      like_deed v _ ds _ user page there (λ other. last-more v.station.last user page other there) k
+      like_deed v _ ds _ _ user page there (λ other. last-more v.station.last user page other there) k
   lasts_next v (reads user page shown number req last) ds is k =
       look_deed v _ ds _ refl (λ other. refl) last k
   lasts_next v (glances user page count shown number req last) ds is k =

@@ -1,5 +1,5 @@
 -- What deeds counted, by filters over them, as the proofs say it, and as a store has it.
-use Rattle.std.proofs.Common.{◌≡◌, ℕ, ◌+◌, ◌==◌, List, [], ◌∷◌, filter_map, map, sum_by, Option, Some, None, ap, ap₂, sym, ◌∙◌, refl}
+use Rattle.std.proofs.Common.{◌≡◌, ℕ, ◌+◌, ◌==◌, Bool, true, false, cond, eqb, List, [], ◌∷◌, filter_map, map, sum_by, Option, Some, None, ap, ap₂, sym, ◌∙◌, refl, eq-eqb, eqb-true, true≢false}
 use Rattle.std.specs.Prelude.{if◌then◌else◌, slice_index}
 use Rattle.std.specs.List.{cons_option, last_or}
 use Rattle.like_promises.specs.declared.reply.Reply.TheVariants.{Seen}
@@ -7,13 +7,15 @@ use Rattle.like_promises.specs.Looks.{count_in}
 use Rattle.like_promises.specs.Store.{Store}
 use Rattle.like_serial.proofs.Counts.{weigh-map}
 use Rattle.like_serial.proofs.Stores.{adds_by, page_by}
+use Rattle.like_requests.specs.Verdict.{home}
+use Rattle.like_serial.proofs.Interleaved.{with_key}
 use Rattle.like_serial.proofs.Stores as store
 use Rattle.like_serial.proofs.Weigh.{sum-weigh, weigh-alike}
 use Rattle.like_tables.specs.UserTable.{last_in}
 use Rattle.like_live.specs.declared.opening.Opening.{Opening}
 use Rattle.like_live.specs.DeedStore.{Fits, ShowsLast, asked, store_after}
 use Rattle.like_live.specs.Deeds.{Act, Deed, counted, glimpsed, showed}
-use Rattle.like_live.specs.SerialService.{opened}
+use Rattle.like_live.specs.StrictService.{opened}
 
 -- the page of a like of this user that was counted, if that is what was done for a user at a page
 abbrev pub page_counted : (user other page : ℕ) → Act → Option ℕ
@@ -45,6 +47,40 @@ abbrev pub ShowsCount : ℕ → Act → Type 0
 ShowsCount count counted = Unit {0}
 ShowsCount count (showed s) = s.count ≡ count
 ShowsCount count (glimpsed s) = Unit {0}
+
+-- a user's likes are all of one seat
+module _ (o : Opening) (user : ℕ) where
+  abbrev user_home : Deed → ℕ
+  user_home d = home o.seats d.user
+
+  user_by : (d : Deed) (a : Act) (xs : List Deed) (b : Bool) → eqb (home o.seats d.user) (home o.seats user) ≡ b
+      → pages_counted user xs ≡ pages_counted user (with_key user_home (home o.seats user) xs)
+      → cons_option (page_counted user d.user d.page a) (pages_counted user xs)
+      ≡ cond b (cons_option (page_counted user d.user d.page a) (pages_counted user (with_key user_home (home o.seats user) xs)))
+      (pages_counted user (with_key user_home (home o.seats user) xs))
+  user_by d a xs true is same = ap (cons_option (page_counted user d.user d.page a)) same
+  user_by d (showed s) xs false is same = same
+  user_by d (glimpsed s) xs false is same = same
+  user_by d counted xs false is same = by_user (eqb d.user user) refl where
+    by_user : (c : Bool) → eqb d.user user ≡ c
+        → cons_option (cond c (Some d.page) None) (pages_counted user xs)
+        ≡ pages_counted user (with_key user_home (home o.seats user) xs)
+    by_user false his = same
+    by_user true his =
+        absurd (true≢false (sym (eq-eqb (home o.seats d.user) (home o.seats user)
+        (ap (home o.seats) (eqb-true d.user user his))) ∙ is))
+
+  inside : (d : Deed) (xs : List Deed) (b : Bool)
+      → cond b (cons_option (page_counted user d.user d.page d.act) (pages_counted user xs)) (pages_counted user xs)
+      ≡ pages_counted user (cond b (d ∷ xs) xs)
+  inside d xs true = refl
+  inside d xs false = refl
+
+  pub user_likes : (xs : List Deed) → pages_counted user xs ≡ pages_counted user (with_key user_home (home o.seats user) xs)
+  user_likes [] = refl
+  user_likes (d ∷ xs) =
+      user_by d d.act xs (eqb (home o.seats d.user) (home o.seats user)) refl (user_likes xs)
+      ∙ inside d (with_key user_home (home o.seats user) xs) (eqb (home o.seats d.user) (home o.seats user))
 
 -- a store counts what deeds counted, and has the last likes that they say
 adds_deed : (page : ℕ) (d : Deed) → adds_by page (asked d.user d.page d.act) ≡ likes_counted page d.page d.act

@@ -1,6 +1,7 @@
 -- A seat's deeds are for its own users.
-use Rattle.std.proofs.Common.{◌≡◌, ℕ, ◌<◌, List, [], ◌∷◌, ◌++◌, map, sym, subst, append-nil}
+use Rattle.std.proofs.Common.{◌≡◌, ℕ, ◌<◌, List, [], ◌∷◌, ◌++◌, drop, map, sym, subst, append-nil}
 use Rattle.std.specs.List.{AllByRecursion}
+use Rattle.like_core.specs.declared.log.Logged.{Logged}
 use Rattle.like_requests.specs.declared.verdict.Verdict.TheVariants.{Accepted}
 use Rattle.like_serial.proofs.Phases.{all_append}
 use Rattle.like_tables.specs.Share.{Share}
@@ -9,7 +10,8 @@ use Rattle.like_live.specs.declared.asked.Asked.{Asked}
 use Rattle.like_live.specs.declared.asked.Found.{Found}
 use Rattle.like_live.specs.LiveView.{LiveView}
 use Rattle.like_live.specs.Calls.{verdict_at}
-use Rattle.like_live.specs.Deeds.{Deed, deed_found}
+use Rattle.like_live.specs.Moves.{with_found}
+use Rattle.like_live.specs.Deeds.{Deed, deeds_found, made_since}
 use Rattle.like_live.proofs.Standing.{IsHis, IsKept, Stands, is_his}
 use Rattle.like_live.proofs.Stepping.{Step, acknowledges, adds_like, done_by, finds, glances, holds, looks, next, reads, reports, retires, returns, slices_like, takes}
 
@@ -29,18 +31,19 @@ module _ (first : LiveView) where
   no_deed : (v : LiveView) (ds : List Deed) → AreHis v ds → AreHis v (ds ++ [])
   no_deed v ds all = subst (AllByRecursion (λ d. IsHis first d.user)) (sym (append-nil ds)) all
 
-  found_his : (v : LiveView) (found : List Found) → Stands first v
+  found_his : (v : LiveView) (entries : List Logged) (found : List Found) → Stands first v
       → AllByRecursion (λ a. IsHis v a.user) (map (λ (f : Found). f.asked) found)
-      → AllByRecursion (λ d. IsHis first d.user) (map deed_found found)
-  found_his v [] k all = tt
-  found_his v (f ∷ found) k all = (same_his v f.asked.user k all.0, found_his v found k all.1)
+      → AllByRecursion (λ d. IsHis first d.user) (deeds_found entries found)
+  found_his v entries [] k all = tt
+  found_his v entries (f ∷ found) k all = (same_his v f.asked.user k all.0, found_his v (drop 1 entries) found k all.1)
 
   his_next : (v : LiveView) (s : Step v) (ds : List Deed) → Stands first v → AreHis v ds
       → AreHis (next v s) (ds ++ done_by v s)
   his_next v (looks sight mask number can) ds k all = no_deed v ds all
   his_next v (finds found logged joined order shown logs) ds k all =
-      all_append (λ d. IsHis first d.user) ds (map deed_found found) all
-      (found_his v found k (subst (AllByRecursion (λ (a : Asked). IsHis v a.user)) (sym order) k.own))
+      let entries = made_since v (with_found v found logged) in
+      all_append (λ d. IsHis first d.user) ds (deeds_found entries found) all
+      (found_his v entries found k (subst (AllByRecursion (λ (a : Asked). IsHis v a.user)) (sym order) k.own))
   his_next v (acknowledges joined) ds k all = no_deed v ds all
   his_next v (reports adds logged split merges logs) ds k all = no_deed v ds all
   his_next v (retires joined) ds k all = no_deed v ds all

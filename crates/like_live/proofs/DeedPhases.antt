@@ -1,7 +1,8 @@
 -- Phases never fall along a seat's deeds.
-use Rattle.std.proofs.Common.{◌≡◌, ◌≢◌, ℕ, ◌+◌, ◌≤◌, ◌<◌, cond, List, [], ◌∷◌, ◌++◌, map, get_or, set, refl, ap, sym, ◌∙◌, subst, arith, append-nil, eq-eqb}
+use Rattle.std.proofs.Common.{◌≡◌, ◌≢◌, ℕ, ◌+◌, ◌≤◌, ◌<◌, cond, List, [], ◌∷◌, ◌++◌, drop, map, get_or, set, refl, ap, sym, ◌∙◌, subst, arith, append-nil, eq-eqb}
 use Rattle.std.specs.List.{All, AllByRecursion}
 use Rattle.std.proofs.lemmas.List.Elements.{All-head, All-tail}
+use Rattle.like_core.specs.declared.log.Logged.{Logged}
 use Rattle.like_core.specs.declared.page_step.PageStep.{PageStep}
 use Rattle.like_core.specs.declared.view.Addition.{Addition}
 use Rattle.like_core.specs.PageSteps.{earliest_first, step_adding}
@@ -13,11 +14,12 @@ use Rattle.like_serial.proofs.Interleaved.{all_front, all_rest}
 use Rattle.like_serial.proofs.Phases.{Rises, all_append, all_then, rises-append, rises-same}
 use Rattle.like_live.specs.declared.asked.Found.{Found}
 use Rattle.like_live.specs.LiveView.{LiveView}
-use Rattle.like_live.specs.Moves.{step_for}
-use Rattle.like_live.specs.Deeds.{Deed, counted, deed, deed_found}
+use Rattle.like_live.specs.Moves.{step_for, with_found}
+use Rattle.like_live.specs.Deeds.{Deed, counted, deed_now, deeds_found, made_since}
 use Rattle.like_live.proofs.Calling.{page_there, slice-more}
 use Rattle.like_live.proofs.Ordered.{IsOrdered, first_add, looked_phase, ordered_back, rises_to}
-use Rattle.like_live.proofs.Standing.{IsKept, Stands, unsplit}
+use Rattle.like_live.proofs.Running.{unsplit}
+use Rattle.like_live.proofs.Standing.{IsKept, Stands}
 use Rattle.like_live.proofs.Stepping.{Step, acknowledges, adds_like, done_by, finds, glances, holds, looks, next, reads, reports, reported, retires, returns, slices_like, takes}
 
 abbrev pub phase_of_deed : Deed → ℕ
@@ -87,29 +89,29 @@ module _ (first : LiveView) (masks : ℕ → ℕ) where
       h
 
   -- found looks
-  phases_found : (phase : ℕ) (found : List Found) → All (λ f. f.phase ≡ phase) found
-      → AllByRecursion (λ d. phase_of_deed d ≡ phase) (map deed_found found)
-  phases_found phase [] all = tt
-  phases_found phase (f ∷ found) all = (
+  phases_found : (phase : ℕ) (entries : List Logged) (found : List Found) → All (λ f. f.phase ≡ phase) found
+      → AllByRecursion (λ d. phase_of_deed d ≡ phase) (deeds_found entries found)
+  phases_found phase entries [] all = tt
+  phases_found phase entries (f ∷ found) all = (
     All-head (λ (g : Found). g.phase ≡ phase) f found all,
-    phases_found phase found (All-tail (λ (g : Found). g.phase ≡ phase) f found all),
+    phases_found phase (drop 1 entries) found (All-tail (λ (g : Found). g.phase ≡ phase) f found all),
   )
 
-  finds_risen : (v w : LiveView) (found : List Found) (ds : List Deed) → All (λ f. f.phase ≡ phase_at v.station) found
+  finds_risen : (v w : LiveView) (entries : List Logged) (found : List Found) (ds : List Deed) → All (λ f. f.phase ≡ phase_at v.station) found
       → ((page : ℕ) → get_or v.station.slice page 0 ≢ 0 → ⊥)
       → earliest_first w.station.post.did ≡ earliest_first v.station.post.did ++ map (step_for v.station.post.worker) found
-      → IsOrdered masks w → HasRisen v ds → HasRisen w (ds ++ map deed_found found)
-  finds_risen v w [] ds all none did o h =
+      → IsOrdered masks w → HasRisen v ds → HasRisen w (ds ++ deeds_found entries found)
+  finds_risen v w entries [] ds all none did o h =
       no_deed v w ds
       (λ k is. record {
         steps = subst (AllByRecursion (λ t. phase_of_step t ≤ k)) (did ∙ append-nil (earliest_first v.station.post.did)) is.steps;
         slice = λ page has. absurd (none page has);
       })
       h
-  finds_risen v w (f ∷ found) ds all none did o h =
+  finds_risen v w entries (f ∷ found) ds all none did o h =
       let here = All-head (λ (g : Found). g.phase ≡ phase_at v.station) f found all in
       let steps = map (step_for v.station.post.worker) (f ∷ found) in
-      deeds_now v w ds (map deed_found (f ∷ found)) (phases_found (phase_at v.station) (f ∷ found) all)
+      deeds_now v w ds (deeds_found entries (f ∷ found)) (phases_found (phase_at v.station) entries (f ∷ found) all)
       (subst (λ n. AllByRecursion (λ t. phase_of_step t ≤ n) (earliest_first v.station.post.did)) here
       (rises_to phase_of_step (earliest_first v.station.post.did) (step_for v.station.post.worker f) (map (step_for v.station.post.worker) found)
       (subst (Rises phase_of_step) did o.rises)))
@@ -132,7 +134,7 @@ module _ (first : LiveView) (masks : ℕ → ℕ) where
         slice = λ page has. subst (λ n. n ≤ k) (looked_phase v.station.post.state sight (st.split page has).0) (is.slice page has);
       }) h
   risen_next v (finds found logged joined order shown logs) ds st o h =
-      finds_risen v _ found ds (λ i d below. (shown i d below).phase)
+      finds_risen v _ (made_since v (with_found v found logged)) found ds (λ i d below. (shown i d below).phase)
       (λ page has. unsplit v.station.post.state joined (st.split page has).0)
       (then-earliest v.station.post.did (map (step_for v.station.post.worker) found)) o h
   risen_next v (acknowledges joined) ds st o h =
@@ -172,7 +174,7 @@ module _ (first : LiveView) (masks : ℕ → ℕ) where
       }) h
   risen_next v takes ds st o h = no_deed v _ ds (λ k is. record { steps = is.steps; slice = is.slice }) h
   risen_next v (slices_like user page req) ds st o h =
-      deeds_now v _ ds (deed (phase_at v.station) user page counted ∷ []) (refl, tt)
+      deeds_now v _ ds (deed_now v user page counted ∷ []) (refl, tt)
       (o.none_later page (one_has v page (page_there v.station user page req.accepted) st))
       (λ k is.
       let now = is.slice page (one_has v page (page_there v.station user page req.accepted) st) in (

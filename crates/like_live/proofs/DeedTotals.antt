@@ -1,6 +1,7 @@
 -- In each phase a seat adds to a page as many likes as its deeds of the phase count.
-use Rattle.std.proofs.Common.{◌≡◌, ◌≢◌, ℕ, zero, suc, ◌+◌, ◌<◌, ◌==◌, ◌&&◌, ◌⊎◌, Bool, true, false, cond, List, [], ◌∷◌, ◌++◌, map, get_or, replicate, refl, ap, sym, ◌∙◌, subst, arith, append-nil, inl, inr}
+use Rattle.std.proofs.Common.{◌≡◌, ◌≢◌, ℕ, zero, suc, ◌+◌, ◌<◌, ◌==◌, ◌&&◌, ◌⊎◌, Bool, true, false, cond, List, [], ◌∷◌, ◌++◌, drop, map, get_or, replicate, refl, ap, sym, ◌∙◌, subst, arith, append-nil, inl, inr}
 use Rattle.std.proofs.lemmas.List.Sums.{sum_by-cons}
+use Rattle.like_core.specs.declared.log.Logged.{Logged}
 use Rattle.like_core.specs.declared.page_step.PageCall.{PageCall}
 use Rattle.like_core.specs.declared.page_step.PageCall.TheVariants.{Add, Read, Glance}
 use Rattle.like_core.specs.declared.page_step.PageStep.{PageStep}
@@ -16,12 +17,13 @@ use Rattle.like_serial.proofs.Totals.{only-none}
 use Rattle.like_serial.proofs.Weigh.{only, weigh, weigh-append}
 use Rattle.like_live.specs.declared.asked.Found.{Found}
 use Rattle.like_live.specs.LiveView.{LiveView}
-use Rattle.like_live.specs.Moves.{step_for}
-use Rattle.like_live.specs.Deeds.{Deed, counted, deed, deed_found, glimpsed, showed}
+use Rattle.like_live.specs.Moves.{step_for, with_found}
+use Rattle.like_live.specs.Deeds.{Deed, counted, deed, deed_now, deeds_found, glimpsed, made_since, showed}
 use Rattle.like_live.proofs.Calling.{page_there, slice-more}
 use Rattle.like_live.proofs.DeedLikes.{likes_counted}
 use Rattle.like_live.proofs.Ordered.{looked_phase}
-use Rattle.like_live.proofs.Standing.{IsKept, Stands, unsplit}
+use Rattle.like_live.proofs.Running.{unsplit}
+use Rattle.like_live.proofs.Standing.{IsKept, Stands}
 use Rattle.like_live.proofs.Stepping.{Step, acknowledges, adds_like, done_by, finds, glances, holds, looks, next, reads, reports, retires, returns, slices_like, takes}
 
 -- how many likes of a page a deed counts, and how many in a phase
@@ -36,7 +38,7 @@ abbrev pub step_in : ℕ → ℕ → PageStep → ℕ
 step_in phase page s = only (s.phase == phase) (adds_to page s)
 
 -- how many likes of a page are in the slice, if this is the seat's phase
-abbrev sliced_in : ℕ → ℕ → LiveView → ℕ
+abbrev pub sliced_in : ℕ → ℕ → LiveView → ℕ
 sliced_in phase page v = only (phase_at v.station == phase) (get_or v.station.slice page 0)
 
 -- the deeds so far count, phase by phase, what the seat added and what it has in its slice
@@ -83,11 +85,12 @@ module _ (first : LiveView) where
   looked_same a b zero k same = only-none (a == k) ∙ sym (only-none (b == k))
   looked_same a b (suc n) k same = ap (λ c. only (c == k) (suc n)) (sym (same (λ e. absurd (cc e))))
 
-  -- found looks count nothing, and their reads add nothing
-  found_none : (phase page : ℕ) (found : List Found) → weigh (deed_in phase page) (map deed_found found) ≡ 0
-  found_none phase page [] = refl
-  found_none phase page (f ∷ found) =
-      let rest = found_none phase page found in let here = only-none (f.phase == phase) in omega arith
+  -- found looks count nothing, and their entries add nothing
+  found_none : (phase page : ℕ) (entries : List Logged) (found : List Found)
+      → weigh (deed_in phase page) (deeds_found entries found) ≡ 0
+  found_none phase page entries [] = refl
+  found_none phase page entries (f ∷ found) =
+      let rest = found_none phase page (drop 1 entries) found in let here = only-none (f.phase == phase) in omega arith
 
   if_none : (b : Bool) → cond {A = ℕ} b 0 0 ≡ 0
   if_none true = refl
@@ -135,10 +138,11 @@ module _ (first : LiveView) where
       (λ phase page. looked_same (phase_at v.station) (phase_of (seen v.station.post.state sight)) (get_or v.station.slice page 0)
       phase (λ has. looked_phase v.station.post.state sight (k.split page has).0)) h
   totals_next v (finds found logged joined order shown logs) ds k h =
-      more v _ ds (map deed_found found) (map (step_for v.station.post.worker) found)
+      let entries = made_since v (with_found v found logged) in
+      more v _ ds (deeds_found entries found) (map (step_for v.station.post.worker) found)
       (then-earliest v.station.post.did (map (step_for v.station.post.worker) found))
       (λ phase page.
-      let a = found_none phase page found in
+      let a = found_none phase page entries found in
       let b = reads_none phase page v.station.post.worker found in omega arith) h
   totals_next v (acknowledges joined) ds k h = none v _ ds refl (λ phase page. refl) h
   totals_next v (reports adds logged runs merges logs) ds k h =
@@ -167,22 +171,22 @@ module _ (first : LiveView) where
       empty (phase_at v.station == phase) (to == phase) _ _ zero_is zero_is) h
   totals_next v takes ds k h = none v _ ds refl (λ phase page. refl) h
   totals_next v (slices_like user page is) ds k h =
-      more v _ ds (deed (phase_at v.station) user page counted ∷ []) [] (sym (append-nil (earliest_first v.station.post.did)))
+      more v _ ds (deed_now v user page counted ∷ []) [] (sym (append-nil (earliest_first v.station.post.did)))
       (λ phase other.
       let there = subst (λ n. page < n) (sym k.sized) (page_there v.station user page is.accepted) in
       like_one (phase_at v.station == phase) (page == other) _ _ (slice-more v.station.slice page other there)) h
   totals_next v (adds_like user page old number is) ds k h =
-      more v _ ds (deed (phase_at v.station) user page counted ∷ [])
+      more v _ ds (deed number (phase_at v.station) user page counted ∷ [])
       (page_step v.station.post.worker (phase_at v.station) page old (Add 1) ∷ []) refl (λ phase other. refl) h
   totals_next v (reads user page shown number is last) ds k h =
-      more v _ ds (deed (phase_at v.station) user page (showed shown) ∷ [])
+      more v _ ds (deed number (phase_at v.station) user page (showed shown) ∷ [])
       (page_step v.station.post.worker (phase_at v.station) page shown.count Read ∷ []) refl
       (λ phase other.
       let a = only-none (phase_at v.station == phase) in
       let b = read_none phase other v.station.post.worker (phase_at v.station) page shown.count Read (inl refl) in
       omega arith) h
   totals_next v (glances user page count shown number is last) ds k h =
-      more v _ ds (deed (phase_at v.station) user page (glimpsed shown) ∷ [])
+      more v _ ds (deed number (phase_at v.station) user page (glimpsed shown) ∷ [])
       (page_step v.station.post.worker (phase_at v.station) page count Glance ∷ []) refl
       (λ phase other.
       let a = only-none (phase_at v.station == phase) in

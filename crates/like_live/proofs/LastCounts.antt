@@ -1,6 +1,7 @@
 -- The last counts of a service are those of its store.
-use Rattle.std.proofs.Common.{◌≡◌, ℕ, ◌+◌, ◌==◌, List, [], ◌∷◌, map, get_or, slice_get, sum_by, Some, ap, sym, ◌∙◌, refl, arith}
+use Rattle.std.proofs.Common.{◌≡◌, ℕ, ◌+◌, ◌==◌, List, [], ◌∷◌, drop, map, get_or, slice_get, sum_by, Some, ap, sym, ◌∙◌, refl, arith}
 use Rattle.like_board.specs.Seats.{board_numbers}
+use Rattle.like_core.specs.declared.log.Logged.{Logged}
 use Rattle.like_core.specs.Post.{fresh}
 use Rattle.like_core.specs.declared.opening.Opening.{Opening as CoreOpening}
 use Rattle.like_core.specs.declared.view.WorkerSeatView.{WorkerSeatView}
@@ -15,22 +16,23 @@ use Rattle.like_live.specs.declared.asked.Found.{Found}
 use Rattle.like_live.specs.declared.opening.Opening.{Opening}
 use Rattle.like_live.specs.LiveView.{LiveView, tally}
 use Rattle.like_live.specs.History.{HasDone, IsUnused, Told, come_back, glance, like, like_told, look, retire, take_found, turn}
-use Rattle.like_live.specs.Deeds.{Deed, deed_found, deeds_of, deeds_of_call, found_by, own_deed}
+use Rattle.like_live.specs.Deeds.{Deed, deeds_found, deeds_of, deeds_of_call, found_by, made_since, own_deed}
 use Rattle.like_live.specs.Driver.{DriverView, IsSameDriver}
 use Rattle.like_live.specs.Opening.{board_opening}
 use Rattle.like_live.specs.Service.{AreOpened, IsClosedService}
-use Rattle.like_live.specs.SerialService.{HasLastCounts, IsSerialService, SeatHistory, ServicesAreSerial, deeds_in, opened as store_opened}
+use Rattle.like_live.specs.StrictService.{HasLastCounts, IsStrictService, SeatHistory, ServicesAreStrict, deeds_in, opened as store_opened}
 use Rattle.like_live.proofs.Closing.{sum-of-map}
 use Rattle.like_live.proofs.DeedLikes.{count_is}
 use Rattle.like_live.proofs.DeedTotals.{likes_of_deed}
 use Rattle.like_live.proofs.Histories.{histories_are_counted}
-use Rattle.like_live.proofs.OneThread.{alike_at, at_map, deeds_at, deeds_past, deeds_there, opening_is, serial_service}
+use Rattle.like_live.proofs.OneThread.{alike_at, at_map, deeds_at, deeds_past, deeds_there, opening_is, strict_service}
 use Rattle.like_live.proofs.Snapshots.{at_number}
 
 -- the deeds of a call count what it was told
-found_none : (page : ℕ) (found : List Found) → weigh (likes_of_deed page) (map deed_found found) ≡ 0
-found_none page [] = refl
-found_none page (f ∷ found) = let more = found_none page found in omega arith
+found_none : (page : ℕ) (entries : List Logged) (found : List Found)
+    → weigh (likes_of_deed page) (deeds_found entries found) ≡ 0
+found_none page entries [] = refl
+found_none page entries (f ∷ found) = let more = found_none page (drop 1 entries) found in omega arith
 
 own_told : (page : ℕ) (now : LiveView) (t : Told) → weigh (likes_of_deed page) (own_deed now t) ≡ like_told page t
 own_told page now (like user other liked.Liked) = omega arith
@@ -52,8 +54,9 @@ all_told page (t ∷ told) v after done =
     let call = deeds_of_call v t done.0 in
     let rest = all_told page told done.0 after done.1.1 in
     let both = weigh-append (likes_of_deed page) call (deeds_of told done.0 after done.1.1) in
-    let parts = weigh-append (likes_of_deed page) (map deed_found (found_by v done.0)) (own_deed done.0 t) in
-    let found = found_none page (found_by v done.0) in
+    let entries = drop 1 (made_since v done.0) in
+    let parts = weigh-append (likes_of_deed page) (deeds_found entries (found_by v done.0)) (own_deed done.0 t) in
+    let found = found_none page entries (found_by v done.0) in
     let own = own_told page done.0 t in
     omega (arith, rest, both, parts, found, own)
 
@@ -70,7 +73,7 @@ last_counts_are : (o : Opening) (driver now : DriverView) (hs : List SeatHistory
     → AreOpened o driver (map (λ h. h.first) hs)
     → IsSameDriver driver now
     → IsClosedService now (map (λ h. h.last) hs) counts
-    → IsSerialService o (map deeds_in hs) serial
+    → IsStrictService o (map deeds_in hs) serial
     → HasLastCounts o counts serial
 last_counts_are o driver now hs counts serial opened same closed is page below =
     let f : Deed → ℕ = likes_of_deed page in
@@ -103,7 +106,7 @@ last_counts_are o driver now hs counts serial opened same closed is page below =
     ∙ sym all ∙ sym (sum-weigh f serial))
     ∙ sym (count_is (store_opened o) serial page)
 
-pub services_are_serial : ServicesAreSerial
-services_are_serial o driver now hs counts opened same closed gone =
-    let one = serial_service o driver now hs counts opened same closed gone in
+pub services_are_strict : ServicesAreStrict
+services_are_strict o driver now hs counts opened same closed gone =
+    let one = strict_service o driver now hs counts opened same closed gone in
     (one.0, one.1, one.2, last_counts_are o driver now hs counts one.0 opened same closed one.1, one.3)

@@ -23,7 +23,8 @@ use Rattle.like_serial.proofs.Interleaved.{all_front, all_rest}
 use Rattle.like_serial.proofs.Phases.{Rises}
 use Rattle.like_live.specs.LiveView.{LiveView}
 use Rattle.like_live.proofs.Calling.{page_there, slice-more}
-use Rattle.like_live.proofs.Standing.{Stands, unsplit}
+use Rattle.like_live.proofs.Running.{unsplit}
+use Rattle.like_live.proofs.Standing.{Stands}
 use Rattle.like_live.proofs.Stepping.{Step, acknowledges, adds_like, finds, glances, holds, looks, next, reads, reported, reports, retires, returns, slices_like, takes}
 use Rattle.like_live.specs.Moves.{step_for}
 

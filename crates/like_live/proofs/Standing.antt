@@ -1,16 +1,16 @@
 -- What the steps of a seat keep.
-use Rattle.std.proofs.Common.{◌≡◌, ℕ, ◌%◌, ◌<◌, ◌==◌, ◌&&◌, ◌||◌, Bool, true, false, cond, List, [], ◌∷◌, ◌++◌, length, get_or, set, Some, None, refl, ap, sym, ◌∙◌, subst, arith, append-nil, append_assoc, eq-eqb, eqb-true, inl, inr}
+use Rattle.std.proofs.Common.{◌≡◌, ℕ, ◌%◌, ◌<◌, ◌==◌, ◌||◌, Bool, true, cond, List, [], ◌∷◌, ◌++◌, length, get_or, set, Some, None, refl, ap, sym, ◌∙◌, subst, append-nil, append_assoc, eq-eqb, eqb-true, inl, inr}
 use Rattle.std.specs.List.{AllByRecursion, list_any}
 use Rattle.std.proofs.lemmas.Bool.{cases_eq, cond-true}
 use Rattle.std.proofs.lemmas.List.{get_or-set_other, length-replicate, length-set}
 use Rattle.std.proofs.lemmas.List.FromFn.{length-map-range_with_len}
 use Rattle.like_core.specs.declared.view.PhaseMask.{PhaseMask}
 use Rattle.like_core.specs.declared.worker_state.WorkerState.{WorkerState}
-use Rattle.like_core.specs.declared.worker_state.WorkerState.TheVariants.{Runs, Answered, Gone}
-use Rattle.like_core.specs.Phase.{IsSplit, is_hot_by, is_marked}
-use Rattle.like_core.specs.PhaseMasks.{HasMask, mask_of}
+use Rattle.like_core.specs.declared.worker_state.WorkerState.TheVariants.{Runs}
+use Rattle.like_core.specs.Phase.{IsSplit}
+use Rattle.like_core.specs.PhaseMasks.{HasMask}
 use Rattle.like_core.specs.Post.{pages_of, slices}
-use Rattle.like_core.specs.WorkerState.{IsRunning, RunsJoined, RunsSplit, phase_of}
+use Rattle.like_core.specs.WorkerState.{RunsSplit}
 use Rattle.like_core.specs.declared.view.WorkerSeatView.{WorkerSeatView}
 use Rattle.like_requests.specs.declared.verdict.Verdict.TheVariants.{Accepted}
 use Rattle.like_requests.specs.Verdict.{home}
@@ -27,8 +27,9 @@ use Rattle.like_live.specs.LiveView.{LiveView, waiting}
 use Rattle.like_live.specs.Calls.{verdict_at}
 use Rattle.like_live.specs.Deeds.{Deed, deeds_of}
 use Rattle.like_live.specs.History.{HasDone, IsUnused, Told}
-use Rattle.like_live.proofs.Stepping.{FollowsSteps, Step, acknowledges, adds_like, by_calls, done_by, finds, glances, holds, looks, next, reads, reports, retires, returns, slices_like, takes}
+use Rattle.like_live.proofs.Stepping.{FollowsSteps, Step, acknowledges, adds_like, by_calls, calls_follow, done_by, finds, glances, holds, looks, next, reads, reports, retires, returns, slices_like, takes}
 use Rattle.like_live.proofs.Requests.{is_served}
+use Rattle.like_live.proofs.Running.{runs_split, unsplit}
 use Rattle.like_live.proofs.Telling.{user_there}
 
 -- the user is one of the seat's
@@ -56,29 +57,6 @@ is_his v user page is = (
   user_there v.station user page is,
   eqb-true (home v.station.last.share.submitters user) v.station.last.share.worker (is_served v.station user page is).1,
 )
-
--- who runs a joined phase runs no split one
-pub unsplit : (s : WorkerState) → RunsJoined s → RunsSplit s → ⊥
-unsplit (Runs k) joined split = omega (arith, joined, split)
-unsplit (Answered k) joined split = split
-unsplit Gone joined split = split
-
--- who runs a phase in which a page is split runs a split one
-split_odd : (a b : Bool) → (a && b) ≡ true → a ≡ true
-split_odd true b e = refl
-split_odd false b e = cc
-
-pub runs_split : (post : WorkerSeatView) (page : ℕ) → IsRunning post.state → slices post page ≡ true → RunsSplit post.state
-runs_split post page runs is =
-    by_state post.state runs
-    (eqb-true (phase_of post.state % 2) 1
-    (split_odd (phase_of post.state % 2 == 1)
-    (is_marked post.opening.marks page || is_hot_by post.opening.limits.hot (mask_of post.masks (phase_of post.state)) page) is))
-  where
-    by_state : (s : WorkerState) → IsRunning s → IsSplit (phase_of s) → RunsSplit s
-    by_state (Runs k) runs odd = odd
-    by_state (Answered k) runs odd = absurd runs
-    by_state Gone runs odd = absurd runs
 
 -- who enters a split phase has read its mask
 entered_mask : (masks : List PhaseMask) (phase mask : ℕ) → IsSplit phase → HasMask phase (masks_entered masks phase mask)
@@ -298,9 +276,9 @@ module _ (first : LiveView) (Sound : LiveView → Type 0) (Kept : LiveView → L
   pub stands_by_calls : (told : List Told) (after : LiveView) → HasDone first told after → IsUnused first
       → Stands first after
   stands_by_calls told after done unused =
-      (by_calls Keeps steps_keep told first after done (stands_at_first first unused)).0
+      (by_calls Keeps (calls_follow Keeps steps_keep) told first after done (stands_at_first first unused)).0
 
   pub kept_by_calls : (told : List Told) (after : LiveView) (done : HasDone first told after)
       → IsUnused first → Sound after → Kept first [] → Kept after (deeds_of told first after done)
   kept_by_calls told after done unused sound at_first =
-      ((by_calls Keeps steps_keep told first after done (stands_at_first first unused)).1 sound).1 [] at_first
+      ((by_calls Keeps (calls_follow Keeps steps_keep) told first after done (stands_at_first first unused)).1 sound).1 [] at_first

@@ -13,6 +13,6 @@ pub mod LookRoom
 pub mod Moments
 pub mod Moves
 pub mod Opening
-pub mod SerialService
+pub mod StrictService
 pub mod Service
 pub mod Splits

@@ -3,10 +3,10 @@
 ghost use Rattle.like_live.specs.Answers.{AnswersAreBounded, AnswersAreReads};
 ghost use Rattle.like_live.specs.CrossedLooks.{CrossedLooksAreNotSerial};
 ghost use Rattle.like_live.specs.DeedStore.{DeedsShowLasts};
-ghost use Rattle.like_live.specs.Deeds.{FoundAreTaken};
+ghost use Rattle.like_live.specs.Deeds.{DeedsHaveEntries, FoundAreTaken};
 ghost use Rattle.like_live.specs.Driver.{LastCountsStay};
 ghost use Rattle.like_live.specs.History.{HistoriesAreCounted, NoneWaitsOnceGone};
-ghost use Rattle.like_live.specs.SerialService.{LastMomentsAreSerial, SeatsRise, ServicesAreSerial};
+ghost use Rattle.like_live.specs.StrictService.{DeedsFitEarlier, MomentsAreStrict, SeatsRise, ServicesAreStrict};
 ghost use Rattle.like_live.specs.Moments.{LastCountsAreTallies, MarkedKeepSlots, SeatsAreExclusive, SlicesAreSlots};
 
 /// Whatever calls a fresh seat is asked: a page's tally is the number of its likes that were told `Liked`. A user's
@@ -77,13 +77,26 @@ pub fn found_are_taken()
     ensures { FoundAreTaken }
 {}
 
-/// There is one list of all deeds of the seats of a closed service that one thread could have done, one after the other:
-/// each seat's deeds stand in it in their order, phases never fall along it, and each look and each glance that is told
-/// `Seen` shows its user's last like and its page's count in a store, as the deeds before it left them. Only a glance
-/// that is told `Glimpsed` may lack likes that other seats have in their slices then. A snapshot shows the store at the
-/// end of its phase, and the last counts and the last likes that seats tell are the store's at the end.
-pub fn services_are_serial()
-    ensures { ServicesAreSerial }
+/// Each deed of a call has the number of an entry that the call made in the board's log: of an addition, a read or a
+/// glance; of a like that goes into the slice, of the call's look at the phase word.
+pub fn deeds_have_entries()
+    ensures { DeedsHaveEntries }
+{}
+
+/// There is one list of all deeds of the seats of a closed service that one thread could have done, one after the other.
+/// Each seat's deeds stand in it in their order, it goes by the deeds' numbers, and phases never fall along it. Each look
+/// and each glance that is told `Seen` shows its user's last like and its page's count in a store, as the deeds before it
+/// left them. Only a glance that is told `Glimpsed` may lack likes that other seats have in their slices then. A snapshot
+/// shows the store at the end of its phase, and the last counts and the last likes that seats tell are the store's at the
+/// end.
+pub fn services_are_strict()
+    ensures { ServicesAreStrict }
+{}
+
+/// In a strict service each look shows what all deeds with lesser numbers leave, of whichever seats: its user's last like,
+/// and the page's count, but for what is glimpsed. Of two seats' calls, the one with the lesser number came first.
+pub fn deeds_fit_earlier()
+    ensures { DeedsFitEarlier }
 {}
 
 /// In a closed service a seat's phases never fall, also where it came back: no deed of a seat is of an earlier phase
@@ -97,7 +110,8 @@ pub fn crossed_looks_are_not_serial()
     ensures { CrossedLooksAreNotSerial }
 {}
 
-/// There is such a list at each moment at which all seats are gone, also where none is given back, as in C.
-pub fn last_moments_are_serial()
-    ensures { LastMomentsAreSerial }
+/// There is such a list at each moment of a service that still runs, of all that its seats have done so far. Likes that
+/// are in slices still are in it.
+pub fn moments_are_strict()
+    ensures { MomentsAreStrict }
 {}

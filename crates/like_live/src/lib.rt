@@ -28,10 +28,10 @@ pub use driver::Driver;
 pub use driver_answer::DriverAnswer;
 pub use driver_end::End;
 pub use laws::{
-    answers_are_bounded, answers_are_reads, crossed_looks_are_not_serial, deeds_show_lasts,
-    found_are_taken, histories_are_counted, last_counts_are_tallies, last_counts_stay,
-    last_moments_are_serial, marked_keep_slots, none_waits_once_gone, seats_are_exclusive,
-    seats_rise, services_are_serial, slices_are_slots,
+    answers_are_bounded, answers_are_reads, crossed_looks_are_not_serial, deeds_fit_earlier,
+    deeds_have_entries, deeds_show_lasts, found_are_taken, histories_are_counted,
+    last_counts_are_tallies, last_counts_stay, marked_keep_slots, moments_are_strict,
+    none_waits_once_gone, seats_are_exclusive, seats_rise, services_are_strict, slices_are_slots,
 };
 pub use like_tables::NO_PAGE;
 pub use live_seat::LiveSeat;

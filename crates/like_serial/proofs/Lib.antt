@@ -19,3 +19,6 @@ pub mod Collected
 pub mod Growth
 pub mod RunOrder
 pub mod Reports
+pub mod Increasing
+pub mod LogSteps
+pub mod ByNumber

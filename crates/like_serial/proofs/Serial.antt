@@ -113,10 +113,9 @@ module _ (workload : Workload) (workers last : ℕ) (runs : List (List Ran)) (st
         → weigh (λ (s : PageStep). only (nat_lt s.phase phase) (adds_to page s)) steps
         ≡ weigh (λ (e : Ran). only (nat_lt e.phase phase) (likes_by workload page e)) m.entries
     below_adds page phase =
-        same_below (λ (s : PageStep). s.phase) (adds_to page) phase_of (likes_by workload page) steps m.entries
-        (λ k. same_in_all (λ (s : PageStep). s.worker) (λ s. only (s.phase == k) (adds_to page s)) (server_of workers)
+        same_below (λ (s : PageStep). s.phase) (adds_to page) phase_of (likes_by workload page) steps m.entries phase
+        (λ k less. same_in_all (λ (s : PageStep). s.worker) (λ s. only (s.phase == k) (adds_to page s)) (server_of workers)
         (λ e. only (e.phase == k) (likes_by workload page e)) steps m.entries (worker_adds page k))
-        phase
 
     counts_at : (before : List Ran) (e : Ran) (page : ℕ)
         → look_ran workload e ≡ Some page

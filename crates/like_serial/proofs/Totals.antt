@@ -62,15 +62,15 @@ weigh-all_below key f n xs all =
     (λ x less. ap (λ b. only b (f x)) (below (key x) n less))
     all)
 
--- two lists that agree at each key agree below each number, and in all
-pub same_below : {X Y : Type 0} (key f : X → ℕ) (other g : Y → ℕ) (xs : List X) (ys : List Y)
-    → ((k : ℕ) → weigh (λ x. only (key x == k) (f x)) xs ≡ weigh (λ y. only (other y == k) (g y)) ys)
-    → (n : ℕ)
+-- two lists that agree at each key below a number agree below it, and if they agree at each key, in all
+pub same_below : {X Y : Type 0} (key f : X → ℕ) (other g : Y → ℕ) (xs : List X) (ys : List Y) (n : ℕ)
+    → ((k : ℕ) → k < n → weigh (λ x. only (key x == k) (f x)) xs ≡ weigh (λ y. only (other y == k) (g y)) ys)
     → weigh (λ x. only (nat_lt (key x) n) (f x)) xs ≡ weigh (λ y. only (nat_lt (other y) n) (g y)) ys
-same_below key f other g xs ys each zero = weigh-zero key f xs ∙ sym (weigh-zero other g ys)
-same_below key f other g xs ys each (suc n) =
+same_below key f other g xs ys zero each = weigh-zero key f xs ∙ sym (weigh-zero other g ys)
+same_below key f other g xs ys (suc n) each =
     weigh-suc key f n xs
-    ∙ ap₂ (λ a b. a + b) (same_below key f other g xs ys each n) (each n)
+    ∙ ap₂ (λ a b. a + b) (same_below key f other g xs ys n (λ k less. each k (omega (arith, less))))
+    (each n (omega arith))
     ∙ sym (weigh-suc other g n ys)
 
 pub same_in_all : {X Y : Type 0} (key f : X → ℕ) (other g : Y → ℕ) (xs : List X) (ys : List Y)
@@ -79,7 +79,7 @@ pub same_in_all : {X Y : Type 0} (key f : X → ℕ) (other g : Y → ℕ) (xs :
 same_in_all key f other g xs ys each =
     let n = above key xs + above other ys in
     sym (weigh-all_below key f n xs (all_above key (above other ys) xs))
-    ∙ same_below key f other g xs ys each n
+    ∙ same_below key f other g xs ys n (λ k less. each k)
     ∙ weigh-all_below other g n ys
     (all_then (λ y. other y < above other ys + above key xs) (λ y. other y < n) ys (λ y less. omega (arith, less))
     (all_above other (above key xs) ys))

@@ -25,13 +25,13 @@ abbrev pub IsAt : List LogEntry → Logged → Type 0
 IsAt [] e = ⊥
 IsAt (entry ∷ log) e = ((e.number ≡ length log) × (e.entry ≡ entry)) ⊎ IsAt log e
 
-at_below : (log : List LogEntry) (e : Logged) → IsAt log e → e.number < length log
+pub at_below : (log : List LogEntry) (e : Logged) → IsAt log e → e.number < length log
 at_below [] e at = absurd at
 at_below (entry ∷ log) e (inl here) = let is = here.0 in omega arith
 at_below (entry ∷ log) e (inr there) = let before = at_below log e there in omega arith
 
 -- so do all of a worker's
-logged_are : (i : ℕ) (log : List LogEntry) → All (IsAt log) (logged_by i log)
+pub logged_are : (i : ℕ) (log : List LogEntry) → All (IsAt log) (logged_by i log)
 logged_are i [] = All-nil (IsAt [])
 logged_are i (entry ∷ log) = by (entry_worker entry == i) (logged_are i log) where
   more : (es : List Logged) → All (IsAt log) es → All (IsAt (entry ∷ log)) es
@@ -167,7 +167,7 @@ seats_fix_order first phase next posts log other order also =
     on.1 ∙ ap (λ (es : List LogEntry). es ++ log) none
 
 -- of phases that never fall none is later than the last
-at_phase : (phase : ℕ) (log : List LogEntry) (e : Logged) → PhasesRise phase log → IsAt log e
+pub at_phase : (phase : ℕ) (log : List LogEntry) (e : Logged) → PhasesRise phase log → IsAt log e
     → entry_phase e.entry ≤ phase
 at_phase phase [] e rise at = absurd at
 at_phase phase (entry ∷ log) e rise (inl here) =
@@ -175,7 +175,7 @@ at_phase phase (entry ∷ log) e rise (inl here) =
 at_phase phase (entry ∷ log) e rise (inr there) =
     let most = rise.0 in let rest = at_phase (entry_phase entry) log e rise.1 there in omega arith
 
-phases : (phase : ℕ) (log : List LogEntry) (a b : Logged) → PhasesRise phase log → IsAt log a → IsAt log b
+pub phases : (phase : ℕ) (log : List LogEntry) (a b : Logged) → PhasesRise phase log → IsAt log a → IsAt log b
     → entry_phase a.entry < entry_phase b.entry → a.number < b.number
 phases phase [] a b rise at_a at_b less = absurd at_a
 phases phase (entry ∷ log) a b rise (inl here) (inl there) less =

@@ -1,9 +1,7 @@
 -- The calls of all seats of a service, as those of one thread.
-use Rattle.std.specs.Prelude.{◌≡◌, ℕ, ◌+◌, ◌<◌, ◌≤◌, ◌==◌, nat_lt, All, List, [], filter, length, map, take, slice_get, slice_index, slice_index_or, AllPairs, Some}
+use Rattle.std.specs.Prelude.{◌≡◌, ℕ, ◌+◌, ◌<◌, ◌≤◌, ◌==◌, nat_lt, All, List, [], filter, flat_map, length, map, take, slice_get, slice_index, slice_index_or, AllPairs, Some}
 use Rattle.like_board.specs.Seats.{BoardId}
 use Rattle.like_core.specs.declared.view.PageCount.{PageCount}
-use Rattle.like_core.specs.core.Numbers.{AllGone}
-use Rattle.like_core.specs.core.State.{numbers}
 use Rattle.like_core.specs.views.Shows.{Moment}
 use Rattle.like_promises.specs.Store.{Store}
 use Rattle.like_requests.specs.Verdict.{home}
@@ -37,14 +35,24 @@ deeds_by seats seat deeds = filter (λ d. home seats d.user == seat) deeds
 abbrev pub opened : Opening → Store
 opened o = record { count = slice_index o.counts.items; last = last_in o.lasts.items }
 
--- serial, where these are the deeds of each seat: the list has them in their order, and no others; phases never fall; and
--- each deed fits the store after the deeds before it. (What is glimpsed may lack likes that other seats have in their
--- slices. Its count has the bounds of `IsWithinAdded`)
-pub record IsSerialService (o : Opening) (deeds : List (List Deed)) (serial : List Deed) : Type 0 where
+-- strict, where these are the deeds of each seat: the list has them in their order, and no others; it goes by their
+-- numbers; phases never fall; and each deed fits the store after the deeds before it. (What is glimpsed may lack likes
+-- that other seats have in their slices. Its count has the bounds of `IsWithinAdded`)
+pub record IsStrictService (o : Opening) (deeds : List (List Deed)) (serial : List Deed) : Type 0 where
   pub own : (seat : ℕ) → deeds_by o.seats seat serial ≡ slice_index_or deeds seat []
+  pub in_time : AllPairs (λ d e. d.number < e.number) serial
   pub rising : AllPairs (λ d e. d.phase ≤ e.phase) serial
   pub fits : (i : ℕ) (d : Deed) → slice_get serial i ≡ Some d
       → Fits (store_after (opened o) (take i serial)) d.user d.page d.act
+
+-- the law of numbers, which a host reads without the list: of a strict service, each deed fits the store after all deeds
+-- with lesser numbers, of whichever seats
+abbrev pub DeedsFitEarlier : Type 0
+DeedsFitEarlier =
+    (o : Opening) (deeds : List (List Deed)) (serial : List Deed) → IsStrictService o deeds serial
+    → All (λ d. Fits (store_after (opened o) (filter (λ e. nat_lt e.number d.number) (flat_map (λ ds. ds) deeds)))
+    d.user d.page d.act)
+    (flat_map (λ ds. ds) deeds)
 
 -- a snapshot is the store at the end of its phase: each count that the driver read in a phase is its page's after all
 -- deeds of the phase and of earlier ones
@@ -64,16 +72,17 @@ HasLastLikes o seats serial =
     (seat user : ℕ) (v : LiveView) → slice_get seats seat ≡ Some v → user < o.users → home o.seats user ≡ seat
     → last_of v.station.last user ≡ (store_after (opened o) serial).last user
 
--- the law of one thread: of a service that was opened so and is closed, there is a serial list of all deeds of its seats'
--- calls. Each snapshot is its store at the end of the phase, and last counts and last likes are its store's at the end
-abbrev pub ServicesAreSerial : Type 0
-ServicesAreSerial =
+-- the law of one order that keeps time: of a service that was opened so and is closed, there is a strict list of all
+-- deeds of its seats' calls. Each snapshot is its store at the end of the phase, and last counts and last likes are its
+-- store's at the end
+abbrev pub ServicesAreStrict : Type 0
+ServicesAreStrict =
     (o : Opening) (driver now : DriverView) (histories : List SeatHistory) (counts : List ℕ)
     → AreOpened o driver (map (λ h. h.first) histories)
     → IsSameDriver driver now
     → IsClosedService now (map (λ h. h.last) histories) counts
     → AreGone (map (λ h. h.last) histories)
-    → (serial : List Deed) × IsSerialService o (map deeds_in histories) serial
+    → (serial : List Deed) × IsStrictService o (map deeds_in histories) serial
     × SnapshotsStand o now.lead.seat.counted serial
     × HasLastCounts o counts serial × HasLastLikes o (map (λ h. h.last) histories) serial
 
@@ -88,12 +97,12 @@ SeatsRise =
     → AreGone (map (λ h. h.last) histories)
     → All (λ h. AllPairs (λ d e. d.phase ≤ e.phase) (deeds_in h)) histories
 
--- the same at a moment at which all seats are gone, without the seats
-abbrev pub LastMomentsAreSerial : Type 0
-LastMomentsAreSerial =
+-- the same while a service still runs: at each moment there is a strict list of all that its seats have done so far,
+-- likes in slices included, and the last likes that seats tell are its store's
+abbrev pub MomentsAreStrict : Type 0
+MomentsAreStrict =
     (o : Opening) (factor : ℕ) (board : BoardId) (histories : List SeatHistory) (m : Moment (board_opening o factor))
     → AreOpenedSeats o factor board (map (λ h. h.first) histories)
     → AreSeatsAt (board_opening o factor) m (map (λ h. h.last) histories)
-    → AllGone (numbers (board_opening o factor) m.shown.state)
-    → (serial : List Deed) × IsSerialService o (map deeds_in histories) serial
+    → (serial : List Deed) × IsStrictService o (map deeds_in histories) serial
     × HasLastLikes o (map (λ h. h.last) histories) serial
