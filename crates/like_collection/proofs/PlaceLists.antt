@@ -11,8 +11,12 @@ use Rattle.std.specs.List.{enumerate_from, filter, flat_map}
 use Rattle.like_promises.specs.declared.log.Added.{Added}
 use Rattle.like_promises.specs.declared.log.WorkerLog.{WorkerLog}
 use Rattle.like_promises.specs.declared.place.Place.{Place}
-use Rattle.like_promises.specs.places.Places.{AreByOld, lists_in, place_made, places_of, places_in}
+use Rattle.like_promises.specs.places.Places.{AreByOld, lists_in, places_of, places_in}
 use Rattle.like_collection.proofs.Lists.{enumerate_from-append}
+
+-- the place of a worker's addition
+abbrev pub place_made : ℕ → Added → Place
+place_made worker a = record { worker = worker; phase = a.phase; old = a.old; n = a.n }
 
 -- the place of an addition, where it is to the page
 abbrev pub place_if : ℕ → ℕ → Added → List Place

@@ -164,12 +164,7 @@ module _ (setup : Setup) (plans : List (List Request)) (notes : Bool) (e : Outco
         each = fits-worker;
       }) in (
         found.0,
-        record {
-          own = found.1.own;
-          rising = found.1.rising;
-          answers = found.1.answers;
-          counts = found.1.counts;
-        },
+        record { own = found.1.own; rising = found.1.rising; replies = found.1.replies },
       )
 
 -- so each count that a look was answered is between its bounds

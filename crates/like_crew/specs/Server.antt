@@ -121,7 +121,7 @@ pub record ServerGoesOn (s t : ServerView) : Type 0 where
 abbrev pub HasWorkedFor : Workload → ServerView → Type 0
 HasWorkedFor workload s = WorksFor workload s × ReadMasksOf workload s
 
--- a server's log is right for a workload: it is a log of the workload; its accepted likes are the additions of the
+-- a server's log is right for a workload: it is a log of the workload; its likes are the additions of the
 -- server's post, in all and phase by phase; the plain steps of its entries are the post's, and each step that adds nothing
 -- is plain; and the additions are noted if they are to be
 pub record IsLogFor (workload : Workload) (s : ServerView) (log : WorkerLog) : Type 0 where

@@ -1,15 +1,14 @@
-ghost use Rattle.std.specs.Prelude.{◌≡◌, false, true, IfOk, MatchResult, length, map};
+ghost use Rattle.std.specs.Prelude.{◌≡◌, IfOk, MatchResult, length, map};
 ghost use Rattle.like_requests.specs.Setup.{FitsRun};
 ghost use Rattle.like_board.specs.Closed.{IsClosedBoard};
 ghost use Rattle.like_board.specs.Seats.{board_id, coord_view};
 ghost use Rattle.like_promises.specs.WorkloadOf.{lists_of};
 ghost use Rattle.like_collection.specs.CollectFaults.{IsCollectFault};
 ghost use Rattle.like_promises.specs.Collected.{IsCollected, entries_in, rows_of};
-ghost use Rattle.like_promises.specs.EndToEnd.{IsRightReport};
+ghost use Rattle.like_promises.specs.Report.{IsReportOf};
 ghost use Rattle.like_crew.specs.Ended.{AreLeft, IsEnded};
 ghost use Rattle.like_crew.specs.Outcome.{IsOutcome};
 ghost use Rattle.like_crew.specs.Site.{IsSite};
-ghost use Rattle.like_promises.specs.places.Tiling.{HasNoPlaces, HasRightPlaces};
 
 use crate::ended::Ended;
 use crate::outcome::Outcome;
@@ -38,10 +37,7 @@ pub fn report_of(
     requires within { FitsRun setup.now (lists_of plans.now.value.items) }
     requires sizes { sizes.now ≡ map length (lists_of plans.now.value.items) }
     requires outcome { IsOutcome setup.now (lists_of plans.now.value.items) notes outcome }
-    ensures report { IfOk result (IsRightReport setup.now (lists_of plans.now.value.items)) }
-    ensures places { notes ≡ true
-        → IfOk result (HasRightPlaces setup.now (lists_of plans.now.value.items)) }
-    ensures none { notes ≡ false → IfOk result HasNoPlaces }
+    ensures report { IfOk result (IsReportOf setup.now (lists_of plans.now.value.items) notes) }
     ensures phases { IfOk result (λ report. report.phases ≡ outcome.phases) }
     ensures logs { IfOk result (λ report. report.logs ≡ outcome.logs) }
     ensures hot { IfOk result (λ report. report.hot ≡ outcome.chosen) }
@@ -63,10 +59,7 @@ pub fn report_in_parallel<T: Threads + Sync>(
     requires within { FitsRun setup.now (lists_of plans.now.value.items) }
     requires site { IsSite setup.now (lists_of plans.now.value.items) site }
     requires ended { IsEnded setup.now (lists_of plans.now.value.items) site ended }
-    ensures report { IfOk result (IsRightReport setup.now (lists_of plans.now.value.items)) }
-    ensures places { site.notes ≡ true
-        → IfOk result (HasRightPlaces setup.now (lists_of plans.now.value.items)) }
-    ensures none { site.notes ≡ false → IfOk result HasNoPlaces }
+    ensures report { IfOk result (IsReportOf setup.now (lists_of plans.now.value.items) site.notes) }
     ensures phases { IfOk result (λ report. report.phases ≡ ended.phases) }
 {
     let Site {
@@ -96,10 +89,7 @@ fn report_with(
     requires collected { MatchResult collected
         (λ replies. IsCollected sizes.now (entries_in outcome.logs.items) (rows_of replies))
         (IsCollectFault sizes.now (entries_in outcome.logs.items)) }
-    ensures report { IfOk result (IsRightReport setup.now (lists_of plans.now.value.items)) }
-    ensures places { notes ≡ true
-        → IfOk result (HasRightPlaces setup.now (lists_of plans.now.value.items)) }
-    ensures none { notes ≡ false → IfOk result HasNoPlaces }
+    ensures report { IfOk result (IsReportOf setup.now (lists_of plans.now.value.items) notes) }
     ensures phases { IfOk result (λ report. report.phases ≡ outcome.phases) }
     ensures logs { IfOk result (λ report. report.logs ≡ outcome.logs) }
     ensures hot { IfOk result (λ report. report.hot ≡ outcome.chosen) }

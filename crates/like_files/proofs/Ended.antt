@@ -1,5 +1,5 @@
 -- Why a run or a replay ended without its report.
-use Rattle.std.proofs.Common.{◌≡◌, ◌∙◌, ◌+◌, ◌*◌, ◌<◌, ◌≤◌, ◌^◌, ℕ, List, [], ◌∷◌, Vec, Global, Option, All, ap, arith, length, map, refl, sym}
+use Rattle.std.proofs.Common.{◌≡◌, ◌∙◌, Bool, ◌+◌, ◌*◌, ◌<◌, ◌≤◌, ◌^◌, ℕ, List, [], ◌∷◌, Vec, Global, Option, All, ap, arith, length, map, refl, sym}
 use Rattle.std.proofs.lemmas.List.{length-map}
 use Rattle.std.proofs.lemmas.List.Elements.{All-head, All-tail}
 use Rattle.std.specs.List.{fold}
@@ -7,8 +7,10 @@ use Rattle.like_requests.specs.declared.setup.Setup.{Setup}
 use Rattle.like_promises.specs.declared.answer.Answer.{Answer}
 use Rattle.like_promises.specs.declared.place.Place.{Place}
 use Rattle.like_promises.specs.declared.report.Report.{Report}
-use Rattle.like_promises.specs.places.Tiling.{HasRightPlaces}
-use Rattle.like_promises.specs.RunReport.{IsReportOfOneThread}
+use Rattle.like_promises.specs.declared.log.Ran.{Ran}
+use Rattle.like_promises.specs.places.Tiling.{ArePlacesTiled}
+use Rattle.like_promises.specs.RunReport.{workload_by}
+use Rattle.like_promises.specs.Report.{IsReportOf}
 use Rattle.like_limits.specs.Limits.{max_requests}
 use Rattle.like_requests.specs.Pages.{Page}
 use Rattle.like_requests.proofs.Planned.{fits-run}
@@ -34,9 +36,10 @@ use Rattle.like_files.specs.declared.fault.DriverFault.TheVariants.{Pages, Reque
 
 -- right places are one list for each page
 pub one_list_a_page : (setup : Setup) (plans : List (List Request)) (report : Report)
-    → HasRightPlaces setup plans report
+    (serial : List Ran)
+    → ArePlacesTiled (workload_by setup plans serial) report serial
     → length report.places.items ≡ length setup.pages
-one_list_a_page setup plans report right =
+one_list_a_page setup plans report serial right =
     sym (length-map report.places.items (λ (row : Vec Place Global). row.items)) ∙ right.rows.sized
 
 -- numbers of at most so many sum up to at most that for each
@@ -56,14 +59,14 @@ lengths [] a = refl
 lengths (row ∷ rows) a = lengths rows (a + length row.items)
 
 -- the replies of a right report are no more than the requests that a run takes
-pub few_requests : (setup : Setup) (plans : List (List Request)) (report : Report)
+pub few_requests : (setup : Setup) (plans : List (List Request)) (notes : Bool) (report : Report)
     → IsWithinLimits setup plans
-    → IsReportOfOneThread setup plans report
+    → IsReportOf setup plans notes report
     → requests_in report.replies < 2 ^ 64
-few_requests setup plans report within right =
+few_requests setup plans notes report within is =
     let sizes : List ℕ = map length plans in
     let same : requests_in report.replies ≡ fold (λ s n. s + n) 0 sizes =
-    lengths report.replies.rows.items 0 ∙ ap (fold (λ (s n : ℕ). s + n) 0) right.1.one.answers.sized in
+    lengths report.replies.rows.items 0 ∙ ap (fold (λ (s n : ℕ). s + n) 0) is.right.one.answers.sized in
     let numbers = (fits-run setup plans within).numbers in
     omega (arith, same, sum-≤ sizes 0 numbers.small, numbers.submitters.1)
 

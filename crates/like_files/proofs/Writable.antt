@@ -18,7 +18,7 @@ use Rattle.like_promises.specs.declared.reply.Reply.{Reply}
 use Rattle.like_promises.specs.declared.reply.Reply.TheVariants.{Liked, Seen, Refused}
 use Rattle.like_promises.specs.Replies.{HasRightAnswers, IsRightAnswer, uncounted}
 use Rattle.like_promises.specs.Store.{Ask, Store, after, after_all, like, look, refuse, reply}
-use Rattle.like_promises.specs.Workload.{Workload, nth, request_at}
+use Rattle.like_promises.specs.Workload.{Workload, nth, request_at, submitters}
 use Rattle.like_promises.specs.declared.answer.Answer.{Answer}
 use Rattle.like_promises.specs.declared.report.Report.{Report}
 use Rattle.like_promises.specs.Collected.{rows_of, answer_of, entries_of}
@@ -27,7 +27,7 @@ use Rattle.like_replies.specs.Reported.{reported}
 use Rattle.like_replies.specs.Rows.{IsShowable, IsWritable}
 use Rattle.like_promises.specs.RunStore.{start, store_after}
 use Rattle.like_promises.specs.RunReport.{IsRunOf}
-use Rattle.like_serial.proofs.OneThread.{serial_in}
+use Rattle.like_serial.proofs.OneThread.{one_thread_is_serial}
 
 -- what holds of each element by its place holds of all
 all_from_get : {X : Type 0} (P : X → Type 0) (xs : List X)
@@ -86,6 +86,10 @@ module _ (workload : Workload) (planned : All (IsPlan workload.pages) workload.p
             (subst (IsPlan workload.pages) (get_or_from_slice_get workload.plans submitter plan plan is)
             (planned submitter plan (slice_get_within workload.plans submitter plan is))) h
 
+  -- what a submitter's request asks
+  abbrev asking : ℕ → Request → Ask
+  asking submitter r = asked_by workload.users (submitters workload) submitter r
+
   -- a store whose last likes are of pages that are there
   abbrev HasPages : Store → Type 0
   HasPages s = (user : ℕ) → ForSome (s.last user) (λ p. p < length workload.pages)
@@ -108,12 +112,12 @@ module _ (workload : Workload) (planned : All (IsPlan workload.pages) workload.p
       (λ r at. asked_there e.submitter e.number r at) where
         by : ((t : Store) → HasPages t → HasPages (after_all t (asks workload rest)))
             → (o : Option Request) → ((r : Request) → o ≡ Some r → IsThere (length workload.pages) r.page)
-            → HasPages (after_all s (cons_option (option_map (asked_by workload e.submitter) o) (asks workload rest)))
+            → HasPages (after_all s (cons_option (option_map (asking e.submitter) o) (asks workload rest)))
         by more None there = more s has
         by more (Some r) there =
-            more (after s (asked_by workload e.submitter r))
-            (after_there s (asked_by workload e.submitter r)
-            (like-there workload e.submitter r (length workload.pages) (there r refl)) has)
+            more (after s (asking e.submitter r))
+            (after_there s (asking e.submitter r)
+            (like-there workload.users (submitters workload) e.submitter r (length workload.pages) (there r refl)) has)
 
   has_pages : (entries : List Ran) → HasPages (store_after workload entries)
   has_pages entries = ran_there (start workload) entries (λ user p h. absurd (let no : None ≡ Some p = h in cc no))
@@ -141,15 +145,15 @@ module _ (workload : Workload) (planned : All (IsPlan workload.pages) workload.p
   entry_shows : (before : List Ran) (e : Ran) → IsRightAnswer workload before e → IsShowable workload.pages e.reply
   entry_shows before e right = by_request (request_at workload e.submitter e.number) right where
     by_request : (o : Option Request)
-        → option_map (λ a. uncounted (reply (store_after workload before) a)) (option_map (asked_by workload e.submitter) o)
+        → option_map (λ a. uncounted (reply (store_after workload before) a)) (option_map (asking e.submitter) o)
         ≡ Some (uncounted e.reply)
         → IsShowable workload.pages e.reply
     by_request None h = absurd (cc h)
     by_request (Some r) h =
-        let same : uncounted (reply (store_after workload before) (asked_by workload e.submitter r)) ≡ uncounted e.reply =
+        let same : uncounted (reply (store_after workload before) (asking e.submitter r)) ≡ uncounted e.reply =
         cc h in
-        reply_shows (store_after workload before) (asked_by workload e.submitter r) e.reply (has_pages before)
-        (refused-why workload e.submitter r) same
+        reply_shows (store_after workload before) (asking e.submitter r) e.reply (has_pages before)
+        (refused-why workload.users (submitters workload) e.submitter r) same
 
   list_shows : (ran : List Ran) → HasRightAnswers workload ran
       → AllByRecursion (λ (e : Ran). IsShowable workload.pages e.reply) ran
@@ -160,7 +164,7 @@ module _ (workload : Workload) (planned : All (IsPlan workload.pages) workload.p
   module _ (workers : ℕ) (r : Report) (serial : List Ran) (h : IsRunOf workload workers r serial) where
     -- all entries can be shown
     all_show : AllByRecursion (λ (e : Ran). IsShowable workload.pages e.reply) serial
-    all_show = list_shows serial (serial_in workload workers r serial h.one).answers
+    all_show = list_shows serial (one_thread_is_serial workload serial h.one.replies).0
 
     -- so can each answer, which is that of an entry
     answer_shows : (submitter place : ℕ) (a : Answer) → nth (get_or (rows_of r.replies) submitter []) (suc place) ≡ Some a

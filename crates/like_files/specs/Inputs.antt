@@ -18,7 +18,7 @@ use Rattle.like_replies.specs.PlaceRows.{text_of}
 use Rattle.like_replies.specs.declared.extent.Extent.{Extent}
 use Rattle.like_replies.specs.Notices.{notice_of}
 use Rattle.like_replies.specs.declared.notice.Notice.{Notice}
-use Rattle.like_run.specs.Report.{IsReportOf}
+use Rattle.like_promises.specs.Report.{IsReportOf}
 use Rattle.like_requests.specs.ScriptFile.{IsScriptFault, IsScriptFile}
 use Rattle.like_requests.specs.declared.script_file.ScriptFault.{ScriptFault}
 use Rattle.like_requests.specs.declared.script.Turned.{Turned}

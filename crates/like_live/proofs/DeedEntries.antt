@@ -125,8 +125,7 @@ by_step v s since same logged has = goes_on v (next v s) (done_by v s) since sam
 enters_one : (v : LiveView) (s : Step v) → IsNoSlice v s → Enters v (done_by v s) (next v s)
 enters_one v (looks sight mask number can) plain = by_step v (looks sight mask number can) (_ ∷ []) refl refl tt
 enters_one v (finds found logged joined order shown logs) plain =
-    let w = with_found v found logged in
-    (
+    let w = with_found v found logged in (
       record { worker = refl; since = logs.since; logged = logs.logged },
       found_entries v.station.post.worker (made_since v w) found
           (ap (map (λ (e : Logged). e.entry)) (since_is v w logs.since logs.logged)
@@ -173,8 +172,7 @@ deeds_have_entries v now t does =
     let worker = v.station.post.worker in
     let made = made_since v now in
     let deeds = deeds_of_call v t now in
-    let HasEntry : Deed → Type 0 = λ d. (e : Logged) × Contains made e × IsEntryOf worker e d in
-    (
+    let HasEntry : Deed → Type 0 = λ d. (e : Logged) × Contains made e × IsEntryOf worker e d in (
       all.0,
       rec_all HasEntry deeds
           (have_all worker (Contains made) HasEntry (λ e d is there. (e, there, is)) made deeds all.1

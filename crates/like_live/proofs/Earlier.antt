@@ -134,9 +134,10 @@ module _ (o : Opening) (deeds : List (List Deed)) (serial : List Deed) (is : IsS
       ap (filter (λ (e : Deed). nat_lt e.number d.number)) here
       ∙ filter-append (λ (e : Deed). nat_lt e.number d.number) (take i serial) (d ∷ rest)
       ∙ ap₂ (λ a b. a ++ b) (all_below (λ (e : Deed). e.number) d.number (take i serial) up.0)
-      (none_below (λ (e : Deed). e.number) d.number (d ∷ rest)
-      (omega arith,
-      all_then (λ (e : Deed). d.number < e.number) (λ e. d.number ≤ e.number) rest (λ e less. omega (arith, less)) up.1))
+      (none_below (λ (e : Deed). e.number) d.number (d ∷ rest) (
+        omega arith,
+        all_then (λ (e : Deed). d.number < e.number) (λ e. d.number ≤ e.number) rest (λ e less. omega (arith, less)) up.1,
+      ))
       ∙ append-nil (take i serial)
 
   abbrev FitsEarlier : Deed → Type 0

@@ -1,10 +1,11 @@
 -- What requests ask, by the three tests of an accepted request.
-use Rattle.std.proofs.Common.{◌≡◌, ◌≢◌, ℕ, ◌<◌, Bool, true, false, not, ◌&&◌, ◌==◌, nat_lt, cond, List, [], ◌∷◌, ◌++◌, Some, refl, ap, ◌∙◌, subst}
+use Rattle.std.proofs.Common.{◌≡◌, ◌≢◌, ℕ, ◌<◌, Bool, true, false, not, ◌==◌, nat_lt, cond, List, [], ◌∷◌, ◌++◌, Some, refl, ap, ◌∙◌, subst}
+use Rattle.std.proofs.lemmas.Bool.{ltb-true}
 use Rattle.std.proofs.lemmas.List.Elements.{filter_map-append}
 use Rattle.std.specs.List.{cons_option}
-use Rattle.std.specs.Option.{option_map_or}
+use Rattle.std.specs.Prelude.{⊤}
 use Rattle.like_requests.specs.Setup.{IsThere}
-use Rattle.like_requests.specs.Verdict.{home, is_accepted, is_known, verdict_of}
+use Rattle.like_requests.specs.Verdict.{home, is_known, verdict_of}
 use Rattle.like_requests.specs.declared.request.Op.{Op}
 use Rattle.like_requests.specs.declared.request.Op.TheVariants.{Like, Look}
 use Rattle.like_requests.specs.declared.request.PageRef.{PageRef}
@@ -14,10 +15,8 @@ use Rattle.like_requests.specs.declared.verdict.Verdict.{Verdict}
 use Rattle.like_requests.specs.declared.verdict.Verdict.TheVariants.{Accepted, UnknownUser, OtherHome, UnknownPage}
 use Rattle.like_promises.specs.declared.log.Ran.{Ran}
 use Rattle.like_promises.specs.Asked.{asked, asked_by, asked_of, asks}
-use Rattle.like_promises.specs.Looks.{page_looked_at}
-use Rattle.like_promises.specs.Order.{must_wait}
 use Rattle.like_promises.specs.Store.{Ask, like, look, refuse}
-use Rattle.like_promises.specs.Workload.{Workload, submitters}
+use Rattle.like_promises.specs.Workload.{Workload}
 
 -- the verdict by the tests, and what is asked by them
 abbrev verdict_by : Bool → Bool → PageRef → Verdict
@@ -42,17 +41,34 @@ accepted-tests true true op user p is = refl
 accepted-tests true false op user p is = absurd (cc is)
 accepted-tests false b op user p is = absurd (cc is)
 
-there-tests : (a b : Bool) (op : Op) (user : ℕ) (p : PageRef) (n : ℕ)
-    → IsThere n p
-    → (who page : ℕ)
-    → ask_by a b op user p ≡ like who page
-    → page < n
-there-tests true true Like user (Known q) n there who page is = subst (λ k. k < n) (cc is) there
-there-tests true true Look user (Known q) n there who page is = cc is
-there-tests true true Like user Unknown n there who page is = cc is
-there-tests true true Look user Unknown n there who page is = cc is
-there-tests true false op user p n there who page is = cc is
-there-tests false b op user p n there who page is = cc is
+-- a page, and a user, that what is asked names is one of so many
+abbrev pub HasPageBelow : ℕ → Ask → Type 0
+HasPageBelow n (like user page) = page < n
+HasPageBelow n (look user page) = page < n
+HasPageBelow n (refuse why) = ⊤
+
+abbrev HasUserBelow : ℕ → Ask → Type 0
+HasUserBelow n (like user page) = user < n
+HasUserBelow n (look user page) = user < n
+HasUserBelow n (refuse why) = ⊤
+
+page-tests : (a b : Bool) (op : Op) (user : ℕ) (p : PageRef) (n : ℕ) → IsThere n p → HasPageBelow n (ask_by a b op user p)
+page-tests true true Like user (Known q) n there = there
+page-tests true true Look user (Known q) n there = there
+page-tests true true Like user Unknown n there = tt
+page-tests true true Look user Unknown n there = tt
+page-tests true false op user p n there = tt
+page-tests false b op user p n there = tt
+
+user-tests : (a b : Bool) (op : Op) (user : ℕ) (p : PageRef) (n : ℕ)
+    → (a ≡ true → user < n)
+    → HasUserBelow n (ask_by a b op user p)
+user-tests true true Like user (Known q) n there = there refl
+user-tests true true Look user (Known q) n there = there refl
+user-tests true true Like user Unknown n there = tt
+user-tests true true Look user Unknown n there = tt
+user-tests true false op user p n there = tt
+user-tests false b op user p n there = tt
 
 why-tests : (a b : Bool) (op : Op) (user : ℕ) (p : PageRef) (why : Verdict)
     → ask_by a b op user p ≡ refuse why
@@ -64,48 +80,35 @@ why-tests true true Look user Unknown why is same = cc (is, same)
 why-tests true false op user p why is same = cc (is, same)
 why-tests false b op user p why is same = cc (is, same)
 
-waits-tests : (a b : Bool) (op : Op) (user : ℕ) (p : PageRef) (is_split : ℕ → Bool)
-    → must_wait is_split (ask_by a b op user p)
-    ≡ ((a && b && is_known p) && option_map_or is_split (page_looked_at op p) false)
-waits-tests true true Like user (Known page) is_split = refl
-waits-tests true true Look user (Known page) is_split = refl
-waits-tests true true Like user Unknown is_split = refl
-waits-tests true true Look user Unknown is_split = refl
-waits-tests true false op user p is_split = refl
-waits-tests false b op user p is_split = refl
-
-module _ (workload : Workload) (submitter : ℕ) (r : Request) where
+module _ (users submitters submitter : ℕ) (r : Request) where
   abbrev here : Verdict
-  here = verdict_of workload.users (submitters workload) submitter r
+  here = verdict_of users submitters submitter r
 
   -- what isn't accepted is refused, with its verdict
-  pub ask-refused : here ≢ Accepted → asked_by workload submitter r ≡ refuse here
-  ask-refused =
-      refused-tests (nat_lt r.user workload.users) (home (submitters workload) r.user == submitter) r.op r.user r.page
+  pub ask-refused : here ≢ Accepted → asked_by users submitters submitter r ≡ refuse here
+  ask-refused = refused-tests (nat_lt r.user users) (home submitters r.user == submitter) r.op r.user r.page
 
   -- what is accepted asks for a like or a look
-  pub ask-accepted : here ≡ Accepted → asked_by workload submitter r ≡ asked_of r.op r.user r.page
-  ask-accepted =
-      accepted-tests (nat_lt r.user workload.users) (home (submitters workload) r.user == submitter) r.op r.user r.page
+  pub ask-accepted : here ≡ Accepted → asked_by users submitters submitter r ≡ asked_of r.op r.user r.page
+  ask-accepted = accepted-tests (nat_lt r.user users) (home submitters r.user == submitter) r.op r.user r.page
 
-  -- a like is of the request's page
-  pub like-there : (n : ℕ) → IsThere n r.page → (user page : ℕ) → asked_by workload submitter r ≡ like user page
+  -- a like or a look is of the request's page
+  pub page-there : (n : ℕ) → IsThere n r.page → HasPageBelow n (asked_by users submitters submitter r)
+  page-there = page-tests (nat_lt r.user users) (home submitters r.user == submitter) r.op r.user r.page
+
+  pub like-there : (n : ℕ) → IsThere n r.page → (user page : ℕ) → asked_by users submitters submitter r ≡ like user page
       → page < n
-  like-there n =
-      there-tests (nat_lt r.user workload.users) (home (submitters workload) r.user == submitter) r.op r.user r.page n
+  like-there n there user page is = subst (HasPageBelow n) is (page-there n there)
+
+  -- and of a user who is there
+  pub liker-there : (user page : ℕ) → asked_by users submitters submitter r ≡ like user page → user < users
+  liker-there user page is =
+      subst (HasUserBelow users) is
+      (user-tests (nat_lt r.user users) (home submitters r.user == submitter) r.op r.user r.page users (ltb-true r.user users))
 
   -- a refusal has a reason
-  pub refused-why : (why : Verdict) → asked_by workload submitter r ≡ refuse why → why ≢ Accepted
-  refused-why =
-      why-tests (nat_lt r.user workload.users) (home (submitters workload) r.user == submitter) r.op r.user r.page
-
-  -- what has to wait is an accepted look at a split page
-  pub must_wait-is : (is_split : ℕ → Bool)
-      → must_wait is_split (asked_by workload submitter r)
-      ≡ (is_accepted workload.users (submitters workload) submitter r
-      && option_map_or is_split (page_looked_at r.op r.page) false)
-  must_wait-is =
-      waits-tests (nat_lt r.user workload.users) (home (submitters workload) r.user == submitter) r.op r.user r.page
+  pub refused-why : (why : Verdict) → asked_by users submitters submitter r ≡ refuse why → why ≢ Accepted
+  refused-why = why-tests (nat_lt r.user users) (home submitters r.user == submitter) r.op r.user r.page
 
 -- what one entry more asks
 pub asks-push : (workload : Workload) (ran : List Ran) (e : Ran) (a : Ask)

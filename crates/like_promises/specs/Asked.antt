@@ -18,16 +18,18 @@ asked_of Look user (Known page) = look user page
 asked_of Like user Unknown = refuse UnknownPage
 asked_of Look user Unknown = refuse UnknownPage
 
--- what a submitter's request asks: it is refused if there is no such user, or if the submitter isn't the user's home
-abbrev pub asked_by : Workload → ℕ → Request → Ask
-asked_by workload submitter r =
-    if not (nat_lt r.user workload.users) then refuse UnknownUser
-    else (if not (home (submitters workload) r.user == submitter) then refuse OtherHome
+-- what a submitter's request asks, of so many users and submitters: it is refused if there is no such user, or if the
+-- submitter isn't the user's home
+abbrev pub asked_by : ℕ → ℕ → ℕ → Request → Ask
+asked_by users submitters submitter r =
+    if not (nat_lt r.user users) then refuse UnknownUser
+    else (if not (home submitters r.user == submitter) then refuse OtherHome
     else asked_of r.op r.user r.page)
 
 -- what a submitter asks by this number, if it does
 abbrev pub asked : Workload → ℕ → ℕ → Option Ask
-asked workload submitter number = option_map (asked_by workload submitter) (request_at workload submitter number)
+asked workload submitter number =
+    option_map (asked_by workload.users (submitters workload) submitter) (request_at workload submitter number)
 
 -- what these entries ask, in their order
 abbrev pub asks : Workload → List Ran → List Ask

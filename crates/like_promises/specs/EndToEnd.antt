@@ -29,7 +29,7 @@ AreLogs workload workers phases logs =
     (worker : ℕ) (log : WorkerLog) → slice_get logs worker ≡ Some log
     → IsLog workload workers worker log × All (λ t. t.phase ≤ phases) log.taken.items
 
--- the final count of each page is its initial count and the accepted likes of it
+-- the final count of each page is its initial count and the likes of it
 abbrev pub AreCounts : Workload → List (List Ran) → List ℕ → Type 0
 AreCounts workload runs counts =
     counts ≡ map (λ page. initial_count workload.pages page + likes workload page runs)
@@ -57,5 +57,4 @@ pub record IsEndToEnd (workload : Workload) (workers : ℕ) (r : Report) : Type 
 
 -- a right report of settings and plans: end to end, with the hot pages that follow from its own run lists
 abbrev pub IsRightReport : Setup → List (List Request) → Report → Type 0
-IsRightReport setup plans r =
-    IsEndToEnd (workload_by setup plans (entries_in r.logs.items)) setup.workers r
+IsRightReport setup plans r = IsEndToEnd (workload_by setup plans (entries_in r.logs.items)) setup.workers r

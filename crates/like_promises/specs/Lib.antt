@@ -16,3 +16,4 @@ pub mod RunFault
 pub mod OneThread
 pub mod RunReport
 pub mod places
+pub mod Report

@@ -5,14 +5,13 @@ use Rattle.std.specs.Option.{option_map_or}
 use Rattle.like_requests.specs.Pages.{Page}
 use Rattle.like_promises.specs.declared.log.Ran.{Ran}
 use Rattle.like_promises.specs.Asked.{asks}
-use Rattle.like_promises.specs.Store.{Ask, like, look, refuse}
+use Rattle.like_promises.specs.Store.{Ask, like}
 use Rattle.like_promises.specs.Workload.{Workload}
 
 -- whether what is asked is a like of the page
 abbrev pub is_like_of : ℕ → Ask → Bool
 is_like_of page (like user liked) = liked == page
-is_like_of page (look user looked) = false
-is_like_of page (refuse why) = false
+is_like_of page given = false
 
 -- how many likes of the page entries ask for
 abbrev pub likes_among : Workload → ℕ → List Ran → ℕ
@@ -22,10 +21,9 @@ likes_among workload page entries = count_by (is_like_of page) (asks workload en
 abbrev pub likes : Workload → ℕ → List (List Ran) → ℕ
 likes workload page runs = sum_by (likes_among workload page) runs
 
--- how many do in this phase
+-- how many entries of this phase do
 abbrev pub likes_within : Workload → ℕ → List Ran → ℕ → ℕ
-likes_within workload page entries phase =
-    likes_among workload page (filter (λ e. e.phase == phase) entries)
+likes_within workload page ran phase = count_by (is_like_of page) (asks workload (filter (λ e. e.phase == phase) ran))
 
 -- the last element of a list, if there is one
 abbrev pub last_in : {X : Type 0} → List X → Option X

@@ -1,21 +1,11 @@
 -- Looks: at which page, and which count their replies show.
 use Rattle.std.specs.Prelude.{ℕ, Option, Some, None, option_and_then}
-use Rattle.like_requests.specs.declared.request.Op.{Op}
-use Rattle.like_requests.specs.declared.request.Op.TheVariants.{Like, Look}
-use Rattle.like_requests.specs.declared.request.PageRef.{PageRef}
-use Rattle.like_requests.specs.declared.request.PageRef.TheVariants.{Known, Unknown}
 use Rattle.like_promises.specs.declared.log.Ran.{Ran}
 use Rattle.like_promises.specs.declared.reply.Reply.{Reply}
 use Rattle.like_promises.specs.declared.reply.Reply.TheVariants.{Liked, Seen, Refused}
 use Rattle.like_promises.specs.Asked.{asked}
 use Rattle.like_promises.specs.Store.{Ask, like, look, refuse}
 use Rattle.like_promises.specs.Workload.{Workload}
-
--- the page of a look
-abbrev pub page_looked_at : Op → PageRef → Option ℕ
-page_looked_at Like page = None
-page_looked_at Look (Known page) = Some page
-page_looked_at Look Unknown = None
 
 -- the page of a look that is asked
 abbrev pub page_asked : Ask → Option ℕ

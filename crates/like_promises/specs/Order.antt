@@ -28,13 +28,11 @@ pub record Entry : Type 0 where
 
 -- the entry that a run list shows
 abbrev pub entry_of : Ran → Entry
-entry_of e =
-    record { phase = e.phase; submitter = e.submitter; number = e.number; stashed = e.stashed }
+entry_of e = record { phase = e.phase; submitter = e.submitter; number = e.number; stashed = e.stashed }
 
 -- what was taken, as it runs in a phase
 abbrev pub entry_in : ℕ → Bool → Took → Entry
-entry_in phase stashed t =
-    record { phase = phase; submitter = t.submitter; number = t.number; stashed = stashed }
+entry_in phase stashed t = record { phase = phase; submitter = t.submitter; number = t.number; stashed = stashed }
 
 -- taken in the phase before this one, to wait
 abbrev pub is_due : Workload → ℕ → Took → Bool

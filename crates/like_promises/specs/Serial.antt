@@ -1,10 +1,12 @@
 -- The run of one thread.
-use Rattle.std.specs.Prelude.{◌≡◌, ℕ, ◌+◌, ◌≤◌, ◌==◌, List, [], filter, take, slice_get, slice_index_or, AllPairs, Some}
+use Rattle.std.specs.Prelude.{◌≡◌, ℕ, ◌+◌, ◌≤◌, ◌==◌, List, [], filter, map, take, slice_get, slice_index_or, AllPairs, Some}
 use Rattle.like_tables.specs.Share.{worker_of}
 use Rattle.like_promises.specs.declared.log.Ran.{Ran}
+use Rattle.like_promises.specs.Asked.{asks}
 use Rattle.like_promises.specs.Likes.{initial_count, likes_among}
 use Rattle.like_promises.specs.Looks.{count_in, look_ran}
-use Rattle.like_promises.specs.Replies.{HasRightAnswers}
+use Rattle.like_promises.specs.RunStore.{start}
+use Rattle.like_promises.specs.Store.{replies}
 use Rattle.like_promises.specs.Workload.{Workload}
 
 -- the run list of a worker
@@ -19,7 +21,7 @@ entries_by workers worker entries = filter (λ e. worker_of workers e.submitter 
 abbrev pub AreRising : List Ran → Type 0
 AreRising entries = AllPairs (λ d e. d.phase ≤ e.phase) entries
 
--- exact counts: the count in the reply to an accepted look is the page's initial count and the accepted likes of the
+-- exact counts: the count in the reply to a look is the page's initial count and the likes of the
 -- page among the entries before it
 abbrev pub HasExactCounts : Workload → List Ran → Type 0
 HasExactCounts workload serial =
@@ -27,13 +29,12 @@ HasExactCounts workload serial =
     → count_in e.reply ≡ initial_count workload.pages page + likes_among workload page (take i serial)
 
 -- serial: the entries of each worker, in their order, are its run list, and there are no others; phases never fall; and
--- each reply is the one that a service with one thread gives after the entries before it
+-- the replies are those of the store
 pub record IsSerial (workload : Workload) (workers : ℕ) (runs : List (List Ran)) (serial : List Ran)
     : Type 0 where
   pub own : (worker : ℕ) → entries_by workers worker serial ≡ run_of runs worker
   pub rising : AreRising serial
-  pub answers : HasRightAnswers workload serial
-  pub counts : HasExactCounts workload serial
+  pub replies : map (λ e. e.reply) serial ≡ replies (start workload) (asks workload serial)
 
 -- one order: the run lists are those of one thread, which ran the same entries one after the other
 abbrev pub HasOneOrder : Workload → ℕ → List (List Ran) → Type 0

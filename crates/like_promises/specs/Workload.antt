@@ -3,7 +3,6 @@ use Rattle.std.specs.Prelude.{ℕ, zero, suc, Bool, List, [], length, slice_get,
 use Rattle.like_requests.specs.Pages.{Page, marks_of}
 use Rattle.like_requests.specs.declared.request.Request.{Request}
 use Rattle.like_core.specs.Phase.{is_marked, split}
-use Rattle.like_promises.specs.declared.log.Ran.{Ran}
 
 -- what a run serves: how many users, which pages, how many looks may wait at a worker, hot pages of phases, plans
 pub record Workload : Type 0 where
@@ -26,11 +25,6 @@ nth xs (suc n) = slice_get xs n
 abbrev pub request_at : Workload → ℕ → ℕ → Option Request
 request_at workload submitter number = nth (slice_index_or workload.plans submitter []) number
 
--- the request that an entry ran
-abbrev pub request_of : Workload → Ran → Option Request
-request_of workload e = request_at workload e.submitter e.number
-
 -- split pages: whether a page is split in a phase (in an even one no page is)
 abbrev pub is_split_in : Workload → ℕ → ℕ → Bool
-is_split_in workload phase page =
-    split (is_marked (marks_of workload.pages)) workload.hot phase page
+is_split_in workload phase page = split (is_marked (marks_of workload.pages)) workload.hot phase page

@@ -11,7 +11,6 @@ use Rattle.like_requests.specs.Pages.{marks_of}
 use Rattle.like_requests.specs.declared.request.Numbered.{Numbered}
 use Rattle.like_requests.specs.declared.request.Request.{Request}
 use Rattle.like_requests.specs.declared.request.Taken.{Taken}
-use Rattle.like_requests.specs.declared.verdict.Verdict.TheVariants.{Accepted}
 use Rattle.like_core.specs.declared.sight.Sight.{Sight}
 use Rattle.like_core.specs.declared.worker_state.WorkerState.{WorkerState}
 use Rattle.like_core.specs.declared.worker_state.WorkerState.TheVariants as state
@@ -26,16 +25,15 @@ use Rattle.like_core.specs.Phase.{IsJoined, IsSplit, is_hot_by, is_marked, split
 use Rattle.like_core.specs.WorkerState.{IsRunning, RunsJoined, RunsSplit, RunsSome, phase_of, seen}
 use Rattle.like_core.specs.Post.{additions_in, answered, looked_at, number_of, pages_of, slices}
 use Rattle.like_tables.specs.declared.held.Held.{Held}
-use Rattle.like_promises.proofs.Asked.{must_wait-is}
 use Rattle.like_promises.specs.Asked.{asked_by}
 use Rattle.like_promises.specs.declared.log.Ran.{Ran}
 use Rattle.like_promises.specs.declared.log.Took.{Took}
 use Rattle.like_roles.specs.declared.turn.Turn.{Turn}
 use Rattle.like_roles.specs.worker.Follows.{FitsStash, Follows, IsAsked, IsAskedBy, IsInOrder, IsNoted, IsServed, IsSized, IsTallied, IsUnmerged, HasNothingLater, Stands, entry_held, next_joined}
 use Rattle.like_promises.specs.Order.{block, entry_of, must_wait, order, waited}
-use Rattle.like_roles.specs.worker.WorkerView.{is_look_at_sliced, WorkerView, has_to_wait, phase_at, seat_of, submitter_at}
-use Rattle.like_promises.specs.Looks.{page_looked_at}
-use Rattle.like_roles.specs.worker.Serve.{Runs, ran_now, verdict_at}
+use Rattle.like_roles.specs.worker.WorkerView.{WorkerView, asked_in, has_to_wait, phase_at, seat_of, submitter_at}
+use Rattle.like_promises.specs.Store.{look}
+use Rattle.like_roles.specs.worker.Serve.{Runs, ran_now}
 use Rattle.like_promises.specs.Workload.{Workload, is_split_in, request_at, submitters}
 use Rattle.like_roles.specs.worker.Turns as turns
 use Rattle.like_roles.specs.worker.Turns.{CanGive, Gives, TakesAsk, Turns, Works, held_from, merged, saw, settled, trying, with_stashed, with_taken, without_first}
@@ -53,7 +51,7 @@ use Rattle.like_roles.proofs.notes.NotedMerge.{merge-noted, merges-some, merges-
 use Rattle.like_roles.proofs.notes.Noting.{GivesReply-noted, running-unmerged, unmerged-running, unmerged-seen}
 use Rattle.like_roles.proofs.Served.{runs-split}
 use Rattle.like_roles.proofs.counts.Steps.{plain_told-split}
-use Rattle.like_roles.proofs.counts.Tallied.{GivesReply-tallied, accepted-true}
+use Rattle.like_roles.proofs.counts.Tallied.{GivesReply-tallied}
 use Rattle.like_serial.specs.StepsTold.{plain_told}
 
 -- a worker that runs a phase follows the plans
@@ -109,8 +107,7 @@ follows-run : (workload : Workload) (v after : WorkerView) (h : Held) (stashed :
     → HasPhaseMask v.post
     → IsAsked workload h
     → IsSliceInSplit v.post v.slice
-    → ((page : ℕ) → verdict_at v h.submitter h.ask.request ≡ Accepted
-    → page_looked_at h.ask.request.op h.ask.request.page ≡ Some page → slices v.post page ≡ false)
+    → ((user page : ℕ) → asked_in v.last.share h.submitter h.ask.request ≡ look user page → slices v.post page ≡ false)
     → All (IsAsked workload) v.held.held
     → FitsStash workload v.taken
     → HasNothingLater v.taken v.ran (phase_at v)
@@ -296,7 +293,7 @@ follows-held workload v first rest after none f kept j e run =
     f.noted f.unmerged (λ odd. absurd (not-split v.post.state j odd))
     (All-head (IsAsked workload) first rest all)
     kept
-    (λ page _ _. unsliced-joined v page even)
+    (λ user page _. unsliced-joined v page even)
     (All-tail (IsAsked workload) first rest all) f.fits
     (within-of_running v IsJoined v.post.state j f.stands)
     (λ r. ap (λ n. map entry_of after.ran ++ map (entry_held n) rest) same
@@ -486,14 +483,16 @@ follows-settled workload v f = record {
   trying = λ place e. absurd (cc e);
 }
 
+-- whether a request has to wait, of so many users and submitters, where these pages are split
+abbrev waits_by : ℕ → ℕ → (ℕ → Bool) → ℕ → Request → Bool
+waits_by users submitters is_split submitter r = must_wait is_split (asked_by users submitters submitter r)
+
 -- what is taken has to wait where its request does
 waited-is : (workload : Workload) (t : Took) (r : Request) → request_at workload t.submitter t.number ≡ Some r
-    → waited workload t
-    ≡ is_look_at_sliced workload.users (submitters workload) (is_split_in workload t.phase) t.submitter r
-waited-is workload t r asked =
-    ap (λ o. option_map_or (must_wait (is_split_in workload t.phase)) (option_map (asked_by workload t.submitter) o) false)
-    asked
-    ∙ must_wait-is workload t.submitter r (is_split_in workload t.phase)
+    → waited workload t ≡ waits_by workload.users (submitters workload) (is_split_in workload t.phase) t.submitter r
+waited-is workload t r =
+    ap (λ o. option_map_or (must_wait (is_split_in workload t.phase))
+    (option_map (asked_by workload.users (submitters workload) t.submitter) o) false)
 
 -- whether a request has to wait is the same by the workload and by the worker, which has read its split phase's mask
 waits-alike : (workload : Workload) (v : WorkerView) (submitter number : ℕ) (r : Request)
@@ -505,27 +504,22 @@ waits-alike : (workload : Workload) (v : WorkerView) (submitter number : ℕ) (r
     ≡ has_to_wait v submitter r
 waits-alike workload v submitter number r asked s run has =
     waited-is workload (record { phase = phase_at v; submitter = submitter; number = number }) r asked
-    ∙ ap (λ u. is_look_at_sliced u (submitters workload) (is_split_in workload (phase_at v)) submitter r) s.users
-    ∙ ap (λ m. is_look_at_sliced v.last.share.users m (is_split_in workload (phase_at v)) submitter r) s.submitters_alike
-    ∙ ap (λ xs. is_look_at_sliced v.last.share.users v.last.share.submitters
+    ∙ ap (λ u. waits_by u (submitters workload) (is_split_in workload (phase_at v)) submitter r) s.users
+    ∙ ap (λ m. waits_by v.last.share.users m (is_split_in workload (phase_at v)) submitter r) s.submitters_alike
+    ∙ ap (λ xs. waits_by v.last.share.users v.last.share.submitters
     (λ page. split (λ p. get_or xs p false) workload.hot (phase_at v) page) submitter r) s.marks_alike
-    ∙ ap (λ (l : Limits). is_look_at_sliced v.last.share.users v.last.share.submitters
+    ∙ ap (λ (l : Limits). waits_by v.last.share.users v.last.share.submitters
     (λ page. split_by l.hot (λ p. get_or v.post.opening.marks p false) workload.hot (phase_at v) page) submitter r) (sym s.run)
-    ∙ (λ m. is_look_at_sliced v.last.share.users v.last.share.submitters
+    ∙ (λ m. waits_by v.last.share.users v.last.share.submitters
     (λ page. split-known v.post.opening.limits.hot (λ p. get_or v.post.opening.marks p false) workload.hot v.post.masks (phase_at v) page s.hot_alike
     (λ odd _ _. has (runs-split v.post.state run odd)) m) submitter r)
 
 -- the page of a look that need not wait is not sliced
-plain-prompt : (v : WorkerView) (submitter : ℕ) (r : Request) (page : ℕ)
+plain-prompt : (v : WorkerView) (submitter : ℕ) (r : Request) (user page : ℕ)
     → has_to_wait v submitter r ≡ false
-    → verdict_at v submitter r ≡ Accepted
-    → page_looked_at r.op r.page ≡ Some page
+    → asked_in v.last.share submitter r ≡ look user page
     → slices v.post page ≡ false
-plain-prompt v submitter r page prompt accepted look =
-    let yes = accepted-true v.last.share.users v.last.share.submitters submitter r accepted in
-    let waits : has_to_wait v submitter r ≡ slices v.post page =
-    λ m. yes m && option_map_or (slices v.post) (look m) false in
-    sym waits ∙ prompt
+plain-prompt v submitter r user page prompt is = sym (ap (must_wait (slices v.post)) is) ∙ prompt
 
 -- no more comes out of the stash in a phase where what is taken runs at once
 fits-prompt : (workload : Workload) (xs : List Took) (t : Took)
@@ -617,7 +611,7 @@ follows-takes workload v place ask answer after none f kept has run empty asked 
     f.noted f.unmerged has
     (record { asked = asked; there = there })
     kept
-    (λ page a look. plain-prompt v (submitter_at v place) ask.request page w a look) f.held
+    (λ user page is. plain-prompt v (submitter_at v place) ask.request user page w is) f.held
     (fits-prompt workload v.taken t at_once f.fits)
     (more, within.1)
     (λ e.

@@ -1,15 +1,11 @@
 -- What a worker holds, and that it stays sound.
-use Rattle.std.proofs.Common.{◌≡◌, ◌≢◌, ℕ, ◌+◌, ◌-◌, ◌*◌, ◌%◌, ◌<◌, ◌≤◌, Bool, true, false, is_some, List, [], ◌∷◌, ◌++◌, length, drop, get_or, set, sum, Option, Some, None, refl, ap, sym, ◌∙◌, arith, subst, vec_len, vec_capacity}
+use Rattle.std.proofs.Common.{◌≡◌, ◌≢◌, ℕ, ◌+◌, ◌-◌, ◌*◌, ◌%◌, ◌<◌, ◌≤◌, Bool, true, false, is_some, List, [], ◌∷◌, ◌++◌, length, drop, get_or, set, sum, Some, None, refl, ap, sym, ◌∙◌, arith, subst, true≢false, vec_len, vec_capacity}
 use Rattle.std.proofs.lemmas.List.{length-append, length-set}
 use Rattle.std.proofs.lemmas.List.Sums.{sum_by-set}
-use Rattle.std.proofs.lemmas.Bool.{and_parts}
 use Rattle.std.proofs.Math.Nat.{add-mul-mod_self_left, mod-eq_of_lt, mod-lt}
 use Rattle.std.proofs.lemmas.List.Elements.{All-drop, All-append, All-cons}
 use Rattle.std.specs.List.{All, slice_get}
-use Rattle.std.specs.Option.{option_map_or}
-use Rattle.like_requests.specs.Verdict.{is_accepted}
 use Rattle.like_requests.specs.declared.request.Numbered.{Numbered}
-use Rattle.like_requests.specs.declared.request.Request.{Request}
 use Rattle.like_requests.specs.Setup.{IsThere}
 use Rattle.like_core.specs.declared.opening.Opening.{Opening}
 use Rattle.like_core.specs.Phase.{IsJoined, IsSplit, is_marked}
@@ -25,8 +21,9 @@ use Rattle.like_tables.specs.Waiting.{Waiting}
 use Rattle.like_seat.specs.StationView.{IsStation, StationView}
 use Rattle.like_seat.specs.Steps.{holding, without_first}
 use Rattle.like_roles.specs.declared.worker.desk.Desk.{Desk}
-use Rattle.like_roles.specs.worker.WorkerView.{is_look_at_sliced, waits_at}
-use Rattle.like_promises.specs.Looks.{page_looked_at}
+use Rattle.like_roles.specs.worker.WorkerView.{waits_at}
+use Rattle.like_promises.specs.Order.{must_wait}
+use Rattle.like_promises.specs.Store.{Ask, like, look, refuse}
 use Rattle.like_roles.specs.declared.worker.judged.Judged.{Judged}
 use Rattle.like_roles.specs.worker.Judged.{IsJudged}
 use Rattle.like_roles.specs.worker.Desk.{CanServe, HasNotedTaken, HasRoom, HasRoomForOne, HasRoomToNote, HasSubmitters, IsOwn, IsSettled, IsSound, IsTried, view_of}
@@ -374,15 +371,15 @@ settled-taken s d n phase place h is none there some taken =
     )
 
 -- a request that waits was taken in a split phase
-pub waits-split : (post : WorkerSeatView) (users submitters submitter : ℕ) (r : Request) (waits : Bool)
-    → waits ≡ is_look_at_sliced users submitters (slices post) submitter r
+pub waits-split : (post : WorkerSeatView) (a : Ask) (waits : Bool)
+    → waits ≡ must_wait (slices post) a
     → waits ≡ true
     → IsSplit (phase_of post.state)
-waits-split post users submitters submitter r waits is h =
-    of_page (page_looked_at r.op r.page) (and_parts (is_accepted users submitters submitter r) _ (sym is ∙ h)).1 where
-      of_page : (o : Option ℕ) → option_map_or (slices post) o false ≡ true → IsSplit (phase_of post.state)
-      of_page None e = cc
-      of_page (Some page) e = split-IsSplit post.opening.limits.hot (is_marked post.opening.marks) (mask_of post.masks) (phase_of post.state) page e
+waits-split post (like user page) waits is h = absurd (true≢false (sym h ∙ is))
+waits-split post (refuse why) waits is h = absurd (true≢false (sym h ∙ is))
+waits-split post (look user page) waits is h =
+    split-IsSplit post.opening.limits.hot (is_marked post.opening.marks) (mask_of post.masks) (phase_of post.state) page
+    (sym is ∙ h)
 
 -- the submitter at a place is one of the worker's
 pub place-served : (worker workers place : ℕ) → worker < workers → (worker + workers * place) % workers ≡ worker

@@ -53,8 +53,8 @@ counted-keeps v page old number = counted_by (TakesNothing v) v page old number 
 serves-keeps : (v : WorkerView) (submitter : ℕ) (r : Request) (reply : Reply) (w : WorkerView)
     → GivesReply v submitter r reply w
     → TakesNothing v w
-serves-keeps v submitter r reply w (refuses n a e) = untaken v v w e refl
-serves-keeps v submitter r reply w (likes page a o p l e) =
+serves-keeps v submitter r reply w (refuses why is a e) = untaken v v w e refl
+serves-keeps v submitter r reply w (likes user page is a e) =
     let c = counted-keeps v page e.0 (number_of w.post) in
     subst (TakesNothing v) (sym e.1) (record {
       share = refl;
@@ -65,7 +65,7 @@ serves-keeps v submitter r reply w (likes page a o p l e) =
       ended = c.ended;
       masks = c.masks;
     })
-serves-keeps v submitter r reply w (looks page count a o p s n e) = untaken v _ w e refl
+serves-keeps v submitter r reply w (looks user page count is a least e) = untaken v _ w e refl
 
 -- a request that runs is not taken again
 pub runs-keeps : (v : WorkerView) (h : Held) (stashed : Bool) (after : WorkerView)

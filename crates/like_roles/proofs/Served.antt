@@ -39,9 +39,9 @@ pub GivesReply-keeps : {X : Type 0} (f : WorkerView → X) (v : WorkerView) (sub
     → ((page count number : ℕ) → f (shown v page count number) ≡ f v)
     → GivesReply v submitter r reply w
     → f w ≡ f v
-GivesReply-keeps f v submitter r reply w k l (refuses n a e) = ap f e
-GivesReply-keeps f v submitter r reply w k l (likes page a o p s e) = ap f e.1 ∙ k r.user page e.0 _
-GivesReply-keeps f v submitter r reply w k l (looks page count a o p s n e) = ap f e ∙ l page count _
+GivesReply-keeps f v submitter r reply w k l (refuses why is a e) = ap f e
+GivesReply-keeps f v submitter r reply w k l (likes user page is a e) = ap f e.1 ∙ k user page e.0 _
+GivesReply-keeps f v submitter r reply w k l (looks user page count is a least e) = ap f e ∙ l page count _
 
 -- an answer changes no state, and no list of what was run
 pub GivesReply-state : (v : WorkerView) (submitter : ℕ) (r : Request) (reply : Reply) (w : WorkerView)

@@ -1,4 +1,3 @@
-pub mod Report
 pub mod Room
 pub mod Rounds
 pub mod Script

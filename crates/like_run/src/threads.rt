@@ -4,7 +4,7 @@ ghost use Rattle.like_promises.specs.WorkloadOf.{lists_of};
 ghost use Rattle.like_crew.specs.Crew.{crew_of};
 ghost use Rattle.like_crew.specs.Ended.{IsEnded};
 ghost use Rattle.like_crew.specs.Site.{AreSeats, IsSite};
-ghost use Rattle.like_run.specs.Report.{IsReportOf};
+ghost use Rattle.like_promises.specs.Report.{IsReportOf};
 ghost use Rattle.like_queue.specs.Lines.{AreNewEnds};
 ghost use Rattle.like_run.specs.Threads.{HasEndedOn, IsRunFaultUnderWay};
 ghost use Rattle.like_promises.specs.RunFault.{IsRunFault};

@@ -44,7 +44,7 @@ pub ask_home : (workload : Workload) (e : Ran) (a : Ask)
     → asked workload e.submitter e.number ≡ Some a
     → IsHome (submitters workload) e.submitter a
 ask_home workload e a is = by (request_at workload e.submitter e.number) is where
-  by : (o : Option Request) → option_map (asked_by workload e.submitter) o ≡ Some a
+  by : (o : Option Request) → option_map (asked_by workload.users (submitters workload) e.submitter) o ≡ Some a
       → IsHome (submitters workload) e.submitter a
   by None is = absurd (not_some a is)
   by (Some r) is =

@@ -134,9 +134,11 @@ module _ {X : Type 0} (key number phase : X → ℕ) (likes : ℕ → X → ℕ)
         let numbers : AllByRecursion (λ y. number y ≡ k) (x ∷ xs) =
         subst (AllByRecursion (λ y. number y ≡ k)) is (key_is number k all) in
         let here = numbers.0 in
-        let keys : AllByRecursion (λ y. key y ≡ key x) (x ∷ xs) =
-        (refl, keys_same x each.0 xs each.1
-        (all_then (λ y. number y ≡ k) (λ y. number y ≡ number x) xs (λ y same. same ∙ sym here) numbers.1)) in
+        let keys : AllByRecursion (λ y. key y ≡ key x) (x ∷ xs) = (
+          refl,
+          keys_same x each.0 xs each.1
+              (all_then (λ y. number y ≡ k) (λ y. number y ≡ number x) xs (λ y same. same ∙ sym here) numbers.1),
+        ) in
         let whose : with_key number k (runs (key x)) ≡ x ∷ xs =
         ap (with_key number k) (sym (all_own (key x)))
         ∙ filter-swap (λ y. number y == k) (λ y. key y == key x) all
@@ -266,10 +268,13 @@ module _ {X : Type 0} (key number phase : X → ℕ) (likes : ℕ → X → ℕ)
         sym r.found ∙ counted ∙ ap (λ k. first page + k) (sym total)
 
     pub merged_by_number : (serial : List X) × IsMerged serial
-    merged_by_number = (serial, record {
-      own = own;
-      numbers = sorted_increases number all one bound;
-      rising = rises_with number phase IsLogged serial in_time (serial_rec IsLogged each_logged)
-          (sorted-rises number all bound);
-      counts = counts;
-    })
+    merged_by_number = (
+      serial,
+      record {
+        own = own;
+        numbers = sorted_increases number all one bound;
+        rising = rises_with number phase IsLogged serial in_time (serial_rec IsLogged each_logged)
+            (sorted-rises number all bound);
+        counts = counts;
+      },
+    )

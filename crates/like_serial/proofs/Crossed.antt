@@ -11,6 +11,7 @@ use Rattle.like_promises.specs.Workload.{Workload}
 use Rattle.like_serial.specs.Example.{CrossedLooksHaveNoOrder, crossed, crossed_all, crossed_runs, ran}
 use Rattle.like_promises.specs.Serial.{AreRising, IsSerial, run_of}
 use Rattle.like_serial.specs.RunLists.{AreRunLists}
+use Rattle.like_serial.proofs.OneThread.{one_thread_is_serial}
 use Rattle.like_serial.proofs.Counts.{likes-weigh, likes_by}
 use Rattle.like_serial.proofs.Follows.{weigh-filter_less}
 use Rattle.like_serial.proofs.Interleaved.{with_key}
@@ -117,7 +118,7 @@ stands serial worker liked looked a b is run likes look shows =
     let own : weigh (likes_by crossed liked) (with_key (server_of 2) worker p.front) ≡ 1 =
     ap (weigh (likes_by crossed liked)) p.fronts ∙ likes
     in
-    let shown = is.counts place looked b
+    let shown = (one_thread_is_serial crossed serial is.replies).1 place looked b
     (subst (λ xs. slice_get xs place ≡ Some b) (sym p.is) (place_of_part p.front b p.rest)) look
     in
     let among = likes-weigh crossed looked (take place serial) in

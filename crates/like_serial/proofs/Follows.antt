@@ -8,6 +8,7 @@ use Rattle.like_promises.specs.RunStore.{Between, count_at}
 use Rattle.like_promises.specs.Workload.{Workload}
 use Rattle.like_serial.specs.Laws.{SerialIsBetween}
 use Rattle.like_promises.specs.Serial.{IsSerial, run_of}
+use Rattle.like_serial.proofs.OneThread.{one_thread_is_serial}
 use Rattle.like_serial.proofs.Counts.{likes-weigh, likes_by}
 use Rattle.like_serial.proofs.Growth.{count_at_is}
 use Rattle.like_serial.proofs.Interleaved.{with_key}
@@ -141,7 +142,7 @@ module _ (workload : Workload) (workers : ℕ) (runs : List (List Ran)) (serial 
   bounds before e after mine yours w parts fronts rests look =
       let k = e.phase in
       let shown : count_in e.reply ≡ initial_count workload.pages page + weigh counted before =
-      is.counts (length before) page e
+      (one_thread_is_serial workload serial is.replies).1 (length before) page e
       (subst (λ xs. slice_get xs (length before) ≡ Some e) (sym parts) (place_of_part before e after)) look
       ∙ ap (λ xs. initial_count workload.pages page + likes_among workload page xs)
       (ap (take (length before)) parts ∙ take_part before e after)

@@ -98,6 +98,4 @@ one_thread_is_serial workload serial is =
 pub serial_in : (workload : Workload) (workers : ℕ) (r : Report) (serial : List Ran)
     → IsOneThread workload workers r serial
     → IsSerial workload workers (runs_of r.logs.items) serial
-serial_in workload workers r serial is =
-    let both = one_thread_is_serial workload serial is.replies in
-    record { own = is.own; rising = is.rising; answers = both.0; counts = both.1 }
+serial_in workload workers r serial is = record { own = is.own; rising = is.rising; replies = is.replies }

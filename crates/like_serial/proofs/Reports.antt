@@ -1,27 +1,31 @@
 -- A report that is right end to end is that of one thread, and the other way round.
-use Rattle.std.proofs.Common.{◌≡◌, ℕ, zero, suc, ◌+◌, ◌<◌, ◌==◌, List, [], ◌∷◌, filter, map, length, get_or, slice_get, Some, subst, ap, sym, ◌∙◌, refl, arith}
+use Rattle.std.proofs.Common.{◌≡◌, ℕ, Bool, true, false, zero, suc, ◌+◌, ◌<◌, ◌==◌, List, [], ◌∷◌, filter, map, length, get_or, slice_get, Some, subst, ap, sym, ◌∙◌, refl, arith}
 use Rattle.like_requests.specs.declared.request.Request.{Request}
 use Rattle.like_requests.specs.declared.setup.Setup.{Setup}
+use Rattle.like_core.specs.declared.view.Addition.{Addition}
 use Rattle.like_promises.specs.declared.log.Ran.{Ran}
 use Rattle.like_promises.specs.declared.log.WorkerLog.{WorkerLog}
 use Rattle.like_promises.specs.declared.report.Report.{Report}
 use Rattle.like_promises.specs.Collected.{answer_of, entries_in}
-use Rattle.like_promises.specs.EndToEnd.{IsEndToEnd, runs_of}
+use Rattle.like_promises.specs.EndToEnd.{IsEndToEnd, IsRightReport, runs_of}
 use Rattle.like_promises.specs.HotPages.{hot_by}
 use Rattle.like_promises.specs.Looks.{count_in}
 use Rattle.like_promises.specs.Order.{Entry, entry_of}
 use Rattle.like_promises.specs.Replies.{HasRightAnswers, HasRightCounts}
+use Rattle.like_promises.specs.Report.{IsReportOf}
 use Rattle.like_promises.specs.RunReport.{IsRunOf, workload_by}
 use Rattle.like_promises.specs.Serial.{IsSerial, entries_by, run_of}
 use Rattle.like_promises.specs.Workload.{Workload}
 use Rattle.like_promises.specs.WorkloadOf.{workload_of}
+use Rattle.like_promises.specs.places.Calls.{calls_of}
+use Rattle.like_promises.specs.places.Tiling.{ArePlacesTiled, HasNoPlaces}
 use Rattle.like_serial.specs.StoreLaws.{OneThreadIsRight, RightIsOneThread}
 use Rattle.like_serial.proofs.Answers.{own_answers}
 use Rattle.like_serial.proofs.Collected.{entries_same}
 use Rattle.like_serial.proofs.Ends.{end_is_store}
 use Rattle.like_serial.proofs.Follows.{same_counts, serial_is_between}
-use Rattle.like_serial.proofs.Growth.{between_same, grew_same}
-use Rattle.like_serial.proofs.OneThread.{serial_in, serial_is_one_thread}
+use Rattle.like_serial.proofs.Growth.{between_same, count_same, grew_same}
+use Rattle.like_serial.proofs.OneThread.{one_thread_is_serial, serial_in}
 use Rattle.like_serial.proofs.Phases.{Rises, rises_of}
 use Rattle.like_serial.proofs.RunOrder.{block_of, in_order, rises_filter, rises_map}
 use Rattle.like_serial.proofs.Seen.{not_some, some_is}
@@ -60,7 +64,7 @@ is_run workload workers r e =
       one = record {
         own = is.own;
         rising = is.rising;
-        replies = serial_is_one_thread workload serial is.answers is.counts;
+        replies = is.replies;
         counts = e.counts ∙ sym end.0;
         last = e.last ∙ sym end.1;
         answers = record {
@@ -134,7 +138,7 @@ module _ (workload : Workload) (workers : ℕ) (r : Report) (serial : List Ran) 
                   ran = in_order workload log.taken.items (map entry_of log.ran.items) (rises worker log at) l.ran;
                   stashed = l.stashed;
                   answers = subst (HasRightAnswers workload) (own worker log at)
-                      (own_answers workload workers worker serial is.answers);
+                      (own_answers workload workers worker serial (one_thread_is_serial workload serial is.replies).0);
                   last = l.last;
                 },
                 l.ended,
@@ -170,6 +174,51 @@ right_is_one_thread setup plans r e =
     let same = same_hot setup plans entries serial
     (entries_count workload setup.workers r.logs.items serial e.one_order.1) in
     (serial, subst (λ w. IsRunOf w setup.workers r serial) (sym same) (is_run workload setup.workers r e))
+
+-- the places of a report of settings and plans are right, with the hot pages that follow from its own run lists
+abbrev pub HasRightPlaces : Setup → List (List Request) → Report → Type 0
+HasRightPlaces setup plans r =
+    ArePlacesTiled (workload_by setup plans (entries_in r.logs.items)) r (entries_in r.logs.items)
+
+-- so they are by the serial list
+places_by_one : (setup : Setup) (plans : List (List Request)) (r : Report) (serial : List Ran)
+    → IsRunOf (workload_by setup plans serial) setup.workers r serial
+    → HasRightPlaces setup plans r
+    → ArePlacesTiled (workload_by setup plans serial) r serial
+places_by_one setup plans r serial run places =
+    let entries = entries_in r.logs.items in
+    let workload = workload_by setup plans serial in
+    let is = serial_in workload setup.workers r serial run.one in
+    let same = entries_count workload setup.workers r.logs.items serial is in
+    let old = subst (λ w. ArePlacesTiled w r entries) (sym (same_hot setup plans entries serial same)) places in
+    record {
+      likes = old.likes;
+      tiles = old.tiles;
+      placed = old.placed;
+      in_time = λ worker d within i c inside.
+          let was = old.in_time worker d within i c inside in
+          let call : Addition =
+          get_or (calls_of workload (get_or r.logs.items worker d).adds.items (get_or r.logs.items worker d).ran.items) i c in
+          let first = count_same workload serial entries same call.page call.phase in
+          let next = count_same workload serial entries same call.page (call.phase + 1) in
+          (omega (arith, first, was.0), omega (arith, next, was.1));
+      rows = old.rows;
+    }
+
+-- a right report is what a run promises
+pub right_is_report : (setup : Setup) (plans : List (List Request)) (notes : Bool) (r : Report)
+    → IsRightReport setup plans r
+    → (notes ≡ true → HasRightPlaces setup plans r)
+    → (notes ≡ false → HasNoPlaces r)
+    → IsReportOf setup plans notes r
+right_is_report setup plans notes r right places none =
+    let one = right_is_one_thread setup plans r right in
+    record {
+      serial = one.0;
+      right = one.1;
+      places = λ noted. places_by_one setup plans r one.0 one.1 (places noted);
+      none = none;
+    }
 
 pub one_thread_is_right : OneThreadIsRight
 one_thread_is_right setup plans r one =

@@ -13,6 +13,7 @@ use Rattle.like_core.specs.PageSteps.{adds_to}
 use Rattle.like_core.proofs.Steps.{by-earliest}
 use Rattle.like_serial.specs.RunLists.{AreRunLists, FitsRunList, FitsRuns}
 use Rattle.like_serial.specs.StepsTold.{is_plain, step_ran, steps_ran, step_told}
+use Rattle.like_serial.proofs.OneThread.{serial_is_one_thread}
 use Rattle.like_serial.proofs.Answers.{answers_of_own}
 use Rattle.like_serial.proofs.Counts.{likes-weigh, likes_by, look_shows}
 use Rattle.like_serial.proofs.Interleaved.{Interleaved, interleaved, with_key}
@@ -156,8 +157,8 @@ module _ (workload : Workload) (workers last : ℕ) (runs : List (List Ran)) (st
     is_serial = record {
       own = own;
       rising = pairs_of phase_of serial (sorted-rises phase_of m.entries bound);
-      answers = answers_of_own workload workers (run_of runs) serial own lists.answers;
-      counts = counts;
+      replies = serial_is_one_thread workload serial
+          (answers_of_own workload workers (run_of runs) serial own lists.answers) counts;
     }
 
 pub runs_are_serial : RunsAreSerial

@@ -16,7 +16,7 @@ use Rattle.like_promises.specs.declared.log.Ran.{Ran}
 use Rattle.like_promises.specs.places.Adds.{IsOfLikes, addition_of}
 use Rattle.like_promises.specs.Likes.{likes, likes_among}
 use Rattle.like_promises.specs.Store.{Ask, like, look, refuse}
-use Rattle.like_promises.specs.Workload.{Workload, nth, request_at}
+use Rattle.like_promises.specs.Workload.{Workload, nth, request_at, submitters}
 use Rattle.like_roles.proofs.counts.Tallied.{likes_among-append, page_likes}
 use Rattle.like_crew.proofs.lists.Sums.{sum-of-map}
 
@@ -46,11 +46,11 @@ module _ (workload : Workload) (plans : All (AreThere workload.pages) workload.p
       → page < length workload.pages
   liked-page e user page is = by_request (request_at workload e.submitter e.number) refl is where
     by_request : (o : Option Request) → request_at workload e.submitter e.number ≡ o
-        → option_map (asked_by workload e.submitter) o ≡ Some (like user page) → page < length workload.pages
+        → option_map (asked_by workload.users (submitters workload) e.submitter) o ≡ Some (like user page) → page < length workload.pages
     by_request None at same = cc same
     by_request (Some r) at same =
-        like-there workload e.submitter r (length workload.pages) (asked-there e.submitter e.number r at) user page
-        (cc same)
+        like-there workload.users (submitters workload) e.submitter r (length workload.pages)
+        (asked-there e.submitter e.number r at) user page (cc same)
 
   -- a page with a like is there
   one-there : (e : Ran) (page : ℕ) → 1 ≤ likes_among workload page (e ∷ []) → page < length workload.pages

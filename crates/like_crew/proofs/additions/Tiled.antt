@@ -1,5 +1,5 @@
 -- The places of the additions of a run that has ended.
-use Rattle.std.proofs.Common.{◌≡◌, ℕ, suc, ◌+◌, ◌<◌, ◌&&◌, nat_le, nat_lt, Bool, true, cond, List, [], ◌∷◌, length, map, get_or, slice_get, slice_index, count_by, Some, refl, sym, ap, ◌∙◌, subst, arith, inl, inr}
+use Rattle.std.proofs.Common.{◌≡◌, ℕ, suc, ◌+◌, ◌<◌, ◌≤◌, ◌&&◌, nat_le, nat_lt, Bool, true, cond, List, [], ◌∷◌, length, map, get_or, slice_get, slice_index, count_by, Some, refl, sym, ap, ◌∙◌, subst, arith, inl, inr}
 use Rattle.std.specs.List.{All, AllZip, sum_by}
 use Rattle.std.proofs.lemmas.List.Sums.{sum_by-append, sum_by-cons}
 use Rattle.std.proofs.lemmas.Bool.{cases_lt}
@@ -12,7 +12,7 @@ use Rattle.like_requests.specs.declared.setup.Setup.{Setup}
 use Rattle.like_core.specs.declared.opening.Opening.{Opening}
 use Rattle.like_core.specs.declared.view.Addition.{Addition}
 use Rattle.like_core.specs.views.Reads.{HaveBetween}
-use Rattle.like_core.specs.views.Places.{ArePlaced, AreTiles, Counting, covers}
+use Rattle.like_core.specs.views.Places.{ArePlaced, AreTiles, Counting, covers, end_of}
 use Rattle.like_core.specs.views.PostOrder.{HavePlaces, posts_passing}
 use Rattle.like_core.specs.views.Posts.{posts_before}
 use Rattle.like_core.specs.PageSteps.{additions_among, earliest_first, stretch_of, stretches_of}
@@ -36,7 +36,7 @@ use Rattle.like_promises.specs.WorkloadOf.{workload_of}
 use Rattle.like_promises.specs.EndToEnd.{runs_of}
 use Rattle.like_crew.specs.Outcome.{IsOutcome, IsSeatLike}
 use Rattle.like_crew.specs.Server.{HasWorkedFor, IsLogOf, ServerView}
-use Rattle.like_promises.specs.places.Tiling.{IsInTime, all_noted}
+use Rattle.like_promises.specs.places.Tiling.{all_noted}
 use Rattle.like_crew.proofs.additions.AddedPages.{adds-there, none-liked}
 use Rattle.like_crew.proofs.additions.AddedPhases.{of-likes-same, ran-within}
 use Rattle.like_crew.proofs.lists.Pairs.{pairs-sum}
@@ -66,6 +66,11 @@ pub record HasNoted (setup : Setup) (plans : List (List Request)) (notes : Bool)
   pub additions : (additions_among s.worker.post.did) ≡ additions_noted log
   pub adds : AddsItsLikes (known setup plans notes e h) log.ran.items log.adds.items
   pub calls : calls_of (known setup plans notes e h) log.adds.items log.ran.items ≡ stretches_of s.worker.post.did
+
+-- a call's stretch is between the counts before its phase and before the next
+abbrev IsInTime : Workload → List Ran → Addition → Type 0
+IsInTime workload entries c =
+    (count_at workload entries c.page c.phase ≤ c.old) × (end_of c ≤ count_at workload entries c.page (c.phase + 1))
 
 -- steps that lie between what all seats have added lie so between the likes of the run lists
 stand-noted : (workload : Workload) (entries : List Ran) (counts : List ℕ) (before : ℕ → ℕ → ℕ) (last : ℕ)

@@ -1,11 +1,10 @@
 -- A turn whose look is fresh is one of the model's.
-use Rattle.std.proofs.Common.{◌≡◌, ◌≢◌, ◌⊎◌, inl, inr, ℕ, ◌+◌, ◌-◌, ◌%◌, ◌<◌, ◌≤◌, ◌==◌, ◌&&◌, ◌||◌, Bool, true, false, true≢false, cond, List, [], length, get_or, set, slice_get, Option, Some, None, sum_by, MatchBool, refl, sym, ap, ◌∙◌, subst, arith}
-use Rattle.std.specs.Option.{IsSomeAnd, option_map_or}
+use Rattle.std.proofs.Common.{◌≡◌, ◌≢◌, ◌⊎◌, inl, inr, ℕ, ◌+◌, ◌-◌, ◌%◌, ◌<◌, ◌≤◌, ◌==◌, ◌&&◌, ◌||◌, Bool, true, false, true≢false, cond, List, [], length, get_or, set, slice_get, Some, None, sum_by, MatchBool, refl, sym, ap, ◌∙◌, subst, arith}
+use Rattle.std.specs.Option.{IsSomeAnd}
 use Rattle.std.proofs.lemmas.Bool.{cases_Bool, cases_lt, lt-ltb, ltb-false, ltb-true}
 use Rattle.std.proofs.lemmas.List.{length_push}
 use Rattle.std.proofs.lemmas.List.Sums.{get_or-le-sum_by}
 use Rattle.std.proofs.lemmas.Option.{get_or_from_slice_get, slice_get-get_or, slice_get_within}
-use Rattle.like_requests.specs.Verdict.{is_accepted}
 use Rattle.like_requests.specs.declared.request.Request.{Request}
 use Rattle.like_requests.specs.declared.request.Taken.{Taken}
 use Rattle.like_requests.specs.declared.request.Taken.TheVariants as taken
@@ -18,14 +17,15 @@ use Rattle.like_core.specs.Post.{answered, slices}
 use Rattle.like_core.specs.WorkerState.{IsSightOf, RunsJoined, RunsSplit, looked, phase_of, seen}
 use Rattle.like_core.specs.declared.view.WorkerSeatView.{WorkerSeatView}
 use Rattle.like_tables.specs.declared.held.Held.{Held}
-use Rattle.like_promises.specs.Looks.{page_looked_at}
+use Rattle.like_promises.specs.Order.{must_wait}
+use Rattle.like_promises.specs.Store.{Ask, like, look, refuse}
 use Rattle.like_queue.specs.Inbox.{HandsOver, InboxView, item_count}
 use Rattle.like_roles.specs.declared.turn.Turn.{Turn}
 use Rattle.like_roles.specs.declared.turn.Turn.TheVariants as turn
 use Rattle.like_roles.specs.worker.Serve.{Runs}
 use Rattle.like_roles.specs.worker.Turns as turns
 use Rattle.like_roles.specs.worker.Turns.{Gives, Turns, Works, held_from, saw, settled, trying, with_taken, without_first}
-use Rattle.like_roles.specs.worker.WorkerView.{TookAllEnds, WorkerView, has_to_wait, submitter_at}
+use Rattle.like_roles.specs.worker.WorkerView.{TookAllEnds, WorkerView, asked_in, has_to_wait, submitter_at}
 use Rattle.like_roles.proofs.Effects.{Runs-effects}
 use Rattle.like_ending.specs.Progress.{WorkerProgress}
 use Rattle.like_ending.specs.FreshTurns as fresh
@@ -119,12 +119,11 @@ joined-plain post page j =
 joined-prompt : (v : WorkerView) (submitter : ℕ) (r : Request)
     → RunsJoined v.post.state
     → has_to_wait v submitter r ≡ false
-joined-prompt v submitter r j =
-    by_page (is_accepted v.last.share.users v.last.share.submitters submitter r) (page_looked_at r.op r.page) where
-      by_page : (b : Bool) (o : Option ℕ) → (b && option_map_or (slices v.post) o false) ≡ false
-      by_page false o = refl
-      by_page true None = refl
-      by_page true (Some page) = joined-plain v.post page j
+joined-prompt v submitter r j = by_ask (asked_in v.last.share submitter r) where
+  by_ask : (a : Ask) → must_wait (slices v.post) a ≡ false
+  by_ask (like user page) = refl
+  by_ask (look user page) = joined-plain v.post page j
+  by_ask (refuse why) = refl
 
 -- a worker knows whether items of its inboxes are left
 record KnowsItems (v : WorkerView) (items : ℕ) : Type 0 where

@@ -7,13 +7,10 @@ use Rattle.like_promises.specs.declared.log.Added.{Added}
 use Rattle.like_promises.specs.declared.log.WorkerLog.{WorkerLog}
 use Rattle.like_promises.specs.declared.place.Place.{Place}
 
--- the place of a worker's addition
-abbrev pub place_made : ℕ → Added → Place
-place_made worker a = record { worker = worker; phase = a.phase; old = a.old; n = a.n }
-
 -- the places of a worker's additions to a page, in order
 abbrev pub places_of : ℕ → ℕ → List Added → List Place
-places_of page worker adds = map (place_made worker) (filter (λ a. a.page == page) adds)
+places_of page worker adds =
+    map (λ a. record { worker = worker; phase = a.phase; old = a.old; n = a.n }) (filter (λ a. a.page == page) adds)
 
 -- the places of all additions to a page, by worker and in the order of each
 abbrev pub places_in : ℕ → List WorkerLog → List Place

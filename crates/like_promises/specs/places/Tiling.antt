@@ -1,46 +1,34 @@
 -- What a report says of the places of the additions to each page.
 use Rattle.std.specs.Prelude.{◌≡◌, ℕ, ◌+◌, ◌≤◌, ◌&&◌, nat_le, nat_lt, if◌then◌else◌, All, List, [], count_by, length, map, slice_index}
 use Rattle.std.specs.List.{flat_map}
-use Rattle.like_requests.specs.declared.request.Request.{Request}
-use Rattle.like_requests.specs.declared.setup.Setup.{Setup}
 use Rattle.like_core.specs.declared.view.Addition.{Addition}
 use Rattle.like_core.specs.views.Places.{ArePlaced, covers, end_of}
 use Rattle.like_promises.specs.declared.log.Ran.{Ran}
 use Rattle.like_promises.specs.declared.log.WorkerLog.{WorkerLog}
 use Rattle.like_promises.specs.places.Adds.{AddsItsLikes, addition_of}
 use Rattle.like_promises.specs.places.Calls.{calls_of}
-use Rattle.like_promises.specs.Collected.{entries_in}
 use Rattle.like_promises.specs.Likes.{initial_count}
-use Rattle.like_promises.specs.RunReport.{workload_by}
 use Rattle.like_promises.specs.RunStore.{count_at}
 use Rattle.like_promises.specs.Workload.{Workload}
 use Rattle.like_promises.specs.declared.report.Report.{Report}
-use Rattle.like_promises.specs.places.Places.{ArePlaces, lists_in}
+use Rattle.like_promises.specs.places.Places.{ArePlaces}
 
 -- the additions of all logs
 abbrev pub all_noted : List WorkerLog → List Addition
 all_noted logs = flat_map (λ log. map addition_of log.adds.items) logs
 
--- a call's stretch is between the counts before its phase and before the next
-abbrev pub IsInTime : Workload → List Ran → Addition → Type 0
-IsInTime workload entries c =
-    (count_at workload entries c.page c.phase ≤ c.old) × (end_of c ≤ count_at workload entries c.page (c.phase + 1))
-
--- places tile: additions are the likes; their stretches tile the counts; the calls of each worker find counts in order,
--- each the first one or the end of a stretch; and each lies between the likes of earlier phases and those of later ones
-pub record ArePlacesTiled (workload : Workload) (r : Report) : Type 0 where
+-- places tile: additions are the likes; their stretches tile the counts; each worker's calls find counts in order, the
+-- first or the end of a stretch; and each lies between the counts before its phase and before the next
+pub record ArePlacesTiled (workload : Workload) (r : Report) (serial : List Ran) : Type 0 where
   pub likes : All (λ log. AddsItsLikes workload log.ran.items log.adds.items) r.logs.items
   pub tiles : (page n : ℕ) → count_by (covers page n) (all_noted r.logs.items)
       ≡ (if nat_le (initial_count workload.pages page) n && nat_lt n (slice_index r.counts.items page) then 1 else 0)
   pub placed : All (λ log. ArePlaced (initial_count workload.pages) (λ test. count_by test (all_noted r.logs.items))
       (calls_of workload log.adds.items log.ran.items)) r.logs.items
-  pub in_time : All (λ log. All (IsInTime workload (entries_in r.logs.items))
-      (calls_of workload log.adds.items log.ran.items)) r.logs.items
-  pub rows : ArePlaces (length workload.pages) r.logs.items (lists_in r.places.items)
-
--- the places of a report of settings and plans are right, with the hot pages that follow from its own run lists
-abbrev pub HasRightPlaces : Setup → List (List Request) → Report → Type 0
-HasRightPlaces setup plans r = ArePlacesTiled (workload_by setup plans (entries_in r.logs.items)) r
+  pub in_time : All (λ log. All (λ c. (count_at workload serial c.page c.phase ≤ c.old)
+      × (end_of c ≤ count_at workload serial c.page (c.phase + 1))) (calls_of workload log.adds.items log.ran.items))
+      r.logs.items
+  pub rows : ArePlaces (length workload.pages) r.logs.items (map (λ row. row.items) r.places.items)
 
 -- a report has no places, and no addition is noted
 abbrev pub HasNoPlaces : Report → Type 0

@@ -1,7 +1,7 @@
 -- What running a request does to likes, replies and last likes.
-use Rattle.std.proofs.Common.{◌≡◌, ◌≢◌, ℕ, ◌+◌, ◌<◌, ◌≤◌, Bool, true, false, cond, not, eqb, ltb, ◌==◌, ◌&&◌, List, [], ◌∷◌, ◌++◌, length, count_by, get_or, set, take, Option, Some, None, refl, sym, ap, ◌∙◌, inl, inr, arith, subst}
+use Rattle.std.proofs.Common.{◌≡◌, ℕ, ◌+◌, ◌<◌, ◌≤◌, Bool, true, false, cond, not, eqb, ◌==◌, ◌&&◌, List, [], ◌∷◌, ◌++◌, length, count_by, get_or, set, take, Option, Some, None, refl, sym, ap, ◌∙◌, inl, inr, arith, subst}
 use Rattle.std.proofs.Math.Seq.{take-append_seam}
-use Rattle.std.proofs.lemmas.Bool.{and_parts, cases_eq, cases_lt, eq-eqb, ltb-true, ne_eqb}
+use Rattle.std.proofs.lemmas.Bool.{cases_eq, cases_lt, eq-eqb, ne_eqb}
 use Rattle.std.proofs.lemmas.List.{length-append, length-set, get_or-set_same, get_or-set_other, take-append-le}
 use Rattle.std.proofs.lemmas.List.Elements.{All-cons, filter-append, filter_map-append}
 use Rattle.std.proofs.lemmas.List.Sums.{fold-append, sum_by-append}
@@ -9,11 +9,6 @@ use Rattle.std.proofs.lemmas.Option.{slice_get_within}
 use Rattle.std.specs.List.{cons_option, filter, slice_get}
 use Rattle.std.specs.Prelude.{option_and_then, option_map}
 use Rattle.like_requests.specs.Pages.{marks_of}
-use Rattle.like_requests.specs.Verdict.{home, is_accepted, is_known, verdict_of}
-use Rattle.like_requests.specs.declared.request.PageRef.TheVariants as ref
-use Rattle.like_requests.specs.declared.request.Request.{Request}
-use Rattle.like_requests.specs.declared.verdict.Verdict.{Verdict}
-use Rattle.like_requests.specs.declared.verdict.Verdict.TheVariants as verdict
 use Rattle.like_core.specs.WorkerState.{phase_of}
 use Rattle.like_core.specs.declared.page_step.PageCall.TheVariants.{Add, Read}
 use Rattle.like_core.specs.declared.page_step.PageStep.{PageStep}
@@ -23,22 +18,20 @@ use Rattle.like_core.specs.Post.{additions_of, additions_in, number_of, pages_of
 use Rattle.like_core.proofs.core.Labels.{added_to-push, added_in-push}
 use Rattle.like_tables.specs.UserTable.{last_of}
 use Rattle.like_tables.specs.declared.held.Held.{Held}
-use Rattle.like_promises.proofs.Asked.{ask-accepted, ask-refused, asks-push}
-use Rattle.like_promises.specs.Asked.{asked, asked_by, asked_of, asks}
+use Rattle.like_promises.proofs.Asked.{asks-push, like-there, liker-there}
+use Rattle.like_promises.specs.Asked.{asked, asked_by, asks}
 use Rattle.like_promises.specs.declared.log.Ran.{Ran}
 use Rattle.like_promises.specs.declared.reply.Reply.{Reply}
 use Rattle.like_promises.specs.declared.reply.Reply.TheVariants as reply
 use Rattle.like_roles.specs.worker.Follows.{ArePlainReads, IsAsked, IsServed, IsSized, IsTallied}
 use Rattle.like_promises.specs.Likes.{is_like_of, likes_among, likes_within}
-use Rattle.like_promises.specs.Looks.{page_looked_at}
 use Rattle.like_promises.specs.Replies.{HasRightAnswers, IsRightAnswer, uncounted}
 use Rattle.like_promises.specs.RunStore.{start, store_after}
 use Rattle.like_promises.specs.Store as store
 use Rattle.like_promises.specs.Store.{Ask, Store, after, after_all, like, look, refuse}
-use Rattle.like_roles.specs.worker.Serve.{GivesReply, refuses, likes, looks, with_addition, counted, liked, shown, ran_now, verdict_at}
+use Rattle.like_roles.specs.worker.Serve.{GivesReply, refuses, likes, looks, with_addition, counted, liked, shown, ran_now}
 use Rattle.like_promises.specs.Workload.{Workload, is_split_in, submitters}
-use Rattle.like_requests.specs.Setup.{IsThere}
-use Rattle.like_roles.specs.worker.WorkerView.{WorkerView, phase_at}
+use Rattle.like_roles.specs.worker.WorkerView.{WorkerView, asked_in, phase_at}
 use Rattle.like_promises.proofs.Lists.{slice_get-at_end, slice_get-before}
 use Rattle.like_roles.proofs.Served.{counted_by}
 use Rattle.like_seat.specs.StationView.{IsSliceInSplit}
@@ -69,59 +62,15 @@ likes_among-append workload page xs ys =
     ap (page_likes page) (filter_map-append (λ (e : Ran). asked workload e.submitter e.number) xs ys)
     ∙ sum_by-append (λ x. cond (is_like_of page x) 1 0) (asks workload xs) (asks workload ys)
 
--- the verdict of the worker is that of the workload
-pub verdict_at-served : (workload : Workload) (v : WorkerView) (submitter : ℕ) (r : Request)
+-- what a held request asks of the worker is what it asks by the workload
+pub asked-served : (workload : Workload) (v : WorkerView) (h : Held)
     → IsServed workload v
-    → verdict_at v submitter r ≡ verdict_of workload.users (submitters workload) submitter r
-verdict_at-served workload v submitter r s =
-    ap (λ u. verdict_of u v.last.share.submitters submitter r) (sym s.users)
-    ∙ ap (λ m. verdict_of workload.users m submitter r) (sym s.submitters_alike)
-
--- a request is accepted where its verdict says so
-pub accepted-true : (users submitters submitter : ℕ) (r : Request)
-    → verdict_of users submitters submitter r ≡ verdict.Accepted
-    → is_accepted users submitters submitter r ≡ true
-accepted-true users submitters submitter r h =
-    by_tests (ltb r.user users) (eqb (home submitters r.user) submitter) (is_known r.page) h where
-      by_tests : (a b k : Bool)
-          → cond (not a) verdict.UnknownUser
-          (cond (not b) verdict.OtherHome (cond (not k) verdict.UnknownPage verdict.Accepted)) ≡ verdict.Accepted
-          → (a && b && k) ≡ true
-      by_tests true true true e = refl
-      by_tests true true false e = cc e
-      by_tests true false k e = cc e
-      by_tests false b k e = cc e
-
--- what a held request asks, by the worker's verdict on it
-module _ (workload : Workload) (v : WorkerView) (h : Held) (served : IsServed workload v) (given : IsAsked workload h)
-  where
-    abbrev here : Verdict
-    here = verdict_at v h.submitter h.ask.request
-
-    same_verdict : here ≡ verdict_of workload.users (submitters workload) h.submitter h.ask.request
-    same_verdict = verdict_at-served workload v h.submitter h.ask.request served
-
-    known-ask : asked workload h.submitter h.ask.number ≡ Some (asked_by workload h.submitter h.ask.request)
-    known-ask = ap (option_map (asked_by workload h.submitter)) given.asked
-
-    pub refused-ask : here ≢ verdict.Accepted → asked workload h.submitter h.ask.number ≡ Some (refuse here)
-    refused-ask n =
-        known-ask
-        ∙ ap Some (ask-refused workload h.submitter h.ask.request (λ is. n (same_verdict ∙ is)) ∙ ap refuse (sym same_verdict))
-
-    pub accepted-ask : here ≡ verdict.Accepted
-        → asked workload h.submitter h.ask.number
-        ≡ Some (asked_of h.ask.request.op h.ask.request.user h.ask.request.page)
-    accepted-ask is = known-ask ∙ ap Some (ask-accepted workload h.submitter h.ask.request (sym same_verdict ∙ is))
-
--- an accepted request's user is there
-pub accepted_user : (users submitters submitter : ℕ) (r : Request)
-    → is_accepted users submitters submitter r ≡ true
-    → r.user < users
-accepted_user users submitters submitter r a =
-    let both = and_parts (ltb r.user users && eqb (home submitters r.user) submitter) (is_known r.page) a in
-    let first = and_parts (ltb r.user users) (eqb (home submitters r.user) submitter) both.0 in
-    ltb-true r.user users first.0
+    → IsAsked workload h
+    → asked workload h.submitter h.ask.number ≡ Some (asked_in v.last.share h.submitter h.ask.request)
+asked-served workload v h served given =
+    ap (option_map (asked_by workload.users (submitters workload) h.submitter)) given.asked
+    ∙ ap (λ n. Some (asked_by n (submitters workload) h.submitter h.ask.request)) served.users
+    ∙ ap (λ n. Some (asked_by v.last.share.users n h.submitter h.ask.request)) served.submitters_alike
 
 -- one more right answer
 pub HasRightAnswers-push : (workload : Workload) (ran : List Ran) (e : Ran)
@@ -306,18 +255,17 @@ unchanged workload v h stashed answer did a same_adds served sized t ask unlike 
     )
 
 -- a like
-one_like : (workload : Workload) (v : WorkerView) (h : Held) (stashed : Bool) (page old number : ℕ)
+one_like : (workload : Workload) (v : WorkerView) (h : Held) (stashed : Bool) (user page old number : ℕ)
     → IsServed workload v
     → IsSized v
     → IsTallied workload v
-    → asked workload h.submitter h.ask.number ≡ Some (like h.ask.request.user page)
+    → asked workload h.submitter h.ask.number ≡ Some (like user page)
     → page < pages_of v.post
-    → h.ask.request.user < v.last.share.users
+    → user < v.last.share.users
     → is_split_in workload (phase_at v) page ≡ slices v.post page
-    → IsAfter workload v h stashed reply.Liked (liked v h.ask.request.user page old number)
-one_like workload v h stashed page old number served sized t ask in_pages in_users alike =
+    → IsAfter workload v h stashed reply.Liked (liked v user page old number)
+one_like workload v h stashed user page old number served sized t ask in_pages in_users alike =
     let e = ran_now v h stashed reply.Liked in
-    let user = h.ask.request.user in
     let a : Ask = like user page in
     let in_slice : page < length v.slice = omega (arith, sized.slice) in
     let in_table : user < length v.last.last = omega (arith, sized.users) in
@@ -383,45 +331,34 @@ pub GivesReply-tallied : (workload : Workload) (v : WorkerView) (h : Held) (stas
     → IsAsked workload h
     → IsSliceInSplit v.post v.slice
     → ((page : ℕ) → is_split_in workload (phase_at v) page ≡ slices v.post page)
-    → ((page : ℕ) → verdict_at v h.submitter h.ask.request ≡ verdict.Accepted
-    → page_looked_at h.ask.request.op h.ask.request.page ≡ Some page → slices v.post page ≡ false)
+    → ((user page : ℕ) → asked_in v.last.share h.submitter h.ask.request ≡ look user page → slices v.post page ≡ false)
     → GivesReply v h.submitter h.ask.request answer w → IsAfter workload v h stashed answer w
-GivesReply-tallied workload v h stashed answer w served sized t given kept alike plain (refuses n a e) =
-    let r = h.ask.request in
-    let V = verdict_at v h.submitter r in
-    let V-is = verdict_at-served workload v h.submitter r served in
-    let x = ran_now v h stashed (reply.Refused V) in
-    let ask : asked workload h.submitter h.ask.number ≡ Some (refuse V) = refused-ask workload v h served given n in
+GivesReply-tallied workload v h stashed answer w served sized t given kept alike plain (refuses why is a e) =
+    let x = ran_now v h stashed (reply.Refused why) in
+    let ask = asked-served workload v h served given ∙ ap Some is in
     subst (λ y. IsAfter workload v h stashed answer y) (sym e)
     (subst (λ y. IsAfter workload v h stashed y v) (sym a)
-    (unchanged workload v h stashed (reply.Refused V) v.post.did (refuse V) refl served sized t ask (λ page. refl) refl
-    (right-by_ask workload v.ran x (refuse V) ask refl)
+    (unchanged workload v h stashed (reply.Refused why) v.post.did (refuse why) refl served sized t ask (λ page. refl) refl
+    (right-by_ask workload v.ran x (refuse why) ask refl)
     (t.steps ∙ sym (steps_ran-none workload v.ran x (ap (option_and_then (step_asked workload x)) ask))) t.reads))
-GivesReply-tallied workload v h stashed answer w served sized t given kept alike plain (likes page a o p l e) =
+GivesReply-tallied workload v h stashed answer w served sized t given kept alike plain (likes user page is l e) =
     let r = h.ask.request in
-    let V-is = sym (verdict_at-served workload v h.submitter r served) ∙ a in
-    let yes = accepted-true workload.users (submitters workload) h.submitter r V-is in
-    let ask : asked workload h.submitter h.ask.number ≡ Some (like r.user page) =
-    accepted-ask workload v h served given a ∙ rw (o, p) refl in
-    let in_marks : IsThere (length (marks_of workload.pages)) (ref.Known page) =
-    subst (λ q. IsThere (length (marks_of workload.pages)) q) p given.there in
-    let in_pages : page < pages_of v.post = omega (arith, ap length served.marks_alike) in
-    let in_users : r.user < v.last.share.users =
-    omega (arith, accepted_user workload.users (submitters workload) h.submitter r yes, served.users) in
+    let share = v.last.share in
+    let ask = asked-served workload v h served given ∙ ap Some is in
+    let in_marks : page < length (marks_of workload.pages) =
+    like-there share.users share.submitters h.submitter r (length (marks_of workload.pages)) given.there user page is in
+    let in_pages : page < pages_of v.post = omega (arith, in_marks, ap length served.marks_alike) in
+    let in_users : user < share.users = liker-there share.users share.submitters h.submitter r user page is in
     subst (λ y. IsAfter workload v h stashed answer y) (sym e.1)
-    (subst (λ y. IsAfter workload v h stashed y (liked v r.user page e.0 (number_of w.post))) (sym l)
-    (one_like workload v h stashed page e.0 _ served sized t ask in_pages in_users (alike page)))
-GivesReply-tallied workload v h stashed answer w served sized t given kept alike plain (looks page count a o p s n e) =
-    let r = h.ask.request in
-    let seen = reply.Seen (last_of v.last r.user) count in
+    (subst (λ y. IsAfter workload v h stashed y (liked v user page e.0 (number_of w.post))) (sym l)
+    (one_like workload v h stashed user page e.0 _ served sized t ask in_pages in_users (alike page)))
+GivesReply-tallied workload v h stashed answer w served sized t given kept alike plain (looks user page count is s n e) =
+    let seen = reply.Seen (last_of v.last user) count in
     let x = ran_now v h stashed seen in
-    let ask : asked workload h.submitter h.ask.number ≡ Some (look r.user page) =
-    accepted-ask workload v h served given a ∙ rw (o, p) refl in
-    let right = right-by_ask workload v.ran x (look r.user page) ask
-    (ap (λ last. reply.Seen last 0) (sym (t.last r.user))) in
+    let ask = asked-served workload v h served given ∙ ap Some is in
+    let right = right-by_ask workload v.ran x (look user page) ask (ap (λ last. reply.Seen last 0) (sym (t.last user))) in
     let now : ℕ = phase_at v in
-    let looked : page_looked_at r.op r.page ≡ Some page = rw (o, p) refl in
-    let unsliced = plain page a looked in
+    let unsliced = plain user page is in
     let step : PageStep = page_step v.post.worker now page count Read in
     let took : step_ran workload x ≡ Some (step_told step) = ap (option_and_then (step_asked workload x)) ask in
     let steps : plain_told workload (earliest_first v.post.did ++ step ∷ []) ≡ steps_ran workload (v.ran ++ x ∷ []) =
@@ -431,7 +368,7 @@ GivesReply-tallied workload v h stashed answer w served sized t given kept alike
     let P : Reply → Type 0 = λ y. IsAfter workload v h stashed y (shown v page count (number_of w.post)) in
     subst (λ y. IsAfter workload v h stashed answer y) (sym e)
     (subst P (sym s)
-    (unchanged workload v h stashed seen (step ∷ v.post.did) (look r.user page) refl served sized t ask (λ other. refl)
+    (unchanged workload v h stashed seen (step ∷ v.post.did) (look user page) refl served sized t ask (λ other. refl)
     refl right steps
     (All-cons (λ q. likes_of q.call ≡ 0 → is_split_in workload q.phase q.page ≡ false) step v.post.did
     (λ _. alike page ∙ unsliced) t.reads)))

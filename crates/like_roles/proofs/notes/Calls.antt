@@ -11,7 +11,7 @@ use Rattle.like_core.specs.declared.view.Addition.{Addition}
 use Rattle.like_promises.specs.declared.log.Added.{Added}
 use Rattle.like_promises.specs.declared.log.Ran.{Ran}
 use Rattle.like_promises.specs.places.Adds.{addition_of}
-use Rattle.like_promises.specs.places.Calls.{calls_at, calls_of, stretch_seen}
+use Rattle.like_promises.specs.places.Calls.{calls_of, stretch_seen}
 use Rattle.like_promises.specs.Workload.{Workload}
 use Rattle.like_promises.proofs.Lists.{slice_get-at_end, slice_get-before}
 
@@ -50,6 +50,13 @@ module _ {Y : Type 0} where
   filter-every p (x ∷ xs) all =
       ap (λ (b : Bool). cond b (x ∷ filter p xs) (filter p xs)) (All-head (λ y. p y ≡ true) x xs all)
       ∙ ap (λ ys. x ∷ ys) (filter-every p xs (All-tail (λ y. p y ≡ true) x xs all))
+
+-- the calls at a place of a run list: the additions that were made when this many entries had run, and then the look that
+-- the next one ran
+abbrev calls_at : Workload → List Added → List Ran → ℕ → List Addition
+calls_at workload adds ran at =
+    map addition_of (filter (λ a. a.at == at) adds)
+    ++ option_to_list (option_and_then (stretch_seen workload) (slice_get ran at))
 
 module _ (workload : Workload) where
   -- the calls at a place, by the entry there

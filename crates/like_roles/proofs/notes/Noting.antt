@@ -24,15 +24,14 @@ use Rattle.like_promises.specs.declared.reply.Reply.{Reply}
 use Rattle.like_promises.specs.places.Adds.{IsOfLikes, addition_of, is_add_to}
 use Rattle.like_promises.specs.places.Calls.{calls_of, stretch_seen, stretch_shown}
 use Rattle.like_roles.specs.worker.Follows.{adds_to, IsAsked, IsNoted, IsServed, IsUnmerged}
-use Rattle.like_promises.specs.Looks.{count_in}
 use Rattle.like_promises.specs.Likes.{is_like_of, likes_within}
 use Rattle.like_promises.specs.Store.{Ask, like, look, refuse}
-use Rattle.like_roles.specs.worker.Serve.{GivesReply, refuses, likes, looks, sliced, with_addition, counted, noted_at, ran_now, verdict_at}
+use Rattle.like_roles.specs.worker.Serve.{GivesReply, refuses, likes, looks, sliced, with_addition, counted, noted_at, ran_now}
 use Rattle.like_promises.specs.Workload.{Workload, is_split_in}
 use Rattle.like_roles.specs.worker.WorkerView.{WorkerView, phase_at}
 use Rattle.like_roles.proofs.notes.Noted.{AddsLikes, apart, count-none, no-more, none-passes, noted-each, noted-push}
 use Rattle.like_roles.proofs.notes.Calls.{calls-adds, calls-entry}
-use Rattle.like_roles.proofs.counts.Tallied.{accepted-ask, refused-ask, within-none, within-push}
+use Rattle.like_roles.proofs.counts.Tallied.{asked-served, within-none, within-push}
 
 -- numbers are tested alike from both sides
 flip : (a b : ℕ) → (a == b) ≡ (b == a)
@@ -128,7 +127,7 @@ one_like workload v e page old number user notes was un now ask alike = by_test 
     one phase q = cond ((k == phase) && (page == q)) 1 0
 
     no_look_ran : stretch_seen workload e ≡ None
-    no_look_ran = ap (option_and_then (stretch_shown e)) ask
+    no_look_ran = ap (option_and_then (λ (a : Ask). stretch_shown e.phase a e.reply)) ask
 
     by : AddsLikes workload e one
     by xs phase q =
@@ -235,33 +234,29 @@ pub GivesReply-noted : (workload : Workload) (v : WorkerView) (h : Held) (stashe
     → ((page : ℕ) → is_split_in workload (phase_at v) page ≡ slices v.post page)
     → GivesReply v h.submitter h.ask.request answer w
     → IsNotedNow workload (phase_at v) w (v.ran ++ ran_now v h stashed answer ∷ [])
-GivesReply-noted workload v h stashed answer w served notes was un given alike (refuses n a e) =
+GivesReply-noted workload v h stashed answer w served notes was un given alike (refuses why is a e) =
     let x = ran_now v h stashed answer in
-    let ask = refused-ask workload v h served given n in
+    let ask = asked-served workload v h served given ∙ ap Some is in
     subst (λ u. IsNotedNow workload (phase_at v) u (v.ran ++ x ∷ [])) (sym e) (
-      no_like workload v x v.post.did (refuse (verdict_at v h.submitter h.ask.request)) was
-          (earlier workload v.adds (phase_at v) un) ask (λ page. refl) refl
-          (no_stretch workload x (stretches_of v.post.did) (ap (option_and_then (stretch_shown x)) ask)),
+      no_like workload v x v.post.did (refuse why) was (earlier workload v.adds (phase_at v) un) ask (λ page. refl) refl
+          (no_stretch workload x (stretches_of v.post.did)
+          (ap (option_and_then (λ (a : Ask). stretch_shown x.phase a x.reply)) ask)),
       un,
     )
-GivesReply-noted workload v h stashed answer w served notes was un given alike (likes page a o p l e) =
-    let r = h.ask.request in
+GivesReply-noted workload v h stashed answer w served notes was un given alike (likes user page is l e) =
     let x = ran_now v h stashed answer in
-    let ask : asked workload h.submitter h.ask.number ≡ Some (like r.user page) =
-    accepted-ask workload v h served given a ∙ rw (o, p) refl in
-    let counts = one_like workload v x page e.0 (number_of w.post) r.user notes was un refl ask (alike page) in
+    let ask = asked-served workload v h served given ∙ ap Some is in
+    let counts = one_like workload v x page e.0 (number_of w.post) user notes was un refl ask (alike page) in
     subst (λ u. IsNotedNow workload (phase_at v) u (v.ran ++ x ∷ [])) (sym e.1) (counts.0, counts.1)
-GivesReply-noted workload v h stashed answer w served notes was un given alike (looks page count a o p s n e) =
-    let r = h.ask.request in
+GivesReply-noted workload v h stashed answer w served notes was un given alike (looks user page count is s n e) =
     let x = ran_now v h stashed answer in
-    let ask : asked workload h.submitter h.ask.number ≡ Some (look r.user page) =
-    accepted-ask workload v h served given a ∙ rw (o, p) refl in
+    let ask = asked-served workload v h served given ∙ ap Some is in
     let read : PageStep = page_step v.post.worker (phase_at v) page count Read in
     let took : stretch_seen workload x ≡ Some (stretch_of read) =
-    ap (option_and_then (stretch_shown x)) ask
-    ∙ ap (λ (n : ℕ). Some (record { phase = phase_at v; page = page; old = n; likes = 0 })) (ap count_in s) in
+    ap (option_and_then (λ (a : Ask). stretch_shown x.phase a x.reply)) ask ∙ ap (stretch_shown (phase_at v) (look user page)) s
+    in
     subst (λ u. IsNotedNow workload (phase_at v) u (v.ran ++ x ∷ [])) (sym e) (
-      no_like workload v x (read ∷ v.post.did) (look r.user page) was (earlier workload v.adds (phase_at v) un) ask
+      no_like workload v x (read ∷ v.post.did) (look user page) was (earlier workload v.adds (phase_at v) un) ask
           (λ other. refl) refl
           (ap (λ o. stretches_of v.post.did ++ option_to_list o) took ∙ sym (stretches-push read v.post.did)),
       un,

@@ -60,7 +60,7 @@ IsSized v = AreSized (pages_of v.post) v.slice v.last
 abbrev pub ArePlainReads : Workload → List PageStep → Type 0
 ArePlainReads workload did = All (λ s. likes_of s.call ≡ 0 → is_split_in workload s.phase s.page ≡ false) did
 
--- what a worker in this phase ran is what its post did: its accepted likes are its additions and its slice, by page and by
+-- what a worker in this phase ran is what its post did: its likes are its additions and its slice, by page and by
 -- phase; the post's plain steps are those of its run list, in order, and each step that adds nothing is plain; each reply
 -- is right, its count aside; its table has each user's last like
 pub record AreTallied (workload : Workload) (present : ℕ) (did : List PageStep) (slice : List ℕ) (ran : List Ran)
@@ -85,12 +85,12 @@ adds_to phase page adds = count_by (is_add_to phase page) adds
 abbrev pub adds_at : ℕ → ℕ → ℕ → List Added → ℕ
 adds_at phase page at adds = count_by (λ a. is_add_to phase page a && (a.at == at)) adds
 
--- how many accepted likes of a page in a phase, one or none, the entry at a place of a run list ran
+-- how many likes of a page in a phase, one or none, the entry at a place of a run list ran
 abbrev pub likes_at : Workload → ℕ → ℕ → ℕ → List Ran → ℕ
 likes_at workload phase page at ran =
     likes_within workload page (option_to_list (slice_get ran at)) phase
 
--- the additions of a worker are noted: they are its post's, in order; each is of accepted likes of its run list, to a
+-- the additions of a worker are noted: they are its post's, in order; each is of likes of its run list, to a
 -- page that is not split in a phase there is one at each like, and to a page that is at most one; and with the looks they
 -- are the calls that its post made, in order
 pub record IsNoted (workload : Workload) (did : List PageStep) (adds : List Added) (ran : List Ran) : Type 0 where
@@ -188,7 +188,7 @@ pub record AreNoted (workload : Workload) (v : WorkerView) : Type 0 where
   pub calls : calls_of workload v.adds v.ran ≡ stretches_of v.post.did
 
 -- what a worker that is gone has done: it ran what it took in run order, and in no phase more out of its stash than
--- fits there; its post's additions are the accepted likes that it ran, in each phase; the post's plain steps are those of
+-- fits there; its post's additions are the likes that it ran, in each phase; the post's plain steps are those of
 -- its run list, in order, and each step that adds nothing is plain; its additions are noted, if it notes them; each reply
 -- is right, its count aside; its table has each user's last like; and it took the end mark of each of its submitters
 pub record IsDone (workload : Workload) (v : WorkerView) : Type 0 where

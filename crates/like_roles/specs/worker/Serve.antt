@@ -1,11 +1,7 @@
 -- What running a request does to a worker.
-use Rattle.std.specs.Prelude.{◌≡◌, ◌≢◌, ℕ, ◌≤◌, Bool, if◌then◌else◌, List, [], ◌∷◌, ◌++◌, length, map}
-use Rattle.like_requests.specs.Verdict.{verdict_of}
-use Rattle.like_requests.specs.declared.request.Op.TheVariants.{Like, Look}
-use Rattle.like_requests.specs.declared.request.PageRef.TheVariants.{Known}
+use Rattle.std.specs.Prelude.{◌≡◌, ℕ, ◌≤◌, Bool, if◌then◌else◌, List, [], ◌∷◌, ◌++◌, length, map}
 use Rattle.like_requests.specs.declared.request.Request.{Request}
 use Rattle.like_requests.specs.declared.verdict.Verdict.{Verdict}
-use Rattle.like_requests.specs.declared.verdict.Verdict.TheVariants.{Accepted}
 use Rattle.like_core.specs.declared.view.Addition.{Addition}
 use Rattle.like_core.specs.Post.{has_read, additions_of, number_of, slices}
 use Rattle.like_tables.specs.UserTable.{last_of, with_last}
@@ -15,11 +11,8 @@ use Rattle.like_promises.specs.declared.log.Added.{Added}
 use Rattle.like_promises.specs.declared.log.Ran.{Ran}
 use Rattle.like_promises.specs.declared.reply.Reply.{Reply}
 use Rattle.like_promises.specs.declared.reply.Reply.TheVariants.{Liked, Seen, Refused}
-use Rattle.like_roles.specs.worker.WorkerView.{WorkerView, phase_at, seat_of, with_seat}
-
--- the verdict on a request of a submitter
-abbrev pub verdict_at : WorkerView → ℕ → Request → Verdict
-verdict_at v submitter r = verdict_of v.last.share.users v.last.share.submitters submitter r
+use Rattle.like_promises.specs.Store.{like, look, refuse}
+use Rattle.like_roles.specs.worker.WorkerView.{WorkerView, asked_in, phase_at, seat_of, with_seat}
 
 -- an addition as it is noted when `at` entries had run
 abbrev pub noted_at : ℕ → Addition → Added
@@ -59,7 +52,7 @@ abbrev pub counted : WorkerView → ℕ → ℕ → ℕ → WorkerView
 counted v page old number =
     if slices v.post page then sliced v page else with_addition v page old 1 number
 
--- a user's accepted like of a page is counted, and is the user's last like
+-- a user's like of a page is counted, and is the user's last like
 abbrev pub liked : WorkerView → ℕ → ℕ → ℕ → ℕ → WorkerView
 liked v user page old number =
     let w = counted v page old number in record w { last = with_last v.last user page }
@@ -75,13 +68,12 @@ shown v page count number = record v { post = has_read v.post page count number 
 -- a request of a submitter is answered, and this is what becomes of the worker: its list of what it ran aside
 pub data GivesReply (v : WorkerView) (submitter : ℕ) (r : Request) (reply : Reply)
     (after : WorkerView) : Type 0 where
-  refuses : verdict_at v submitter r ≢ Accepted
-      → reply ≡ Refused (verdict_at v submitter r) → after ≡ v
+  refuses : (why : Verdict) → asked_in v.last.share submitter r ≡ refuse why → reply ≡ Refused why → after ≡ v
       → GivesReply v submitter r reply after
-  likes : (page : ℕ) → verdict_at v submitter r ≡ Accepted → r.op ≡ Like → r.page ≡ Known page
-      → reply ≡ Liked → Likes v r.user page after → GivesReply v submitter r reply after
-  looks : (page count : ℕ) → verdict_at v submitter r ≡ Accepted → r.op ≡ Look → r.page ≡ Known page
-      → reply ≡ Seen (last_of v.last r.user) count → additions_of v.post page ≤ count
+  likes : (user page : ℕ) → asked_in v.last.share submitter r ≡ like user page → reply ≡ Liked
+      → Likes v user page after → GivesReply v submitter r reply after
+  looks : (user page count : ℕ) → asked_in v.last.share submitter r ≡ look user page
+      → reply ≡ Seen (last_of v.last user) count → additions_of v.post page ≤ count
       → after ≡ shown v page count (number_of after.post)
       → GivesReply v submitter r reply after
 

@@ -1,9 +1,9 @@
 -- What a worker is, as contracts see it.
-use Rattle.std.specs.Prelude.{◌≡◌, ℕ, ◌+◌, ◌-◌, ◌<◌, ◌&&◌, nat_le, if◌then◌else◌, Bool, true, false, List, [], length, slice_index_or, Option}
-use Rattle.std.specs.Option.{option_map_or}
-use Rattle.like_requests.specs.Verdict.{is_accepted}
+use Rattle.std.specs.Prelude.{◌≡◌, ℕ, ◌+◌, ◌-◌, ◌<◌, nat_le, if◌then◌else◌, Bool, true, false, List, [], length, slice_index_or, Option}
 use Rattle.like_requests.specs.declared.request.Request.{Request}
-use Rattle.like_promises.specs.Looks.{page_looked_at}
+use Rattle.like_promises.specs.Asked.{asked_by}
+use Rattle.like_promises.specs.Order.{must_wait}
+use Rattle.like_promises.specs.Store.{Ask}
 use Rattle.like_core.specs.WorkerState.{phase_of}
 use Rattle.like_core.specs.Post.{slices}
 use Rattle.like_core.specs.declared.view.WorkerSeatView.{WorkerSeatView}
@@ -69,15 +69,13 @@ pub record IsNextPlace (ended : List Bool) (cursor place : ℕ) : Type 0 where
       → steps_between (length ended) cursor other < steps_between (length ended) cursor place
       → slice_index_or ended other true ≡ true
 
--- the request is an accepted look at a page that is sliced
-abbrev pub is_look_at_sliced : ℕ → ℕ → (ℕ → Bool) → ℕ → Request → Bool
-is_look_at_sliced users submitters is_sliced submitter r =
-    is_accepted users submitters submitter r
-    && option_map_or is_sliced (page_looked_at r.op r.page) false
+-- what a submitter's request asks of a worker with these users
+abbrev pub asked_in : Share → ℕ → Request → Ask
+asked_in users submitter r = asked_by users.users users.submitters submitter r
 
 -- whether a request of a submitter has to wait for the next joined phase, of a worker at this post with these users
 abbrev pub waits_at : WorkerSeatView → Share → ℕ → Request → Bool
-waits_at post users submitter r = is_look_at_sliced users.users users.submitters (slices post) submitter r
+waits_at post users submitter r = must_wait (slices post) (asked_in users submitter r)
 
 abbrev pub has_to_wait : WorkerView → ℕ → Request → Bool
 has_to_wait v submitter r = waits_at v.post v.last.share submitter r

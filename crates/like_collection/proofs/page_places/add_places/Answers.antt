@@ -2,8 +2,8 @@ use Rattle.std.proofs.Common.{◌≡◌, ◌+◌, ◌<◌, [], ◌++◌, ◌∷�
 use Rattle.std.proofs.lemmas.List.{length-map, length-set, take_all, take_more}
 use Rattle.like_promises.specs.declared.log.Added.{Added}
 use Rattle.like_promises.specs.declared.place.Place.{Place}
-use Rattle.like_promises.specs.places.Places.{lists_in, place_made, places_of}
-use Rattle.like_collection.proofs.PlaceLists.{place_if, places_of-push, put-place}
+use Rattle.like_promises.specs.places.Places.{lists_in, places_of}
+use Rattle.like_collection.proofs.PlaceLists.{place_if, place_made, places_of-push, put-place}
 use Rattle.like_collection.proofs.page_places.add_places.Goals as goal
 
 -- an addition where there is none

@@ -3,7 +3,6 @@ use Rattle.std.proofs.lemmas.List.{length-map}
 use Rattle.like_requests.specs.Pages.{Page}
 use Rattle.like_requests.specs.Verdict.{home}
 use Rattle.like_requests.specs.declared.request.Request.{Request}
-use Rattle.like_requests.specs.declared.setup.Setup.{Setup}
 use Rattle.like_core.specs.declared.opening.Opening.{Opening}
 use Rattle.like_promises.specs.Collected.{IsCollected, rows_of, entries_in}
 use Rattle.like_promises.specs.places.Places.{ArePlaces, lists_in}
@@ -17,6 +16,7 @@ use Rattle.like_crew.proofs.additions.Tiled.{all-there, of-likes, placed-are, st
 use Rattle.like_crew.proofs.Once.{collected-at, memory-alone}
 use Rattle.like_crew.proofs.OneOrder.{one-order, seen-counts}
 use Rattle.like_crew.proofs.Whole.{chosen-are, counts-are, known, last-likes-are, log-at, logs-are, logs-size, none-noted, runs-once, tables}
+use Rattle.like_serial.proofs.Reports.{right_is_report}
 use Rattle.like_crew.proofs.report.report_with.Goals as goal
 
 pub replies_of-requires : goal.replies_of-requires
@@ -64,47 +64,6 @@ last_likes-requires-clause-tables c =
     (subst (λ n. AreTables c.args.setup.now.users n c.args.outcome.logs.items) (sym many)
     (tables c.args.setup.now plans c.args.notes c.args.outcome c.requires.outcome))
 
-pub returns-clause-report : goal.returns-clause-report
-returns-clause-report c =
-    let plans : List (List Request) = lists_of c.args.plans.now.value.items in
-    let workers : ℕ = c.args.setup.now.workers in
-    let e = c.args.outcome in
-    let h = c.requires.outcome in
-    let size : length e.logs.items ≡ workers = logs-size c.args.setup.now plans c.args.notes e h in
-    let many = submitters-are (length c.args.sizes.now) c.args.sizes.now (lists_of c.args.plans.now.value.items)
-    refl c.requires.sizes in
-    let told = h.counts in
-    let pages : length e.counts.items ≡ length c.args.setup.now.pages =
-    told.len ∙ ap (λ (z : Opening). length z.counts) h.opening
-    ∙ length-map c.args.setup.now.pages (λ (p : Page). p.count) in
-    let logs = logs-are c.args.setup.now plans c.args.notes e h told.closed.masks told.closed.counted
-    told.closed.phases in
-    let order = one-order c.args.setup.now plans c.args.notes e h told.closed.masks told.closed.log told.closed.order
-    told.closed.counted told.closed.phases in
-    record {
-      one_order = order;
-      workers_all = size;
-      logs = logs;
-      replies = subst (λ sizes. IsCollected sizes (entries_in e.logs.items) (rows_of c.in_ok-replies.replies))
-          c.requires.sizes
-          (collected-at c.args.sizes.now (entries_in e.logs.items) c.args.collected c.in_ok-replies.replies
-          c.in_ok-replies.ensures c.requires.collected);
-      counts = counts-are c.args.setup.now plans c.args.notes e h told.closed.masks
-          e.counts.items refl pages
-          (λ page there. told.totals page (omega (arith, there, pages)));
-      last = last-likes-are
-          (workload_by c.args.setup.now plans (entries_in e.logs.items)) workers e.logs.items c.in_ok-last.last.items size
-          c.requires.within.numbers.workers.0 (λ worker log at. (logs worker log at).0) c.in_ok-last.ensures.len
-          (λ user log there at.
-          c.in_ok-last.ensures.last user log there
-          (ap (λ (logs : List WorkerLog). slice_get logs (worker_of (length logs) (home (length c.args.sizes.now) user)))
-          c.deref.ensures.value
-          ∙ ap (λ n. slice_get e.logs.items (worker_of (length e.logs.items) (home n user))) many ∙ at));
-      joined = h.joined;
-      seen = seen-counts (workload_by c.args.setup.now plans (entries_in e.logs.items)) workers e.logs.items order;
-      hot = chosen-are c.args.setup.now plans c.args.notes e h told.closed.masks told.closed.counted;
-    }
-
 pub places_of-requires-clause-few : goal.places_of-requires-clause-few
 places_of-requires-clause-few c =
     let plans : List (List Request) = lists_of c.args.plans.now.value.items in
@@ -128,31 +87,60 @@ places_of-requires-clause-there c notes =
     (λ (log : WorkerLog). All (λ (a : Added). a.page < length c.args.setup.now.pages) log.adds.items) logs)
     (sym c.deref-2.ensures.value) there)
 
-pub returns-clause-places : goal.returns-clause-places
-returns-clause-places c notes =
+pub returns-clause-report : goal.returns-clause-report
+returns-clause-report c =
     let plans : List (List Request) = lists_of c.args.plans.now.value.items in
-    let setup : Setup = c.args.setup.now in
+    let workers : ℕ = c.args.setup.now.workers in
     let e = c.args.outcome in
     let h = c.requires.outcome in
+    let size : length e.logs.items ≡ workers = logs-size c.args.setup.now plans c.args.notes e h in
+    let many = submitters-are (length c.args.sizes.now) c.args.sizes.now (lists_of c.args.plans.now.value.items)
+    refl c.requires.sizes in
     let told = h.counts in
+    let pages : length e.counts.items ≡ length c.args.setup.now.pages =
+    told.len ∙ ap (λ (z : Opening). length z.counts) h.opening
+    ∙ length-map c.args.setup.now.pages (λ (p : Page). p.count) in
+    let logs = logs-are c.args.setup.now plans c.args.notes e h told.closed.masks told.closed.counted
+    told.closed.phases in
+    let order = one-order c.args.setup.now plans c.args.notes e h told.closed.masks told.closed.log told.closed.order
+    told.closed.counted told.closed.phases in
     let closed = told.closed in
-    let pages : length e.counts.items ≡ length setup.pages =
-    told.len ∙ ap (λ (z : Opening). length z.counts) h.opening ∙ length-map setup.pages (λ (p : Page). p.count) in
     let P : ℕ → List WorkerLog → Type 0 = λ pages logs. ArePlaces pages logs (lists_in c.in_ok-places.places.items) in
-    record {
-      likes = of-likes setup plans c.args.notes e h closed.masks closed.counted notes closed.phases;
-      tiles = tiles-are setup plans c.args.notes e h closed.masks closed.counted notes
+    right_is_report c.args.setup.now plans c.args.notes _
+    (record {
+      one_order = order;
+      workers_all = size;
+      logs = logs;
+      replies = subst (λ sizes. IsCollected sizes (entries_in e.logs.items) (rows_of c.in_ok-replies.replies))
+          c.requires.sizes
+          (collected-at c.args.sizes.now (entries_in e.logs.items) c.args.collected c.in_ok-replies.replies
+          c.in_ok-replies.ensures c.requires.collected);
+      counts = counts-are c.args.setup.now plans c.args.notes e h told.closed.masks
+          e.counts.items refl pages
+          (λ page there. told.totals page (omega (arith, there, pages)));
+      last = last-likes-are
+          (workload_by c.args.setup.now plans (entries_in e.logs.items)) workers e.logs.items c.in_ok-last.last.items size
+          c.requires.within.numbers.workers.0 (λ worker log at. (logs worker log at).0) c.in_ok-last.ensures.len
+          (λ user log there at.
+          c.in_ok-last.ensures.last user log there
+          (ap (λ (logs : List WorkerLog). slice_get logs (worker_of (length logs) (home (length c.args.sizes.now) user)))
+          c.deref.ensures.value
+          ∙ ap (λ n. slice_get e.logs.items (worker_of (length e.logs.items) (home n user))) many ∙ at));
+      joined = h.joined;
+      seen = seen-counts (workload_by c.args.setup.now plans (entries_in e.logs.items)) workers e.logs.items order;
+      hot = chosen-are c.args.setup.now plans c.args.notes e h told.closed.masks told.closed.counted;
+    })
+    (λ notes. record {
+      likes = of-likes c.args.setup.now plans c.args.notes e h closed.masks closed.counted notes closed.phases;
+      tiles = tiles-are c.args.setup.now plans c.args.notes e h closed.masks closed.counted notes
           c.requires.within.there e.counts.items pages
           (λ page there. told.totals page (omega (arith, there, pages))) closed.places;
-      placed = placed-are setup plans c.args.notes e h closed.masks closed.counted notes closed.places;
-      in_time = stand-are setup plans c.args.notes e h closed.masks closed.counted notes closed.between;
+      placed = placed-are c.args.setup.now plans c.args.notes e h closed.masks closed.counted notes closed.places;
+      in_time = stand-are c.args.setup.now plans c.args.notes e h closed.masks closed.counted notes closed.between;
       rows = subst (λ (n : ℕ). P n e.logs.items) c.len.ensures.len
           (subst (P c.len.result) c.deref-2.ensures.value (c.in_ok-places.ensures.noted notes));
-    }
-
-pub returns-clause-none : goal.returns-clause-none
-returns-clause-none c unasked =
-    let h = c.requires.outcome in (
+    })
+    (λ unasked. (
       c.in_ok-places.ensures.none unasked,
-      none-noted c.args.setup.now (lists_of c.args.plans.now.value.items) c.args.notes c.args.outcome h unasked,
-    )
+      none-noted c.args.setup.now plans c.args.notes e h unasked,
+    ))

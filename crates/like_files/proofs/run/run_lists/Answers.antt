@@ -10,18 +10,19 @@ use Rattle.like_files.proofs.run.run_lists.Goals as goal
 pub new-requires : goal.new-requires
 new-requires g c = record {
   writable = IsWritable-end_to_end
-      (workload_by c.args.setup.now (lists_of c.args.plans.items) c.in_ok-report.ensures.report.right.0)
+      (workload_by c.args.setup.now (lists_of c.args.plans.items) c.in_ok-report.ensures.report.serial)
       (plans-within _ _ (fits-run _ _ c.in_ok-report.ensures.within))
-      c.args.setup.now.workers c.in_ok-report.report c.in_ok-report.ensures.report.right.0
-      c.in_ok-report.ensures.report.right.1;
+      c.args.setup.now.workers c.in_ok-report.report c.in_ok-report.ensures.report.serial
+      c.in_ok-report.ensures.report.right;
   placed = λ wanted. one_list_a_page c.args.setup.now (lists_of c.args.plans.items) c.in_ok-report.report
+      c.in_ok-report.ensures.report.serial
       (c.in_ok-report.ensures.report.places (rw c.extent_of.ensures at wanted));
 }
 
 pub of-requires : goal.of-requires
 of-requires g c =
     few_requests c.args.setup.now
-    (lists_of c.args.plans.items) c.in_ok-report.report c.in_ok-report.ensures.within c.in_ok-report.ensures.report.right
+    (lists_of c.args.plans.items) _ c.in_ok-report.report c.in_ok-report.ensures.within c.in_ok-report.ensures.report
 
 pub returns-in_err-report-clause-run : goal.returns-in_err-report-clause-run
 returns-in_err-report-clause-run g c =

@@ -72,7 +72,7 @@ returns-clause-report c =
     is-report c.args.setup.now (lists_of c.of-lists.result.value.items) (lists_of c.args.plans.items)
     c.args.notes c.args.notes c.in_ok-report_of.field-0
     (ap (λ (v : Vec (Vec Request Global) Global). lists_of v.items) c.of-lists.ensures) refl
-    c.in_ok-report_of.ensures.report c.in_ok-report_of.ensures.places c.in_ok-report_of.ensures.none
+    c.in_ok-report_of.ensures.report
 
 pub returns-clause-follows : goal.returns-clause-follows
 returns-clause-follows c =

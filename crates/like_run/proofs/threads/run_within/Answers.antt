@@ -34,8 +34,7 @@ returns-clause-report g c =
     is-report c.args.setup.now (lists_of c.of-lists.result.value.items) (lists_of c.args.plans.items)
     c.in_ok-site.site.notes c.args.notes c.in_ok-report_in_parallel.field-0
     (ap (λ (v : Vec (Vec Request Global) Global). lists_of v.items) c.of-lists.ensures) c.in_ok-site.ensures.notes
-    c.in_ok-report_in_parallel.ensures.report c.in_ok-report_in_parallel.ensures.places
-    c.in_ok-report_in_parallel.ensures.none
+    c.in_ok-report_in_parallel.ensures.report
 
 pub returns-clause-enough : goal.returns-clause-enough
 returns-clause-enough g c = c.in_ok-ended.ensures.enough

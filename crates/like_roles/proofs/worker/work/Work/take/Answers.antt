@@ -10,7 +10,7 @@ use Rattle.like_roles.specs.worker.Judged.{IsJudged}
 use Rattle.like_roles.specs.worker.Serve.{Runs}
 use Rattle.like_roles.specs.worker.Turns.{runs, stashes, with_stashed, with_taken}
 use Rattle.like_roles.specs.worker.Work.{seat_at, worker_at}
-use Rattle.like_roles.specs.worker.WorkerView.{WorkerView, has_to_wait}
+use Rattle.like_roles.specs.worker.WorkerView.{WorkerView, asked_in, has_to_wait}
 use Rattle.like_roles.proofs.Held.{settled-push, settled-taken, sum-less, IsOwn-taken, CanServe-taken, view_of-taken, waits-split}
 use Rattle.like_roles.proofs.worker.work.Work.take.Goals as goal
 
@@ -39,7 +39,7 @@ pub put_by-requires : goal.put_by-requires
 put_by-requires g c =
     let p = g.P.Post.view c.args.post.now in
     let users = c.args.self.now.tables.last.share in
-    c.requires.tried.split (waits-split p users.users users.submitters c.submitter_at.result c.args.ask.request
+    c.requires.tried.split (waits-split p (asked_in users c.submitter_at.result c.args.ask.request)
     c.waits-waits.result (c.waits-waits.ensures p c.requires.idle.kept c.requires.tried.running c.requires.given.there)
     c.if-waits.true)
 
