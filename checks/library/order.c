@@ -1,22 +1,24 @@
-/* Whether one order explains what threads did at a service: short histories of likes, looks, glances, returns of seats,
- * writers and snapshots, each between two moments of rest (order.h).
+/* Whether one order that keeps time explains what threads did at a service: short histories of likes, looks, glances,
+ * rows, returns of seats, writers and snapshots, each between two moments of rest (order.h).
  *
  * usage: order SEED SECONDS
  *
  * Half of the time threads hold seats of likes.h, and phases of the driver change meanwhile. A chain is a seat, whose
  * phases never fall. The other half they share a service of likes_service.h, whose phases change by themselves. There a
  * chain is what a thread does at a seat, and what its writer does there. A glance that tells that its page is split
- * shows a last like, but its count need not fit. At rest, the counts and the last likes must be those that the order
- * leaves.
+ * shows a last like, but its count need not fit. A look that waits is noted with the call that found it, and a writer's
+ * like hasn't returned before the writer hands all over. At rest, the counts and the last likes must be those that the
+ * order leaves.
  *
  * It must find faults, too: each history is searched again with a wrong number in place of one that was shown, and some
  * of these must have no order. Short ones are compared with trying all orders; no order shows another last like of a
- * seat's user, or another count at rest; and none shows the counts of two glances that cross. If something is wrong, it
- * prints a line and exits with status 1. After 60 seconds, and those asked for, a signal ends it. */
+ * seat's user, or another count at rest; none shows the counts of two glances that cross; and none that keeps time shows
+ * a look that misses a like whose call had returned. If something is wrong, it prints a line and exits with status 1.
+ * After 60 seconds, and those asked for, a signal ends it. */
 #include "order.h"
 
 enum { MOST_THREADS = 4, MOST_SEATS = 4, MOST_STEPS = 8, MOST_MOMENTS = 4, MOMENTS = CHAINS - 1 };
-enum { ROOM = 32, SPINS = 200, HISTORIES = 500 };
+enum { ROOM = 32, SPINS = 200, HISTORIES = 500, ROW = 3 };
 
 /* After all phases: what is shown at rest. */
 #define AT_REST (UINT64_MAX - 1)
@@ -81,10 +83,10 @@ static bool is_split(uint64_t phase, uint32_t page) {
 
 /* A turn of the driver, by the first thread. Before it, the counts of one moment are noted where there is one. */
 static void turn(player *by, uint32_t end) {
-    uint64_t counts[PAGES], phase = likes_driver_phase(&driver);
+    uint64_t counts[PAGES], phase = likes_driver_phase(&driver), at = read_clock();
     bool is_new = by->phase != phase && seen.chains[MOMENTS].length < MOST_MOMENTS;
     if (is_new && likes_driver_snapshot(&driver, 0, counts, PAGES) == LIKES_COUNTED) {
-        deed *moment = add_deed(&seen, MOMENTS, 2 * phase + 1);
+        deed *moment = add_deed(&seen, MOMENTS, 2 * phase + 1, at);
         for (uint32_t page = 0; page < PAGES; page++)
             show_count(moment, page, counts[page]);
         by->phase = phase;
@@ -108,79 +110,141 @@ static uint64_t phase_at(player *by) {
     return phase;
 }
 
-static void note_shown(uint32_t number, uint64_t phase, uint32_t user, uint32_t page, bool is_exact, uint64_t count,
-                       uint32_t last) {
-    deed *made = add_deed(&seen, number, 2 * phase);
-    show_last(made, user, last);
+/* Notes what a call that began then has shown. */
+static void note_shown(uint32_t number, uint64_t phase, uint64_t at, uint32_t user, uint32_t page, bool is_exact,
+                       likes_answer shown) {
+    deed *made = add_deed(&seen, number, 2 * phase, at);
+    show_last(made, user, shown.last);
     if (is_exact)
-        show_count(made, page, count);
+        show_count(made, page, shown.count);
     else
-        glances[number][made - seen.chains[number].deeds] = (count + 1) * PAGES + page;
+        glances[number][made - seen.chains[number].deeds] = (shown.count + 1) * PAGES + page;
 }
 
-static uint32_t try_once(player *by, uint32_t op, uint32_t user, uint32_t page, likes_answer *answer) {
+/* Notes the looks that a call of a seat found which began then: they ran before all else that the call did. */
+static void note_found(uint32_t number, uint64_t at) {
+    likes_found it;
+    while (likes_seat_take_found(&seats[number], &it))
+        note_shown(number, it.ran, at, it.user, it.page, true, (likes_answer){.count = it.count, .last = it.last});
+}
+
+/* Notes a request of a call that began then, if it was done. Whether it was: else the seat can't go on now. */
+static bool note_done(player *by, uint64_t at, likes_request made, likes_answer answer) {
+    if (answer.status == LIKES_BETWEEN)
+        return false;
+    uint64_t phase = phase_at(by);
+    uint32_t at_split = made.op == LIKES_LOOK ? LIKES_WAITS : LIKES_GLIMPSED;
+    IS(answer.status, made.op == LIKES_LIKE ? LIKES_LIKED : is_split(phase, made.page) ? at_split : LIKES_SEEN);
+    if (made.op == LIKES_LIKE)
+        add_like(&seen, by->number, 2 * phase, at, made.user, made.page);
+    else if (answer.status != LIKES_WAITS)
+        note_shown(by->number, phase, at, made.user, made.page, answer.status == LIKES_SEEN, answer);
+    return true;
+}
+
+static uint32_t try_once(player *by, likes_request asked, likes_answer *answer) {
     likes_seat *seat = &seats[by->number];
-    if (op == LIKES_LIKE)
-        return likes_seat_like(seat, user, page);
-    if (op == LIKES_LOOK)
-        return likes_seat_look(seat, user, page, 0, answer);
-    return likes_seat_glance(seat, user, page, answer);
+    if (asked.op == LIKES_LIKE)
+        return likes_seat_like(seat, asked.user, asked.page);
+    if (asked.op == LIKES_LOOK)
+        return likes_seat_look(seat, asked.user, asked.page, 0, answer);
+    return likes_seat_glance(seat, asked.user, asked.page, answer);
 }
 
 /* Makes a request at the thread's seat, and notes it. A look that waits is noted where it is found. */
-static void ask(player *by, uint32_t op, uint32_t user, uint32_t page) {
-    likes_answer answer = {.count = 0};
-    unsigned tries = 0;
-    uint32_t status;
-    while ((status = try_once(by, op, user, page, &answer)) == LIKES_BETWEEN)
-        wait_for_phase(by, &tries);
-    uint64_t phase = phase_at(by);
-    uint32_t at_split = op == LIKES_LOOK ? LIKES_WAITS : LIKES_GLIMPSED;
-    IS(status, op == LIKES_LIKE ? LIKES_LIKED : is_split(phase, page) ? at_split : LIKES_SEEN);
-    if (op == LIKES_LIKE)
-        add_like(&seen, by->number, 2 * phase, user, page);
-    else if (status != LIKES_WAITS)
-        note_shown(by->number, phase, user, page, status == LIKES_SEEN, answer.count, answer.last);
+static void ask(player *by, likes_request asked) {
+    for (unsigned tries = 0;; wait_for_phase(by, &tries)) {
+        likes_answer answer = {.count = 0};
+        uint64_t at = read_clock();
+        answer.status = try_once(by, asked, &answer);
+        note_found(by->number, at);
+        if (note_done(by, at, asked, answer))
+            return;
+    }
 }
 
-static void like_or_look(player *by) {
+/* Makes requests in a row. */
+static void ask_row(player *by, const likes_request *asked, size_t length) {
+    likes_answer answers[ROW];
+    size_t first = 0;
+    for (unsigned tries = 0;; wait_for_phase(by, &tries)) {
+        uint64_t at = read_clock();
+        size_t done_now = likes_seat_run(&seats[by->number], asked + first, length - first, answers, length - first);
+        note_found(by->number, at);
+        for (size_t i = 0; i < done_now; i++)
+            hold(note_done(by, at, asked[first + i], answers[i]), "a row was not done as far as it says");
+        first += done_now;
+        if (first == length)
+            return;
+    }
+}
+
+static likes_request draw_request(player *by) {
     static const uint32_t ops[] = {LIKES_LIKE, LIKES_LIKE, LIKES_LOOK, LIKES_GLANCE};
     uint32_t own = (USERS - 1 - by->number) / now.seats + 1;
-    uint32_t user = by->number + now.seats * (uint32_t)below(&by->random, own);
-    ask(by, ops[below(&by->random, 4)], user, (uint32_t)below(&by->random, PAGES));
+    return (likes_request){.user = by->number + now.seats * (uint32_t)below(&by->random, own),
+                           .page = (uint32_t)below(&by->random, PAGES),
+                           .op = ops[below(&by->random, 4)]};
+}
+
+/* Makes one request, or a row of them if so many may still be made. How many were made. */
+static uint32_t like_or_look(player *by, uint32_t most) {
+    likes_request asked[ROW];
+    uint32_t length = most >= ROW && below(&by->random, 5) == 0 ? ROW : 1;
+    for (uint32_t i = 0; i < length; i++)
+        asked[i] = draw_request(by);
+    if (length == 1)
+        ask(by, asked[0]);
+    else
+        ask_row(by, asked, length);
+    return length;
 }
 
 /* A seat leaves, and comes back. */
 static void rest(player *by) {
     unsigned tries = 0;
     uint32_t status;
+    uint64_t at = read_clock();
     while ((status = likes_seat_retire(&seats[by->number])) != LIKES_GONE) {
+        note_found(by->number, at);
         if (status == LIKES_RUNS)
             set(&is_end_wanted);
         wait_for_phase(by, &tries);
+        at = read_clock();
     }
+    note_found(by->number, at);
     pause_a_little(by);
     while (likes_seat_come_back(&seats[by->number]) != LIKES_RUNS)
         wait_for_phase(by, &tries);
 }
 
 static void play_seat(player *by) {
-    for (uint32_t step = 0; step < now.steps; step++) {
-        if (below(&by->random, 20) == 0)
+    for (uint32_t step = 0; step < now.steps;) {
+        if (below(&by->random, 20) == 0) {
             rest(by);
-        else
-            like_or_look(by);
+            step++;
+        } else {
+            step += like_or_look(by, now.steps - step);
+        }
         if (by->number == 0)
             turn(by, below(&by->random, 100) < now.end_share ? LIKES_END : LIKES_NO_END);
         pause_a_little(by);
     }
 }
 
+/* A turn of a seat. Whether it runs a phase. */
+static bool turn_seat(uint32_t number) {
+    uint64_t at = read_clock();
+    uint32_t status = likes_seat_turn(&seats[number]);
+    note_found(number, at);
+    return status == LIKES_RUNS;
+}
+
 /* Until all threads are done, a seat answers phases. */
 static void answer_phases(player *by) {
     unsigned tries = 0;
     while (load(&done) < now.threads) {
-        likes_seat_turn(&seats[by->number]);
+        turn_seat(by->number);
         wait_for_phase(by, &tries);
     }
 }
@@ -192,27 +256,7 @@ static void go_to(uint64_t kind) {
         likes_driver_turn(&driver, running < now.seats ? LIKES_NO_END : LIKES_END);
         running = 0;
         for (uint32_t i = 0; i < now.seats; i++)
-            running += likes_seat_turn(&seats[i]) == LIKES_RUNS;
-    }
-}
-
-/* Puts looks that waited where they ran: before all else that the seat did in that phase. */
-static void put_found(uint32_t number) {
-    likes_found found[MOST_DEEDS];
-    size_t length = 0;
-    chain *own = &seen.chains[number];
-    while (length < MOST_DEEDS && likes_seat_take_found(&seats[number], &found[length]))
-        length++;
-    for (size_t i = length; i-- > 0;) {
-        uint32_t at = 0, last = own->length;
-        note_shown(number, found[i].ran, found[i].user, found[i].page, true, found[i].count, found[i].last);
-        deed made = own->deeds[last];
-        while (at < last && own->deeds[at].phase < made.phase)
-            at++;
-        memmove(own->deeds + at + 1, own->deeds + at, (last - at) * sizeof made);
-        memmove(glances[number] + at + 1, glances[number] + at, (last - at) * sizeof **glances);
-        own->deeds[at] = made;
-        glances[number][at] = 0;
+            running += turn_seat(i);
     }
 }
 
@@ -220,7 +264,6 @@ static void put_found(uint32_t number) {
 static void show_seats(deed *to) {
     likes_answer answer;
     uint32_t last;
-    go_to(0);
     for (uint32_t page = 0; page < PAGES; page++) {
         IS(likes_seat_look(&seats[0], 0, page, 0, &answer), LIKES_SEEN);
         show_count(to, page, answer.count);
@@ -251,39 +294,57 @@ static void take_moment(void) {
     uint32_t lasts[USERS];
     if (seen.chains[MOMENTS].length == MOST_MOMENTS)
         return;
+    uint64_t at = read_clock();
     IS(likes_service_snapshot(service, counts, PAGES, lasts, USERS), LIKES_COUNTED);
-    deed *moment = add_deed(&seen, MOMENTS, 0);
+    deed *moment = add_deed(&seen, MOMENTS, 0, at);
     for (uint32_t page = 0; page < PAGES; page++)
         show_count(moment, page, counts[page]);
     for (uint32_t user = 0; user < USERS; user++)
         show_last(moment, user, lasts[user]);
 }
 
+/* Where a thread notes what it does at a user's seat, and behind that what its writer does there. */
+static uint32_t chain_at(player *by, uint32_t user) {
+    return 2 * (by->number * now.seats + user % now.seats);
+}
+
+/* A writer hands over all its likes, so their calls have returned. */
+static void flush(player *by) {
+    IS(likes_writer_flush(by->writer), LIKES_OK);
+    uint64_t at = read_clock();
+    for (uint32_t seat = 0; seat < now.seats; seat++) {
+        chain *own = &seen.chains[chain_at(by, seat) + 1];
+        for (uint32_t n = 0; n < own->length; n++)
+            if (own->deeds[n].returned == UINT64_MAX)
+                own->deeds[n].returned = at;
+    }
+}
+
 static void call_service(player *by) {
     uint32_t user = (uint32_t)below(&by->random, USERS), page = (uint32_t)below(&by->random, PAGES);
-    uint32_t single = 2 * (by->number * now.seats + user % now.seats), written = single + 1;
-    uint64_t choice = below(&by->random, 100);
+    uint32_t single = chain_at(by, user), written = single + 1;
+    uint64_t choice = below(&by->random, 100), at = read_clock();
     likes_answer answer;
     if (choice < 30) {
         IS(likes_service_like(service, user, page), LIKES_LIKED);
-        add_like(&seen, single, 0, user, page);
+        add_like(&seen, single, 0, at, user, page);
     } else if (choice < 45) {
         IS(likes_service_look(service, user, page, &answer), LIKES_SEEN);
-        note_shown(single, 0, user, page, true, answer.count, answer.last);
+        note_shown(single, 0, at, user, page, true, answer);
     } else if (choice < 60) {
         uint32_t status = likes_service_glance(service, user, page, &answer);
         IS(status == LIKES_SEEN || status == LIKES_GLIMPSED, true);
-        note_shown(single, 0, user, page, status == LIKES_SEEN, answer.count, answer.last);
+        note_shown(single, 0, at, user, page, status == LIKES_SEEN, answer);
     } else if (choice < 85) {
         IS(likes_writer_like(by->writer, user, page), LIKES_OK);
-        add_like(&seen, written, 0, user, page);
+        add_like(&seen, written, 0, at, user, page)->returned = UINT64_MAX;
     } else if (choice < 95) {
         IS(likes_writer_look(by->writer, user, page, &answer), LIKES_SEEN);
-        note_shown(written, 0, user, page, true, answer.count, answer.last);
+        note_shown(written, 0, at, user, page, true, answer);
     } else if (by->number == 0) {
         take_moment();
     } else {
-        IS(likes_writer_flush(by->writer), LIKES_OK);
+        flush(by);
     }
 }
 
@@ -292,7 +353,7 @@ static void play_service(player *by) {
         call_service(by);
         pause_a_little(by);
     }
-    IS(likes_writer_flush(by->writer), LIKES_OK);
+    flush(by);
 }
 
 /* What a service shows at rest. */
@@ -406,13 +467,14 @@ static void make_history(player *by, uint64_t number) {
     take_part(by);
     while (load(&left) < now.threads)
         spin(&tries);
-    deed *end = add_deed(&seen, MOMENTS, AT_REST);
+    if (!now.is_shared)
+        go_to(0);
+    deed *end = add_deed(&seen, MOMENTS, AT_REST, read_clock());
     if (now.is_shared)
         show_service(end);
     else
         show_seats(end);
-    for (uint32_t i = 0; !now.is_shared && i < now.seats; i++)
-        put_found(i);
+    keep_chains(&seen);
     judge(by);
     memcpy(seen.first.counts, end->counts, sizeof end->counts);
     memcpy(seen.first.lasts, end->lasts, sizeof end->lasts);
@@ -471,22 +533,44 @@ static void play_game(uint64_t seed, uint64_t end) {
     service = NULL;
 }
 
-/* Two seats like a page each in a split phase, and then glance at the other's: both counts lack a like, and no order
- * shows that. */
-static void cross(void) {
+/* Two seats, in a phase of that kind, with two marked pages. */
+static void open_two(uint64_t kind) {
     static const uint32_t marks[] = {0, 1};
     static const uint64_t counts[PAGES];
-    static history other;
     now = (game){.threads = 2, .seats = 2, .marks = 3};
     open_seats((likes_options){.seats = 2, .users = USERS, .room = ROOM}, counts, marks, 2);
     memset(&seen, 0, sizeof seen);
     for (uint32_t i = 0; i < 2; i++)
         players[i] = (player){.number = i};
-    go_to(1);
+    go_to(kind);
+}
+
+/* A seat likes a page, and then the other one looks at it. If it misses the like, an order shows that, but none that
+ * keeps time. */
+static void look_late(void) {
+    static history other;
+    open_two(0);
+    ask(&players[0], (likes_request){.user = 0, .page = 0, .op = LIKES_LIKE});
+    ask(&players[1], (likes_request){.user = 1, .page = 0, .op = LIKES_LOOK});
+    hold(has_order(&seen), "no order explains a look after a like");
+    other = seen;
+    deed *late = &other.chains[1].deeds[0];
+    late->counts[0] = 0;
+    hold(!has_order(&other), "an order explains a look that misses a like which had returned");
+    late->begun = other.chains[0].deeds[0].begun;
+    hold(has_order(&other), "no order explains a look beside a like");
+    free_seats();
+}
+
+/* Two seats like a page each in a split phase, and then glance at the other's: both counts lack a like, and no order
+ * shows that. */
+static void cross(void) {
+    static history other;
+    open_two(1);
     for (uint32_t i = 0; i < 2; i++)
-        ask(&players[i], LIKES_LIKE, i, i);
+        ask(&players[i], (likes_request){.user = i, .page = i, .op = LIKES_LIKE});
     for (uint32_t i = 0; i < 2; i++)
-        ask(&players[i], LIKES_GLANCE, i, 1 - i);
+        ask(&players[i], (likes_request){.user = i, .page = 1 - i, .op = LIKES_GLANCE});
     hold(has_order(&seen), "no order explains glances at split pages");
     hold(with_glances(&other) && !has_order(&other), "an order explains counts of glances that cross");
     free_seats();
@@ -500,6 +584,7 @@ int main(int count, char **words) {
     uint64_t seed = strtoull(words[1], NULL, 10), seconds = strtoull(words[2], NULL, 10);
     alarm((unsigned)(60 + seconds));
     uint64_t end = clock_now() + seconds * UINT64_C(1000000000);
+    look_late();
     cross();
     for (uint64_t round = 0; clock_now() < end; round++)
         play_game(1000 * seed + round, end);
