@@ -8,10 +8,14 @@ use std::env;
 use std::io::ErrorKind;
 use std::process::ExitCode;
 
-// The words after the program's name.
+// The words after the program's name. Room for them is asked for once: `collect` would ask again, for less.
 fn words(rt: &HostRuntime, alloc: Global) -> Result<Vec<String>, ParseFault> {
     match env::args(rt) {
-        Ok(words) => Ok(words.skip(1).collect(alloc)?),
+        Ok(given) => {
+            let mut words = Vec::with_capacity(alloc, given.len())?;
+            words.extend(given.skip(1))?;
+            Ok(words)
+        }
         Err(error) if error.kind() == ErrorKind::InvalidData => {
             let text = String::from_str(alloc, "error: a word is not UTF-8\n")?;
             Err(ParseFault::Usage(text))
