@@ -493,6 +493,14 @@ static game draw(uint64_t *random) {
     return made;
 }
 
+/* The history before all deeds, where no user has a last like. */
+static void begin_with(const uint64_t *counts) {
+    memset(&seen, 0, sizeof seen);
+    memcpy(seen.first.counts, counts, sizeof seen.first.counts);
+    for (uint32_t user = 0; user < USERS; user++)
+        seen.first.lasts[user] = NO_PAGE;
+}
+
 /* A service or its seats, and so many histories of it. */
 static void play_game(uint64_t seed, uint64_t end) {
     uint64_t random = seed, counts[PAGES] = {0, 5, LIKES_MAX_COUNT};
@@ -507,10 +515,7 @@ static void play_game(uint64_t seed, uint64_t end) {
            LIKES_OK);
     else
         open_seats(options, counts, marks, marks_len);
-    memset(&seen, 0, sizeof seen);
-    memcpy(seen.first.counts, counts, sizeof counts);
-    for (uint32_t user = 0; user < USERS; user++)
-        seen.first.lasts[user] = NO_PAGE;
+    begin_with(counts);
     begun = 0;
     for (uint32_t i = 0; i < now.threads; i++) {
         players[i] = (player){.number = i, .random = seed * MOST_THREADS + i};
@@ -539,7 +544,7 @@ static void open_two(uint64_t kind) {
     static const uint64_t counts[PAGES];
     now = (game){.threads = 2, .seats = 2, .marks = 3};
     open_seats((likes_options){.seats = 2, .users = USERS, .room = ROOM}, counts, marks, 2);
-    memset(&seen, 0, sizeof seen);
+    begin_with(counts);
     for (uint32_t i = 0; i < 2; i++)
         players[i] = (player){.number = i};
     go_to(kind);
