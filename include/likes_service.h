@@ -5,6 +5,9 @@
  *
  * The code is C, and not proved. It is part of liblikes, and tested, also under the address and thread sanitizers.
  *
+ * Calls keep time, as is tested: one that returned before another began comes first, on whatever threads. A writer's
+ * likes come where they are handed over, and a glance may lack likes if it says so.
+ *
  * A thread with many requests locks a seat for a batch of them: likes_service_lock, likes_service_run,
  * likes_service_take_found, likes_service_unlock. While a seat is unlocked, others do its phase work. While it is
  * locked, the thread that holds it calls it at least once each phase, and waits for nothing else. Other threads' looks
