@@ -20,7 +20,8 @@ use Rattle.like_live.specs.LiveView.{LiveView}
 use Rattle.like_live.specs.Moves.{looked, step_for, with_found}
 use Rattle.like_live.specs.Deeds.{Deed, DeedsHaveEntries, IsEntryOf, deeds_found, deeds_of, deeds_of_call, made_since}
 use Rattle.like_live.specs.History.{HasDone, Told}
-use Rattle.like_live.proofs.Stepping.{FollowsCalls, IsNoSlice, Step, acknowledges, adds_like, by_call, by_calls, done_by, finds, glances, holds, looks, next, reads, reports, retires, returns, saw_phase, slices_like, takes}
+use Rattle.like_live.proofs.CallSteps.{by_call, by_calls}
+use Rattle.like_live.proofs.Stepping.{FollowsCalls, IsNoSlice, Step, acknowledges, adds_like, done_by, finds, glances, holds, looks, next, reads, reports, retires, returns, saw_phase, slices_like, takes}
 
 -- some of these entries are those of the deeds, in the same order
 abbrev pub HaveEntries : ℕ → List Logged → List Deed → Type 0

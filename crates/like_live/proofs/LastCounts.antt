@@ -25,7 +25,8 @@ use Rattle.like_live.proofs.Closing.{sum-of-map}
 use Rattle.like_live.proofs.DeedLikes.{count_is}
 use Rattle.like_live.proofs.DeedTotals.{likes_of_deed}
 use Rattle.like_live.proofs.Histories.{histories_are_counted}
-use Rattle.like_live.proofs.OneThread.{alike_at, at_map, deeds_at, deeds_past, deeds_there, opening_is, strict_service}
+use Rattle.like_live.proofs.ClosedOrder.{opening_is, strict_service}
+use Rattle.like_live.proofs.Places.{alike_at, at_map, deeds_at, deeds_past, deeds_there}
 use Rattle.like_live.proofs.Snapshots.{at_number}
 
 -- the deeds of a call count what it was told

@@ -3,7 +3,9 @@ pub mod Answering
 pub mod Batches
 pub mod Bounding
 pub mod Calling
+pub mod CallSteps
 pub mod CallsKeep
+pub mod ClosedOrder
 pub mod Closing
 pub mod Crossed
 pub mod DeedEntries
@@ -14,6 +16,7 @@ pub mod DeedPhases
 pub mod DeedPlain
 pub mod DeedTotals
 pub mod Earlier
+pub mod FoundEntries
 pub mod FoundSteps
 pub mod Finding
 pub mod Gone
@@ -27,8 +30,11 @@ pub mod Moving
 pub mod Newly
 pub mod OneThread
 pub mod Ordered
+pub mod OwnEntries
+pub mod Places
 pub mod Requests
 pub mod Running
+pub mod SeatInOrder
 pub mod Showing
 pub mod Slotted
 pub mod Snapshots

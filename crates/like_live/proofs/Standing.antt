@@ -27,7 +27,8 @@ use Rattle.like_live.specs.LiveView.{LiveView, waiting}
 use Rattle.like_live.specs.Calls.{verdict_at}
 use Rattle.like_live.specs.Deeds.{Deed, deeds_of}
 use Rattle.like_live.specs.History.{HasDone, IsUnused, Told}
-use Rattle.like_live.proofs.Stepping.{FollowsSteps, Step, acknowledges, adds_like, by_calls, calls_follow, done_by, finds, glances, holds, looks, next, reads, reports, retires, returns, slices_like, takes}
+use Rattle.like_live.proofs.CallSteps.{by_calls}
+use Rattle.like_live.proofs.Stepping.{FollowsSteps, Step, acknowledges, adds_like, calls_follow, done_by, finds, glances, holds, looks, next, reads, reports, retires, returns, slices_like, takes}
 use Rattle.like_live.proofs.Requests.{is_served}
 use Rattle.like_live.proofs.Running.{runs_split, unsplit}
 use Rattle.like_live.proofs.Telling.{user_there}

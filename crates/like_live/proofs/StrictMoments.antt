@@ -38,9 +38,16 @@ moments_are_strict o factor board hs m opened at =
     let present : All IsPresent views =
     (λ k d below. let p = get_or views k d in let fits = all_fit z m k d below in
     runs_present z s p.worker p.state (reached_is_exclusive z s m.shown.reachable).1 fits.state) in
-    let one = in_one_order o factor board hs s.hot s.phase m.shown.log opened
-    (all-of-map HasMasks post_at ends (subst (All HasMasks) (sym at) masks))
-    (all-of-map IsPresent post_at ends (subst (All IsPresent) (sym at) present))
-    (subst (λ posts. IsOrderOf (λ page. get_or z.counts page 0) s.phase posts m.shown.log) (sym at)
-    (moments_are_ordered z m)) in
+    let one = in_one_order o hs (record {
+      factor = factor;
+      board = board;
+      masks = s.hot;
+      phase = s.phase;
+      log = m.shown.log;
+      opened = opened;
+      right = all-of-map HasMasks post_at ends (subst (All HasMasks) (sym at) masks);
+      present = all-of-map IsPresent post_at ends (subst (All IsPresent) (sym at) present);
+      order = subst (λ posts. IsOrderOf (λ page. get_or z.counts page 0) s.phase posts m.shown.log) (sym at)
+          (moments_are_ordered z m);
+    }) in
     (one.0, one.1.0, one.1.1)

@@ -16,8 +16,8 @@ like_and_look number user liked other count =
     deed number 0 user liked counted
     ∷ deed (number + 1) 0 user other (showed (record { last = Some liked; count = count })) ∷ []
 
--- if both looks show 0, no one thread has done this, whatever their numbers. If the second shows 1, one has: user 0 comes
--- first. And if user 0 comes first by the numbers, none has done it the other way round
+-- if both looks show 0, no one thread has done this, whatever their numbers. If the second shows 1, one has: user 0
+-- comes first. And if user 0 comes first by the numbers, none has done it the other way round
 pub record CrossedLooksAreNotSerial : Type 0 where
   pub crossed : (o : Opening) (n m : ℕ) (serial : List Deed) → IsForTwo o
       → ¬ IsStrictService o (like_and_look n 0 0 1 0 ∷ like_and_look m 1 1 0 0 ∷ []) serial

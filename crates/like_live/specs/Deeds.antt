@@ -55,8 +55,8 @@ made_since v now = drop (length v.station.post.logged) (reverse now.station.post
 abbrev pub found_by : LiveView → LiveView → List Found
 found_by v now = drop (length v.found) now.found
 
--- a deed of a call for a user at a page, if this is the seat after it: it has the number of the seat's latest entry. That
--- is the addition or the read; of a like that went into the slice, it is the look at the phase word
+-- a deed of a call for a user at a page, if this is the seat after it: it has the number of the seat's latest entry.
+-- That is the addition or the read; of a like that went into the slice, it is the look at the phase word
 abbrev pub deed_now : LiveView → (user page : ℕ) → Act → Deed
 deed_now now user page act = deed (number_of now.station.post) (phase_at now.station) user page act
 
@@ -78,8 +78,8 @@ abbrev pub deeds_of : (told : List Told) (v after : LiveView) → HasDone v told
 deeds_of [] v after done = []
 deeds_of (t ∷ told) v after done = deeds_of_call v t done.0 ++ deeds_of told done.0 after done.1.1
 
--- what a deed of a worker is in the log: a like is the addition, or the look at the phase word after which it went into
--- the slice; a look is the read that found its count; a glance at a split page is that glance
+-- what a deed of a worker is in the log: a like is the addition, or the look at the phase word after which it went
+-- into the slice; a look is the read that found its count; a glance at a split page is that glance
 abbrev pub IsEntryFor : ℕ → (phase page : ℕ) → Act → LogEntry → Type 0
 IsEntryFor worker phase page counted entry =
     (entry ≡ Saw worker phase) ⊎ ((old : ℕ) × (entry ≡ Did (page_step worker phase page old (Add 1))))
@@ -91,13 +91,14 @@ IsEntryFor worker phase page (glimpsed s) entry =
 abbrev pub IsEntryOf : ℕ → Logged → Deed → Type 0
 IsEntryOf worker e d = (e.number ≡ d.number) × IsEntryFor worker d.phase d.page d.act e.entry
 
--- the law of entries: a call goes on from what its seat had made before, and each of its deeds has the number of an entry
--- that it made
+-- the law of entries: a call goes on from what its seat had made before, and each of its deeds has the number of an
+-- entry that it made
 abbrev pub DeedsHaveEntries : Type 0
 DeedsHaveEntries =
     (v now : LiveView) (t : Told) → Does v t now
     → GoesOn v.station.post now.station.post
-    × All (λ d. (e : Logged) × Contains (made_since v now) e × IsEntryOf v.station.post.worker e d) (deeds_of_call v t now)
+    × All (λ d. (e : Logged) × Contains (made_since v now) e × IsEntryOf v.station.post.worker e d)
+    (deeds_of_call v t now)
 
 -- a found look that was taken, if that was the call
 abbrev pub found_taken : Told → List Found

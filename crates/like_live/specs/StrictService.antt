@@ -45,8 +45,8 @@ pub record IsStrictService (o : Opening) (deeds : List (List Deed)) (serial : Li
   pub fits : (i : ℕ) (d : Deed) → slice_get serial i ≡ Some d
       → Fits (store_after (opened o) (take i serial)) d.user d.page d.act
 
--- the law of numbers, which a host reads without the list: of a strict service, each deed fits the store after all deeds
--- with lesser numbers, of whichever seats
+-- the law of numbers, which a host reads without the list: of a strict service, each deed fits the store after all
+-- deeds with lesser numbers, of whichever seats
 abbrev pub DeedsFitEarlier : Type 0
 DeedsFitEarlier =
     (o : Opening) (deeds : List (List Deed)) (serial : List Deed) → IsStrictService o deeds serial
@@ -73,8 +73,8 @@ HasLastLikes o seats serial =
     → last_of v.station.last user ≡ (store_after (opened o) serial).last user
 
 -- the law of one order that keeps time: of a service that was opened so and is closed, there is a strict list of all
--- deeds of its seats' calls. Each snapshot is its store at the end of the phase, and last counts and last likes are its
--- store's at the end
+-- deeds of its seats' calls. Each snapshot is its store at the end of the phase, and last counts and last likes are
+-- its store's at the end
 abbrev pub ServicesAreStrict : Type 0
 ServicesAreStrict =
     (o : Opening) (driver now : DriverView) (histories : List SeatHistory) (counts : List ℕ)

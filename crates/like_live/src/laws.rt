@@ -83,18 +83,18 @@ pub fn deeds_have_entries()
     ensures { DeedsHaveEntries }
 {}
 
-/// There is one list of all deeds of the seats of a closed service that one thread could have done, one after the other.
-/// Each seat's deeds stand in it in their order, it goes by the deeds' numbers, and phases never fall along it. Each look
-/// and each glance that is told `Seen` shows its user's last like and its page's count in a store, as the deeds before it
-/// left them. Only a glance that is told `Glimpsed` may lack likes that other seats have in their slices then. A snapshot
-/// shows the store at the end of its phase, and the last counts and the last likes that seats tell are the store's at the
-/// end.
+/// There is one list of all deeds of the seats of a closed service that one thread could have done, one after the
+/// other. Each seat's deeds stand in it in their order, it goes by the deeds' numbers, and phases never fall along it.
+/// Each look and each glance that is told `Seen` shows its user's last like and its page's count in a store, as the
+/// deeds before it left them. Only a glance that is told `Glimpsed` may lack likes that other seats have in their
+/// slices then. A snapshot shows the store at the end of its phase, and the last counts and the last likes that seats
+/// tell are the store's at the end.
 pub fn services_are_strict()
     ensures { ServicesAreStrict }
 {}
 
-/// In a strict service each look shows what all deeds with lesser numbers leave, of whichever seats: its user's last like,
-/// and the page's count, but for what is glimpsed. Of two seats' calls, the one with the lesser number came first.
+/// In a strict service each look shows what all deeds with lesser numbers leave, of whichever seats: its user's last
+/// like, and the page's count, but for what is glimpsed.
 pub fn deeds_fit_earlier()
     ensures { DeedsFitEarlier }
 {}
@@ -110,8 +110,8 @@ pub fn crossed_looks_are_not_serial()
     ensures { CrossedLooksAreNotSerial }
 {}
 
-/// There is such a list at each moment of a service that still runs, of all that its seats have done so far. Likes that
-/// are in slices still are in it.
+/// There is such a list at each moment of a service that still runs, of all that its seats have done so far. Likes
+/// that are in slices still are in it.
 pub fn moments_are_strict()
     ensures { MomentsAreStrict }
 {}

@@ -1,4 +1,4 @@
-use Rattle.like_live.proofs.OneThread.{seats_rise}
+use Rattle.like_live.proofs.ClosedOrder.{seats_rise}
 use Rattle.like_live.proofs.laws.seats_rise.Goals as goal
 
 pub returns : goal.returns
