@@ -1,0 +1,4 @@
+pub mod Batches
+pub mod Deeds
+pub mod Staying
+pub mod Strict

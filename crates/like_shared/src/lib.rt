@@ -1,0 +1,15 @@
+//! A service that any thread can call for any user. Each seat and the driver lie behind a lock that is tried and never
+//! waited for, and each thread has a client.
+#![tactic(auto)]
+
+mod deed;
+mod laws;
+mod seat_call;
+mod seat_calls;
+
+pub use deed::{DriverDeed, DriverDeeds, SeatDeed, SeatDeeds};
+pub use laws::{batches_are_calls, counts_stay, same_stays, shared_services_are_strict};
+pub use seat_call::{Busy, SeatCall, SeatLock, SeatPass, try_call};
+pub use seat_calls::{
+    ComeBackCall, GlanceCall, LastCall, LikeCall, LookCall, RetireCall, TakeFoundCall, TurnCall,
+};

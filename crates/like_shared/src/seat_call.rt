@@ -1,0 +1,69 @@
+//! A call of a seat behind its lock, if no other thread has it.
+ghost use Rattle.std.specs.Prelude.{◌≡◌, ◌++◌, [], ◌∷◌, MatchResult};
+ghost use Rattle.told_lock.specs.Rights.{IsHolding, IsIdle, log_of, name_of};
+ghost use Rattle.like_shared.specs.declared.deed.SeatDeed.{SeatDeed};
+ghost use Rattle.like_shared.specs.Deeds.{SeatDoes};
+
+use crate::deed::{SeatDeed, SeatDeeds};
+use like_board::SharedPost;
+use like_live::LiveSeat;
+use told_lock::{Lock, Pass};
+
+/// A seat behind its lock.
+pub type SeatLock = Lock<LiveSeat<SharedPost>, SeatDeed, SeatDeeds>;
+
+/// The right of one thread to take it.
+pub type SeatPass = Pass<LiveSeat<SharedPost>, SeatDeed>;
+
+/// Another thread has what was called, and nothing was done.
+#[derive(Clone, Copy, Debug, PartialEq, Eq)]
+pub struct Busy;
+
+/// A call of a seat. With its answer it is a deed.
+pub trait SeatCall {
+    /// What it is told.
+    type Answer;
+
+    /// The deed that it is, with this answer.
+    ghost deed: { Self → Self.Answer → SeatDeed };
+
+    /// Makes the call.
+    fn make(&self, seat: &mut LiveSeat<SharedPost>) -> Self::Answer
+        ensures { SeatDoes seat.old (deed self.now result) seat.new };
+
+    /// The deed that it is.
+    fn tell(&self, answer: &Self::Answer) -> SeatDeed
+        ensures { result ≡ deed self.now answer.now };
+}
+
+/// Makes the call if no other thread has the seat. The log has it then, with its answer.
+#[inline(always)]
+pub fn try_call<Q: SeatCall>(
+    lock: &SeatLock,
+    pass: &mut SeatPass,
+    call: &Q,
+) -> Result<Q::Answer, Busy>
+    requires { IsIdle lock.now pass.old }
+    ensures idle { IsIdle lock.now pass.new }
+    ensures name { name_of pass.new ≡ name_of pass.old }
+    ensures log { MatchResult result (λ answer. log_of pass.new ≡ log_of pass.old ++ Q.deed call.now answer ∷ [])
+        (λ _. log_of pass.new ≡ log_of pass.old) }
+{
+    if !lock.try_take(pass) {
+        return Err(Busy);
+    }
+    let answer = make_at(lock, pass, call);
+    lock.give_back(pass, &call.tell(&answer));
+    Ok(answer)
+}
+
+// Makes the call at the seat that the pass has taken.
+#[inline(always)]
+fn make_at<Q: SeatCall>(lock: &SeatLock, pass: &mut SeatPass, call: &Q) -> Q::Answer
+    requires { (x : _) × IsHolding lock.now pass.old x x }
+    ensures name { name_of pass.new ≡ name_of pass.old }
+    ensures log { log_of pass.new ≡ log_of pass.old }
+    ensures made { (x : _) × (y : _) × IsHolding lock.now pass.new x y × SeatDoes x (Q.deed call.now result) y }
+{
+    call.make(pass.value_mut(lock))
+}
