@@ -32,7 +32,3 @@ is_hot mask page = is_hot_by hot_pages mask page
 abbrev pub split_by : ℕ → (ℕ → Bool) → (ℕ → ℕ) → ℕ → ℕ → Bool
 split_by bound marked hot phase page =
     (phase % 2 == 1) && (marked page || is_hot_by bound (hot phase) page)
-
--- whether a page is split in a phase of a run, where the first 64 may be hot
-abbrev pub split : (ℕ → Bool) → (ℕ → ℕ) → ℕ → ℕ → Bool
-split marked hot phase page = split_by hot_pages marked hot phase page

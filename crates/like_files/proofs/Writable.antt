@@ -11,8 +11,8 @@ use Rattle.like_requests.specs.declared.request.Request.{Request}
 use Rattle.like_requests.specs.declared.verdict.Verdict.{Verdict}
 use Rattle.like_requests.specs.declared.verdict.Verdict.TheVariants.{Accepted}
 use Rattle.like_promises.proofs.RequestAt.{request_at-plan}
-use Rattle.like_promises.proofs.Asked.{like-there, refused-why}
-use Rattle.like_promises.specs.Asked.{asked_by, asks}
+use Rattle.like_promises.proofs.Asked.{asking, like-there, refused-why}
+use Rattle.like_promises.specs.Asked.{asks}
 use Rattle.like_promises.specs.declared.log.Ran.{Ran}
 use Rattle.like_promises.specs.declared.reply.Reply.{Reply}
 use Rattle.like_promises.specs.declared.reply.Reply.TheVariants.{Liked, Seen, Refused}
@@ -35,15 +35,6 @@ all_from_get : {X : Type 0} (P : X → Type 0) (xs : List X)
     → AllByRecursion P xs
 all_from_get P [] each = tt
 all_from_get P (x ∷ xs) each = (each 0 x refl, all_from_get P xs (λ i y h. each (suc i) y h))
-
--- what holds of all holds of the element at a place
-all_get : {X : Type 0} (P : X → Type 0) (xs : List X) (i : ℕ) (x : X)
-    → AllByRecursion P xs
-    → slice_get xs i ≡ Some x
-    → P x
-all_get P [] i x all h = absurd (let no : None ≡ Some x = h in cc no)
-all_get P (y ∷ ys) zero x all h = let same : y ≡ x = cc h in subst P same all.0
-all_get P (y ∷ ys) (suc i) x all h = all_get P ys i x all.1 h
 
 kept : {X : Type 0} (P : X → Type 0) (b : Bool) (x : X) (rest : List X)
     → P x
@@ -87,8 +78,8 @@ module _ (workload : Workload) (planned : All (IsPlan workload.pages) workload.p
             (planned submitter plan (slice_get_within workload.plans submitter plan is))) h
 
   -- what a submitter's request asks
-  abbrev asking : ℕ → Request → Ask
-  asking submitter r = asked_by workload.users (submitters workload) submitter r
+  abbrev asking_of : ℕ → Request → Ask
+  asking_of submitter r = asking workload.users (submitters workload) submitter r
 
   -- a store whose last likes are of pages that are there
   abbrev HasPages : Store → Type 0
@@ -112,11 +103,11 @@ module _ (workload : Workload) (planned : All (IsPlan workload.pages) workload.p
       (λ r at. asked_there e.submitter e.number r at) where
         by : ((t : Store) → HasPages t → HasPages (after_all t (asks workload rest)))
             → (o : Option Request) → ((r : Request) → o ≡ Some r → IsThere (length workload.pages) r.page)
-            → HasPages (after_all s (cons_option (option_map (asking e.submitter) o) (asks workload rest)))
+            → HasPages (after_all s (cons_option (option_map (asking_of e.submitter) o) (asks workload rest)))
         by more None there = more s has
         by more (Some r) there =
-            more (after s (asking e.submitter r))
-            (after_there s (asking e.submitter r)
+            more (after s (asking_of e.submitter r))
+            (after_there s (asking_of e.submitter r)
             (like-there workload.users (submitters workload) e.submitter r (length workload.pages) (there r refl)) has)
 
   has_pages : (entries : List Ran) → HasPages (store_after workload entries)
@@ -145,14 +136,14 @@ module _ (workload : Workload) (planned : All (IsPlan workload.pages) workload.p
   entry_shows : (before : List Ran) (e : Ran) → IsRightAnswer workload before e → IsShowable workload.pages e.reply
   entry_shows before e right = by_request (request_at workload e.submitter e.number) right where
     by_request : (o : Option Request)
-        → option_map (λ a. uncounted (reply (store_after workload before) a)) (option_map (asking e.submitter) o)
+        → option_map (λ a. uncounted (reply (store_after workload before) a)) (option_map (asking_of e.submitter) o)
         ≡ Some (uncounted e.reply)
         → IsShowable workload.pages e.reply
     by_request None h = absurd (cc h)
     by_request (Some r) h =
-        let same : uncounted (reply (store_after workload before) (asking e.submitter r)) ≡ uncounted e.reply =
+        let same : uncounted (reply (store_after workload before) (asking_of e.submitter r)) ≡ uncounted e.reply =
         cc h in
-        reply_shows (store_after workload before) (asking e.submitter r) e.reply (has_pages before)
+        reply_shows (store_after workload before) (asking_of e.submitter r) e.reply (has_pages before)
         (refused-why workload.users (submitters workload) e.submitter r) same
 
   list_shows : (ran : List Ran) → HasRightAnswers workload ran

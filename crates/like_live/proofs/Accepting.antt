@@ -1,33 +1,24 @@
 -- Which requests are accepted: those of a user that is found, for a page that is there.
-use Rattle.std.proofs.Common.{◌≡◌, ◌≢◌, ℕ, ◌<◌, ◌≤◌, ◌%◌, Bool, true, false, not, cond, nat_lt, Some, None, refl, sym, ap, subst, ◌∙◌, arith}
+use Rattle.std.proofs.Common.{◌≡◌, ◌≢◌, ℕ, ◌<◌, ◌%◌, Bool, true, false, cond, nat_lt, Some, None, refl, sym, ap, subst, ◌∙◌}
 use Rattle.std.proofs.Math.Nat.{mod-mod}
-use Rattle.std.proofs.lemmas.Bool.{and_parts, eq-eqb, eqb-true, lt-ltb}
+use Rattle.std.proofs.lemmas.Bool.{and_parts, eqb-true, lt-ltb, ltb-true}
 use Rattle.like_core.specs.Post.{pages_of}
-use Rattle.like_requests.specs.declared.verdict.Verdict.TheVariants.{Accepted, UnknownUser, OtherHome, UnknownPage}
+use Rattle.like_requests.proofs.Verdicts.{passes-accepted}
+use Rattle.like_requests.specs.declared.verdict.Verdict.TheVariants.{Accepted}
 use Rattle.like_seat.specs.StationView.{StationView}
 use Rattle.like_tables.specs.Placed.{IsPlaced, placed_at, placed_in}
 use Rattle.like_tables.specs.Share.{Share, owns, serves_home}
 use Rattle.like_tables.specs.declared.placed.Placed.{Placed}
 use Rattle.like_live.specs.declared.asked.Asked.{Asked}
 use Rattle.like_live.specs.Calls.{IsAccepted, verdict_at}
-use Rattle.like_live.proofs.Calling.{page_there}
 use Rattle.like_live.proofs.Requests.{owned_since}
-
--- the three tests of a verdict
-passes : (a b c : Bool) → a ≡ true → b ≡ true → c ≡ true
-    → cond (not a) UnknownUser (cond (not b) OtherHome (cond (not c) UnknownPage Accepted)) ≡ Accepted
-passes a b c is is' is'' = rw (is, is', is'') refl
 
 -- a user who isn't the seat's is refused
 pub not-owned : (s : StationView Asked) (user page : ℕ) → s.last.share.submitters ≡ s.last.share.workers
     → owns s.last.share user ≡ false → verdict_at s user page ≢ Accepted
 not-owned s user page home_is other is =
-    let owned = owned_since s.last.share user _ home_is is in
+    let owned = owned_since s.last.share user (nat_lt page (pages_of s.post)) home_is is in
     cc (owned, other)
-
--- a page that isn't there is, too
-pub not-there : (s : StationView Asked) (user page : ℕ) → pages_of s.post ≤ page → verdict_at s user page ≢ Accepted
-not-there s user page past is = omega (arith, page_there s user page is, past)
 
 -- what a search for a user found
 found-placed : (s : Share) (user : ℕ) (placed : Placed) → Some placed ≡ placed_in s user
@@ -60,7 +51,8 @@ accepted-found s user page placed home_is e there =
     let at : user % share.submitters ≡ share.worker =
     sym (ap (λ n. user % share.submitters % n) (sym home_is) ∙ mod-mod user share.submitters) ∙ mine in
     record {
-      verdict = passes _ _ _ parts.0 (eq-eqb _ _ at) (lt-ltb page (pages_of s.post) there);
+      verdict = passes-accepted share.users share.submitters share.worker user (nat_lt page (pages_of s.post))
+          (ltb-true user share.users parts.0) at (lt-ltb page (pages_of s.post) there);
       there = there;
       user_is = ap (λ (p : Placed). p.user) found.1;
       place_is = subst (IsPlaced share) (sym found.1) (record { owned = found.0; place_is = refl });

@@ -1,6 +1,6 @@
 -- What a request does to tallies and last likes.
-use Rattle.std.proofs.Common.{◌≡◌, ℕ, ◌+◌, ◌<◌, ◌==◌, Bool, true, false, not, cond, List, [], ◌∷◌, ◌++◌, length, get_or, set, Option, Some, None, refl, ap, sym, ◌∙◌, subst, inl, inr, arith}
-use Rattle.std.proofs.lemmas.Bool.{cases_eq, eq-eqb, ltb-true, ne_eqb}
+use Rattle.std.proofs.Common.{◌≡◌, ℕ, ◌+◌, ◌<◌, ◌==◌, Bool, cond, List, [], ◌∷◌, ◌++◌, length, get_or, set, Option, Some, None, refl, ap, sym, ◌∙◌, subst, inl, inr, arith}
+use Rattle.std.proofs.lemmas.Bool.{cases_eq, eq-eqb, ne_eqb}
 use Rattle.std.proofs.lemmas.List.{get_or-set_other, get_or-set_same}
 use Rattle.std.proofs.lemmas.List.Sums.{sum_by-append, sum_by-cons}
 use Rattle.like_core.specs.declared.log.Logged.{Logged}
@@ -11,7 +11,7 @@ use Rattle.like_core.specs.Additions.{addition, added_to}
 use Rattle.like_core.specs.Post.{has_glanced, has_read, number_of, pages_of}
 use Rattle.like_core.specs.WorkerState.{phase_of}
 use Rattle.like_core.specs.PageSteps.{additions_among}
-use Rattle.like_requests.specs.declared.verdict.Verdict.TheVariants.{Accepted, UnknownUser, OtherHome, UnknownPage}
+use Rattle.like_requests.specs.declared.verdict.Verdict.TheVariants.{Accepted}
 use Rattle.like_seat.specs.StationView.{StationView, phase_at, tally_of}
 use Rattle.like_seat.specs.Steps.{CountsLike, holding}
 use Rattle.like_tables.specs.UserTable.{with_last}
@@ -27,19 +27,11 @@ use Rattle.like_live.specs.Calls as calls
 use Rattle.like_live.specs.Calls.{GlancesNow, LikesNow, LooksNow, TalliesLike, TellsIfSplit, asked_in, full, last_after, liked, refused, told_of, verdict_at}
 use Rattle.like_live.specs.Moves.{Moves}
 use Rattle.like_live.proofs.Moving.{IsSized, Leaves-moves, same_seat}
-
--- a request that is accepted has passed the last test
-last_test : (a b c : Bool)
-    → cond (not a) UnknownUser (cond (not b) OtherHome (cond (not c) UnknownPage Accepted)) ≡ Accepted
-    → c ≡ true
-last_test false b c e = cc
-last_test true false c e = cc
-last_test true true false e = cc
-last_test true true true e = refl
+use Rattle.like_live.proofs.Requests.{passes_at}
 
 -- the page of a request that is accepted is there
 pub page_there : (s : StationView Asked) (user page : ℕ) → verdict_at s user page ≡ Accepted → page < pages_of s.post
-page_there s user page is = ltb-true page (pages_of s.post) (last_test _ _ _ is)
+page_there s user page is = (passes_at s user page is).2
 
 -- one more in a slice, at a page
 pub slice-more : (xs : List ℕ) (page other : ℕ)

@@ -1,7 +1,7 @@
 -- What is known of a request that is accepted.
-use Rattle.std.proofs.Common.{◌≡◌, ◌+◌, ◌%◌, ◌<◌, ◌≤◌, ◌^◌, ◌==◌, ℕ, Bool, cond, not, List, drop, length, Option, Some, None, true, false, nat_lt, refl, ap, sym, subst, ◌∙◌, arith, length-drop}
+use Rattle.std.proofs.Common.{◌≡◌, ◌+◌, ◌%◌, ◌<◌, ◌≤◌, ◌^◌, ℕ, Bool, List, drop, length, Option, Some, None, true, nat_lt, ap, sym, subst, ◌∙◌, arith, length-drop}
 use Rattle.std.proofs.Math.Nat.{mod-mod}
-use Rattle.std.proofs.lemmas.Bool.{and_from, eq-eqb, eqb-true}
+use Rattle.std.proofs.lemmas.Bool.{and_from, eq-eqb, lt-ltb, ltb-true}
 use Rattle.std.proofs.lemmas.List.{length_push}
 use Rattle.std.proofs.lemmas.List.Elements.{All-drop, All-push}
 use Rattle.like_core.specs.declared.log.Logged.{Logged}
@@ -14,9 +14,9 @@ use Rattle.like_seat.specs.declared.seen.Seen.{Seen}
 use Rattle.like_core.specs.WorkerState.{RunsSplit, phase_of}
 use Rattle.like_core.specs.declared.worker_state.WorkerState.{WorkerState}
 use Rattle.like_core.specs.declared.worker_state.WorkerState.TheVariants as state
-use Rattle.like_requests.specs.Verdict.{home, page_verdict, user_verdict}
-use Rattle.like_requests.specs.declared.verdict.Verdict.{Verdict}
-use Rattle.like_requests.specs.declared.verdict.Verdict.TheVariants.{Accepted, OtherHome, UnknownUser}
+use Rattle.like_requests.proofs.Verdicts.{accepted-passes}
+use Rattle.like_requests.specs.Verdict.{home, verdict_of}
+use Rattle.like_requests.specs.declared.verdict.Verdict.TheVariants.{Accepted}
 use Rattle.like_seat.specs.StationView.{IsStation, StationView, phase_at, likes_of}
 use Rattle.like_tables.specs.Home.{Home}
 use Rattle.like_tables.specs.Share.{Share, owns}
@@ -32,30 +32,24 @@ use Rattle.like_live.specs.Kept.{AreLiveSeatParts}
 use Rattle.like_live.specs.LiveView.{IsOwn, LiveView, RanNext, live_of}
 use Rattle.like_live.specs.LookRoom.{RoomView}
 
--- the two tests of a user, passed before the rest is accepted
-served : (a b : Bool) (rest : Verdict)
-    → cond (not a) UnknownUser (cond (not b) OtherHome rest) ≡ Accepted
-    → (a ≡ true) × (b ≡ true)
-served true true rest e = (refl, refl)
-served true false rest e = cc e
-served false b rest e = cc e
-
--- the user of a request that is accepted exists, and the seat is the user's home
-pub is_served : (s : StationView Asked) (user page : ℕ) → verdict_at s user page ≡ Accepted
-    → (nat_lt user s.last.share.users ≡ true) × ((home s.last.share.submitters user == s.last.share.worker) ≡ true)
-is_served s user page is = served _ _ (page_verdict (nat_lt page (pages_of s.post))) is
+-- the user of a request that is accepted exists, the seat is the user's home, and the page is there
+pub passes_at : (s : StationView Asked) (user page : ℕ) → verdict_at s user page ≡ Accepted
+    → (user < s.last.share.users) × (home s.last.share.submitters user ≡ s.last.share.worker) × (page < pages_of s.post)
+passes_at s user page is =
+    let share = s.last.share in
+    let tests = accepted-passes share.users share.submitters share.worker user (nat_lt page (pages_of s.post)) is in
+    (tests.0, tests.1, ltb-true page (pages_of s.post) tests.2)
 
 -- a user who is accepted is the seat's
-pub owned_since : (s : Share) (user : ℕ) (rest : Verdict)
+pub owned_since : (s : Share) (user : ℕ) (exists : Bool)
     → s.submitters ≡ s.workers
-    → user_verdict s.users s.submitters s.worker user rest ≡ Accepted
+    → verdict_of s.users s.submitters s.worker user exists ≡ Accepted
     → owns s user ≡ true
-owned_since s user rest alike is =
-    let tests = served (nat_lt user s.users) (home s.submitters user == s.worker) rest is in
-    let at : user % s.submitters ≡ s.worker = eqb-true _ _ tests.1 in
+owned_since s user exists alike is =
+    let tests = accepted-passes s.users s.submitters s.worker user exists is in
     let mine : user % s.submitters % s.workers ≡ s.worker =
-    ap (λ n. user % s.submitters % n) (sym alike) ∙ mod-mod user s.submitters ∙ at in
-    and_from _ _ tests.0 (eq-eqb _ _ mine)
+    ap (λ n. user % s.submitters % n) (sym alike) ∙ mod-mod user s.submitters ∙ tests.1 in
+    and_from _ _ (lt-ltb user s.users tests.0) (eq-eqb _ _ mine)
 
 -- a seat that has not counted all its likes may count one more
 pub not-full : (s : StationView Asked)

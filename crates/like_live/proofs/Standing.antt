@@ -1,5 +1,5 @@
 -- What the steps of a seat keep.
-use Rattle.std.proofs.Common.{◌≡◌, ℕ, ◌%◌, ◌<◌, ◌==◌, ◌||◌, Bool, true, cond, List, [], ◌∷◌, ◌++◌, length, get_or, set, Some, None, refl, ap, sym, ◌∙◌, subst, append-nil, append_assoc, eq-eqb, eqb-true, inl, inr}
+use Rattle.std.proofs.Common.{◌≡◌, ℕ, ◌%◌, ◌<◌, ◌==◌, ◌||◌, Bool, true, cond, List, [], ◌∷◌, ◌++◌, length, get_or, set, Some, None, refl, ap, sym, ◌∙◌, subst, append-nil, append_assoc, eq-eqb, inl, inr}
 use Rattle.std.specs.List.{AllByRecursion, list_any}
 use Rattle.std.proofs.lemmas.Bool.{cases_eq, cond-true}
 use Rattle.std.proofs.lemmas.List.{get_or-set_other, length-replicate, length-set}
@@ -29,9 +29,8 @@ use Rattle.like_live.specs.Deeds.{Deed, deeds_of}
 use Rattle.like_live.specs.History.{HasDone, IsUnused, Told}
 use Rattle.like_live.proofs.CallSteps.{by_calls}
 use Rattle.like_live.proofs.Stepping.{FollowsSteps, Step, acknowledges, adds_like, calls_follow, done_by, finds, glances, holds, looks, next, reads, reports, retires, returns, slices_like, takes}
-use Rattle.like_live.proofs.Requests.{is_served}
+use Rattle.like_live.proofs.Requests.{passes_at}
 use Rattle.like_live.proofs.Running.{runs_split, unsplit}
-use Rattle.like_live.proofs.Telling.{user_there}
 
 -- the user is one of the seat's
 abbrev pub IsHis : LiveView → ℕ → Type 0
@@ -54,10 +53,7 @@ pub record Stands (first v : LiveView) : Type 0 where
 
 -- an accepted request is of one of the seat's users
 pub is_his : (v : LiveView) (user page : ℕ) → verdict_at v.station user page ≡ Accepted → IsHis v user
-is_his v user page is = (
-  user_there v.station user page is,
-  eqb-true (home v.station.last.share.submitters user) v.station.last.share.worker (is_served v.station user page is).1,
-)
+is_his v user page is = let known = passes_at v.station user page is in (known.0, known.1)
 
 -- who enters a split phase has read its mask
 entered_mask : (masks : List PhaseMask) (phase mask : ℕ) → IsSplit phase → HasMask phase (masks_entered masks phase mask)

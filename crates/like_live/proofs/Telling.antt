@@ -1,7 +1,7 @@
 -- What each call of a live seat tells.
 use Rattle.std.proofs.Common.{◌≡◌, ◌≢◌, ℕ, ◌+◌, ◌<◌, ◌==◌, Bool, true, false, cond, List, [], ◌∷◌, ◌++◌, length, map, Option, Some, None, refl, ap, sym, ◌∙◌, subst, inl, inr, arith, append-nil}
 use Rattle.std.specs.List.{last_or}
-use Rattle.std.proofs.lemmas.Bool.{cases_eq, eq-eqb, ltb-true, ne_eqb}
+use Rattle.std.proofs.lemmas.Bool.{cases_eq, eq-eqb, ne_eqb}
 use Rattle.std.proofs.lemmas.List.{get_or-set_other, get_or-set_same, length-set, map-append}
 use Rattle.like_core.specs.declared.sight.Sight.{Sight}
 use Rattle.like_core.specs.declared.worker_state.WorkerState.{WorkerState}
@@ -20,7 +20,7 @@ use Rattle.like_live.specs.Moves.{FindsAll, Moves, MovesBy, Works, looked}
 use Rattle.like_live.specs.Calls as calls
 use Rattle.like_live.specs.Calls.{ComeBackCase, RetireCase, RetireWorks, verdict_at}
 use Rattle.like_live.specs.History.{Told, ask_of, ask_taken, ask_told, ask_waiting, asks_left, like_told, page_liked}
-use Rattle.like_live.proofs.Requests.{is_served}
+use Rattle.like_live.proofs.Requests.{passes_at}
 use Rattle.like_live.proofs.Moving.{IsSized, Leaves, Leaves-come_back, Leaves-moves, Leaves-retires}
 
 -- a seat with a number for each page and an entry for each user, at which nothing waits once it is gone
@@ -237,7 +237,7 @@ IsQuiet-come_back v after answer whole (calls.there here m) = IsQuiet-moves v af
 
 -- the user of a request that is accepted has an entry
 pub user_there : (s : StationView Asked) (user page : ℕ) → verdict_at s user page ≡ Accepted → user < s.last.share.users
-user_there s user page is = ltb-true user s.last.share.users (is_served s user page is).0
+user_there s user page is = (passes_at s user page is).0
 
 -- a like is the user's last
 pub last-more : (t : UserTable) (user page other : ℕ)

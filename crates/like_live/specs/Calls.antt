@@ -5,7 +5,7 @@ use Rattle.like_core.specs.WorkerState.{RunsJoined, RunsSplit}
 use Rattle.like_core.specs.declared.worker_state.WorkerState.TheVariants as state
 use Rattle.like_requests.specs.declared.verdict.Verdict.{Verdict}
 use Rattle.like_requests.specs.declared.verdict.Verdict.TheVariants.{Accepted}
-use Rattle.like_requests.specs.Verdict.{page_verdict, user_verdict}
+use Rattle.like_requests.specs.Verdict.{verdict_of}
 use Rattle.like_seat.specs.declared.seen.Seen.{Seen}
 use Rattle.like_seat.specs.StationView.{StationView, likes_of, phase_at}
 use Rattle.like_seat.specs.Steps.{ComesBack, CountsLike, Glances, Reads, holding}
@@ -25,15 +25,10 @@ use Rattle.like_live.specs.declared.asked.Found.{Found}
 use Rattle.like_live.specs.LiveView.{LiveView, room_of, tally, waiting, with_station}
 use Rattle.like_live.specs.Moves.{FindsAll, Moves, MovesBy, Works}
 
--- the verdict on a user at this seat: the first of these that fails: the user exists, the user is this seat's; or else
--- what the verdict on the rest is
-abbrev pub user_verdict_at : StationView Asked → ℕ → Verdict → Verdict
-user_verdict_at s user rest =
-    user_verdict s.last.share.users s.last.share.submitters s.last.share.worker user rest
-
--- the verdict on a request of a user for a page at this seat: first that on the user, then whether the page exists
+-- the verdict on a request of a user for a page at this seat
 abbrev pub verdict_at : StationView Asked → ℕ → ℕ → Verdict
-verdict_at s user page = user_verdict_at s user (page_verdict (nat_lt page (pages_of s.post)))
+verdict_at s user page =
+    verdict_of s.last.share.users s.last.share.submitters s.last.share.worker user (nat_lt page (pages_of s.post))
 
 -- a request of the user for the page is accepted at this seat, and this is the user with its place
 pub record IsAccepted (s : StationView Asked) (user page : ℕ) (placed : Placed) : Type 0 where

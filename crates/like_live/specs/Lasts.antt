@@ -1,23 +1,21 @@
 -- What a live seat tells of its users' last likes.
 use Rattle.std.specs.Prelude.{◌≡◌, ◌≢◌, ℕ, ◌+◌, ◌*◌, ◌<◌, true, List, length, slice_index, MatchResult, Option, Result}
+use Rattle.like_requests.specs.Verdict.{verdict_of}
 use Rattle.like_requests.specs.declared.verdict.Verdict.{Verdict}
 use Rattle.like_requests.specs.declared.verdict.Verdict.TheVariants.{Accepted}
 use Rattle.like_tables.specs.LastLike.{page_or_none}
 use Rattle.like_tables.specs.Share.{owns}
 use Rattle.like_tables.specs.UserTable.{last_of}
-use Rattle.like_live.specs.Calls.{user_verdict_at}
 use Rattle.like_live.specs.LiveView.{LiveView}
-
--- the verdict on a user at this seat
-abbrev pub verdict_on : LiveView → ℕ → Verdict
-verdict_on v user = user_verdict_at v.station user Accepted
 
 -- a user's last like is told: its page, if there is one; or why the user is refused
 abbrev pub TellsLast : LiveView → ℕ → Result (Option ℕ) Verdict → Type 0
 TellsLast v user answer =
+    let share = v.station.last.share in
+    let verdict = verdict_of share.users share.submitters share.worker user true in
     MatchResult answer
-    (λ page. (verdict_on v user ≡ Accepted) × (page ≡ last_of v.station.last user))
-    (λ verdict. (verdict ≢ Accepted) × (verdict ≡ verdict_on v user))
+    (λ page. (verdict ≡ Accepted) × (page ≡ last_of v.station.last user))
+    (λ why. (why ≢ Accepted) × (why ≡ verdict))
 
 -- how many users a seat has
 abbrev pub users_of : LiveView → ℕ

@@ -2,7 +2,8 @@
 use Rattle.std.specs.Prelude.{ℕ, zero, suc, Bool, List, [], length, slice_get, slice_index_or, Option, None}
 use Rattle.like_requests.specs.Pages.{Page, marks_of}
 use Rattle.like_requests.specs.declared.request.Request.{Request}
-use Rattle.like_core.specs.Phase.{is_marked, split}
+use Rattle.like_core.specs.Phase.{is_marked, split_by}
+use Rattle.like_limits.specs.Limits.{hot_pages}
 
 -- what a run serves: how many users, which pages, how many looks may wait at a worker, hot pages of phases, plans
 pub record Workload : Type 0 where
@@ -27,4 +28,5 @@ request_at workload submitter number = nth (slice_index_or workload.plans submit
 
 -- split pages: whether a page is split in a phase (in an even one no page is)
 abbrev pub is_split_in : Workload → ℕ → ℕ → Bool
-is_split_in workload phase page = split (is_marked (marks_of workload.pages)) workload.hot phase page
+is_split_in workload phase page =
+    split_by hot_pages (is_marked (marks_of workload.pages)) workload.hot phase page

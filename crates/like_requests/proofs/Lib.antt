@@ -7,3 +7,4 @@ pub mod PagesRead
 pub mod Planned
 pub mod RequestsRead
 pub mod ScriptRead
+pub mod Verdicts

@@ -1,5 +1,5 @@
-ghost use Rattle.std.specs.Prelude.{◌≡◌, ◌≤◌, ◌↔◌, IsTrue};
-ghost use Rattle.like_requests.specs.Verdict.{is_accepted, user_verdict, verdict_of};
+ghost use Rattle.std.specs.Prelude.{◌≡◌, ◌≤◌, true};
+ghost use Rattle.like_requests.specs.Verdict.{is_known, verdict_of};
 
 use crate::request::{PageRef, Request};
 
@@ -19,7 +19,7 @@ pub enum Verdict {
 #[inline(always)]
 pub fn judge_user(user: u32, submitter: u32, submitters: u32, users: u32) -> Verdict
     requires { 1 ≤ submitters }
-    ensures { result ≡ user_verdict users submitters submitter user Verdict.Accepted }
+    ensures { result ≡ verdict_of users submitters submitter user true }
 {
     if user >= users {
         return Verdict::UnknownUser;
@@ -33,9 +33,8 @@ pub fn judge_user(user: u32, submitter: u32, submitters: u32, users: u32) -> Ver
 /// Judges a request of `submitter`, one of `submitters`, where `users` users are served.
 pub fn judge(request: &Request, submitter: u32, submitters: u32, users: u32) -> Verdict
     requires { 1 ≤ submitters }
-    ensures verdict { result ≡ verdict_of users submitters submitter request.now }
-    ensures accepted { (result ≡ Verdict.Accepted)
-        ↔ IsTrue (is_accepted users submitters submitter request.now) }
+    ensures { result
+        ≡ verdict_of users submitters submitter request.now.user (is_known request.now.page) }
 {
     match judge_user(request.user, submitter, submitters, users) {
         Verdict::Accepted if request.page == PageRef::Unknown => Verdict::UnknownPage,

@@ -21,11 +21,12 @@ use Rattle.like_core.specs.PageSteps.{earliest_first, likes_of, step_adding}
 use Rattle.like_core.specs.PhaseMasks.{AreMasksOf, mask_of}
 use Rattle.like_core.proofs.PhaseMasks.{masks-before, split-known}
 use Rattle.like_core.specs.declared.limits.Limits.{Limits}
-use Rattle.like_core.specs.Phase.{IsJoined, IsSplit, is_hot_by, is_marked, split, split_by}
+use Rattle.like_limits.specs.Limits.{hot_pages}
+use Rattle.like_core.specs.Phase.{IsJoined, IsSplit, is_hot_by, is_marked, split_by}
 use Rattle.like_core.specs.WorkerState.{IsRunning, RunsJoined, RunsSplit, RunsSome, phase_of, seen}
 use Rattle.like_core.specs.Post.{additions_in, answered, looked_at, number_of, pages_of, slices}
 use Rattle.like_tables.specs.declared.held.Held.{Held}
-use Rattle.like_promises.specs.Asked.{asked_by}
+use Rattle.like_promises.proofs.Asked.{asking}
 use Rattle.like_promises.specs.declared.log.Ran.{Ran}
 use Rattle.like_promises.specs.declared.log.Took.{Took}
 use Rattle.like_roles.specs.declared.turn.Turn.{Turn}
@@ -49,7 +50,7 @@ use Rattle.like_roles.proofs.PageMerged as merge
 use Rattle.like_seat.proofs.MergedLikes.{cond_same}
 use Rattle.like_roles.proofs.notes.NotedMerge.{merge-noted, merges-some, merges-split}
 use Rattle.like_roles.proofs.notes.Noting.{GivesReply-noted, running-unmerged, unmerged-running, unmerged-seen}
-use Rattle.like_roles.proofs.Served.{runs-split}
+use Rattle.like_roles.proofs.Served.{runs-joined, runs-split}
 use Rattle.like_roles.proofs.counts.Steps.{plain_told-split}
 use Rattle.like_roles.proofs.counts.Tallied.{GivesReply-tallied}
 use Rattle.like_serial.specs.StepsTold.{plain_told}
@@ -89,7 +90,7 @@ slices-alike : (workload : Workload) (v : WorkerView)
     → (page : ℕ)
     → is_split_in workload (phase_at v) page ≡ slices v.post page
 slices-alike workload v s run has page =
-    ap (λ xs. split (λ p. get_or xs p false) workload.hot (phase_at v) page) s.marks_alike
+    ap (λ xs. split_by hot_pages (λ p. get_or xs p false) workload.hot (phase_at v) page) s.marks_alike
     ∙ ap (λ (l : Limits). split_by l.hot (λ p. get_or v.post.opening.marks p false) workload.hot (phase_at v) page) (sym s.run)
     ∙ split-known v.post.opening.limits.hot (λ p. get_or v.post.opening.marks p false) workload.hot v.post.masks (phase_at v) page s.hot_alike
     (λ odd _ _. has (runs-split v.post.state run odd))
@@ -462,12 +463,6 @@ follows-turn workload v answer after none kept has right (turns.works sight mask
     (follows-saw workload v sight (saw v sight mask number).post.masks number all f kept here none)
     (splits-after v.post v.slice sight mask number kept) (has-after v.post sight mask number has) x
 
--- a worker that runs a phase that is joined runs a joined phase
-runs-joined : (s : WorkerState) → RunsSome (λ _. Unit {0}) s → IsJoined (phase_of s) → RunsSome IsJoined s
-runs-joined (state.Runs k) r j = j
-runs-joined (state.Answered k) r j = absurd r
-runs-joined state.Gone r j = absurd r
-
 -- nothing is tried any more
 follows-settled : (workload : Workload) (v : WorkerView) → Follows workload v → Follows workload (settled v)
 follows-settled workload v f = record {
@@ -485,14 +480,14 @@ follows-settled workload v f = record {
 
 -- whether a request has to wait, of so many users and submitters, where these pages are split
 abbrev waits_by : ℕ → ℕ → (ℕ → Bool) → ℕ → Request → Bool
-waits_by users submitters is_split submitter r = must_wait is_split (asked_by users submitters submitter r)
+waits_by users submitters is_split submitter r = must_wait is_split (asking users submitters submitter r)
 
 -- what is taken has to wait where its request does
 waited-is : (workload : Workload) (t : Took) (r : Request) → request_at workload t.submitter t.number ≡ Some r
     → waited workload t ≡ waits_by workload.users (submitters workload) (is_split_in workload t.phase) t.submitter r
 waited-is workload t r =
     ap (λ o. option_map_or (must_wait (is_split_in workload t.phase))
-    (option_map (asked_by workload.users (submitters workload) t.submitter) o) false)
+    (option_map (asking workload.users (submitters workload) t.submitter) o) false)
 
 -- whether a request has to wait is the same by the workload and by the worker, which has read its split phase's mask
 waits-alike : (workload : Workload) (v : WorkerView) (submitter number : ℕ) (r : Request)
@@ -507,7 +502,7 @@ waits-alike workload v submitter number r asked s run has =
     ∙ ap (λ u. waits_by u (submitters workload) (is_split_in workload (phase_at v)) submitter r) s.users
     ∙ ap (λ m. waits_by v.last.share.users m (is_split_in workload (phase_at v)) submitter r) s.submitters_alike
     ∙ ap (λ xs. waits_by v.last.share.users v.last.share.submitters
-    (λ page. split (λ p. get_or xs p false) workload.hot (phase_at v) page) submitter r) s.marks_alike
+    (λ page. split_by hot_pages (λ p. get_or xs p false) workload.hot (phase_at v) page) submitter r) s.marks_alike
     ∙ ap (λ (l : Limits). waits_by v.last.share.users v.last.share.submitters
     (λ page. split_by l.hot (λ p. get_or v.post.opening.marks p false) workload.hot (phase_at v) page) submitter r) (sym s.run)
     ∙ (λ m. waits_by v.last.share.users v.last.share.submitters

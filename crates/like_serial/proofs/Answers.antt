@@ -1,18 +1,15 @@
 -- The answers of a merge: a user's likes are all of one worker.
-use Rattle.std.proofs.Common.{◌≡◌, ℕ, suc, Bool, true, false, not, cond, eqb, nat_lt, ◌==◌, List, [], ◌∷◌, ◌++◌, filter_map, take, drop, length, slice_get, Option, Some, None, true≢false, subst, ap, sym, ◌∙◌, refl, eq-eqb, eqb-true}
+use Rattle.std.proofs.Common.{◌≡◌, ℕ, suc, Bool, true, false, cond, eqb, ◌==◌, List, [], ◌∷◌, ◌++◌, filter_map, take, drop, length, slice_get, Option, Some, None, true≢false, subst, ap, sym, ◌∙◌, refl, eq-eqb, eqb-true}
 use Rattle.std.specs.Prelude.{⊤, option_map}
 use Rattle.std.specs.List.{cons_option, last_or}
-use Rattle.like_requests.specs.Verdict.{home}
-use Rattle.like_requests.specs.declared.request.Op.{Op}
-use Rattle.like_requests.specs.declared.request.Op.TheVariants.{Like, Look}
-use Rattle.like_requests.specs.declared.request.PageRef.{PageRef}
-use Rattle.like_requests.specs.declared.request.PageRef.TheVariants.{Known, Unknown}
+use Rattle.like_requests.specs.Verdict.{home, is_known}
+use Rattle.like_requests.proofs.Verdicts.{accepted-passes}
 use Rattle.like_requests.specs.declared.request.Request.{Request}
-use Rattle.like_requests.specs.declared.verdict.Verdict.TheVariants.{UnknownUser, OtherHome}
 use Rattle.like_tables.specs.Share.{worker_of}
 use Rattle.like_promises.specs.declared.log.Ran.{Ran}
 use Rattle.like_promises.specs.declared.reply.Reply.TheVariants.{Seen}
-use Rattle.like_promises.specs.Asked.{asked, asked_by, asked_of, asks}
+use Rattle.like_promises.specs.Asked.{asked, asks}
+use Rattle.like_promises.proofs.Asked.{asking, asking-by}
 use Rattle.like_promises.specs.Replies.{HasRightAnswers, IsRightAnswer, uncounted}
 use Rattle.like_promises.specs.RunStore.{start, store_after}
 use Rattle.like_promises.specs.Serial.{entries_by}
@@ -29,28 +26,21 @@ IsHome submitters submitter (like user page) = home submitters user ≡ submitte
 IsHome submitters submitter (look user page) = home submitters user ≡ submitter
 IsHome submitters submitter (refuse why) = ⊤
 
-home_tests : (a b : Bool) (op : Op) (user : ℕ) (p : PageRef) (submitters submitter : ℕ)
-    → (b ≡ true → home submitters user ≡ submitter)
-    → IsHome submitters submitter
-    (cond (not a) (refuse UnknownUser) (cond (not b) (refuse OtherHome) (asked_of op user p)))
-home_tests true true Like user (Known page) submitters submitter is = is refl
-home_tests true true Look user (Known page) submitters submitter is = is refl
-home_tests true true Like user Unknown submitters submitter is = tt
-home_tests true true Look user Unknown submitters submitter is = tt
-home_tests true false op user p submitters submitter is = tt
-home_tests false b op user p submitters submitter is = tt
-
 pub ask_home : (workload : Workload) (e : Ran) (a : Ask)
     → asked workload e.submitter e.number ≡ Some a
     → IsHome (submitters workload) e.submitter a
 ask_home workload e a is = by (request_at workload e.submitter e.number) is where
-  by : (o : Option Request) → option_map (asked_by workload.users (submitters workload) e.submitter) o ≡ Some a
+  by : (o : Option Request) → option_map (asking workload.users (submitters workload) e.submitter) o ≡ Some a
       → IsHome (submitters workload) e.submitter a
   by None is = absurd (not_some a is)
   by (Some r) is =
       subst (IsHome (submitters workload) e.submitter) (some_is _ a is)
-      (home_tests (nat_lt r.user workload.users) (home (submitters workload) r.user == e.submitter) r.op r.user r.page
-      (submitters workload) e.submitter (eqb-true (home (submitters workload) r.user) e.submitter))
+      (asking-by workload.users (submitters workload) e.submitter r (IsHome (submitters workload) e.submitter)
+      (λ refused. tt)
+      (λ accepted page known.
+      let at_home =
+      (accepted-passes workload.users (submitters workload) e.submitter r.user (is_known r.page) accepted).1 in
+      (at_home, at_home)))
 
 -- the likes of a user are all among those of its worker
 module _ (workload : Workload) (workers user : ℕ) where

@@ -1,5 +1,5 @@
-ghost use Rattle.std.specs.Prelude.{◌≡◌, ◌≢◌, ◌+◌, ◌<◌, ◌≤◌, ◌↔◌, ℕ, None, Some, IfOk, IsTrue, false, length, slice_index_or};
-ghost use Rattle.like_requests.specs.Verdict.{is_accepted, user_verdict, verdict_of};
+ghost use Rattle.std.specs.Prelude.{◌≡◌, ◌≢◌, ◌+◌, ◌<◌, ◌≤◌, ◌↔◌, ℕ, None, Some, IfOk, IsTrue, false, length, slice_index_or, true};
+ghost use Rattle.like_requests.specs.Verdict.{is_known, verdict_of};
 ghost use Rattle.like_tables.specs.Home.{IsHomeOf};
 ghost use Rattle.like_tables.specs.LastLike.{no_page};
 ghost use Rattle.like_tables.specs.Placed.{IsPlaced, placed_at, placed_in};
@@ -110,8 +110,8 @@ impl Users {
     /// Judges a user who asks `submitter`.
     #[inline(always)]
     pub fn judge_user(&self, submitter: u32, user: u32) -> Verdict
-        ensures { result ≡ user_verdict self.now.share.users self.now.share.submitters submitter user
-            Verdict.Accepted }
+        ensures { result ≡ verdict_of self.now.share.users self.now.share.submitters submitter user
+            true }
     {
         judge_user(user, submitter, self.share.submitters, self.share.users)
     }
@@ -119,11 +119,8 @@ impl Users {
     /// Judges a request of `submitter`.
     #[inline(always)]
     pub fn judge(&self, submitter: u32, request: &Request) -> Verdict
-        ensures verdict { result
-            ≡ verdict_of self.now.share.users self.now.share.submitters submitter request.now }
-        ensures accepted { (result ≡ Verdict.Accepted)
-            ↔ IsTrue (is_accepted self.now.share.users self.now.share.submitters submitter
-            request.now) }
+        ensures { result ≡ verdict_of self.now.share.users self.now.share.submitters submitter
+            request.now.user (is_known request.now.page) }
     {
         judge(request, submitter, self.share.submitters, self.share.users)
     }

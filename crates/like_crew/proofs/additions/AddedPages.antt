@@ -9,8 +9,8 @@ use Rattle.like_requests.specs.declared.request.Request.{Request}
 use Rattle.like_core.specs.declared.view.Addition.{Addition}
 use Rattle.like_core.specs.Additions.{added_to}
 use Rattle.like_promises.proofs.RequestAt.{request_at-plan}
-use Rattle.like_promises.proofs.Asked.{like-there}
-use Rattle.like_promises.specs.Asked.{asked, asked_by}
+use Rattle.like_promises.proofs.Asked.{asking, like-there}
+use Rattle.like_promises.specs.Asked.{asked}
 use Rattle.like_promises.specs.declared.log.Added.{Added}
 use Rattle.like_promises.specs.declared.log.Ran.{Ran}
 use Rattle.like_promises.specs.places.Adds.{IsOfLikes, addition_of}
@@ -46,7 +46,7 @@ module _ (workload : Workload) (plans : All (AreThere workload.pages) workload.p
       → page < length workload.pages
   liked-page e user page is = by_request (request_at workload e.submitter e.number) refl is where
     by_request : (o : Option Request) → request_at workload e.submitter e.number ≡ o
-        → option_map (asked_by workload.users (submitters workload) e.submitter) o ≡ Some (like user page) → page < length workload.pages
+        → option_map (asking workload.users (submitters workload) e.submitter) o ≡ Some (like user page) → page < length workload.pages
     by_request None at same = cc same
     by_request (Some r) at same =
         like-there workload.users (submitters workload) e.submitter r (length workload.pages)

@@ -1,5 +1,5 @@
 -- What running a request does to likes, replies and last likes.
-use Rattle.std.proofs.Common.{◌≡◌, ℕ, ◌+◌, ◌<◌, ◌≤◌, Bool, true, false, cond, not, eqb, ◌==◌, ◌&&◌, List, [], ◌∷◌, ◌++◌, length, count_by, get_or, set, take, Option, Some, None, refl, sym, ap, ◌∙◌, inl, inr, arith, subst}
+use Rattle.std.proofs.Common.{◌≡◌, ℕ, ◌+◌, ◌<◌, ◌≤◌, Bool, true, false, cond, eqb, ◌==◌, ◌&&◌, List, [], ◌∷◌, ◌++◌, length, count_by, get_or, set, take, Option, Some, None, refl, sym, ap, ◌∙◌, inl, inr, arith, subst}
 use Rattle.std.proofs.Math.Seq.{take-append_seam}
 use Rattle.std.proofs.lemmas.Bool.{cases_eq, cases_lt, eq-eqb, ne_eqb}
 use Rattle.std.proofs.lemmas.List.{length-append, length-set, get_or-set_same, get_or-set_other, take-append-le}
@@ -18,8 +18,8 @@ use Rattle.like_core.specs.Post.{additions_of, additions_in, number_of, pages_of
 use Rattle.like_core.proofs.core.Labels.{added_to-push, added_in-push}
 use Rattle.like_tables.specs.UserTable.{last_of}
 use Rattle.like_tables.specs.declared.held.Held.{Held}
-use Rattle.like_promises.proofs.Asked.{asks-push, like-there, liker-there}
-use Rattle.like_promises.specs.Asked.{asked, asked_by, asks}
+use Rattle.like_promises.proofs.Asked.{asking, asks-push, like-there, liker-there}
+use Rattle.like_promises.specs.Asked.{asked, asks}
 use Rattle.like_promises.specs.declared.log.Ran.{Ran}
 use Rattle.like_promises.specs.declared.reply.Reply.{Reply}
 use Rattle.like_promises.specs.declared.reply.Reply.TheVariants as reply
@@ -68,9 +68,9 @@ pub asked-served : (workload : Workload) (v : WorkerView) (h : Held)
     → IsAsked workload h
     → asked workload h.submitter h.ask.number ≡ Some (asked_in v.last.share h.submitter h.ask.request)
 asked-served workload v h served given =
-    ap (option_map (asked_by workload.users (submitters workload) h.submitter)) given.asked
-    ∙ ap (λ n. Some (asked_by n (submitters workload) h.submitter h.ask.request)) served.users
-    ∙ ap (λ n. Some (asked_by v.last.share.users n h.submitter h.ask.request)) served.submitters_alike
+    ap (option_map (asking workload.users (submitters workload) h.submitter)) given.asked
+    ∙ ap (λ n. Some (asking n (submitters workload) h.submitter h.ask.request)) served.users
+    ∙ ap (λ n. Some (asking v.last.share.users n h.submitter h.ask.request)) served.submitters_alike
 
 -- one more right answer
 pub HasRightAnswers-push : (workload : Workload) (ran : List Ran) (e : Ran)

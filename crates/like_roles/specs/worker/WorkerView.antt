@@ -1,5 +1,6 @@
 -- What a worker is, as contracts see it.
 use Rattle.std.specs.Prelude.{◌≡◌, ℕ, ◌+◌, ◌-◌, ◌<◌, nat_le, if◌then◌else◌, Bool, true, false, List, [], length, slice_index_or, Option}
+use Rattle.like_requests.specs.Verdict.{is_known, verdict_of}
 use Rattle.like_requests.specs.declared.request.Request.{Request}
 use Rattle.like_promises.specs.Asked.{asked_by}
 use Rattle.like_promises.specs.Order.{must_wait}
@@ -71,7 +72,8 @@ pub record IsNextPlace (ended : List Bool) (cursor place : ℕ) : Type 0 where
 
 -- what a submitter's request asks of a worker with these users
 abbrev pub asked_in : Share → ℕ → Request → Ask
-asked_in users submitter r = asked_by users.users users.submitters submitter r
+asked_in users submitter r =
+    asked_by (verdict_of users.users users.submitters submitter r.user (is_known r.page)) r.op r.user r.page
 
 -- whether a request of a submitter has to wait for the next joined phase, of a worker at this post with these users
 abbrev pub waits_at : WorkerSeatView → Share → ℕ → Request → Bool
