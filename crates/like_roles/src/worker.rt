@@ -10,9 +10,9 @@ ghost use Rattle.like_roles.specs.worker.Turns.{CanGive, Gives, HasTaken, Pends,
 mod desk;
 mod judged;
 mod places;
-mod work;
+mod tasks;
 
-pub use self::work::Work;
+pub use self::tasks::Work;
 use crate::turn::Turn;
 use like_core::Post;
 use like_promises::WorkerLog;

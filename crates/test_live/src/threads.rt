@@ -60,7 +60,7 @@ impl Done {
 }
 
 // A seat's thread.
-fn work(seat: &mut LiveSeat<SharedPost>, user: u32) -> Done
+fn work_at(seat: &mut LiveSeat<SharedPost>, user: u32) -> Done
     ensures { IsSameSeat seat.old seat.new }
 {
     let mut done = Done {
@@ -102,7 +102,7 @@ fn work_both(
     ensures first { IsSameSeat first.old first.new }
     ensures second { IsSameSeat second.old second.new }
 {
-    join_mut(rt, &mut || work(first, 0), &mut || work(second, 1))
+    join_mut(rt, &mut || work_at(first, 0), &mut || work_at(second, 1))
 }
 
 /// Lets the driver and both seats work in threads, until both seats are gone.

@@ -34,7 +34,7 @@ impl<P: SlotPost> LiveSeat<P> {
         if !sight.ending {
             return (TurnAnswer::Runs, phase);
         }
-        let answer = work(&mut self.station, &mut self.found, true);
+        let answer = phase_work(&mut self.station, &mut self.found, true);
         (answer, self.station.phase())
     }
 
@@ -54,7 +54,7 @@ impl<P: SlotPost> LiveSeat<P> {
         if sight.waits {
             return TurnAnswer::Between;
         }
-        work(&mut self.station, &mut self.found, sight.ending)
+        phase_work(&mut self.station, &mut self.found, sight.ending)
     }
 }
 
@@ -73,7 +73,7 @@ pub(crate) fn work_or_retire<P: Post>(
 {
     let phase = station.phase();
     if phase % 2 == 1 {
-        return work(station, found, ending);
+        return phase_work(station, found, ending);
     }
     find_all(station, found);
     station.retire();
@@ -83,7 +83,7 @@ pub(crate) fn work_or_retire<P: Post>(
 // The phase work of a seat that runs a phase.
 #[cold]
 #[inline(never)]
-fn work<P: Post>(
+fn phase_work<P: Post>(
     station: &mut ServiceStation<P, Asked>,
     found: &mut Stash<Found>,
     ending: bool,

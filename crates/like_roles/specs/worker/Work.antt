@@ -5,7 +5,7 @@ use Rattle.like_seat.specs.Kept as kept
 use Rattle.like_seat.specs.Kept.{IsKept}
 use Rattle.like_seat.specs.StationView.{StationView}
 use Rattle.like_tables.specs.declared.held.Held.{Held}
-use Rattle.like_roles.specs.declared.worker.work.Work.{Work}
+use Rattle.like_roles.specs.declared.worker.tasks.Work.{Work}
 use Rattle.like_roles.specs.worker.Desk.{IsSettled, IsSound, view_of}
 use Rattle.like_roles.specs.worker.WorkerView.{WorkerView}
 

@@ -7,7 +7,7 @@ ghost use Rattle.like_roles.specs.worker.Judged.{IsJudged};
 ghost use Rattle.like_seat.specs.Kept.{IsKept};
 ghost use Rattle.like_roles.specs.worker.WorkerView.{waits_at};
 
-use crate::worker::work::RunTables;
+use crate::worker::tasks::RunTables;
 use like_requests::{Op, PageRef, Verdict};
 use like_tables::{Held, Users};
 

@@ -32,18 +32,18 @@ returns-then-not-sight-clause-moves g c =
 
 pub returns-clause-moves : goal.returns-clause-moves
 returns-clause-moves g c =
-    let after = live_of c.work-answer.new.station c.work-answer.new.found in
+    let after = live_of c.phase_work-answer.new.station c.phase_work-answer.new.found in
     let sight = c.look_on-sight.result in
     let looks = c.look_on-sight.ensures.looks.looks in
-    subst (λ (u : LiveView). Moves u c.work-answer.result after) c.self.view_is
+    subst (λ (u : LiveView). Moves u c.phase_work-answer.result after) c.self.view_is
     (works sight looks.0 _ c.look_on-sight.ensures.looks.sight c.look_on-sight.ensures.goes_on
-    (subst (λ (u : LiveView). Works u sight.ending c.work-answer.result after)
+    (subst (λ (u : LiveView). Works u sight.ending c.phase_work-answer.result after)
     (λ m. live_of (looks.1 m) c.self.inside.found)
-    (subst (λ (e : Bool). Works (live_of c.look_on-sight.new.self c.self.inside.found) e c.work-answer.result after)
-    (sym (not-false _ c.if-not-sight.false)) c.work-answer.ensures.works)))
+    (subst (λ (e : Bool). Works (live_of c.look_on-sight.new.self c.self.inside.found) e c.phase_work-answer.result after)
+    (sym (not-false _ c.if-not-sight.false)) c.phase_work-answer.ensures.works)))
 
-pub work-answer-requires-clause-looked : goal.work-answer-requires-clause-looked
-work-answer-requires-clause-looked g c =
+pub phase_work-answer-requires-clause-looked : goal.phase_work-answer-requires-clause-looked
+phase_work-answer-requires-clause-looked g c =
     let i = c.self.inside in
     has-looked i.station c.look_on-sight.new.self i.found i.home i.pages i.room i.half c.look_on-sight.result
     c.self.invariant c.look_on-sight.ensures.looks c.look_on-sight.ensures.goes_on
@@ -61,7 +61,7 @@ pub invariant_of-self-2 : goal.invariant_of-self-2
 invariant_of-self-2 g c =
     let i = c.self.inside in
     let looks = c.look_on-sight.ensures.looks in
-    let done = c.work-answer in
+    let done = c.phase_work-answer in
     after-works i.station c.look_on-sight.new.self done.new.station i.found done.new.found i.home i.pages i.room i.half
     c.look_on-sight.result c.self.invariant looks
     (Leaves-works (live_of c.look_on-sight.new.self i.found) (live_of done.new.station done.new.found) true done.result
@@ -101,18 +101,18 @@ pub returns-then-not-sight-clause-phase : goal.returns-then-not-sight-clause-pha
 returns-then-not-sight-clause-phase g c =
     c.phase-phase.ensures.phase ∙ ap phase_of (sym c.look_on-sight.ensures.stays)
 
-pub work-answer-requires-clause-ending : goal.work-answer-requires-clause-ending
-work-answer-requires-clause-ending g c =
+pub phase_work-answer-requires-clause-ending : goal.phase_work-answer-requires-clause-ending
+phase_work-answer-requires-clause-ending g c =
     λ _. subst (λ (s : StationView Asked). SawEnding s.post.last) (sym c.look_on-sight.ensures.looks.looks.1)
     (not-false _ c.if-not-sight.false)
 
 pub returns-clause-keeps : goal.returns-clause-keeps
-returns-clause-keeps g c = c.work-answer.ensures.live
+returns-clause-keeps g c = c.phase_work-answer.ensures.live
 
 pub returns-clause-runs : goal.returns-clause-runs
 returns-clause-runs g c =
     runs-after (live_of c.look_on-sight.new.self c.self.inside.found)
-    (live_of c.work-answer.new.station c.work-answer.new.found) true c.work-answer.result c.work-answer.ensures.works
+    (live_of c.phase_work-answer.new.station c.phase_work-answer.new.found) true c.phase_work-answer.result c.phase_work-answer.ensures.works
 
 pub returns-clause-phase : goal.returns-clause-phase
 returns-clause-phase g c = c.phase-2.ensures.phase

@@ -21,13 +21,13 @@ returns-then-sight-clause-moves g c =
 pub returns-clause-moves : goal.returns-clause-moves
 returns-clause-moves g c =
     let v = live_of c.self.inside.station c.self.inside.found in
-    let after = live_of c.work.new.station c.work.new.found in
+    let after = live_of c.phase_work.new.station c.phase_work.new.found in
     let sight = c.look_with_slots-sight.result in
     let looks = c.look_with_slots-sight.ensures.looks in
-    subst (λ (u : LiveView). Moves u c.work.result after) c.self.view_is
+    subst (λ (u : LiveView). Moves u c.phase_work.result after) c.self.view_is
     (works sight looks.0 _ c.look_with_slots-sight.ensures.sight c.if-sight.false
-    (subst (λ (u : LiveView). Works u sight.ending c.work.result after)
-    (λ m. live_of (looks.1 m) c.self.inside.found) c.work.ensures.works))
+    (subst (λ (u : LiveView). Works u sight.ending c.phase_work.result after)
+    (λ m. live_of (looks.1 m) c.self.inside.found) c.phase_work.ensures.works))
 
 pub invariant_of-self : goal.invariant_of-self
 invariant_of-self g c =
@@ -38,8 +38,8 @@ invariant_of-self g c =
 pub returns-then-sight-clause-keeps : goal.returns-then-sight-clause-keeps
 returns-then-sight-clause-keeps g c = (invariant_of-self g c).live
 
-pub work-requires-clause-looked : goal.work-requires-clause-looked
-work-requires-clause-looked g c =
+pub phase_work-requires-clause-looked : goal.phase_work-requires-clause-looked
+phase_work-requires-clause-looked g c =
     let i = c.self.inside in
     has-looked i.station c.look_with_slots-sight.new.self i.found i.home i.pages i.room i.half
     c.look_with_slots-sight.result c.self.invariant c.look_with_slots-sight.ensures c.if-sight.false
@@ -48,7 +48,7 @@ pub invariant_of-self-2 : goal.invariant_of-self-2
 invariant_of-self-2 g c =
     let i = c.self.inside in
     let looked = c.look_with_slots-sight in
-    let done = c.work in
+    let done = c.phase_work in
     after-works i.station looked.new.self done.new.station i.found done.new.found i.home i.pages i.room i.half looked.result
     c.self.invariant looked.ensures
     (Leaves-works (live_of looked.new.self i.found) (live_of done.new.station done.new.found) looked.result.ending
@@ -86,14 +86,14 @@ look_with_slots-sight-requires-clause-here g c =
 pub returns-then-sight-clause-runs : goal.returns-then-sight-clause-runs
 returns-then-sight-clause-runs g c = λ e. absurd (cc e)
 
-pub work-requires-clause-ending : goal.work-requires-clause-ending
-work-requires-clause-ending g c =
+pub phase_work-requires-clause-ending : goal.phase_work-requires-clause-ending
+phase_work-requires-clause-ending g c =
     subst (λ (s : StationView Asked). SawEnding s.post.last) (sym c.look_with_slots-sight.ensures.looks.1)
 
 pub returns-clause-keeps : goal.returns-clause-keeps
-returns-clause-keeps g c = c.work.ensures.live
+returns-clause-keeps g c = c.phase_work.ensures.live
 
 pub returns-clause-runs : goal.returns-clause-runs
 returns-clause-runs g c =
     runs-after (live_of c.look_with_slots-sight.new.self c.self.inside.found)
-    (live_of c.work.new.station c.work.new.found) c.look_with_slots-sight.result.ending c.work.result c.work.ensures.works
+    (live_of c.phase_work.new.station c.phase_work.new.found) c.look_with_slots-sight.result.ending c.phase_work.result c.phase_work.ensures.works

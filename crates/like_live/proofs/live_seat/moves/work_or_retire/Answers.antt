@@ -14,7 +14,7 @@ returns-then-phase-eq1-clause-works g c =
     let odd = c.if-phase-eq1.true in
     let split : RunsSplit c.args.station.now.post.state =
     split_since _ c.phase-phase.result c.requires.looked.runs c.phase-phase.ensures.phase (λ even. absurd (omega arith)) in
-    stays split c.work.ensures.works
+    stays split c.phase_work.ensures.works
 
 pub returns-clause-works : goal.returns-clause-works
 returns-clause-works g c =
@@ -23,17 +23,17 @@ returns-clause-works g c =
     retires (live_of c.find_all.new.station c.find_all.new.found) joined refl c.find_all.ensures.finds
     (λ m. live_of (c.retire.ensures.ends m) c.find_all.new.found)
 
-pub work-requires-clause-looked : goal.work-requires-clause-looked
-work-requires-clause-looked g c = c.requires.looked
+pub phase_work-requires-clause-looked : goal.phase_work-requires-clause-looked
+phase_work-requires-clause-looked g c = c.requires.looked
 
-pub work-requires-clause-ending : goal.work-requires-clause-ending
-work-requires-clause-ending g c = c.requires.ending
+pub phase_work-requires-clause-ending : goal.phase_work-requires-clause-ending
+phase_work-requires-clause-ending g c = c.requires.ending
 
 pub returns-then-phase-eq1-clause-live : goal.returns-then-phase-eq1-clause-live
-returns-then-phase-eq1-clause-live g c = c.work.ensures.live
+returns-then-phase-eq1-clause-live g c = c.phase_work.ensures.live
 
 pub returns-then-phase-eq1-clause-capacity : goal.returns-then-phase-eq1-clause-capacity
-returns-then-phase-eq1-clause-capacity g c = c.work.ensures.capacity
+returns-then-phase-eq1-clause-capacity g c = c.phase_work.ensures.capacity
 
 pub find_all-requires-clause-looked : goal.find_all-requires-clause-looked
 find_all-requires-clause-looked g c = c.requires.looked

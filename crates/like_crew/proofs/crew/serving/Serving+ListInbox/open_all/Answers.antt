@@ -2,7 +2,7 @@ use Rattle.std.proofs.Common.{map, refl, sym, subst, ◌∙◌, arith}
 use Rattle.std.proofs.lemmas.List.{length-set}
 use Rattle.like_queue.specs.Inbox.{view_of}
 use Rattle.like_roles.specs.worker.Work.{worker_at}
-use Rattle.like_roles.specs.declared.worker.work.Work.{Work}
+use Rattle.like_roles.specs.declared.worker.tasks.Work.{Work}
 use Rattle.like_crew.specs.Server.{Agree}
 use Rattle.like_crew.specs.ServerTurns.{OpensAll}
 use Rattle.like_crew.proofs.servers.Opened.{below-more, below-none, opens-all, server}
