@@ -1,5 +1,8 @@
 -- The calls of all seats of a closed service are those of one thread, in which snapshots stand.
-use Rattle.std.proofs.Common.{◌≡◌, ℕ, ◌+◌, nat_lt, List, filter, map, get_or, ap, sym, ◌∙◌, subst}
+use Rattle.std.proofs.Common.{◌≡◌, ℕ, ◌+◌, ◌==◌, ◌≤◌, nat_lt, List, [], filter, map, get_or, ap, sym, ◌∙◌, subst}
+use Rattle.std.proofs.lemmas.List.{get_or_default}
+use Rattle.std.proofs.lemmas.List.Kept.{AllPairs-filter}
+use Rattle.std.specs.List.{AllPairs}
 use Rattle.like_core.specs.declared.opening.Opening.{Opening as CoreOpening}
 use Rattle.like_core.specs.Additions.{added_before}
 use Rattle.like_core.specs.views.PostOrder.{IsOrderOf}
@@ -8,6 +11,7 @@ use Rattle.like_core.specs.PhaseMasks.{AreMasksOf, mask_of}
 use Rattle.like_core.specs.WorkerState.{RunsSplit}
 use Rattle.like_core.specs.views.Posts.{posts_before}
 use Rattle.like_core.specs.declared.view.WorkerSeatView.{WorkerSeatView}
+use Rattle.like_requests.specs.Verdict.{home}
 use Rattle.like_live.specs.declared.opening.Opening.{Opening}
 use Rattle.like_live.specs.Driver.{DriverView, IsSameDriver}
 use Rattle.like_live.specs.Opening.{board_opening}
@@ -17,7 +21,7 @@ use Rattle.like_live.specs.StrictService.{HasLastLikes, IsStrictService, SeatHis
 use Rattle.like_live.proofs.Closing.{all-of-map, post_at, sum-of-map}
 use Rattle.like_live.proofs.DeedLikes.{count_is}
 use Rattle.like_live.proofs.SeatInOrder.{AreInOrder}
-use Rattle.like_live.proofs.OneThread.{each_rises, in_one_order, settled_once_gone}
+use Rattle.like_live.proofs.OneThread.{in_one_order, settled_once_gone}
 
 -- the same of the seats of a service that was opened so and is closed
 module _ (o : Opening) (driver now : DriverView) (hs : List SeatHistory) (counts : List ℕ)
@@ -70,6 +74,8 @@ strict_service o driver now hs counts opened same service gone =
       one.1.1,
     )
 
+-- phases never fall along each seat's deeds, as they don't along the list
 pub seats_rise : SeatsRise
-seats_rise o driver now hs counts opened same service gone =
-    each_rises o hs (closed_order o driver now hs counts opened same service gone)
+seats_rise o deeds serial strict k ds below =
+    subst (AllPairs (λ (d e : Deed). d.phase ≤ e.phase)) (strict.own k ∙ get_or_default deeds k [] ds below)
+    (AllPairs-filter (λ (d e : Deed). d.phase ≤ e.phase) (λ (d : Deed). home o.seats d.user == k) serial strict.rising)

@@ -1,9 +1,8 @@
 -- The calls of all seats of a service are those of one thread, in the order of their numbers.
 use Rattle.std.proofs.Common.{◌≡◌, ℕ, suc, ◌+◌, ◌≤◌, ◌<◌, inl, inr, Bool, cond, nat_lt, ◌==◌, List, [], ◌∷◌, ◌++◌, filter, map, take, drop, reverse, length, get_or, slice_get, Some, refl, ap, sym, ◌∙◌, subst, arith, eq-eqb}
-use Rattle.std.specs.List.{All, AllByRecursion, AllPairs, last_or, sum_by}
+use Rattle.std.specs.List.{All, AllByRecursion, last_or, sum_by}
 use Rattle.std.proofs.lemmas.List.{length-map}
 use Rattle.std.proofs.lemmas.List.Elements.{filter-append}
-use Rattle.std.proofs.lemmas.Option.{slice_get-get_or}
 use Rattle.like_core.specs.declared.page_step.PageCall.TheVariants.{Read}
 use Rattle.like_core.specs.declared.worker_state.WorkerState.TheVariants.{Gone}
 use Rattle.like_core.specs.Additions.{added_before}
@@ -38,7 +37,7 @@ use Rattle.like_live.proofs.DeedTotals.{deed_in, is_none, likes_of_deed, sliced_
 use Rattle.like_live.proofs.Snapshots.{at_number}
 use Rattle.like_live.proofs.Places.{all_of_places, alike_at, at_map, deeds_at, deeds_past, deeds_there, none_at, none_past, place}
 use Rattle.like_live.proofs.OwnEntries.{numbers_rise}
-use Rattle.like_live.proofs.SeatInOrder.{AreInOrder, HasEntry, done, early_none, ends_of, entries, entry_of, has_before, has_entries, has_lasts, has_owners, has_plain, has_risen, has_totals, left_lasts, logged, of_end, split_among, stands, worker_is}
+use Rattle.like_live.proofs.SeatInOrder.{AreInOrder, HasEntry, done, early_none, ends_of, entries, entry_of, has_before, has_entries, has_lasts, has_owners, has_plain, has_totals, left_lasts, logged, of_end, split_among, stands, worker_is}
 
 abbrev number_of_deed : Deed → ℕ
 number_of_deed d = d.number
@@ -265,8 +264,3 @@ module _ (o : Opening) (hs : List SeatHistory) (r : AreInOrder o hs) where
             let long = length-map hs (λ (h : SeatHistory). h.last) in
             absurd (not_some s (sym (none_at ends i (omega (arith, past, long))) ∙ at))
       ])
-
-  -- phases never fall along the deeds of each seat
-  pub each_rises : All (λ h. AllPairs (λ d e. d.phase ≤ e.phase) (deeds_in h)) hs
-  each_rises = λ k h below.
-      pairs_of phase_of_deed (deeds_in (get_or hs k h)) (has_risen o hs r k (get_or hs k h) (slice_get-get_or hs k h below))

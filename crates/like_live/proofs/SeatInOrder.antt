@@ -46,7 +46,6 @@ use Rattle.like_live.proofs.DeedEntries.{HaveEntries, calls_enter, have_all}
 use Rattle.like_live.proofs.DeedLasts.{calls_leave_lasts, deeds_show}
 use Rattle.like_live.proofs.DeedLikes.{last_after, pages_counted}
 use Rattle.like_live.proofs.DeedOwners.{AreHis, his_kept}
-use Rattle.like_live.proofs.DeedPhases.{HasRisen, phase_of_deed, risen_kept}
 use Rattle.like_live.proofs.DeedPlain.{HasPlain, ReadsPlain, deed_under, entry_under, plain_kept}
 use Rattle.like_live.proofs.DeedTotals.{HasTotals, deed_in, likes_of_deed, sliced_in, step_in, totals_kept}
 use Rattle.like_live.proofs.Ordered.{IsOrdered, split_in}
@@ -54,7 +53,7 @@ use Rattle.like_live.proofs.Snapshots.{before_steps}
 use Rattle.like_live.proofs.Standing.{Stands, kept_by_calls, stands_by_calls}
 use Rattle.like_live.proofs.Places.{at_all, at_map, within}
 use Rattle.like_live.proofs.OwnEntries.{filter_rises, reverse_all, turn_rises, turn_some}
-use Rattle.like_live.proofs.DeedPhases.{phase_of_step}
+use Rattle.like_live.proofs.DeedPhases.{phase_of_deed, phase_of_step}
 
 -- the entry of a worker's deed
 pub record HasEntry (worker : ℕ) (log : List LogEntry) (d : Deed) : Type 0 where
@@ -245,11 +244,6 @@ module _ (o : Opening) (hs : List SeatHistory) (r : AreInOrder o hs) (i : ℕ) (
         before_steps n page h.last.station.post.did
         ∙ same_below phase_of_step (adds_to page) phase_of_deed (likes_of_deed page) h.last.station.post.did (deeds_in h) n
         (λ k less. sym (has_totals k page (none k less)))
-
-    pub has_risen : Rises phase_of_deed (deeds_in h)
-    has_risen =
-        (kept_by_calls h.first (IsOrdered r.masks) HasRisen (risen_kept h.first r.masks) h.told h.last h.done unused ordered
-        (record { rises = tt; within = λ k past. tt })).rises
 
     share_is : h.first.station.last.share ≡ share_of o.users o.seats o.seats i
     share_is = ap (λ (t : UserTable). t.share) seat.last

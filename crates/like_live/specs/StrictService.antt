@@ -86,16 +86,12 @@ ServicesAreStrict =
     × SnapshotsStand o now.lead.seat.counted serial
     × HasLastCounts o counts serial × HasLastLikes o (map (λ h. h.last) histories) serial
 
--- a seat's phases never fall, also where it came back: of a service that was opened so and is closed, no deed of a seat
--- is of an earlier phase than one before it
+-- a seat's phases never fall, also where it came back: of a strict service, no deed of a seat is of an earlier phase
+-- than one before it
 abbrev pub SeatsRise : Type 0
 SeatsRise =
-    (o : Opening) (driver now : DriverView) (histories : List SeatHistory) (counts : List ℕ)
-    → AreOpened o driver (map (λ h. h.first) histories)
-    → IsSameDriver driver now
-    → IsClosedService now (map (λ h. h.last) histories) counts
-    → AreGone (map (λ h. h.last) histories)
-    → All (λ h. AllPairs (λ d e. d.phase ≤ e.phase) (deeds_in h)) histories
+    (o : Opening) (deeds : List (List Deed)) (serial : List Deed) → IsStrictService o deeds serial
+    → All (λ ds. AllPairs (λ d e. d.phase ≤ e.phase) ds) deeds
 
 -- the same while a service still runs: at each moment there is a strict list of all that its seats have done so far,
 -- likes in slices included, and the last likes that seats tell are its store's

@@ -99,7 +99,7 @@ pub fn deeds_fit_earlier()
     ensures { DeedsFitEarlier }
 {}
 
-/// In a closed service a seat's phases never fall, also where it came back: no deed of a seat is of an earlier phase
+/// In a strict service a seat's phases never fall, also where it came back: no deed of a seat is of an earlier phase
 /// than one before it.
 pub fn seats_rise()
     ensures { SeatsRise }
