@@ -11,10 +11,8 @@ use crate::rule::BoardRule;
 use crate::worker_seat::WorkerSeat;
 use atomic_table::Table;
 use like_core::{Limits, View};
+use like_limits::RUN_FACTOR;
 use std::alloc::{AllocError, Global};
-
-/// The factor of a run: with it, page i has bucket i.
-const RUN_FACTOR: u32 = 1 << 22;
 
 /// The phase word, the mask word, one word per slot and one per page, which threads share.
 #[derive(Drop)]

@@ -21,11 +21,9 @@ use crate::layout::first_words;
 use crate::own_board::seats::own_seats;
 use crate::rule::BoardRule;
 use like_core::{Limits, View};
+use like_limits::RUN_FACTOR;
 use own_table::{FirstViews, OwnTable};
 use std::alloc::{AllocError, Global};
-
-/// The factor of a run: with it, page i has bucket i.
-const RUN_FACTOR: u32 = 1 << 22;
 
 /// All seats of a new board.
 pub(crate) struct AllSeats;

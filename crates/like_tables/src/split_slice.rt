@@ -7,11 +7,9 @@ use crate::bucket_counts::BucketCounts;
 use crate::counts::Counts;
 use crate::slice::Slice;
 use crate::split_pages::SplitPages;
+use like_limits::RUN_FACTOR;
 use std::alloc::{AllocError, Global};
 use std::marker::Model;
-
-// The factor of a run: page i has bucket i.
-const RUN_FACTOR: u32 = 1 << 22;
 
 /// A worker's slice of its split pages: which pages are split in its phase, and how many likes of each it has counted
 /// and not merged yet.
