@@ -104,8 +104,8 @@ pub record SharesEntry (v : LiveView) (t : Told) (d : Deed) : Type 0 where
   pub latest : HasLatest (λ e. (e.number ≡ d.number) × IsLookOrLike v.station.post.worker d.phase e.entry)
       v.station.post.logged
 
--- the law of entries: a call goes on from what its seat had made before, and each of its deeds has the number of an
--- entry that it made, unless it is a like of a row
+-- the law of entries: a call goes on from what its seat had made before. Each of its deeds has the number of an entry
+-- that it made, or shares one as a like of a row
 abbrev pub DeedsHaveEntries : Type 0
 DeedsHaveEntries =
     (v now : LiveView) (t : Told) → Does v t now

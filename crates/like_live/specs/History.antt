@@ -43,7 +43,7 @@ pub record IsInRow (v : LiveView) : Type 0 where
   pub latest : RunsSplit v.station.post.state
       → HasLatest (λ e. IsLookOrLike v.station.post.worker (phase_at v.station) e.entry) v.station.post.logged
 
--- a call of a seat, with its answer. A like of a row is made on the row's one look at the phase word
+-- a call of a seat, with its answer. `like_on` is a like of a row, which makes no look at the phase word
 pub data Told : Type 0 where
   turn : TurnAnswer → Told
   like : (user page : ℕ) → LikeAnswer → Told
