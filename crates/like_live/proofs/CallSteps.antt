@@ -1,5 +1,5 @@
 -- A call as steps, each of which does one thing to a seat.
-use Rattle.std.proofs.Common.{◌≡◌, ℕ, suc, ◌+◌, Bool, true, List, [], ◌∷◌, ◌++◌, drop, length, reverse, Option, Some, None, refl, ap, sym, ◌∙◌, subst, arith, append-nil}
+use Rattle.std.proofs.Common.{◌≡◌, ℕ, suc, ◌+◌, Bool, true, List, [], ◌∷◌, ◌++◌, drop, length, reverse, Option, Some, None, refl, ap, sym, ◌∙◌, subst, arith, append-nil, ◌⊎◌, inl, inr}
 use Rattle.std.proofs.Math.Seq.{drop-append_seam, drop-length}
 use Rattle.std.proofs.lemmas.List.{drop-drop, drop_all}
 use Rattle.like_core.specs.declared.log.Logged.{Logged}
@@ -25,15 +25,15 @@ use Rattle.like_live.specs.Moves as moves
 use Rattle.like_live.specs.Moves.{FindsAll, Moves, MovesBy, Works, looked, with_found}
 use Rattle.like_live.specs.Calls as calls
 use Rattle.like_live.specs.Calls.{ComeBackCase, GlanceCase, GlancesNow, LikeCase, LikesNow, LookCase, LooksNow, RetireWorks, TakesFound, verdict_at}
-use Rattle.like_live.specs.History.{Does, HasDone, Told, come_back, glance, like, look, retire, take_found, turn}
+use Rattle.like_live.specs.History.{Does, HasDone, Told, come_back, glance, like, look, retire, take_found, turn, like_on}
 use Rattle.like_live.specs.Deeds.{Deed, counted, deed_now, deeds_found, deeds_of, deeds_of_call, found_by, made_since, own_deed}
 use Rattle.like_live.proofs.Finding.{running}
 use Rattle.like_live.proofs.Running.{runs_split, split_runs, unsplit}
-use Rattle.like_live.proofs.Stepping.{FollowsCalls, IsRequest, acknowledges, adds_like, finds, glances, holds, looks, reads, reports, retires, returns, takes}
+use Rattle.like_live.proofs.Stepping.{FollowsCalls, FollowsRows, IsRequest, acknowledges, adds_like, finds, glances, holds, looks, reads, reports, retires, returns, takes}
 use Rattle.like_live.proofs.FoundEntries.{enough, found_still}
 
 -- a seat whose turn says that it runs a phase does so
-moves_run : (v after : LiveView) → Moves v answer.Runs after → IsRunning after.station.post.state
+pub moves_run : (v after : LiveView) → Moves v answer.Runs after → IsRunning after.station.post.state
 moves_run v after (moves.is_gone gone a is) = absurd (cc a)
 moves_run v after (moves.waits sight mask can w a is) = absurd (cc a)
 moves_run v after (moves.works sight mask number can w does) = by_works does where
@@ -48,14 +48,14 @@ moves_run v after (moves.works sight mask number can w does) = by_works does whe
   by_works (moves.reports s split e a merges is) = absurd (cc a)
 
 -- a seat that runs a split phase after its turn has looked, and done no more
-record HasLooked (v now : LiveView) : Type 0 where
-  sight : Sight
-  mask : ℕ
-  number : ℕ
-  can : IsSightOf v.station.post.state sight
-  is : now ≡ looked v sight mask number
+pub record HasLooked (v now : LiveView) : Type 0 where
+  pub sight : Sight
+  pub mask : ℕ
+  pub number : ℕ
+  pub can : IsSightOf v.station.post.state sight
+  pub is : now ≡ looked v sight mask number
 
-has_looked : (v now : LiveView) → Moves v answer.Runs now → RunsSplit now.station.post.state → HasLooked v now
+pub has_looked : (v now : LiveView) → Moves v answer.Runs now → RunsSplit now.station.post.state → HasLooked v now
 has_looked v now (moves.is_gone gone a is) split = absurd (cc a)
 has_looked v now (moves.waits sight mask can w a is) split = absurd (cc a)
 has_looked v now (moves.works sight mask number can w does) split = by_works does where
@@ -67,6 +67,30 @@ has_looked v now (moves.works sight mask number can w does) split = by_works doe
   by_works (moves.runs_split runs e a is) =
       record { sight = sight; mask = mask; number = number; can = can; is = is }
   by_works (moves.reports s runs e a merges is) = absurd (cc a)
+
+-- a like that goes into the slice
+pub record IsSliced (v after : LiveView) (user page : ℕ) (told : LikeAnswer) : Type 0 where
+  pub told_is : told ≡ Liked
+  pub accepted : verdict_at v.station user page ≡ Accepted
+  pub at : slices v.station.post page ≡ true
+  pub is : after ≡ with_station v (liked_last (sliced v.station page) user page)
+
+-- a like of a row finds nothing, and is the deed that a single one is
+pub row_deeds : (v after : LiveView) (user page : ℕ) (told : LikeAnswer) → after.found ≡ v.found
+    → deeds_of_call v (like_on user page told) after ≡ own_deed after (like_on user page told)
+row_deeds v after user page told same =
+    ap (λ fs. deeds_found (drop 1 (made_since v after)) fs ++ own_deed after (like_on user page told))
+    (ap (drop (length v.found)) same ∙ drop-length v.found)
+
+same_deed : (after : LiveView) (user page : ℕ) (told : LikeAnswer)
+    → own_deed after (like_on user page told) ≡ own_deed after (like user page told)
+same_deed after user page Liked = refl
+same_deed after user page told = refl
+
+-- a call that is no like of a row
+abbrev pub IsNoRow : Told → Type 0
+IsNoRow (like_on user page answer) = ⊥
+IsNoRow t = Unit {0}
 
 module _ (R : LiveView → List Deed → LiveView → Type 0) (f : FollowsCalls R) where
   -- what finds nothing
@@ -180,49 +204,63 @@ module _ (R : LiveView → List Deed → LiveView → Type 0) (f : FollowsCalls 
   }
 
   -- a like that goes into the slice: nothing was found, and the look before it is the call's only entry
-  by_slice : (v now after : LiveView) (user page : ℕ) (told : LikeAnswer) → Moves v answer.Runs now → told ≡ Liked
-      → verdict_at now.station user page ≡ Accepted → slices now.station.post page ≡ true
-      → after ≡ with_station now (liked_last (sliced now.station page) user page)
-      → R v (deeds_of_call v (like user page told) after) after
-  by_slice v now after user page told m a accepted at is =
+  by_slice : (v now after : LiveView) (user page : ℕ) (told : LikeAnswer) → Moves v answer.Runs now
+      → IsSliced now after user page told → R v (deeds_of_call v (like user page told) after) after
+  by_slice v now after user page told m s =
       let runs = moves_run v now m in
-      let l = has_looked v now m (runs_split now.station.post page runs at) in
-      let request : IsRequest now user page true = record { runs = runs; accepted = accepted; at = at } in
-      subst (λ x. R v (deeds_of_call v (like user page x) after) after) (sym a)
+      let l = has_looked v now m (runs_split now.station.post page runs s.at) in
+      let request : IsRequest now user page true = record { runs = runs; accepted = s.accepted; at = s.at } in
+      subst (λ x. R v (deeds_of_call v (like user page x) after) after) (sym s.told_is)
       (subst
       (λ fs. R v (deeds_found (drop 1 (made_since v after)) fs ++ deed_now after user page counted ∷ []) after)
       (sym
-      (ap (drop (length v.found)) (ap (λ (w : LiveView). w.found) is ∙ ap (λ (w : LiveView). w.found) l.is)
+      (ap (drop (length v.found)) (ap (λ (w : LiveView). w.found) s.is ∙ ap (λ (w : LiveView). w.found) l.is)
       ∙ drop-length v.found))
-      (subst (λ w. R v (deed_now w user page counted ∷ []) w) (sym is)
+      (subst (λ w. R v (deed_now w user page counted ∷ []) w) (sym s.is)
       (subst
       (λ w. R v (deed_now w user page counted ∷ []) (with_station w (liked_last (sliced w.station page) user page)))
       (sym l.is)
       (f.slice v l.sight l.mask l.number user page l.can
       (subst (λ w. IsRequest w user page true) l.is request)))))
 
-  by_like : (v now after : LiveView) (user page : ℕ) (told : LikeAnswer) → Moves v answer.Runs now
-      → LikesNow now user page told after → R v (deeds_of_call v (like user page told) after) after
-  by_like v now after user page told m (calls.refused fails a is) =
-      after_moves v now after (like user page told) _ m
-      (nothing now after (like user page told) is (ap (λ x. own_deed after (like user page x)) a))
-  by_like v now after user page told m (calls.full accepted most a is) =
-      after_moves v now after (like user page told) _ m
-      (nothing now after (like user page told) is (ap (λ x. own_deed after (like user page x)) a))
-  by_like v now after user page told m (calls.liked None s accepted few a c is) =
-      by_slice v now after user page told m a accepted c.0 (is ∙ ap (with_station now) c.1)
-  by_like v now after user page told m (calls.liked (Some old) s accepted few a c is) =
-      let e = is ∙ ap (with_station now) c.1 in
-      after_moves v now after (like user page told) _ m
-      (record {
+  -- any other like at a seat that runs a phase
+  own_like : (v after : LiveView) (user page : ℕ) (told : LikeAnswer) → IsRunning v.station.post.state
+      → LikesNow v user page told after → Own v after (like user page told) ⊎ IsSliced v after user page told
+  own_like v after user page told runs (calls.refused fails a is) =
+      inl (nothing v after (like user page told) is (ap (λ x. own_deed after (like user page x)) a))
+  own_like v after user page told runs (calls.full accepted most a is) =
+      inl (nothing v after (like user page told) is (ap (λ x. own_deed after (like user page x)) a))
+  own_like v after user page told runs (calls.liked None s accepted few a c is) =
+      inr (record { told_is = a; accepted = accepted; at = c.0; is = is ∙ ap (with_station v) c.1 })
+  own_like v after user page told runs (calls.liked (Some old) s accepted few a c is) =
+      let e = is ∙ ap (with_station v) c.1 in
+      inl (record {
         same = ap (λ (w : LiveView). w.found) is;
         since = _ ∷ [];
         logs = ap (λ (w : LiveView). w.station.post.logged) e;
-        own = subst (λ x. R now (own_deed after (like user page x)) after) (sym a)
-            (subst (λ w. R now (own_deed w (like user page Liked)) w) (sym e)
-            (f.one now (adds_like user page old (number_of s.post)
-            (record { runs = moves_run v now m; accepted = accepted; at = c.0 })) tt));
+        own = subst (λ x. R v (own_deed after (like user page x)) after) (sym a)
+            (subst (λ w. R v (own_deed w (like user page Liked)) w) (sym e)
+            (f.one v (adds_like user page old (number_of s.post)
+            (record { runs = runs; accepted = accepted; at = c.0 })) tt));
       })
+
+  by_like : (v now after : LiveView) (user page : ℕ) (told : LikeAnswer) → Moves v answer.Runs now
+      → LikesNow now user page told after → R v (deeds_of_call v (like user page told) after) after
+  by_like v now after user page told m l = elim (own_like now after user page told (moves_run v now m) l) [
+    | inl o ↦ after_moves v now after (like user page told) _ m o
+    | inr s ↦ by_slice v now after user page told m s
+  ]
+
+  -- a like of a row that isn't sliced
+  pub by_row : (v after : LiveView) (user page : ℕ) (told : LikeAnswer) → IsRunning v.station.post.state
+      → LikesNow v user page told after
+      → R v (deeds_of_call v (like_on user page told) after) after ⊎ IsSliced v after user page told
+  by_row v after user page told runs l = elim (own_like v after user page told runs l) [
+    | inl o ↦
+        inl (subst (λ ds. R v ds after)
+        (sym (row_deeds v after user page told o.same ∙ same_deed after user page told)) o.own)
+    | inr s ↦ inr s
+  ]
 
   by_looks : (v after : LiveView) (user page tag : ℕ) (answer : LookAnswer) → IsRunning v.station.post.state
       → LooksNow v user page tag answer after → Own v after (look user page tag answer)
@@ -302,9 +340,10 @@ module _ (R : LiveView → List Deed → LiveView → Type 0) (f : FollowsCalls 
       (record v { found = drop 1 v.found }))
       (sym (drop_more v.found)) (f.one v takes tt))
 
-  pub by_call : (t : Told) (v after : LiveView) → Does v t after → R v (deeds_of_call v t after) after
-  by_call (turn answer) v after d = plain_call v after (turn answer) refl (by_turn v after answer d)
-  by_call (like user page answer) v after d = by_case d
+  pub by_call : (t : Told) → IsNoRow t → (v after : LiveView) → Does v t after → R v (deeds_of_call v t after) after
+  by_call (turn answer) plain v after d = plain_call v after (turn answer) refl (by_turn v after answer d)
+  by_call (like_on user page answer) plain v after d = absurd plain
+  by_call (like user page answer) plain v after d = by_case d
     where
       by_case : LikeCase v user page answer after → R v (deeds_of_call v (like user page answer) after) after
       by_case (calls.gone m a) =
@@ -315,7 +354,7 @@ module _ (R : LiveView → List Deed → LiveView → Type 0) (f : FollowsCalls 
           (by_turn v after _ m)
       by_case (calls.runs now m l) =
           by_like v now after user page answer m l
-  by_call (look user page tag answer) v after d = by_case d
+  by_call (look user page tag answer) plain v after d = by_case d
     where
       by_case : LookCase v user page tag answer after → R v (deeds_of_call v (look user page tag answer) after) after
       by_case (calls.gone m a) =
@@ -326,7 +365,7 @@ module _ (R : LiveView → List Deed → LiveView → Type 0) (f : FollowsCalls 
           (by_turn v after _ m)
       by_case (calls.runs now m l) =
           after_moves v now after (look user page tag answer) _ m (by_looks now after user page tag answer (moves_run v now m) l)
-  by_call (glance user page answer) v after d = by_case d
+  by_call (glance user page answer) plain v after d = by_case d
     where
       by_case : GlanceCase v user page answer after → R v (deeds_of_call v (glance user page answer) after) after
       by_case (calls.gone m a) =
@@ -337,14 +376,27 @@ module _ (R : LiveView → List Deed → LiveView → Type 0) (f : FollowsCalls 
           (by_turn v after _ m)
       by_case (calls.runs now m l) =
           after_moves v now after (glance user page answer) _ m (by_glances now after user page answer (moves_run v now m) l)
-  by_call (take_found taken) v after d = plain_call v after (take_found taken) refl (by_take v after taken d)
-  by_call (retire answer) v after d =
+  by_call (take_found taken) plain v after d = plain_call v after (take_found taken) refl (by_take v after taken d)
+  by_call (retire answer) plain v after d =
       plain_call v after (retire answer) refl (by_moves RetireWorks by_retire_works v after answer d)
-  by_call (come_back answer) v after d = plain_call v after (come_back answer) refl (by_return v after answer d)
+  by_call (come_back answer) plain v after d = plain_call v after (come_back answer) refl (by_return v after answer d)
+
+module _ (R : LiveView → List Deed → LiveView → Type 0) (f : FollowsRows R) where
+  each_call : (t : Told) (v after : LiveView) → Does v t after → R v (deeds_of_call v t after) after
+  each_call (like_on user page told) v after d = elim (by_row R f.calls v after user page told d.0.runs d.1) [
+    | inl r ↦ r
+    | inr s ↦
+        subst (λ ds. R v ds after)
+        (sym (row_deeds v after user page told (ap (λ (w : LiveView). w.found) s.is)
+        ∙ ap (λ x. own_deed after (like_on user page x)) s.told_is))
+        (subst (λ w. R v (deed_now w user page counted ∷ []) w) (sym s.is)
+        (f.row v user page (record { runs = d.0.runs; accepted = s.accepted; at = s.at }) d.0))
+  ]
+  each_call t v after d = by_call R f.calls t tt v after d
 
   pub by_calls : (told : List Told) (v after : LiveView) (done : HasDone v told after)
       → R v (deeds_of told v after done) after
-  by_calls [] v after done = subst (R v []) (sym done) (f.none v)
+  by_calls [] v after done = subst (R v []) (sym done) (f.calls.none v)
   by_calls (t ∷ told) v after done =
-      f.both v done.0 after (deeds_of_call v t done.0) (deeds_of told done.0 after done.1.1)
-      (by_call t v done.0 done.1.0) (by_calls told done.0 after done.1.1)
+      f.calls.both v done.0 after (deeds_of_call v t done.0) (deeds_of told done.0 after done.1.1)
+      (each_call t v done.0 done.1.0) (by_calls told done.0 after done.1.1)

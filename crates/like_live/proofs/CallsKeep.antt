@@ -14,7 +14,7 @@ use Rattle.like_live.specs.LiveView.{LiveView, with_station}
 use Rattle.like_live.specs.Answers.{IsRead, found_count}
 use Rattle.like_live.specs.Calls as calls
 use Rattle.like_live.specs.Calls.{ComeBackCase, GlanceCase, GlancesNow, LikeCase, LikesNow, LookCase, LooksNow, RetireCase, RetireWorks, TakesFound}
-use Rattle.like_live.specs.History.{Does, Told, come_back, glance, like, look, retire, take_found, turn}
+use Rattle.like_live.specs.History.{Does, Told, come_back, glance, like, like_on, look, retire, take_found, turn}
 use Rattle.like_live.specs.Moves.{Moves}
 use Rattle.like_live.proofs.Calling.{page_there}
 use Rattle.like_live.proofs.Keeping.{Keeps, Keeps-all, Keeps-both, Keeps-by, Keeps-counts, Keeps-finds, Keeps-glanced, Keeps-moves, Keeps-read, Keeps-stopped, Keeps-works}
@@ -118,6 +118,7 @@ Keeps-does (like user page answer) v after sized d = by_case d
     by_case (calls.runs now m l) =
         Keeps-both v now after (Keeps-moves v now _ sized m)
         (Keeps-likes now after user page answer (sized-moves v now _ sized m) l)
+Keeps-does (like_on user page answer) v after sized d = Keeps-likes v after user page answer sized d.1
 Keeps-does (look user page tag answer) v after sized d = by_case d
   where
     by_case : LookCase v user page tag answer after → Keeps v after

@@ -5,7 +5,7 @@ use Rattle.like_requests.specs.Verdict.{home}
 use Rattle.like_serial.proofs.Crossed.{take_most}
 use Rattle.like_serial.proofs.Follows.{weigh-filter_less}
 use Rattle.like_serial.proofs.Parts.{passed, place_of_part, take_part}
-use Rattle.like_serial.proofs.Increasing.{Increases, increases_at, increases_of, increases_pairs}
+use Rattle.like_serial.proofs.Increasing.{Earlier, Pairwise, alone_above, pairwise_at, pairwise_of, pairwise_pairs}
 use Rattle.like_serial.proofs.Phases.{all_then, below, pairs_of}
 use Rattle.like_serial.proofs.Totals.{same_in_all, weigh-all_alike}
 use Rattle.like_serial.proofs.Seen.{not_some, some_is}
@@ -14,7 +14,7 @@ use Rattle.like_live.specs.declared.opening.Opening.{Opening}
 use Rattle.like_live.specs.CrossedLooks.{CrossedLooksAreNotSerial, IsForTwo, like_and_look}
 use Rattle.like_live.specs.DeedStore.{ShowsLast}
 use Rattle.like_live.specs.Deeds.{Deed, counted, deed, showed}
-use Rattle.like_live.specs.StrictService.{IsStrictService, deeds_by}
+use Rattle.like_live.specs.StrictService.{IsEarlier, IsStrictService, deeds_by}
 use Rattle.like_live.proofs.DeedLikes.{ShowsCount, count_after, fits_store, last_after, shows_count}
 use Rattle.like_live.proofs.DeedPhases.{phase_of_deed}
 use Rattle.like_live.proofs.DeedTotals.{likes_of_deed}
@@ -88,8 +88,8 @@ late o serial two is =
     weigh-all_alike (likes_of_deed 1) f p.front
     (all_then (λ (c : Deed). c.number < 1) (λ c. likes_of_deed 1 c ≡ f c) p.front
     (λ c less. sym (ap (λ t. only t (likes_of_deed 1 c)) (below c.number 2 (omega (arith, less)))))
-    (increases_at (λ (c : Deed). c.number) p.front b p.rest
-    (subst (Increases (λ (c : Deed). c.number)) p.is (increases_of (λ (c : Deed). c.number) serial is.in_time))).0) in
+    (alone_above (λ (c : Deed). c.number) (λ c. c.act ≡ counted) b (λ e. absurd (cc e)) p.front
+    (pairwise_at IsEarlier p.front b p.rest (subst (Pairwise IsEarlier) p.is (pairwise_of IsEarlier serial is.in_time))).0)) in
     let front : take (length p.front) serial ≡ p.front = ap (take (length p.front)) p.is ∙ take_part p.front b p.rest in
     let shown = shows_count o (take (length p.front) serial) b (is.fits (length p.front) b
     (subst (λ xs. slice_get xs (length p.front) ≡ Some b) (sym p.is) (place_of_part p.front b p.rest))) in
@@ -152,8 +152,10 @@ module _ (o : Opening) (two : IsForTwo o) where
   in_order = record {
     own = λ seat. subst (λ n. deeds_by n seat both ≡ get_or (like_and_look 0 0 0 1 0 ∷ like_and_look 2 1 1 0 1 ∷ []) seat [])
         (sym two.seats) (own seat);
-    in_time = increases_pairs (λ (d : Deed). d.number) both
-        ((omega arith, (omega arith, (omega arith, tt))), ((omega arith, (omega arith, tt)), ((omega arith, tt), (tt, tt))));
+    in_time = pairwise_pairs IsEarlier both (
+      (inl (omega arith), (inl (omega arith), (inl (omega arith), tt))),
+      ((inl (omega arith), (inl (omega arith), tt)), ((inl (omega arith), tt), (tt, tt))),
+    );
     rising = pairs_of phase_of_deed both
         ((omega arith, (omega arith, (omega arith, tt))), ((omega arith, (omega arith, tt)), ((omega arith, tt), (tt, tt))));
     fits = λ i d at. fits_store o (take i both) d (lasts i d at) (counts i d at);

@@ -1,26 +1,32 @@
 -- The deeds of calls have entries that the calls made in the board's log.
 use Rattle.std.proofs.Common.{◌≡◌, ◌⊎◌, ℕ, ◌<◌, inl, inr, List, [], ◌∷◌, ◌++◌, drop, length, map, reverse, refl, ap, sym, ◌∙◌, subst, subst₂, arith, append_assoc}
-use Rattle.std.specs.List.{AllByRecursion, Contains}
+use Rattle.std.specs.List.{All, AllByRecursion, Contains}
 use Rattle.std.proofs.lemmas.List.Elements.{Contains-get_or}
 use Rattle.std.proofs.Math.Seq.{drop-append_seam}
 use Rattle.std.proofs.lemmas.List.{length-reverse, map-append, reverse-append}
 use mathlib.Core.List.{reverse-cons}
+use Rattle.like_core.specs.declared.log.LogEntry.{LogEntry}
 use Rattle.like_core.specs.declared.log.LogEntry.TheVariants.{Saw, Did}
 use Rattle.like_core.specs.declared.log.Logged.{Logged}
 use Rattle.like_core.specs.declared.page_step.PageStep.{PageStep}
+use Rattle.like_core.specs.Log.{latest_number}
 use Rattle.like_core.specs.PageSteps.{then_steps}
 use Rattle.like_core.specs.views.Clock.{GoesOn}
 use Rattle.like_core.proofs.Steps.{earliest-reverse, then-earliest}
 use Rattle.like_seat.specs.Merge.{LogsSteps}
-use Rattle.like_serial.proofs.Increasing.{Increases}
+use Rattle.like_seat.specs.StationView.{phase_at}
+use Rattle.like_seat.specs.Steps.{liked_last, sliced}
 use Rattle.like_serial.proofs.Phases.{all_rec, rec_all}
 use Rattle.like_serial.proofs.Parts.{head_is, not_cons, tail_is}
 use Rattle.like_live.specs.declared.asked.Found.{Found}
-use Rattle.like_live.specs.LiveView.{LiveView}
+use Rattle.like_live.specs.declared.answer.LikeAnswer.{LikeAnswer}
+use Rattle.like_live.specs.declared.answer.LikeAnswer.TheVariants.{Liked}
+use Rattle.like_live.specs.LiveView.{LiveView, with_station}
 use Rattle.like_live.specs.Moves.{looked, step_for, with_found}
-use Rattle.like_live.specs.Deeds.{Deed, DeedsHaveEntries, IsEntryOf, deeds_found, deeds_of, deeds_of_call, made_since}
-use Rattle.like_live.specs.History.{HasDone, Told}
-use Rattle.like_live.proofs.CallSteps.{by_call, by_calls}
+use Rattle.like_live.specs.Deeds.{Deed, DeedsHaveEntries, IsEntryOf, MakesEntry, SharesEntry, counted, deed_now, deeds_found, deeds_of_call, made_since}
+use Rattle.like_live.specs.History.{HasLatest, IsInRow, IsLookOrLike, Told, like_on}
+use Rattle.like_live.proofs.CallSteps.{IsSliced, by_call, by_row, row_deeds}
+use Rattle.like_live.proofs.Running.{runs_split}
 use Rattle.like_live.proofs.Stepping.{FollowsCalls, IsNoSlice, Step, acknowledges, adds_like, done_by, finds, glances, holds, looks, next, reads, reports, retires, returns, saw_phase, slices_like, takes}
 
 -- some of these entries are those of the deeds, in the same order
@@ -39,18 +45,6 @@ have_all worker P Q then [] (d ∷ ds) has all = absurd has
 have_all worker P Q then (e ∷ es) (d ∷ ds) (inl here) all =
     (then e d here.0 all.0, have_all worker P Q then es ds here.1 all.1)
 have_all worker P Q then (e ∷ es) (d ∷ ds) (inr later) all = have_all worker P Q then es (d ∷ ds) later all.1
-
--- where the entries' numbers rise, so do the deeds'
-pub have_increases : (worker : ℕ) (es : List Logged) (ds : List Deed) → HaveEntries worker es ds
-    → Increases (λ e. e.number) es → Increases (λ d. d.number) ds
-have_increases worker es [] has up = tt
-have_increases worker [] (d ∷ ds) has up = absurd has
-have_increases worker (e ∷ es) (d ∷ ds) (inl here) up = (
-  have_all worker (λ f. e.number < f.number) (λ c. d.number < c.number)
-      (λ f c is less. let first = here.0.0 in let other = is.0 in omega (arith, first, other, less)) es ds here.1 up.0,
-  have_increases worker es ds here.1 up.1,
-)
-have_increases worker (e ∷ es) (d ∷ ds) (inr later) up = have_increases worker es (d ∷ ds) later up.1
 
 -- deeds one after the other
 skip : (worker : ℕ) (e : Logged) (es : List Logged) (ds : List Deed) → HaveEntries worker es ds
@@ -72,7 +66,7 @@ have-append worker (e ∷ es) fs (d ∷ ds) cs (inr later) more =
     inr (have-append worker es fs (d ∷ ds) cs later more)
 
 -- a seat that goes on by some entries has made these since
-since_is : (v now : LiveView) (since : List Logged) → now.station.post.logged ≡ since ++ v.station.post.logged
+pub since_is : (v now : LiveView) (since : List Logged) → now.station.post.logged ≡ since ++ v.station.post.logged
     → made_since v now ≡ reverse since
 since_is v now since logged =
     let made = reverse v.station.post.logged in
@@ -106,7 +100,7 @@ found_entries worker (e ∷ es) (f ∷ found) same =
     inl ((refl, head_is e.entry (Did (step_for worker f)) _ _ same), found_entries worker es found (tail_is _ _ _ _ same))
 
 -- each step, and so each call, goes on and has its deeds' entries
-abbrev Enters : LiveView → List Deed → LiveView → Type 0
+abbrev pub Enters : LiveView → List Deed → LiveView → Type 0
 Enters v ds after =
     GoesOn v.station.post after.station.post × HaveEntries v.station.post.worker (made_since v after) ds
 
@@ -148,7 +142,7 @@ enters_one v (glances user page count shown number is last) plain =
     by_step v (glances user page count shown number is last) (_ ∷ []) refl refl (inl ((refl, (count, refl)), tt))
 enters_one v (holds user page tag is) plain = by_step v (holds user page tag is) [] refl refl tt
 
-enters : FollowsCalls Enters
+pub enters : FollowsCalls Enters
 enters = record {
   none = λ v. goes_on v v [] [] refl refl tt;
   both = λ v now after ds rest first second.
@@ -167,20 +161,61 @@ enters = record {
       (inl ((refl, inl (ap (Saw v.station.post.worker) (saw_phase v.station.post.state sight can is.runs))), tt));
 }
 
-pub deeds_have_entries : DeedsHaveEntries
-deeds_have_entries v now t does =
-    let all = by_call Enters enters t v now does in
+-- so the deeds of any call but a like of a row have entries
+abbrev HasEntries : LiveView → Told → LiveView → Type 0
+HasEntries v t now =
+    GoesOn v.station.post now.station.post × All (λ d. MakesEntry v now d ⊎ SharesEntry v t d) (deeds_of_call v t now)
+
+made_entries : (v now : LiveView) (t : Told) → Enters v (deeds_of_call v t now) now → HasEntries v t now
+made_entries v now t all =
     let worker = v.station.post.worker in
     let made = made_since v now in
     let deeds = deeds_of_call v t now in
-    let HasEntry : Deed → Type 0 = λ d. (e : Logged) × Contains made e × IsEntryOf worker e d in (
+    let Has : Deed → Type 0 = λ d. MakesEntry v now d ⊎ SharesEntry v t d in (
       all.0,
-      rec_all HasEntry deeds
-          (have_all worker (Contains made) HasEntry (λ e d is there. (e, there, is)) made deeds all.1
+      rec_all Has deeds
+          (have_all worker (Contains made) Has (λ e d is there. inl (e, there, is)) made deeds all.1
           (all_rec (Contains made) made (λ k d below. Contains-get_or made k d below))),
     )
 
--- and so have the deeds of calls one after the other
-pub calls_enter : (told : List Told) (v after : LiveView) (done : HasDone v told after)
-    → HaveEntries v.station.post.worker (made_since v after) (deeds_of told v after done)
-calls_enter told v after done = (by_calls Enters enters told v after done).1
+-- a like of a row that goes into the slice has its seat's latest number
+latest_has : (P : LogEntry → Type 0) (logged : List Logged) → HasLatest (λ e. P e.entry) logged
+    → HasLatest (λ e. (e.number ≡ latest_number logged) × P e.entry) logged
+latest_has P [] has = absurd has
+latest_has P (e ∷ logged) has = (refl, has)
+
+shared_entry : (v now : LiveView) (user page : ℕ) (told : LikeAnswer) → IsInRow v → IsSliced v now user page told
+    → HasEntries v (like_on user page told) now
+shared_entry v now user page told row s =
+    subst (λ x. HasEntries v (like_on user page x) now) (sym s.told_is)
+    (subst (HasEntries v (like_on user page Liked)) (sym s.is) (by (row_deeds v after user page Liked refl)))
+  where
+    after : LiveView
+    after = with_station v (liked_last (sliced v.station page) user page)
+
+    d : Deed
+    d = deed_now after user page counted
+
+    shares : SharesEntry v (like_on user page Liked) d
+    shares = record {
+      call = refl;
+      act = refl;
+      latest = latest_has (IsLookOrLike v.station.post.worker (phase_at v.station)) v.station.post.logged
+          (row.latest (runs_split v.station.post page row.runs s.at));
+    }
+
+    by : deeds_of_call v (like_on user page Liked) after ≡ d ∷ []
+        → HasEntries v (like_on user page Liked) after
+    by is = (
+      record { worker = refl; since = []; logged = refl },
+      subst (All (λ c. MakesEntry v after c ⊎ SharesEntry v (like_on user page Liked) c)) (sym is)
+          (rec_all (λ c. MakesEntry v after c ⊎ SharesEntry v (like_on user page Liked) c) (d ∷ []) (inr shares, tt)),
+    )
+
+pub deeds_have_entries : DeedsHaveEntries
+deeds_have_entries v now (like_on user page told) does =
+    elim (by_row Enters enters v now user page told does.0.runs does.1) [
+      | inl all ↦ made_entries v now (like_on user page told) all
+      | inr s ↦ shared_entry v now user page told does.0 s
+    ]
+deeds_have_entries v now t does = made_entries v now t (by_call Enters enters t tt v now does)

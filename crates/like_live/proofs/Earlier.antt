@@ -1,11 +1,11 @@
 -- In a strict service each deed fits what all deeds with lesser numbers leave.
-use Rattle.std.proofs.Common.{◌≡◌, ℕ, zero, suc, ◌+◌, ◌<◌, ◌≤◌, ◌==◌, nat_lt, Bool, List, [], ◌∷◌, ◌++◌, filter, take, drop, get_or, slice_get, Some, refl, ap, ap₂, sym, ◌∙◌, subst, arith, append-nil, ne_eqb}
+use Rattle.std.proofs.Common.{◌≡◌, ℕ, zero, suc, ◌+◌, ◌<◌, ◌≤◌, ◌==◌, nat_lt, ◌⊎◌, inl, inr, Bool, List, [], ◌∷◌, ◌++◌, filter, take, drop, get_or, slice_get, Some, refl, ap, ap₂, sym, ◌∙◌, subst, arith, append-nil, ne_eqb}
 use Rattle.std.specs.List.{AllByRecursion, flat_map, last_or}
 use Rattle.std.proofs.lemmas.List.Elements.{filter-append}
 use Rattle.like_promises.specs.declared.reply.Reply.TheVariants.{Seen}
 use Rattle.like_promises.specs.Store.{Store}
 use Rattle.like_requests.specs.Verdict.{home}
-use Rattle.like_serial.proofs.Increasing.{Increases, filter_rec, increases_at, increases_of}
+use Rattle.like_serial.proofs.Increasing.{Earlier, Pairwise, alone_above, filter_rec, pairwise_at, pairwise_of}
 use Rattle.like_serial.proofs.Interleaved.{key_all, key_none, with_key}
 use Rattle.like_serial.proofs.Parts.{at_place}
 use Rattle.like_serial.proofs.Phases.{all_append, all_below, all_then, filter-swap, key_is, none_below, rec_all}
@@ -123,20 +123,28 @@ module _ (o : Opening) (deeds : List (List Deed)) (serial : List Deed) (is : IsS
       ∙ sym (filter-swap (λ (d : Deed). whose d == k) early serial))
       ∙ sym (user_likes o user (filter early serial))
 
-  -- the deeds before one are those with lesser numbers
-  before_is : (i : ℕ) (d : Deed) → slice_get serial i ≡ Some d
+  abbrev IsCounted : Deed → Type 0
+  IsCounted d = d.act ≡ counted
+
+  abbrev before : Deed → Deed → Type 0
+  before d e = Earlier (λ (c : Deed). c.number) IsCounted d e
+
+  -- the deeds before one that isn't a like are those with lesser numbers
+  before_is : (i : ℕ) (d : Deed) → slice_get serial i ≡ Some d → (d.act ≡ counted → ⊥)
       → filter (λ e. nat_lt e.number d.number) serial ≡ take i serial
-  before_is i d at =
+  before_is i d at alone =
       let rest = drop (suc i) serial in
       let here = at_place serial i d at in
-      let up = increases_at (λ (e : Deed). e.number) (take i serial) d rest
-      (subst (λ ds. Increases (λ (e : Deed). e.number) ds) here (increases_of (λ (e : Deed). e.number) serial is.in_time)) in
+      let up = pairwise_at before (take i serial) d rest (subst (Pairwise before) here (pairwise_of before serial is.in_time)) in
       ap (filter (λ (e : Deed). nat_lt e.number d.number)) here
       ∙ filter-append (λ (e : Deed). nat_lt e.number d.number) (take i serial) (d ∷ rest)
-      ∙ ap₂ (λ a b. a ++ b) (all_below (λ (e : Deed). e.number) d.number (take i serial) up.0)
+      ∙ ap₂ (λ a b. a ++ b)
+      (all_below (λ (e : Deed). e.number) d.number (take i serial)
+      (alone_above (λ (e : Deed). e.number) IsCounted d alone (take i serial) up.0))
       (none_below (λ (e : Deed). e.number) d.number (d ∷ rest) (
         omega arith,
-        all_then (λ (e : Deed). d.number < e.number) (λ e. d.number ≤ e.number) rest (λ e less. omega (arith, less)) up.1,
+        all_then (before d) (λ e. d.number ≤ e.number) rest
+            (λ e later. elim later [ inl less ↦ omega (arith, less) | inr same ↦ absurd (alone same.1) ]) up.1,
       ))
       ∙ append-nil (take i serial)
 
@@ -146,17 +154,31 @@ module _ (o : Opening) (deeds : List (List Deed)) (serial : List Deed) (is : IsS
 
   each_fits : (i : ℕ) (d : Deed) → slice_get serial i ≡ Some d → FitsEarlier d
   each_fits i d at =
-      let before = take i serial in
-      let early = filter (λ (e : Deed). nat_lt e.number d.number) all in
-      let s = opened o in
-      fits_alike (store_after s before) (store_after s early) d.user d.page d.act
-      (last_is s early d.user
-      ∙ ap (last_or (s.last d.user)) (same_pages d.number d.user ∙ ap (pages_counted d.user) (before_is i d at))
-      ∙ sym (last_is s before d.user))
-      (count_is s early d.page
-      ∙ ap (λ n. s.count d.page + n) (same_count d.number d.page ∙ ap (likes_among d.page) (before_is i d at))
-      ∙ sym (count_is s before d.page))
-      (is.fits i d at)
+      elim (counted_or d.act) [
+        | inl is_counted ↦ subst (λ a. Fits (store_after (opened o) early) d.user d.page a) (sym is_counted) tt
+        | inr alone ↦
+            let s = opened o in
+            fits_alike (store_after s first) (store_after s early) d.user d.page d.act
+            (last_is s early d.user
+            ∙ ap (last_or (s.last d.user)) (same_pages d.number d.user ∙ ap (pages_counted d.user) (before_is i d at alone))
+            ∙ sym (last_is s first d.user))
+            (count_is s early d.page
+            ∙ ap (λ n. s.count d.page + n)
+            (same_count d.number d.page ∙ ap (likes_among d.page) (before_is i d at alone))
+            ∙ sym (count_is s first d.page))
+            (is.fits i d at)
+      ]
+    where
+      first : List Deed
+      first = take i serial
+
+      early : List Deed
+      early = filter (λ (e : Deed). nat_lt e.number d.number) all
+
+      counted_or : (a : Act) → (a ≡ counted) ⊎ (a ≡ counted → ⊥)
+      counted_or counted = inl refl
+      counted_or (showed s) = inr (λ e. absurd (cc e))
+      counted_or (glimpsed s) = inr (λ e. absurd (cc e))
 
 pub deeds_fit_earlier : DeedsFitEarlier
 deeds_fit_earlier o deeds serial is =

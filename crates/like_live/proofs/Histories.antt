@@ -16,6 +16,7 @@ use Rattle.like_tables.specs.UserTable.{UserTable, last_in, last_of}
 use Rattle.like_tables.specs.Waiting.{Waiting}
 use Rattle.like_live.specs.declared.answer.GlanceAnswer.{GlanceAnswer}
 use Rattle.like_live.specs.declared.answer.LikeAnswer.{LikeAnswer}
+use Rattle.like_live.specs.declared.answer.LikeAnswer.TheVariants.{Liked}
 use Rattle.like_live.specs.declared.answer.LookAnswer.{LookAnswer}
 use Rattle.like_live.specs.declared.answer.LookAnswer.TheVariants.{Waits}
 use Rattle.like_live.specs.declared.asked.Asked.{Asked}
@@ -23,7 +24,7 @@ use Rattle.like_live.specs.declared.asked.Found.{Found}
 use Rattle.like_live.specs.LiveView.{LiveView, tally, waiting, with_station}
 use Rattle.like_live.specs.Calls as calls
 use Rattle.like_live.specs.Calls.{GlanceCase, GlancesNow, LikeCase, LikesNow, LookCase, LooksNow, TakesFound, asked_in}
-use Rattle.like_live.specs.History.{Ask, Does, HasDone, HistoriesAreCounted, IsUnused, NoneWaitsOnceGone, Told, ask_of, ask_taken, ask_told, ask_waiting, asks_left, asks_taken, asks_told, come_back, glance, like, like_told, likes_told, look, page_liked, pages_liked, retire, take_found, turn}
+use Rattle.like_live.specs.History.{Ask, Does, HasDone, HistoriesAreCounted, IsUnused, NoneWaitsOnceGone, Told, ask_of, ask_taken, ask_told, ask_waiting, asks_left, asks_taken, asks_told, come_back, glance, like, like_on, like_told, likes_told, look, page_liked, pages_liked, retire, take_found, turn}
 use Rattle.like_live.proofs.Calling.{LikesNow-tallies}
 use Rattle.like_live.proofs.Telling.{IsQuiet, IsQuiet-both, IsQuiet-come_back, IsQuiet-moves, IsQuiet-retires, IsQuiet-same, IsTold, IsTold-after, IsTold-quiet, IsWhole, TellsNothing, is_counted, last-more, merged-asks, user_there}
 
@@ -58,6 +59,22 @@ told-like v after user page answer whole (calls.liked old s accepted few a count
           ∙ sym (ap (λ x. last_or (last_of v.station.last other) (page_liked other (like user page x))) a);
       asks = ap asks_left is ∙ merged-asks v s c.held ∙ sym (append-nil (asks_left v));
     }
+
+-- and a like of a row
+told-row : (v after : LiveView) (user page : ℕ) (answer : LikeAnswer)
+    → IsTold v after (like user page answer)
+    → IsTold v after (like_on user page answer)
+told-row v after user page answer t = record {
+  whole = t.whole;
+  tallies = t.tallies;
+  last = λ other. t.last other ∙ ap (last_or (last_of v.station.last other)) (pages other answer);
+  asks = t.asks;
+}
+  where
+    pages : (other : ℕ) (answer : LikeAnswer)
+        → page_liked other (like user page answer) ≡ page_liked other (like_on user page answer)
+    pages other Liked = refl
+    pages other answer = refl
 
 -- a look at a seat that runs a phase
 told-look : (v after : LiveView) (user page tag : ℕ) (answer : LookAnswer)
@@ -170,6 +187,8 @@ told-does (like user page answer) v after whole d = by_case d
     by_case (calls.runs now m l) =
         let q = IsQuiet-moves v now _ whole m in
         IsTold-after v now after (like user page answer) q (told-like now after user page answer q.whole l)
+told-does (like_on user page answer) v after whole d =
+    told-row v after user page answer (told-like v after user page answer whole d.1)
 told-does (look user page tag answer) v after whole d = by_case d
   where
     by_case : LookCase v user page tag answer after → IsTold v after (look user page tag answer)

@@ -15,7 +15,7 @@ use Rattle.like_live.specs.declared.answer.LookAnswer.TheVariants as looked
 use Rattle.like_live.specs.declared.asked.Found.{Found}
 use Rattle.like_live.specs.declared.opening.Opening.{Opening}
 use Rattle.like_live.specs.LiveView.{LiveView, tally}
-use Rattle.like_live.specs.History.{HasDone, IsUnused, Told, come_back, glance, like, like_told, look, retire, take_found, turn}
+use Rattle.like_live.specs.History.{HasDone, IsUnused, Told, come_back, glance, like, like_on, like_told, look, retire, take_found, turn}
 use Rattle.like_live.specs.Deeds.{Deed, deeds_found, deeds_of, deeds_of_call, found_by, made_since, own_deed}
 use Rattle.like_live.specs.Driver.{DriverView, IsSameDriver}
 use Rattle.like_live.specs.Opening.{board_opening}
@@ -38,6 +38,8 @@ found_none page entries (f ∷ found) = let more = found_none page (drop 1 entri
 own_told : (page : ℕ) (now : LiveView) (t : Told) → weigh (likes_of_deed page) (own_deed now t) ≡ like_told page t
 own_told page now (like user other liked.Liked) = omega arith
 own_told page now (like user other answer) = refl
+own_told page now (like_on user other liked.Liked) = omega arith
+own_told page now (like_on user other answer) = refl
 own_told page now (look user other tag (looked.Seen shown)) = refl
 own_told page now (look user other tag answer) = refl
 own_told page now (glance user other (glanced.Seen shown)) = refl

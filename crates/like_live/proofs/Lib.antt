@@ -13,6 +13,7 @@ pub mod DeedLasts
 pub mod DeedLikes
 pub mod DeedOwners
 pub mod DeedPhases
+pub mod DeedPlaces
 pub mod DeedPlain
 pub mod DeedTotals
 pub mod Earlier
@@ -24,6 +25,7 @@ pub mod Histories
 pub mod Keeping
 pub mod LastCounts
 pub mod Lasting
+pub mod LikeRows
 pub mod Looking
 pub mod Moments
 pub mod Moving

@@ -1,5 +1,5 @@
 -- The calls of all seats of a service are those of one thread, in the order of their numbers.
-use Rattle.std.proofs.Common.{◌≡◌, ℕ, suc, ◌+◌, ◌≤◌, ◌<◌, inl, inr, Bool, cond, nat_lt, ◌==◌, List, [], ◌∷◌, ◌++◌, filter, map, take, drop, reverse, length, get_or, slice_get, Some, refl, ap, sym, ◌∙◌, subst, arith, eq-eqb}
+use Rattle.std.proofs.Common.{◌≡◌, ℕ, suc, ◌+◌, ◌≤◌, ◌<◌, inl, inr, Bool, cond, nat_lt, ◌==◌, List, [], ◌∷◌, ◌++◌, filter, map, take, drop, length, get_or, slice_get, Some, refl, ap, sym, ◌∙◌, subst, arith, eq-eqb}
 use Rattle.std.specs.List.{All, AllByRecursion, last_or, sum_by}
 use Rattle.std.proofs.lemmas.List.{length-map}
 use Rattle.std.proofs.lemmas.List.Elements.{filter-append}
@@ -15,7 +15,7 @@ use Rattle.like_requests.specs.Verdict.{home}
 use Rattle.like_seat.specs.StationView.{phase_at}
 use Rattle.like_serial.proofs.ByNumber.{FitsLog, IsLogged, IsMerged, IsReadAt, merged_by_number}
 use Rattle.like_serial.proofs.Counts.{weigh-map}
-use Rattle.like_serial.proofs.Increasing.{Increases, increases_pairs}
+use Rattle.like_serial.proofs.Increasing.{Earlier, Pairwise, pairwise_pairs}
 use Rattle.like_serial.proofs.LogSteps.{adds_in, adds_of_worker}
 use Rattle.like_serial.proofs.Interleaved.{with_key}
 use Rattle.like_serial.proofs.Parts.{at_place, place_of_part, take_part}
@@ -27,17 +27,16 @@ use Rattle.like_tables.specs.UserTable.{last_in, last_of}
 use Rattle.like_live.specs.declared.opening.Opening.{Opening}
 use Rattle.like_live.specs.LiveView.{LiveView}
 use Rattle.like_live.specs.DeedStore.{ShowsLast}
-use Rattle.like_live.specs.Deeds.{Act, Deed, IsEntryFor, counted, glimpsed, showed}
+use Rattle.like_live.specs.Deeds.{Act, Deed, counted, glimpsed, showed}
 use Rattle.like_live.specs.StrictService.{HasLastLikes, IsStrictService, SeatHistory, deeds_in, opened as store_opened}
-use Rattle.like_live.proofs.DeedEntries.{have_increases}
+use Rattle.like_live.proofs.DeedPlaces.{MayHave}
 use Rattle.like_live.proofs.DeedLikes.{ShowsCount, count_after, fits_store, last_after, last_is, likes_among, pages_counted, user_likes}
 use Rattle.like_live.proofs.DeedPhases.{phase_of_deed}
 use Rattle.like_live.proofs.DeedPlain.{ReadsPlain, deed_under, entry_under}
 use Rattle.like_live.proofs.DeedTotals.{deed_in, is_none, likes_of_deed, sliced_in, step_in}
 use Rattle.like_live.proofs.Snapshots.{at_number}
 use Rattle.like_live.proofs.Places.{all_of_places, alike_at, at_map, deeds_at, deeds_past, deeds_there, none_at, none_past, place}
-use Rattle.like_live.proofs.OwnEntries.{numbers_rise}
-use Rattle.like_live.proofs.SeatInOrder.{AreInOrder, HasEntry, done, early_none, ends_of, entries, entry_of, has_before, has_entries, has_lasts, has_owners, has_plain, has_totals, left_lasts, logged, of_end, split_among, stands, worker_is}
+use Rattle.like_live.proofs.SeatInOrder.{AreInOrder, HasEntry, done, early_none, ends_of, entry_of, has_before, has_entries, has_lasts, has_owners, has_plain, has_totals, left_lasts, logged, of_end, split_among, stands, worker_is, in_time as seat_in_time}
 
 abbrev number_of_deed : Deed → ℕ
 number_of_deed d = d.number
@@ -50,6 +49,10 @@ ShowsBy at (glimpsed s) page count = ⊥
 
 abbrev Shows : Deed → ℕ → ℕ → Type 0
 Shows d page count = ShowsBy d.page d.act page count
+
+-- and one that counts a like may share a number
+abbrev IsCounted : Deed → Type 0
+IsCounted d = d.act ≡ counted
 
 module _ (o : Opening) (hs : List SeatHistory) (r : AreInOrder o hs) where
   abbrev ends : List LiveView
@@ -89,13 +92,13 @@ module _ (o : Opening) (hs : List SeatHistory) (r : AreInOrder o hs) where
   first_count page = get_or o.counts.items page 0
 
   abbrev IsLoggedDeed : Deed → Type 0
-  IsLoggedDeed = IsLogged user_home number_of_deed phase_of_deed likes_of_deed Shows split first_count last log (length hs) (deeds_at hs)
+  IsLoggedDeed = IsLogged user_home number_of_deed phase_of_deed likes_of_deed IsCounted Shows split first_count last log (length hs) (deeds_at hs)
 
   abbrev IsReadDeed : Deed → ℕ → ℕ → Type 0
-  IsReadDeed = IsReadAt user_home number_of_deed phase_of_deed likes_of_deed Shows split first_count last log (length hs) (deeds_at hs)
+  IsReadDeed = IsReadAt user_home number_of_deed phase_of_deed likes_of_deed IsCounted Shows split first_count last log (length hs) (deeds_at hs)
 
   abbrev Fits : Type 0
-  Fits = FitsLog user_home number_of_deed phase_of_deed likes_of_deed Shows split first_count last log (length hs) (deeds_at hs)
+  Fits = FitsLog user_home number_of_deed phase_of_deed likes_of_deed IsCounted Shows split first_count last log (length hs) (deeds_at hs)
 
   logged_deeds : (i : ℕ) (ds : List Deed) → AllByRecursion (HasEntry i log) ds
       → AllByRecursion (λ d. (d.user < o.users) × (home o.seats d.user ≡ i)) ds → AllByRecursion IsLoggedDeed ds
@@ -115,7 +118,7 @@ module _ (o : Opening) (hs : List SeatHistory) (r : AreInOrder o hs) where
     (λ page count. by d.act page count has.0.is plain.0),
     read_deeds i ds has.1 plain.1,
   ) where
-    by : (a : Act) (page count : ℕ) → IsEntryFor i d.phase d.page a has.0.entry → ReadsPlain (split d.phase d.page) a
+    by : (a : Act) (page count : ℕ) → MayHave i d.phase d.page a has.0.entry → ReadsPlain (split d.phase d.page) a
         → ShowsBy d.page a page count → IsReadDeed d page count
     by counted page count is none shows = absurd shows
     by (glimpsed s) page count is none shows = absurd shows
@@ -135,8 +138,9 @@ module _ (o : Opening) (hs : List SeatHistory) (r : AreInOrder o hs) where
         (λ i h at. all_then (λ (d : Deed). (d.user < o.users) × (home o.seats d.user ≡ i)) (λ d. user_home d ≡ i) (deeds_in h)
         (λ d both. both.1) (has_owners o hs r i h at));
     past = λ i none. deeds_past hs i none;
-    numbers = each_run (λ i ds. Increases number_of_deed ds) (λ i past. tt)
-        (λ i h at. have_increases i (reverse (logged_by i log)) (deeds_in h) (entries o hs r i h at) (numbers_rise i log));
+    numbers = each_run (λ i ds. Pairwise (Earlier number_of_deed IsCounted) ds) (λ i past. tt)
+        (λ i h at. seat_in_time o hs r i h at);
+    alone = λ d page count shows is. subst (λ a. ShowsBy d.page a page count) is shows;
     logged = each_run (λ i ds. AllByRecursion IsLoggedDeed ds) (λ i past. tt)
         (λ i h at. logged_deeds i (deeds_in h) (has_entries o hs r i h at) (has_owners o hs r i h at));
     reads = each_run (λ i ds. AllByRecursion (λ d. (page count : ℕ) → Shows d page count → IsReadDeed d page count) ds)
@@ -153,7 +157,7 @@ module _ (o : Opening) (hs : List SeatHistory) (r : AreInOrder o hs) where
   }
 
   abbrev Merge : List Deed → Type 0
-  Merge = IsMerged user_home number_of_deed phase_of_deed likes_of_deed Shows split first_count last log (length hs) (deeds_at hs)
+  Merge = IsMerged user_home number_of_deed phase_of_deed likes_of_deed IsCounted Shows split first_count last log (length hs) (deeds_at hs)
 
   module _ (serial : List Deed) (m : Merge serial) where
     lasts : (j : ℕ) (d : Deed) → slice_get serial j ≡ Some d → ShowsLast (last_after o d.user (take j serial)) d.act
@@ -214,7 +218,7 @@ module _ (o : Opening) (hs : List SeatHistory) (r : AreInOrder o hs) where
     is_strict : IsStrictService o (map deeds_in hs) serial
     is_strict = record {
       own = m.own;
-      in_time = increases_pairs number_of_deed serial m.numbers;
+      in_time = pairwise_pairs (Earlier number_of_deed IsCounted) serial m.numbers;
       rising = pairs_of phase_of_deed serial m.rising;
       fits = λ j d at. fits_store o (take j serial) d (lasts j d at) (counts_by j d d.act at);
     }
@@ -245,7 +249,7 @@ module _ (o : Opening) (hs : List SeatHistory) (r : AreInOrder o hs) where
 
   pub in_one_order : (serial : List Deed) × Strict serial
   in_one_order =
-      let m = merged_by_number user_home number_of_deed phase_of_deed likes_of_deed Shows split first_count last log
+      let m = merged_by_number user_home number_of_deed phase_of_deed likes_of_deed IsCounted Shows split first_count last log
       (length hs) (deeds_at hs) fits in
       (m.0, (is_strict m.0 m.1, last_likes m.0 m.1, all_before m.0 m.1))
 

@@ -8,7 +8,7 @@ use Rattle.like_core.specs.declared.log.LogEntry.{LogEntry}
 use Rattle.like_core.specs.declared.log.Logged.{Logged}
 use Rattle.like_core.specs.PageSteps.{AddsSome, AreInTurn}
 use Rattle.like_core.proofs.views.Clock.{IsAt, at_below, logged_are}
-use Rattle.like_serial.proofs.Increasing.{Increases, filter_rec, increases_append}
+use Rattle.like_serial.proofs.Increasing.{Increases, filter_rec, pairwise_append}
 use Rattle.like_serial.proofs.InTurn.{turn_below}
 use Rattle.like_serial.proofs.Phases.{Rises, all_append, all_rec, all_then, rises-append}
 use Rattle.like_live.proofs.DeedPhases.{phase_of_step}
@@ -54,8 +54,8 @@ numbers_rise i (entry ∷ log) = by (entry_worker entry == i) (numbers_rise i lo
       → Increases (λ e. e.number) (reverse (cond b (numbered (length log) entry ∷ logged_by i log) (logged_by i log)))
   by true rest =
       subst (Increases (λ (e : Logged). e.number)) (sym (reverse-cons (numbered (length log) entry) (logged_by i log)))
-      (increases_append (λ (e : Logged). e.number) (length log) (reverse (logged_by i log))
-      (numbered (length log) entry ∷ []) rest (tt, tt)
+      (pairwise_append (λ (e f : Logged). e.number < f.number) (λ e. e.number) (length log) (reverse (logged_by i log))
+      (numbered (length log) entry ∷ []) (λ e f less. less) rest (tt, tt)
       (reverse_all (λ (e : Logged). e.number < length log) (logged_by i log)
       (all_then (IsAt log) (λ e. e.number < length log) (logged_by i log) (at_below log)
       (all_rec (IsAt log) (logged_by i log) (logged_are i log))))

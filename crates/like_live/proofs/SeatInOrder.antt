@@ -25,7 +25,8 @@ use Rattle.like_core.proofs.Steps.{by-earliest, earliest-reverse}
 use Rattle.like_core.specs.declared.view.WorkerSeatView.{WorkerSeatView}
 use Rattle.like_seat.specs.StationView.{phase_at}
 use Rattle.like_seat.proofs.MergedLikes.{same_everywhere}
-use Rattle.like_serial.proofs.Increasing.{filter_rec}
+use Rattle.like_serial.proofs.Increasing.{Earlier, Pairwise, filter_rec, rec_at}
+use Rattle.like_serial.proofs.Parts.{at_place}
 use Rattle.like_serial.proofs.InTurn.{turn_below}
 use Rattle.like_serial.proofs.Phases.{Rises, all_rec, all_then, rec_all}
 use Rattle.like_serial.proofs.Seen.{not_some, some_is}
@@ -39,10 +40,10 @@ use Rattle.like_live.specs.History.{IsUnused}
 use Rattle.like_live.specs.Opening.{board_opening}
 use Rattle.like_live.specs.Service.{AreOpenedSeats, IsOpenedSeat, posts_at}
 use Rattle.like_live.specs.DeedStore.{ShowsLast}
-use Rattle.like_live.specs.Deeds.{Act, Deed, IsEntryFor, counted, glimpsed, showed}
+use Rattle.like_live.specs.Deeds.{Act, Deed, counted, glimpsed, showed}
 use Rattle.like_live.specs.StrictService.{SeatHistory, deeds_in}
 use Rattle.like_live.proofs.Closing.{all-of-map, post_at}
-use Rattle.like_live.proofs.DeedEntries.{HaveEntries, calls_enter, have_all}
+use Rattle.like_live.proofs.DeedPlaces.{HasPlace, HavePlaces, MayHave, calls_have_places, each_place, places_in_time}
 use Rattle.like_live.proofs.DeedLasts.{calls_leave_lasts, deeds_show}
 use Rattle.like_live.proofs.DeedLikes.{last_after, pages_counted}
 use Rattle.like_live.proofs.DeedOwners.{AreHis, his_kept}
@@ -52,20 +53,20 @@ use Rattle.like_live.proofs.Ordered.{IsOrdered, split_in}
 use Rattle.like_live.proofs.Snapshots.{before_steps}
 use Rattle.like_live.proofs.Standing.{Stands, kept_by_calls, stands_by_calls}
 use Rattle.like_live.proofs.Places.{at_all, at_map, within}
-use Rattle.like_live.proofs.OwnEntries.{filter_rises, reverse_all, turn_rises, turn_some}
+use Rattle.like_live.proofs.OwnEntries.{filter_rises, reverse_all, turn_rises, turn_some, numbers_rise}
 use Rattle.like_live.proofs.DeedPhases.{phase_of_deed, phase_of_step}
 
--- the entry of a worker's deed
+-- the entry of a worker's deed, which a like may share
 pub record HasEntry (worker : ℕ) (log : List LogEntry) (d : Deed) : Type 0 where
   pub entry : LogEntry
   pub at : IsAt log (numbered d.number entry)
-  pub is : IsEntryFor worker d.phase d.page d.act entry
+  pub is : MayHave worker d.phase d.page d.act entry
 
 -- whose it is, and of which phase
-pub entry_of : (worker phase page : ℕ) (a : Act) (entry : LogEntry) → IsEntryFor worker phase page a entry
+pub entry_of : (worker phase page : ℕ) (a : Act) (entry : LogEntry) → MayHave worker phase page a entry
     → (entry_worker entry ≡ worker) × (entry_phase entry ≡ phase)
 entry_of worker phase page counted entry (inl is) = (ap entry_worker is, ap entry_phase is)
-entry_of worker phase page counted entry (inr is) = (ap entry_worker is.1, ap entry_phase is.1)
+entry_of worker phase page counted entry (inr is) = (ap entry_worker is.2, ap entry_phase is.2)
 entry_of worker phase page (showed s) entry is = (ap entry_worker is, ap entry_phase is)
 entry_of worker phase page (glimpsed s) entry is = (ap entry_worker is.1, ap entry_phase is.1)
 
@@ -217,24 +218,33 @@ module _ (o : Opening) (hs : List SeatHistory) (r : AreInOrder o hs) (i : ℕ) (
               ∙ only-none (phase_at h.first.station == k) ∙ sym (only-none (0 == k)))
 
     -- its deeds have entries of its own, in the same order
-    pub entries : HaveEntries i (reverse (logged_by i r.log)) (deeds_in h)
-    entries =
-        subst₂ (λ n es. HaveEntries n es (deeds_in h))
+    pub places : HavePlaces i (reverse (logged_by i r.log)) 0 (deeds_in h)
+    places =
+        subst₂ (λ n es. HavePlaces n es 0 (deeds_in h))
         (ap (λ (p : WorkerSeatView). p.worker) seat.at_post)
-        (ap (λ (p : WorkerSeatView). drop (length p.logged) (reverse h.last.station.post.logged)) seat.at_post
-        ∙ ap reverse (sym logged))
-        (calls_enter h.told h.first h.last h.done)
+        (ap reverse (sym logged))
+        (subst (λ n. HavePlaces h.first.station.post.worker (reverse h.last.station.post.logged) n (deeds_in h))
+        (ap (λ (p : WorkerSeatView). length p.logged) seat.at_post)
+        (calls_have_places h.told h.first h.last h.done))
 
     pub has_entries : AllByRecursion (HasEntry i r.log) (deeds_in h)
     has_entries =
-        have_all i (IsAt r.log) (HasEntry i r.log)
-        (λ e d is there. record {
-          entry = e.entry;
-          at = subst (λ n. IsAt r.log (numbered n e.entry)) is.0 there;
-          is = is.1;
+        let es = reverse (logged_by i r.log) in
+        let all : AllByRecursion (IsAt r.log) es =
+        reverse_all (IsAt r.log) (logged_by i r.log) (all_rec (IsAt r.log) (logged_by i r.log) (logged_are i r.log)) in
+        all_then (HasPlace i es 0) (HasEntry i r.log) (deeds_in h)
+        (λ d p. record {
+          entry = p.entry.entry;
+          at = subst (λ n. IsAt r.log (numbered n p.entry.entry)) p.number
+              (rec_at (IsAt r.log) (take p.place es) p.entry (drop (suc p.place) es) es all
+              (at_place es p.place p.entry p.there));
+          is = p.is;
         })
-        (reverse (logged_by i r.log)) (deeds_in h) entries
-        (reverse_all (IsAt r.log) (logged_by i r.log) (all_rec (IsAt r.log) (logged_by i r.log) (logged_are i r.log)))
+        (each_place i es 0 (deeds_in h) places)
+
+    -- and are in time
+    pub in_time : Pairwise (Earlier (λ d. d.number) (λ d. d.act ≡ counted)) (deeds_in h)
+    in_time = places_in_time i (reverse (logged_by i r.log)) (numbers_rise i r.log) 0 (deeds_in h) places
 
     -- what it added before a phase is what its deeds count
     pub has_before : (n page : ℕ) → ((k : ℕ) → k < n → sliced_in k page h.last ≡ 0)

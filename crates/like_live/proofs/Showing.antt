@@ -25,7 +25,7 @@ use Rattle.like_live.specs.LiveView.{LiveView, with_station}
 use Rattle.like_live.specs.Answers.{HasCalled, IfShown, IsRead, Shown, counted_now, found_count}
 use Rattle.like_live.specs.Calls as calls
 use Rattle.like_live.specs.Calls.{GlanceCase, GlancesNow, LookCase, LooksNow, TakesFound}
-use Rattle.like_live.specs.History.{Does, Told, come_back, glance, like, look, retire, take_found, turn}
+use Rattle.like_live.specs.History.{Does, Told, come_back, glance, like, like_on, look, retire, take_found, turn}
 use Rattle.like_live.specs.Moves as moves
 use Rattle.like_live.specs.Moves.{Moves, Works}
 use Rattle.like_live.proofs.Finding.{running}
@@ -194,6 +194,7 @@ pub shows : (t : Told) (v after : LiveView)
     → IfShown (IsRead after) (IsJustGlanced after) after t
 shows (turn answer) v after found d = tt
 shows (like user page answer) v after found d = tt
+shows (like_on user page answer) v after found d = tt
 shows (look user page tag answer) v after found d = shows-look v after user page tag answer d
 shows (glance user page answer) v after found d = shows-glance v after user page answer d
 shows (take_found taken) v after found d = shows-take v after taken found d

@@ -28,7 +28,7 @@ use Rattle.like_live.specs.Calls.{verdict_at}
 use Rattle.like_live.specs.Deeds.{Deed, deeds_of}
 use Rattle.like_live.specs.History.{HasDone, IsUnused, Told}
 use Rattle.like_live.proofs.CallSteps.{by_calls}
-use Rattle.like_live.proofs.Stepping.{FollowsSteps, Step, acknowledges, adds_like, calls_follow, done_by, finds, glances, holds, looks, next, reads, reports, retires, returns, slices_like, takes}
+use Rattle.like_live.proofs.Stepping.{FollowsSteps, Step, acknowledges, adds_like, done_by, finds, glances, holds, looks, next, reads, reports, retires, returns, slices_like, takes, rows_follow}
 use Rattle.like_live.proofs.Requests.{passes_at}
 use Rattle.like_live.proofs.Running.{runs_split, unsplit}
 
@@ -273,9 +273,9 @@ module _ (first : LiveView) (Sound : LiveView → Type 0) (Kept : LiveView → L
   pub stands_by_calls : (told : List Told) (after : LiveView) → HasDone first told after → IsUnused first
       → Stands first after
   stands_by_calls told after done unused =
-      (by_calls Keeps (calls_follow Keeps steps_keep) told first after done (stands_at_first first unused)).0
+      (by_calls Keeps (rows_follow Keeps steps_keep) told first after done (stands_at_first first unused)).0
 
   pub kept_by_calls : (told : List Told) (after : LiveView) (done : HasDone first told after)
       → IsUnused first → Sound after → Kept first [] → Kept after (deeds_of told first after done)
   kept_by_calls told after done unused sound at_first =
-      ((by_calls Keeps (calls_follow Keeps steps_keep) told first after done (stands_at_first first unused)).1 sound).1 [] at_first
+      ((by_calls Keeps (rows_follow Keeps steps_keep) told first after done (stands_at_first first unused)).1 sound).1 [] at_first

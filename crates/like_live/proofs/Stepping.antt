@@ -20,6 +20,7 @@ use Rattle.like_live.specs.declared.asked.Found.{Found}
 use Rattle.like_live.specs.LiveView.{LiveView, waiting, with_station}
 use Rattle.like_live.specs.Moves.{IsFoundAt, acknowledged, looked, step_for, with_found}
 use Rattle.like_live.specs.Calls.{asked_in, retired_seat, verdict_at}
+use Rattle.like_live.specs.History.{IsInRow}
 use Rattle.like_live.specs.Deeds.{Deed, counted, deed, deed_now, deeds_found, glimpsed, made_since, showed}
 
 -- a seat that looks at the phase word and then runs a phase has seen its number
@@ -116,13 +117,22 @@ pub record FollowsCalls (R : LiveView → List Deed → LiveView → Type 0) : T
       → R v (done_by (looked v sight mask number) (slices_like user page is))
       (next (looked v sight mask number) (slices_like user page is))
 
-pub calls_follow : (R : LiveView → List Deed → LiveView → Type 0) → FollowsSteps R → FollowsCalls R
-calls_follow R f = record {
-  none = f.none;
-  both = f.both;
-  one = λ v s plain. f.one v s;
-  slice = λ v sight mask number user page can is.
-      let w = looked v sight mask number in
-      f.both v w (next w (slices_like user page is)) [] (done_by w (slices_like user page is))
-      (f.one v (looks sight mask number can)) (f.one w (slices_like user page is));
+-- and of rows, whose likes may go into the slice without a look of their own
+pub record FollowsRows (R : LiveView → List Deed → LiveView → Type 0) : Type 0 where
+  pub calls : FollowsCalls R
+  pub row : (v : LiveView) (user page : ℕ) (is : IsRequest v user page true) → IsInRow v
+      → R v (done_by v (slices_like user page is)) (next v (slices_like user page is))
+
+pub rows_follow : (R : LiveView → List Deed → LiveView → Type 0) → FollowsSteps R → FollowsRows R
+rows_follow R f = record {
+  calls = record {
+    none = f.none;
+    both = f.both;
+    one = λ v s plain. f.one v s;
+    slice = λ v sight mask number user page can is.
+        let w = looked v sight mask number in
+        f.both v w (next w (slices_like user page is)) [] (done_by w (slices_like user page is))
+        (f.one v (looks sight mask number can)) (f.one w (slices_like user page is));
+  };
+  row = λ v user page is in_row. f.one v (slices_like user page is);
 }

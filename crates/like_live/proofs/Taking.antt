@@ -13,7 +13,7 @@ use Rattle.like_live.specs.Moves as moves
 use Rattle.like_live.specs.Moves.{FindsAll, MovesBy, Works}
 use Rattle.like_live.specs.Calls as calls
 use Rattle.like_live.specs.Calls.{ComeBackCase, GlanceCase, GlancesNow, LikeCase, LikesNow, LookCase, LooksNow, RetireWorks, TakesFound}
-use Rattle.like_live.specs.History.{Does, HasDone, Told, come_back, glance, like, look, retire, take_found, turn}
+use Rattle.like_live.specs.History.{Does, HasDone, Told, come_back, glance, like, like_on, look, retire, take_found, turn}
 use Rattle.like_live.specs.Deeds.{FoundAreTaken, all_found, all_taken, found_by, found_taken}
 
 -- found looks come behind those that were found before
@@ -101,6 +101,7 @@ by_call (like user page answer) v after d = grown v after (by_case d)
     by_case (calls.between m a) = moves_by Works works v after _ m
     by_case (calls.runs now m l) =
         then_same v now after (moves_by Works works v now _ m) (likes now after user page answer l)
+by_call (like_on user page answer) v after d = grown v after (same v after (likes v after user page answer d.1))
 by_call (look user page tag answer) v after d = grown v after (by_case d)
   where
     by_case : LookCase v user page tag answer after → Grows v after

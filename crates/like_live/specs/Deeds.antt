@@ -15,7 +15,7 @@ use Rattle.like_live.specs.declared.answer.LikeAnswer.TheVariants.{Liked}
 use Rattle.like_live.specs.declared.answer.LookAnswer.TheVariants as looked
 use Rattle.like_live.specs.declared.asked.Found.{Found}
 use Rattle.like_live.specs.LiveView.{LiveView}
-use Rattle.like_live.specs.History.{Does, HasDone, IsUnused, Told, glance, like, look, take_found}
+use Rattle.like_live.specs.History.{Does, HasDone, HasLatest, IsLookOrLike, IsUnused, Told, glance, like, like_on, look, take_found}
 
 -- a like was counted; or a last like and a count were shown, by a look or a glance, or only glimpsed, by a glance at a
 -- page that is split then
@@ -56,7 +56,8 @@ abbrev pub found_by : LiveView → LiveView → List Found
 found_by v now = drop (length v.found) now.found
 
 -- a deed of a call for a user at a page, if this is the seat after it: it has the number of the seat's latest entry.
--- That is the addition or the read; of a like that went into the slice, it is the look at the phase word
+-- That is the addition or the read; of a like that went into the slice, it is the look at the phase word, or in a row a
+-- like that was added since
 abbrev pub deed_now : LiveView → (user page : ℕ) → Act → Deed
 deed_now now user page act = deed (number_of now.station.post) (phase_at now.station) user page act
 
@@ -64,6 +65,7 @@ deed_now now user page act = deed (number_of now.station.post) (phase_at now.sta
 -- glance that was shown something at once
 abbrev pub own_deed : LiveView → Told → List Deed
 own_deed now (like user page Liked) = deed_now now user page counted ∷ []
+own_deed now (like_on user page Liked) = deed_now now user page counted ∷ []
 own_deed now (look user page tag (looked.Seen shown)) = deed_now now user page (showed shown) ∷ []
 own_deed now (glance user page (glanced.Seen shown)) = deed_now now user page (showed shown) ∷ []
 own_deed now (glance user page (glanced.Glimpsed shown)) = deed_now now user page (glimpsed shown) ∷ []
@@ -91,14 +93,24 @@ IsEntryFor worker phase page (glimpsed s) entry =
 abbrev pub IsEntryOf : ℕ → Logged → Deed → Type 0
 IsEntryOf worker e d = (e.number ≡ d.number) × IsEntryFor worker d.phase d.page d.act e.entry
 
--- the law of entries: a call goes on from what its seat had made before, and each of its deeds has the number of an
--- entry that it made
+-- the call made this deed's entry
+abbrev pub MakesEntry : LiveView → LiveView → Deed → Type 0
+MakesEntry v now d = (e : Logged) × Contains (made_since v now) e × IsEntryOf v.station.post.worker e d
+
+-- a like of a row, which has the number of the latest entry that its seat had made
+pub record SharesEntry (v : LiveView) (t : Told) (d : Deed) : Type 0 where
+  pub call : t ≡ like_on d.user d.page Liked
+  pub act : d.act ≡ counted
+  pub latest : HasLatest (λ e. (e.number ≡ d.number) × IsLookOrLike v.station.post.worker d.phase e.entry)
+      v.station.post.logged
+
+-- the law of entries: a call goes on from what its seat had made before. Each of its deeds has the number of an entry
+-- that it made, or shares one as a like of a row
 abbrev pub DeedsHaveEntries : Type 0
 DeedsHaveEntries =
     (v now : LiveView) (t : Told) → Does v t now
     → GoesOn v.station.post now.station.post
-    × All (λ d. (e : Logged) × Contains (made_since v now) e × IsEntryOf v.station.post.worker e d)
-    (deeds_of_call v t now)
+    × All (λ d. MakesEntry v now d ⊎ SharesEntry v t d) (deeds_of_call v t now)
 
 -- a found look that was taken, if that was the call
 abbrev pub found_taken : Told → List Found

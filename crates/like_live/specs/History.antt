@@ -1,9 +1,16 @@
 -- What a live seat's calls were told, from its first call on.
-use Rattle.std.specs.Prelude.{◌≡◌, ℕ, ◌==◌, if◌then◌else◌, List, [], ◌∷◌, ◌++◌, map, Option, Some, flat_map, sum_by}
+use Rattle.std.specs.Prelude.{◌≡◌, ◌⊎◌, ℕ, ◌==◌, if◌then◌else◌, List, [], ◌∷◌, ◌++◌, map, Option, Some, flat_map, sum_by}
 use Rattle.std.specs.List.{last_or}
+use Rattle.like_core.specs.declared.log.LogEntry.{LogEntry}
+use Rattle.like_core.specs.declared.log.LogEntry.TheVariants.{Did, Saw}
+use Rattle.like_core.specs.declared.log.Logged.{Logged}
+use Rattle.like_core.specs.declared.page_step.PageCall.TheVariants.{Add}
 use Rattle.like_core.specs.declared.worker_state.WorkerState.TheVariants.{Gone}
+use Rattle.like_core.specs.PageSteps.{page_step}
 use Rattle.like_core.specs.Post.{IsFresh}
+use Rattle.like_core.specs.WorkerState.{IsRunning, RunsSplit}
 use Rattle.like_core.specs.declared.view.WorkerSeatView.{WorkerSeatView}
+use Rattle.like_seat.specs.StationView.{phase_at}
 use Rattle.like_tables.specs.Share.{Share}
 use Rattle.like_tables.specs.UserTable.{last_of, table_with_lasts}
 use Rattle.like_live.specs.declared.answer.GlanceAnswer.{GlanceAnswer}
@@ -16,12 +23,31 @@ use Rattle.like_live.specs.declared.asked.Asked.{Asked}
 use Rattle.like_live.specs.declared.asked.Found.{Found}
 use Rattle.like_live.specs.LiveView.{LiveView, IsNewLive, tally, waiting}
 use Rattle.like_live.specs.Moves.{Moves}
-use Rattle.like_live.specs.Calls.{ComeBackCase, GlanceCase, LikeCase, LookCase, RetireCase, TakesFound, told_of}
+use Rattle.like_live.specs.Calls.{ComeBackCase, GlanceCase, LikeCase, LikesNow, LookCase, RetireCase, TakesFound, told_of}
 
--- a call of a seat, with its answer
+-- a look at the phase word by this worker in this phase, or a like that it added in it
+abbrev pub IsLookOrLike : (worker phase : ℕ) → LogEntry → Type 0
+IsLookOrLike worker phase entry =
+    (entry ≡ Saw worker phase)
+    ⊎ ((page : ℕ) × (old : ℕ) × (entry ≡ Did (page_step worker phase page old (Add 1))))
+
+-- there is a latest of these entries, and this is true of it
+abbrev pub HasLatest : (Logged → Type 0) → List Logged → Type 0
+HasLatest P [] = ⊥
+HasLatest P (e ∷ logged) = P e
+
+-- a seat within a row of likes: it runs a phase, and if that is split, its latest entry is a look at the phase word or
+-- a like that it added
+pub record IsInRow (v : LiveView) : Type 0 where
+  pub runs : IsRunning v.station.post.state
+  pub latest : RunsSplit v.station.post.state
+      → HasLatest (λ e. IsLookOrLike v.station.post.worker (phase_at v.station) e.entry) v.station.post.logged
+
+-- a call of a seat, with its answer. `like_on` is a like of a row, which makes no look at the phase word
 pub data Told : Type 0 where
   turn : TurnAnswer → Told
   like : (user page : ℕ) → LikeAnswer → Told
+  like_on : (user page : ℕ) → LikeAnswer → Told
   look : (user page tag : ℕ) → LookAnswer → Told
   glance : (user page : ℕ) → GlanceAnswer → Told
   take_found : Option Found → Told
@@ -32,6 +58,7 @@ pub data Told : Type 0 where
 abbrev pub Does : LiveView → Told → LiveView → Type 0
 Does v (turn answer) after = Moves v answer after
 Does v (like user page answer) after = LikeCase v user page answer after
+Does v (like_on user page answer) after = IsInRow v × LikesNow v user page answer after
 Does v (look user page tag answer) after = LookCase v user page tag answer after
 Does v (glance user page answer) after = GlanceCase v user page answer after
 Does v (take_found taken) after = TakesFound v taken after
@@ -46,6 +73,7 @@ HasDone v (t ∷ told) after = (now : LiveView) × (Does v t now × HasDone now 
 -- the page of a like of this user that was told `Liked`, if this is one
 abbrev pub page_liked : ℕ → Told → List ℕ
 page_liked user (like other page Liked) = if other == user then page ∷ [] else []
+page_liked user (like_on other page Liked) = if other == user then page ∷ [] else []
 page_liked user told = []
 
 -- the pages that this user was told to have liked, in order
@@ -55,6 +83,7 @@ pages_liked user told = flat_map (page_liked user) told
 -- how many likes of a page this tells: one, if it is a like of the page that was told `Liked`
 abbrev pub like_told : ℕ → Told → ℕ
 like_told page (like user other answer) = told_of other page answer
+like_told page (like_on user other answer) = told_of other page answer
 like_told page told = 0
 
 -- how many likes of a page were told `Liked`

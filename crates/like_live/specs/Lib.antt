@@ -8,6 +8,7 @@ pub mod Driver
 pub mod History
 pub mod Kept
 pub mod Lasts
+pub mod LikeRow
 pub mod LiveView
 pub mod LookRoom
 pub mod Moments

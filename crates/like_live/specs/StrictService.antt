@@ -1,5 +1,5 @@
 -- The calls of all seats of a service, as those of one thread.
-use Rattle.std.specs.Prelude.{◌≡◌, ℕ, ◌+◌, ◌<◌, ◌≤◌, ◌==◌, nat_lt, All, List, [], filter, flat_map, length, map, take, slice_get, slice_index, slice_index_or, AllPairs, Some}
+use Rattle.std.specs.Prelude.{◌≡◌, ◌⊎◌, ℕ, ◌+◌, ◌<◌, ◌≤◌, ◌==◌, nat_lt, All, List, [], filter, flat_map, length, map, take, slice_get, slice_index, slice_index_or, AllPairs, Some}
 use Rattle.like_board.specs.Seats.{BoardId}
 use Rattle.like_core.specs.declared.view.PageCount.{PageCount}
 use Rattle.like_core.specs.views.Shows.{Moment}
@@ -14,7 +14,7 @@ use Rattle.like_live.specs.Opening.{board_opening}
 use Rattle.like_live.specs.Service.{AreGone, AreOpened, AreOpenedSeats, IsClosedService}
 use Rattle.like_live.specs.History.{HasDone, Told}
 use Rattle.like_live.specs.DeedStore.{Fits, store_after}
-use Rattle.like_live.specs.Deeds.{Deed, deeds_of}
+use Rattle.like_live.specs.Deeds.{Deed, counted, deeds_of}
 
 -- the calls of a seat, from one view of it to another
 pub record SeatHistory : Type 0 where
@@ -35,12 +35,17 @@ deeds_by seats seat deeds = filter (λ d. home seats d.user == seat) deeds
 abbrev pub opened : Opening → Store
 opened o = record { count = slice_index o.counts.items; last = last_in o.lasts.items }
 
+-- a deed is earlier than another: its number is less; or it is the same, and both are likes that were counted, as those
+-- of one row may have it
+abbrev pub IsEarlier : Deed → Deed → Type 0
+IsEarlier d e = (d.number < e.number) ⊎ ((d.number ≡ e.number) × (d.act ≡ counted) × (e.act ≡ counted))
+
 -- strict, where these are the deeds of each seat: the list has them in their order, and no others; it goes by their
 -- numbers; phases never fall; and each deed fits the store after the deeds before it. (What is glimpsed may lack likes
 -- that other seats have in their slices. Its count has the bounds of `IsWithinAdded`)
 pub record IsStrictService (o : Opening) (deeds : List (List Deed)) (serial : List Deed) : Type 0 where
   pub own : (seat : ℕ) → deeds_by o.seats seat serial ≡ slice_index_or deeds seat []
-  pub in_time : AllPairs (λ d e. d.number < e.number) serial
+  pub in_time : AllPairs IsEarlier serial
   pub rising : AllPairs (λ d e. d.phase ≤ e.phase) serial
   pub fits : (i : ℕ) (d : Deed) → slice_get serial i ≡ Some d
       → Fits (store_after (opened o) (take i serial)) d.user d.page d.act
@@ -57,9 +62,9 @@ DeedsFitEarlier =
 -- a snapshot is the store at the end of its phase: each count that the driver read in a phase is its page's after all
 -- deeds of the phase and of earlier ones
 abbrev pub SnapshotsStand : Opening → List PageCount → List Deed → Type 0
-SnapshotsStand o counted serial =
+SnapshotsStand o read serial =
     All (λ r. r.count ≡ (store_after (opened o) (filter (λ d. nat_lt d.phase (r.phase + 1)) serial)).count r.page)
-    counted
+    read
 
 -- the last counts are the store's after all deeds
 abbrev pub HasLastCounts : Opening → List ℕ → List Deed → Type 0

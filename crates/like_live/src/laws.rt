@@ -6,6 +6,7 @@ ghost use Rattle.like_live.specs.DeedStore.{DeedsShowLasts};
 ghost use Rattle.like_live.specs.Deeds.{DeedsHaveEntries, FoundAreTaken};
 ghost use Rattle.like_live.specs.Driver.{LastCountsStay};
 ghost use Rattle.like_live.specs.History.{HistoriesAreCounted, NoneWaitsOnceGone};
+ghost use Rattle.like_live.specs.LikeRow.{RowsAreLikes};
 ghost use Rattle.like_live.specs.StrictService.{DeedsFitEarlier, MomentsAreStrict, SeatsRise, ServicesAreStrict};
 ghost use Rattle.like_live.specs.Moments.{LastCountsAreTallies, MarkedKeepSlots, SeatsAreExclusive, SlicesAreSlots};
 
@@ -14,6 +15,12 @@ ghost use Rattle.like_live.specs.Moments.{LastCountsAreTallies, MarkedKeepSlots,
 /// `Waits` are the found looks that were taken, then those that are left, each once and in order.
 pub fn histories_are_counted()
     ensures { HistoriesAreCounted }
+{}
+
+/// A row of likes does what a turn does, and then each of its counted likes, in their order. These are calls of a history,
+/// so each law of histories and of services speaks of rows, too.
+pub fn rows_are_likes()
+    ensures { RowsAreLikes }
 {}
 
 /// Nothing waits at a seat that is gone. So once its found looks are taken too, each look that was told `Waits` was
@@ -78,7 +85,8 @@ pub fn found_are_taken()
 {}
 
 /// Each deed of a call has the number of an entry that the call made in the board's log: of an addition, a read or a
-/// glance; of a like that goes into the slice, of the call's look at the phase word.
+/// glance; of a like that goes into the slice, of the call's look at the phase word. Only a like of a row may share its
+/// number: one that goes into the slice has that of the row's look, or of the last like that the row added.
 pub fn deeds_have_entries()
     ensures { DeedsHaveEntries }
 {}

@@ -11,6 +11,7 @@ ghost use Rattle.like_live.specs.Calls.{ComeBackCase, GlanceCase, LikeCase, Look
 
 mod batch;
 mod lasts;
+mod like_row;
 mod moves;
 mod requests;
 

@@ -9,8 +9,8 @@ use Rattle.like_core.specs.declared.page_step.PageStep.{PageStep}
 use Rattle.like_core.specs.Log.{PhasesRise, entry_phase, entry_worker, logged_by, numbered, steps_in}
 use Rattle.like_core.specs.PageSteps.{AreInTurn}
 use Rattle.like_core.proofs.views.Clock.{IsAt, at_phase, phases}
-use Rattle.like_serial.proofs.Increasing.{HasOne, Increases, blocks_rec, filter_rec, front_none, increases_rises, one_with, rec_at, rises_with, sorted_increases}
-use Rattle.like_serial.proofs.Interleaved.{all_of, all_of-own, all_of-past, key_all, with_key}
+use Rattle.like_serial.proofs.Increasing.{Earlier, Pairwise, alone_above, blocks_rec, earlier_rises, filter_rec, front_none, pairwise_at, pairwise_filter, pairwise_sorted, rec_at, rises_with}
+use Rattle.like_serial.proofs.Interleaved.{all_front, all_of, all_of-own, all_of-past, key_all, with_key}
 use Rattle.like_serial.proofs.LogSteps.{adds_below, adds_in, all_at, all_numbered, by_worker, found_at, logged_adds, phase_logged, same_at}
 use Rattle.like_serial.proofs.Parts.{at_place}
 use Rattle.like_serial.proofs.Phases.{Rises, above, all_above, all_then, below, filter-swap, in_block, key_is, sorted, sorted-key, sorted-rises, sorted-same}
@@ -28,8 +28,8 @@ by_phase true false false n on split apart = elim (split refl) [ inl e ↦ absur
 by_phase false true here n on split apart = (let e = on refl in absurd (cc e))
 by_phase false false here n on split apart = refl
 
-module _ {X : Type 0} (key number phase : X → ℕ) (likes : ℕ → X → ℕ) (Shows : X → ℕ → ℕ → Type 0)
-    (split : ℕ → ℕ → Bool) (first : ℕ → ℕ) (last : ℕ) (log : List LogEntry) (n : ℕ) (runs : ℕ → List X) where
+module _ {X : Type 0} (key number phase : X → ℕ) (likes : ℕ → X → ℕ) (Shares : X → Type 0)
+    (Shows : X → ℕ → ℕ → Type 0) (split : ℕ → ℕ → Bool) (first : ℕ → ℕ) (last : ℕ) (log : List LogEntry) (n : ℕ) (runs : ℕ → List X) where
   -- how many likes of a page an element counts in a phase
   abbrev pub likes_then : ℕ → ℕ → X → ℕ
   likes_then k page x = only (phase x == k) (likes page x)
@@ -55,7 +55,8 @@ module _ {X : Type 0} (key number phase : X → ℕ) (likes : ℕ → X → ℕ)
     pub rising : PhasesRise last log
     pub own : (w : ℕ) → AllByRecursion (λ x. key x ≡ w) (runs w)
     pub past : (w : ℕ) → n ≤ w → runs w ≡ []
-    pub numbers : (w : ℕ) → Increases number (runs w)
+    pub numbers : (w : ℕ) → Pairwise (Earlier number Shares) (runs w)
+    pub alone : (x : X) (page count : ℕ) → Shows x page count → Shares x → ⊥
     pub logged : (w : ℕ) → AllByRecursion IsLogged (runs w)
     pub reads : (w : ℕ) → AllByRecursion (λ x. (page count : ℕ) → Shows x page count → IsReadAt x page count) (runs w)
     -- those with a number below one count in a phase what the entries below it add, at a page that isn't split then
@@ -68,7 +69,7 @@ module _ {X : Type 0} (key number phase : X → ℕ) (likes : ℕ → X → ℕ)
   -- a merge of the lists by the numbers, along which phases never fall, in which each count shown has the likes before it
   pub record IsMerged (serial : List X) : Type 0 where
     pub own : (w : ℕ) → with_key key w serial ≡ runs w
-    pub numbers : Increases number serial
+    pub numbers : Pairwise (Earlier number Shares) serial
     pub rising : Rises phase serial
     pub counts : (i : ℕ) (x : X) (page count : ℕ) → slice_get serial i ≡ Some x → Shows x page count
         → count ≡ first page + weigh (likes page) (take i serial)
@@ -96,7 +97,7 @@ module _ {X : Type 0} (key number phase : X → ℕ) (likes : ℕ → X → ℕ)
     own w =
         sorted-key key number w all bound
         ∙ sorted-same number (with_key key w all) bound
-        (subst (Rises number) (sym (all_own w)) (increases_rises number (runs w) (fits.numbers w)))
+        (subst (Rises number) (sym (all_own w)) (earlier_rises number Shares (runs w) (fits.numbers w)))
         (filter_rec (λ x. number x < bound) (λ x. key x == w) all
         (all_then (λ x. number x < bound + 0) (λ x. number x < bound) all (λ x less. omega (arith, less))
         (all_above number 0 all)))
@@ -114,7 +115,7 @@ module _ {X : Type 0} (key number phase : X → ℕ) (likes : ℕ → X → ℕ)
       | inr not ↦ not
     ]
 
-    -- no number comes twice: who has it made the entry there
+    -- all with one number are of one worker: who has it made the entry there
     keys_same : (x : X) → IsLogged x → (ys : List X) → AllByRecursion IsLogged ys
         → AllByRecursion (λ y. number y ≡ number x) ys → AllByRecursion (λ y. key y ≡ key x) ys
     keys_same x a [] each is = tt
@@ -126,7 +127,7 @@ module _ {X : Type 0} (key number phase : X → ℕ) (likes : ℕ → X → ℕ)
       keys_same x a ys each.1 is.1,
     )
 
-    one_in : (k : ℕ) (xs : List X) → with_key number k all ≡ xs → HasOne xs
+    one_in : (k : ℕ) (xs : List X) → with_key number k all ≡ xs → Pairwise (Earlier number Shares) xs
     one_in k [] is = tt
     one_in k (x ∷ xs) is =
         let each : AllByRecursion IsLogged (x ∷ xs) =
@@ -144,9 +145,10 @@ module _ {X : Type 0} (key number phase : X → ℕ) (likes : ℕ → X → ℕ)
         ∙ filter-swap (λ y. number y == k) (λ y. key y == key x) all
         ∙ ap (with_key key (key x)) is
         ∙ key_all key (key x) (x ∷ xs) keys in
-        subst HasOne whose (one_with number k (runs (key x)) (fits.numbers (key x)))
+        subst (Pairwise (Earlier number Shares)) whose
+        (pairwise_filter (Earlier number Shares) (λ y. number y == k) (runs (key x)) (fits.numbers (key x)))
 
-    one : (k : ℕ) → HasOne (with_key number k all)
+    one : (k : ℕ) → Pairwise (Earlier number Shares) (with_key number k all)
     one k = one_in k (with_key number k all) refl
 
     -- elements below a number count what the entries below it add, in all earlier phases and at a plain page in this one
@@ -256,7 +258,12 @@ module _ {X : Type 0} (key number phase : X → ℕ) (likes : ℕ → X → ℕ)
         let b = in_block (λ k. with_key number k all) bound (take i serial) x (drop (suc i) serial) here in
         let is : number x ≡ b.block =
         rec_at (λ y. number y ≡ b.block) b.front x b.rest (with_key number b.block all) (key_is number b.block all) b.is in
-        let none : b.front ≡ [] = front_none b.front x b.rest (with_key number b.block all) (one b.block) b.is in
+        let early = pairwise_at (Earlier number Shares) b.front x b.rest
+        (subst (Pairwise (Earlier number Shares)) b.is (one b.block)) in
+        let none : b.front ≡ [] = front_none number x b.block is b.front
+        (alone_above number Shares x (fits.alone x page count shows) b.front early.0)
+        (all_front (λ y. number y ≡ b.block) b.front (x ∷ b.rest)
+        (subst (AllByRecursion (λ y. number y ≡ b.block)) b.is (key_is number b.block all))) in
         let before : take i serial ≡ sorted number all (number x) =
         b.fronts ∙ ap (λ xs. sorted number all b.block ++ xs) none ∙ append-nil (sorted number all b.block)
         ∙ ap (sorted number all) (sym is) in
@@ -272,7 +279,7 @@ module _ {X : Type 0} (key number phase : X → ℕ) (likes : ℕ → X → ℕ)
       serial,
       record {
         own = own;
-        numbers = sorted_increases number all one bound;
+        numbers = pairwise_sorted (Earlier number Shares) number all (λ x y less. inl less) one bound;
         rising = rises_with number phase IsLogged serial in_time (serial_rec IsLogged each_logged)
             (sorted-rises number all bound);
         counts = counts;

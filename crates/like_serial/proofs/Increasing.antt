@@ -1,106 +1,11 @@
--- Lists along which a number rises strictly, so that no number comes twice.
-use Rattle.std.proofs.Common.{◌≡◌, ℕ, zero, suc, ◌<◌, ◌≤◌, Bool, true, false, cond, eqb, List, [], ◌∷◌, ◌++◌, filter, ap, sym, ◌∙◌, refl, subst, arith, eqb-true}
+-- Lists in the order of a number, along which it rises strictly, or some elements may share it.
+use Rattle.std.proofs.Common.{◌≡◌, ℕ, zero, suc, ◌<◌, ◌≤◌, ◌⊎◌, inl, inr, Bool, true, false, cond, List, [], ◌∷◌, ◌++◌, filter, refl, subst, arith}
 use Rattle.std.specs.List.{AllByRecursion, AllPairs}
-use Rattle.std.proofs.lemmas.Bool.{false_from_ne_true}
 use Rattle.std.proofs.lemmas.List.Kept.{AllPairs-cons}
 use Rattle.like_serial.proofs.Interleaved.{all_of, all_rest, with_key}
 use Rattle.like_serial.proofs.Phases.{Rises, all_append, all_rec, all_then, key_is, rec_all, sorted, sorted-below}
 
-abbrev pub Increases : {X : Type 0} → (X → ℕ) → List X → Type 0
-Increases number [] = Unit {0}
-Increases number (x ∷ xs) = AllByRecursion (λ y. number x < number y) xs × Increases number xs
-
-pub increases_pairs : {X : Type 0} (number : X → ℕ) (xs : List X) → Increases number xs
-    → AllPairs (λ x y. number x < number y) xs
-increases_pairs number [] up = λ i j d lt there. absurd (omega (arith, there))
-increases_pairs number (x ∷ xs) up =
-    AllPairs-cons (λ x y. number x < number y) x xs (rec_all (λ y. number x < number y) xs up.0)
-    (increases_pairs number xs up.1)
-
-pub increases_rises : {X : Type 0} (number : X → ℕ) (xs : List X) → Increases number xs → Rises number xs
-increases_rises number [] up = tt
-increases_rises number (x ∷ xs) up = (
-  all_then (λ y. number x < number y) (λ y. number x ≤ number y) xs (λ y less. omega (arith, less)) up.0,
-  increases_rises number xs up.1,
-)
-
-pub increases_of : {X : Type 0} (number : X → ℕ) (xs : List X) → AllPairs (λ x y. number x < number y) xs
-    → Increases number xs
-increases_of number [] pairs = tt
-increases_of number (x ∷ xs) pairs = (
-  all_rec (λ y. number x < number y) xs (λ j d there. pairs zero (suc j) d (omega arith) (omega arith)),
-  increases_of number xs (λ i j d lt there. pairs (suc i) (suc j) d (omega arith) (omega arith)),
-)
-
--- those before an element have lesser numbers, and those behind it greater ones
-pub increases_at : {X : Type 0} (number : X → ℕ) (front : List X) (x : X) (rest : List X)
-    → Increases number (front ++ x ∷ rest)
-    → AllByRecursion (λ y. number y < number x) front × AllByRecursion (λ y. number x < number y) rest
-increases_at number [] x rest up = (tt, up.0)
-increases_at number (y ∷ front) x rest up =
-    let more = increases_at number front x rest up.1 in
-    (((all_rest (λ z. number y < number z) front (x ∷ rest) up.0).0, more.0), more.1)
-
--- one list behind another, if no number of the first is above the second's
-pub increases_append : {X : Type 0} (number : X → ℕ) (k : ℕ) (xs ys : List X) → Increases number xs
-    → Increases number ys → AllByRecursion (λ x. number x < k) xs → AllByRecursion (λ y. k ≤ number y) ys
-    → Increases number (xs ++ ys)
-increases_append number k [] ys first second most least = second
-increases_append number k (x ∷ xs) ys first second most least = (
-  all_append (λ y. number x < number y) xs ys first.0
-      (all_then (λ y. k ≤ number y) (λ y. number x < number y) ys (λ y is. let here = most.0 in omega (arith, is, here))
-      least),
-  increases_append number k xs ys first.1 second most.1 least,
-)
-
--- at most one element
-abbrev pub HasOne : {X : Type 0} → List X → Type 0
-HasOne [] = Unit {0}
-HasOne (x ∷ xs) = xs ≡ []
-
-none_with : {X : Type 0} (number : X → ℕ) (k : ℕ) (xs : List X) → AllByRecursion (λ y. k < number y) xs
-    → with_key number k xs ≡ []
-none_with number k [] all = refl
-none_with number k (x ∷ xs) all =
-    ap (λ b. cond b (x ∷ with_key number k xs) (with_key number k xs))
-    (false_from_ne_true (eqb (number x) k) (λ e. let is = eqb-true (number x) k e in absurd (omega (arith, is, all.0))))
-    ∙ none_with number k xs all.1
-
-pub one_with : {X : Type 0} (number : X → ℕ) (k : ℕ) (xs : List X) → Increases number xs → HasOne (with_key number k xs)
-one_with number k [] up = tt
-one_with {X} number k (x ∷ xs) up = by (eqb (number x) k) refl (one_with number k xs up.1) where
-  by : (b : Bool) → eqb (number x) k ≡ b → HasOne (with_key number k xs)
-      → HasOne (cond b (x ∷ with_key number k xs) (with_key number k xs))
-  by true is rest =
-      let here = eqb-true (number x) k is in
-      none_with number k xs
-      (all_then (λ y. number x < number y) (λ y. k < number y) xs (λ y less. omega (arith, less, here)) up.0)
-  by false is rest = rest
-
--- nothing comes before the only element
-pub front_none : {X : Type 0} (front : List X) (x : X) (rest xs : List X) → HasOne xs → xs ≡ front ++ x ∷ rest
-    → front ≡ []
-front_none [] x rest xs one is = refl
-front_none {X} (y ∷ front) x rest xs one is = absurd (by front (subst HasOne is one)) where
-  by : (zs : List X) → zs ++ x ∷ rest ≡ [] → ⊥
-  by [] e = cc
-  by (z ∷ zs) e = cc
-
-increases_one : {X : Type 0} (number : X → ℕ) (xs : List X) → HasOne xs → Increases number xs
-increases_one number [] is = tt
-increases_one number (x ∷ xs) is = subst (λ ys. Increases number (x ∷ ys)) (sym is) (tt, tt)
-
--- a list sorted by numbers, none of which comes twice
-pub sorted_increases : {X : Type 0} (number : X → ℕ) (xs : List X) → ((k : ℕ) → HasOne (with_key number k xs)) → (n : ℕ)
-    → Increases number (sorted number xs n)
-sorted_increases number xs one zero = tt
-sorted_increases number xs one (suc n) =
-    increases_append number n (sorted number xs n) (with_key number n xs) (sorted_increases number xs one n)
-    (increases_one number (with_key number n xs) (one n)) (sorted-below number xs n)
-    (all_then (λ x. number x ≡ n) (λ x. n ≤ number x) (with_key number n xs) (λ x is. omega (arith, is))
-    (key_is number n xs))
-
--- what is true of all is true of those that pass a test, and of all in lists one after the other
+-- what is true of all is true of those that pass a test
 pub filter_rec : {X : Type 0} (P : X → Type 0) (t : X → Bool) (xs : List X) → AllByRecursion P xs
     → AllByRecursion P (filter t xs)
 filter_rec P t [] all = tt
@@ -109,6 +14,94 @@ filter_rec {X} P t (x ∷ xs) all = by (t x) (filter_rec P t xs all.1) where
   by true rest = (all.0, rest)
   by false rest = rest
 
+-- each element stands so to all behind it
+abbrev pub Pairwise : {X : Type 0} → (X → X → Type 0) → List X → Type 0
+Pairwise R [] = Unit {0}
+Pairwise R (x ∷ xs) = AllByRecursion (R x) xs × Pairwise R xs
+
+-- a number rises strictly
+abbrev pub Increases : {X : Type 0} → (X → ℕ) → List X → Type 0
+Increases number xs = Pairwise (λ x y. number x < number y) xs
+
+-- an element is earlier than another: its number is less; or they have the same, and both may share theirs
+abbrev pub Earlier : {X : Type 0} → (X → ℕ) → (X → Type 0) → X → X → Type 0
+Earlier number Shares x y = (number x < number y) ⊎ ((number x ≡ number y) × Shares x × Shares y)
+
+pub pairwise_pairs : {X : Type 0} (R : X → X → Type 0) (xs : List X) → Pairwise R xs → AllPairs R xs
+pairwise_pairs R [] up = λ i j d lt there. absurd (omega (arith, there))
+pairwise_pairs R (x ∷ xs) up = AllPairs-cons R x xs (rec_all (R x) xs up.0) (pairwise_pairs R xs up.1)
+
+pub pairwise_of : {X : Type 0} (R : X → X → Type 0) (xs : List X) → AllPairs R xs → Pairwise R xs
+pairwise_of R [] pairs = tt
+pairwise_of R (x ∷ xs) pairs = (
+  all_rec (R x) xs (λ j d there. pairs zero (suc j) d (omega arith) (omega arith)),
+  pairwise_of R xs (λ i j d lt there. pairs (suc i) (suc j) d (omega arith) (omega arith)),
+)
+
+-- how those before an element, and those behind it, stand to it
+pub pairwise_at : {X : Type 0} (R : X → X → Type 0) (front : List X) (x : X) (rest : List X)
+    → Pairwise R (front ++ x ∷ rest) → AllByRecursion (λ y. R y x) front × AllByRecursion (R x) rest
+pairwise_at R [] x rest up = (tt, up.0)
+pairwise_at R (y ∷ front) x rest up =
+    let more = pairwise_at R front x rest up.1 in
+    (((all_rest (R y) front (x ∷ rest) up.0).0, more.0), more.1)
+
+pub pairwise_filter : {X : Type 0} (R : X → X → Type 0) (t : X → Bool) (xs : List X) → Pairwise R xs
+    → Pairwise R (filter t xs)
+pairwise_filter R t [] up = tt
+pairwise_filter {X} R t (x ∷ xs) up = by (t x) (pairwise_filter R t xs up.1) where
+  by : (b : Bool) → Pairwise R (filter t xs) → Pairwise R (cond b (x ∷ filter t xs) (filter t xs))
+  by true rest = (filter_rec (R x) t xs up.0, rest)
+  by false rest = rest
+
+-- one list behind another, if no number of the first is above the second's
+pub pairwise_append : {X : Type 0} (R : X → X → Type 0) (number : X → ℕ) (k : ℕ) (xs ys : List X)
+    → ((x y : X) → number x < number y → R x y) → Pairwise R xs → Pairwise R ys
+    → AllByRecursion (λ x. number x < k) xs → AllByRecursion (λ y. k ≤ number y) ys → Pairwise R (xs ++ ys)
+pairwise_append R number k [] ys less first second most least = second
+pairwise_append R number k (x ∷ xs) ys less first second most least = (
+  all_append (R x) xs ys first.0
+      (all_then (λ y. k ≤ number y) (R x) ys
+      (λ y is. less x y (let here = most.0 in omega (arith, is, here))) least),
+  pairwise_append R number k xs ys less first.1 second most.1 least,
+)
+
+-- a list sorted by numbers, if those with the same number stand so
+pub pairwise_sorted : {X : Type 0} (R : X → X → Type 0) (number : X → ℕ) (xs : List X)
+    → ((x y : X) → number x < number y → R x y) → ((k : ℕ) → Pairwise R (with_key number k xs)) → (n : ℕ)
+    → Pairwise R (sorted number xs n)
+pairwise_sorted R number xs less same zero = tt
+pairwise_sorted R number xs less same (suc n) =
+    pairwise_append R number n (sorted number xs n) (with_key number n xs) less
+    (pairwise_sorted R number xs less same n) (same n) (sorted-below number xs n)
+    (all_then (λ x. number x ≡ n) (λ x. n ≤ number x) (with_key number n xs) (λ x is. omega (arith, is))
+    (key_is number n xs))
+
+-- numbers don't fall where elements are earlier than those behind them
+pub earlier_rises : {X : Type 0} (number : X → ℕ) (Shares : X → Type 0) (xs : List X)
+    → Pairwise (Earlier number Shares) xs → Rises number xs
+earlier_rises number Shares [] up = tt
+earlier_rises number Shares (x ∷ xs) up = (
+  all_then (Earlier number Shares x) (λ y. number x ≤ number y) xs
+      (λ y e. elim e [ inl less ↦ omega (arith, less) | inr same ↦ (let is = same.0 in omega (arith, is)) ]) up.0,
+  earlier_rises number Shares xs up.1,
+)
+
+-- one that shares no number has a greater number than all that are earlier
+pub alone_above : {X : Type 0} (number : X → ℕ) (Shares : X → Type 0) (x : X) → (Shares x → ⊥) → (front : List X)
+    → AllByRecursion (λ y. Earlier number Shares y x) front → AllByRecursion (λ y. number y < number x) front
+alone_above number Shares x alone front early =
+    all_then (λ y. Earlier number Shares y x) (λ y. number y < number x) front
+    (λ y e. elim e [ inl less ↦ less | inr same ↦ absurd (alone same.2) ]) early
+
+-- so none before it has its number
+pub front_none : {X : Type 0} (number : X → ℕ) (x : X) (k : ℕ) → number x ≡ k → (front : List X)
+    → AllByRecursion (λ y. number y < number x) front → AllByRecursion (λ y. number y ≡ k) front → front ≡ []
+front_none number x k is [] less same = refl
+front_none number x k is (y ∷ front) less same =
+    let a = less.0 in let b = same.0 in absurd (omega (arith, is, a, b))
+
+-- and of all in lists one after the other
 pub blocks_rec : {X : Type 0} (P : X → Type 0) (runs : ℕ → List X) (n : ℕ) → ((w : ℕ) → AllByRecursion P (runs w))
     → AllByRecursion P (all_of runs n)
 blocks_rec P runs zero each = tt

@@ -41,6 +41,7 @@ fn is_seat_answer(seat: &mut LiveSeat<SharedPost>, call: OnSeat) -> bool {
         OnSeat::FirstTwo(wanted) => first_two(seat) == wanted,
         OnSeat::Last(user, wanted) => seat.last(user) == wanted,
         OnSeat::Run(calls, made, wanted) => is_run(seat, calls, made, wanted),
+        OnSeat::LikeRow(likes, wanted) => seat.like_row(likes) == wanted,
         OnSeat::Phase(wanted) => seat.phase() == wanted,
     }
 }

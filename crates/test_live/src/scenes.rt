@@ -1,6 +1,7 @@
 //! The worked examples of a live service as data.
 use like_live::{
-    Answer, Asked, Call, DriverAnswer, End, Found, GlanceAnswer, LikeAnswer, LookAnswer, TurnAnswer,
+    Answer, Asked, Call, DriverAnswer, End, Found, GlanceAnswer, LikeAnswer, LikePair, LookAnswer,
+    RowAnswer, TurnAnswer,
 };
 use like_requests::Verdict;
 use like_seat::Seen;
@@ -24,6 +25,8 @@ pub enum OnSeat {
     Last(u32, Result<Option<u32>, Verdict>),
     /// A batch, how many of its calls were made, and the answers behind it.
     Run(&'static [Call; 5], usize, &'static [Answer; 5]),
+    /// A row of likes, and what it is told.
+    LikeRow(&'static [LikePair], RowAnswer),
     Phase(u64),
 }
 
@@ -86,6 +89,22 @@ macro_rules! seen {
             last: Some(0),
             count: $count,
         }
+    };
+}
+
+// A row of likes by a seat, how many of them are counted, and what the next is told.
+macro_rules! row {
+    ($seat:literal, $likes:expr, $counted:literal, $answer:expr) => {
+        Step::Seat(
+            $seat,
+            OnSeat::LikeRow(
+                $likes,
+                RowAnswer {
+                    counted: $counted,
+                    answer: $answer,
+                },
+            ),
+        )
     };
 }
 
@@ -257,7 +276,19 @@ const BATCH_ANSWERS: &[Answer; 5] = &[
     Answer::Look(LookAnswer::NoRoom),
 ];
 
-static SCENES: [Scene; 10] = [
+// Likes of the users of seat 0 at both pages, one of a user of seat 1, and one more.
+const ROW: &[LikePair] = &[
+    LikePair { user: 0, page: 0 },
+    LikePair { user: 2, page: 1 },
+    LikePair { user: 2, page: 0 },
+    LikePair { user: 1, page: 0 },
+    LikePair { user: 0, page: 1 },
+];
+
+// The first three of them.
+const WHOLE_ROW: &[LikePair] = &[ROW[0], ROW[1], ROW[2]];
+
+static SCENES: [Scene; 11] = [
     Scene {
         seats: 1,
         room: 1,
@@ -349,6 +380,44 @@ static SCENES: [Scene; 10] = [
             parts: &[
                 CHANGE,
                 &[Step::Seat(0, OnSeat::Run(BATCH, 4, BATCH_ANSWERS))],
+            ],
+        },
+    },
+    // In each phase a row of seat 0 counts what single likes of seat 1 count. It stops at the first that is refused.
+    Scene {
+        seats: 2,
+        room: 1,
+        calls: Calls {
+            name: "live_row",
+            parts: &[
+                &[
+                    row!(0, WHOLE_ROW, 3, LikeAnswer::Liked),
+                    row!(0, &[], 0, LikeAnswer::Liked),
+                    like!(1, 1, 0),
+                    like!(1, 3, 1),
+                    like!(1, 3, 0),
+                    look!(0, 2, 0, 14),
+                    look!(1, 3, 1, 22),
+                ],
+                CHANGE,
+                &[
+                    row!(0, ROW, 3, LikeAnswer::Refused(Verdict::OtherHome)),
+                    like!(1, 1, 0),
+                    like!(1, 3, 1),
+                    like!(1, 3, 0),
+                    glance!(0, 0, 16),
+                    glance!(1, 1, 16),
+                    look!(0, 2, 1, 24),
+                    drive!(IfItServes, Announced),
+                    row!(0, WHOLE_ROW, 0, LikeAnswer::Between),
+                    turn!(1, Between),
+                    drive!(IfItServes, Released),
+                ],
+                &[
+                    look!(0, 0, 0, 18),
+                    retire!(0),
+                    row!(0, WHOLE_ROW, 0, LikeAnswer::Gone),
+                ],
             ],
         },
     },
