@@ -54,6 +54,29 @@ pub(crate) fn try_add(lock: &Sum, mut pass: Pass<u64, u64>, more: u64) -> (Pass<
     }
 }
 
+// Adds a number, and then another while it keeps the lock, if nobody else has it. What was added.
+fn try_add_both(lock: &Sum, pass: &mut Pass<u64, u64>, one: u64, two: u64) -> u64
+    requires idle { IsIdle lock.now pass.old }
+    requires room { one + two < 2 ^ 64 }
+    ensures idle { IsIdle lock.now pass.new }
+    ensures told { sum (log_of pass.new) ≡ sum (log_of pass.old) + result }
+{
+    if !lock.try_take(pass) {
+        return 0;
+    }
+    if !add(lock, pass, one) {
+        lock.give_back_after::<Brand>(pass);
+        return 0;
+    }
+    lock.note(pass, &one);
+    if !add(lock, pass, two) {
+        lock.give_back_after::<Brand>(pass);
+        return one;
+    }
+    lock.give_back(pass, &two);
+    one + two
+}
+
 // Two threads try to add a number each. The value, and what they added.
 fn added_by_two<R: Threads + Sync>(
     rt: &R,
@@ -108,6 +131,17 @@ fn added_by_lost(alloc: Global, first: u64, more: u64) -> Result<Option<u64>, Al
 fn two_threads_add(rt: HostRuntime) -> Result<(), Fail> {
     let (value, added) = added_by_two(&rt, rt.alloc(), 5, 3, 4)?;
     assert!(rt; value == 5 + added && added >= 3 && added <= 7);
+    Ok(())
+}
+
+#[test]
+fn holder_adds_twice(rt: HostRuntime) -> Result<(), Fail> {
+    let (lock, mut keeper) = Sum::new(rt.alloc(), 5)?;
+    let mut pass = lock.new_pass(&mut keeper);
+    let added = try_add_both(&lock, &mut pass, 3, 4);
+    assert_eq!(rt; added, 7);
+    lock.take_back(&mut keeper, pass);
+    assert_eq!(rt; lock.close(keeper), 12);
     Ok(())
 }
 

@@ -11,7 +11,7 @@ use Rattle.atomic_table.proofs.Lists.{exchanged, set_again, set_else, set_here}
 use Rattle.told_lock.specs.declared.known.Known.{Known}
 use Rattle.told_lock.specs.declared.known.Known.TheVariants.{Back, Keeper, Pass}
 use Rattle.told_lock.specs.Deeds.{HasRun, Named, deeds_by, deeds_in, named}
-use Rattle.told_lock.specs.Known.{Takes, given_back}
+use Rattle.told_lock.specs.Known.{Takes, given_back, noted}
 use Rattle.told_lock.specs.Rule.{IsLocked, Knows, lock_word, taken_by, view_at, word_for}
 use Rattle.told_lock.proofs.Logs.{other-more, own-more, run-more}
 use Rattle.told_lock.proofs.Views.{holder-is, read-at, set-outs, set-view, taken-none, taken-some, within}
@@ -191,5 +191,34 @@ module _ {T C : Type 0} (does : T → C → T → Type 0) (first : T) where
             (λ m other. other-more m k.order id done (λ e. other (sym e)))
             (λ m some_one other. (λ e. other (sym e ∙ h.0), λ e. some_one (sym e)))
             (sym (taken-none 0 id y (λ e. p.0 (sym e)))) refl (λ z. set_here s.homes 0 (some y) there)),
+        refl,
+      )
+
+  -- a pass may tell these deeds, and keep the lock
+  abbrev pub MayNote : List C → ℕ → ℕ → Me T (Known T C) → Type 0
+  MayNote done slots id me =
+      Allows (IsLocked does first) slots id me lock_word (λ _. 1) (λ _ after. after ≡ (noted me.0 me.1 done, me.1))
+
+  -- it may, if these lead from the value that it took to the one that it has now
+  pub notes : {slots : ℕ} (id : ℕ) {n : ℕ} {f x y : T} {log : List C} (done : List C) → HasRun does x done y
+      → MayNote done slots id (Pass f n log (Some x), (0, y) ∷ [])
+  notes {slots} id {n} {f} {x} {y} {log} done run s k long at bound =
+      let p = pass-at s k id n f log (Some x) at in
+      let h = holder-is k.holder id x k.now p.4 in
+      let is : get_elem? s.views id ≡ some (Pass first id log (Some x)) =
+      at ∙ (λ i. some (Pass (p.1 i) (p.2 i) log (Some x))) in
+      let order : Named C = k.order ++ named id done in
+      let own = own-more id k.order log done p.3 in
+      let view : ◌≡◌ {A = Known T C} (Pass first id (deeds_by id order) (Some y)) (Pass f n (log ++ done) (Some y)) =
+      (λ i. Pass (sym p.1 i) (sym p.2 i) (own i) (Some y)) in (
+        Pass f n (log ++ done) (Some y),
+        keeps,
+        tt,
+        subst (λ v. IsLocked does first (stepped s lock_word 1 id ((0, y) ∷ []) v keeps)) view
+            (steps s k id log (Some x) is 1 s.homes order y id (Some y)
+            (run-more does first k.now y k.order id done k.run (subst (λ v. HasRun does v done y) h.1 run))
+            (λ m other. other-more m k.order id done (λ e. other (sym e)))
+            (λ m some_one other. (λ e. other (sym e ∙ h.0), λ e. other (sym e)))
+            (sym (taken-some id id y refl)) (sym (held id p.0)) (λ e. absurd (p.0 e))),
         refl,
       )

@@ -34,6 +34,11 @@ abbrev pub given_back : {T C : Type 0} → Known T C → List C → Known T C
 given_back (Pass first name log taken) done = Pass first name (log ++ done) None
 given_back v done = v
 
+-- it keeps the lock, after these deeds: from now on it has the value as it is now
+abbrev pub noted : {T C : Type 0} → Known T C → List (ℕ × T) → List C → Known T C
+noted (Pass first name log taken) ((slot, now) ∷ carried) done = Pass first name (log ++ done) (Some now)
+noted v carried done = v
+
 -- the keeper makes a pass
 abbrev pub made_one : {T C : Type 0} → Known T C → Known T C
 made_one (Keeper first made out told) = Keeper first (made + 1) (out + 1) told

@@ -5,7 +5,7 @@ use crate::deeds::{Deeds, Done};
 use crate::keeper::Keeper;
 use crate::known::Known;
 use crate::pass::Pass;
-use crate::rule::{GivingBack, LockRule, Making, TakingBack, Trying};
+use crate::rule::{GivingBack, LockRule, Making, Noting, TakingBack, Trying};
 use atomic_table::Table;
 use std::alloc::{AllocError, Global};
 use std::marker::Brand;
@@ -113,6 +113,42 @@ impl<T, C, D: Deeds<T, C>> Lock<T, C, D> {
         ensures log { log_of pass.new ≡ log_of pass.old ++ _deed.now ∷ [] }
     {
         self.give_back_after::<J>(pass);
+    }
+
+    /// Tells the deeds of `J`, and keeps the lock.
+    #[inline(always)]
+    pub fn note_after<J: Done<C>>(&self, pass: &mut Pass<T, C>)
+        requires { (x : T) × (y : T) × IsHolding self.now pass.old x y × HasRun D.does x J.done y }
+        ensures holding { (x : T) × (y : T) × IsHolding self.now pass.old x y × IsHolding self.now pass.new y y }
+        ensures name { name_of pass.new ≡ name_of pass.old }
+        ensures log { log_of pass.new ≡ log_of pass.old ++ J.done }
+    {
+        self.table
+            .shared
+            .store::<Noting<J>>(&mut pass.seat, LOCK_WORD, 1);
+    }
+
+    /// Tells one deed, and keeps the lock.
+    #[inline(always)]
+    pub fn note(&self, pass: &mut Pass<T, C>, deed: &C)
+        requires { (x : T) × (y : T) × IsHolding self.now pass.old x y × D.does x deed.now y }
+        ensures holding { (x : T) × (y : T) × IsHolding self.now pass.old x y × IsHolding self.now pass.new y y }
+        ensures name { name_of pass.new ≡ name_of pass.old }
+        ensures log { log_of pass.new ≡ log_of pass.old ++ deed.now ∷ [] }
+    {
+        self.note_as::<Brand>(pass, deed);
+    }
+
+    // The same: the proof of a call picks the deed as that of `J`.
+    #[inline(always)]
+    fn note_as<J: Done<C>>(&self, pass: &mut Pass<T, C>, _deed: &C)
+        requires deed { J.done ≡ _deed.now ∷ [] }
+        requires holding { (x : T) × (y : T) × IsHolding self.now pass.old x y × D.does x _deed.now y }
+        ensures holding { (x : T) × (y : T) × IsHolding self.now pass.old x y × IsHolding self.now pass.new y y }
+        ensures name { name_of pass.new ≡ name_of pass.old }
+        ensures log { log_of pass.new ≡ log_of pass.old ++ _deed.now ∷ [] }
+    {
+        self.note_after::<J>(pass);
     }
 
     /// Takes a pass back, any of those that are out.

@@ -1,7 +1,7 @@
 //! The rule of a lock's table, and what each step tells who makes it.
 ghost use Rattle.std.specs.Prelude.{◌≡◌, ◌==◌, [], MatchBool};
 ghost use Rattle.told_lock.specs.declared.known.Known.TheVariants.{Back, Keeper};
-ghost use Rattle.told_lock.specs.Known.{Takes, given_back, made_one, new_pass, took_back};
+ghost use Rattle.told_lock.specs.Known.{Takes, given_back, made_one, new_pass, noted, took_back};
 ghost use Rattle.told_lock.specs.Rule.{IsLocked};
 
 use crate::deeds::{Deeds, Done};
@@ -37,6 +37,15 @@ pub(crate) struct GivingBack<J> {
 
 impl<T, C, J: Done<C>> Play<T, Known<T, C>> for GivingBack<J> {
     ghost then = { λ _ me _ after. after ≡ (given_back me.0 J.done, []) };
+}
+
+/// The deeds of `J` are told, and the lock is kept.
+pub(crate) struct Noting<J> {
+    of: PhantomData<J>,
+}
+
+impl<T, C, J: Done<C>> Play<T, Known<T, C>> for Noting<J> {
+    ghost then = { λ _ me _ after. after ≡ (noted me.0 me.1 J.done, me.1) };
 }
 
 /// The keeper makes a pass.
