@@ -1,5 +1,5 @@
 -- The calls of all seats of a service are those of one thread, in the order of their numbers.
-use Rattle.std.proofs.Common.{◌≡◌, ℕ, suc, ◌+◌, ◌≤◌, ◌<◌, inl, inr, Bool, cond, nat_lt, ◌==◌, List, [], ◌∷◌, ◌++◌, filter, map, take, drop, reverse, length, get_or, slice_get, Some, refl, ap, sym, ◌∙◌, subst, arith, eq-eqb}
+use Rattle.std.proofs.Common.{◌≡◌, ℕ, suc, ◌+◌, ◌≤◌, ◌<◌, inl, inr, Bool, cond, nat_lt, ◌==◌, List, [], ◌∷◌, ◌++◌, filter, map, take, drop, length, get_or, slice_get, Some, refl, ap, sym, ◌∙◌, subst, arith, eq-eqb}
 use Rattle.std.specs.List.{All, AllByRecursion, AllPairs, last_or, sum_by}
 use Rattle.std.proofs.lemmas.List.{length-map}
 use Rattle.std.proofs.lemmas.List.Elements.{filter-append}
