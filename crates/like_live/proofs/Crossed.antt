@@ -5,7 +5,7 @@ use Rattle.like_requests.specs.Verdict.{home}
 use Rattle.like_serial.proofs.Crossed.{take_most}
 use Rattle.like_serial.proofs.Follows.{weigh-filter_less}
 use Rattle.like_serial.proofs.Parts.{passed, place_of_part, take_part}
-use Rattle.like_serial.proofs.Increasing.{Earlier, Pairwise, alone_above, pairwise_at, pairwise_of, pairwise_pairs}
+use Rattle.like_serial.proofs.Increasing.{Pairwise, alone_above, pairwise_at, pairwise_of, pairwise_pairs}
 use Rattle.like_serial.proofs.Phases.{all_then, below, pairs_of}
 use Rattle.like_serial.proofs.Totals.{same_in_all, weigh-all_alike}
 use Rattle.like_serial.proofs.Seen.{not_some, some_is}

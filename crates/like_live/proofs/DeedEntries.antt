@@ -1,5 +1,5 @@
 -- The deeds of calls have entries that the calls made in the board's log.
-use Rattle.std.proofs.Common.{◌≡◌, ◌⊎◌, ℕ, ◌<◌, inl, inr, List, [], ◌∷◌, ◌++◌, drop, length, map, reverse, refl, ap, sym, ◌∙◌, subst, subst₂, arith, append_assoc}
+use Rattle.std.proofs.Common.{◌≡◌, ◌⊎◌, ℕ, inl, inr, List, [], ◌∷◌, ◌++◌, drop, length, map, reverse, refl, ap, sym, ◌∙◌, subst, subst₂, append_assoc}
 use Rattle.std.specs.List.{All, AllByRecursion, Contains}
 use Rattle.std.proofs.lemmas.List.Elements.{Contains-get_or}
 use Rattle.std.proofs.Math.Seq.{drop-append_seam}
@@ -11,6 +11,7 @@ use Rattle.like_core.specs.declared.log.Logged.{Logged}
 use Rattle.like_core.specs.declared.page_step.PageStep.{PageStep}
 use Rattle.like_core.specs.Log.{latest_number}
 use Rattle.like_core.specs.PageSteps.{then_steps}
+use Rattle.like_core.specs.declared.view.WorkerSeatView.{WorkerSeatView}
 use Rattle.like_core.specs.views.Clock.{GoesOn}
 use Rattle.like_core.proofs.Steps.{earliest-reverse, then-earliest}
 use Rattle.like_seat.specs.Merge.{LogsSteps}
@@ -99,6 +100,14 @@ found_entries worker [] (f ∷ found) same = absurd (not_cons _ _ same)
 found_entries worker (e ∷ es) (f ∷ found) same =
     inl ((refl, head_is e.entry (Did (step_for worker f)) _ _ same), found_entries worker es found (tail_is _ _ _ _ same))
 
+-- who goes on and goes on again goes on from first to last
+abbrev pub goes_both : (u v w : WorkerSeatView) → GoesOn u v → GoesOn v w → GoesOn u w
+goes_both u v w a b = record {
+  worker = b.worker ∙ a.worker;
+  since = b.since ++ a.since;
+  logged = b.logged ∙ ap (λ es. b.since ++ es) a.logged ∙ sym (append_assoc b.since a.since u.logged);
+}
+
 -- each step, and so each call, goes on and has its deeds' entries
 abbrev pub Enters : LiveView → List Deed → LiveView → Type 0
 Enters v ds after =
@@ -148,8 +157,8 @@ enters = record {
   both = λ v now after ds rest first second.
       let a = first.0 in
       let b = second.0 in
-      let logged = b.logged ∙ ap (λ es. b.since ++ es) a.logged ∙ sym (append_assoc b.since a.since v.station.post.logged) in
-      goes_on v after (ds ++ rest) (b.since ++ a.since) (b.worker ∙ a.worker) logged
+      let all = goes_both v.station.post now.station.post after.station.post a b in
+      goes_on v after (ds ++ rest) (b.since ++ a.since) all.worker all.logged
       (subst (λ es. HaveEntries v.station.post.worker es (ds ++ rest)) (sym (reverse-append b.since a.since))
       (have-append v.station.post.worker (reverse a.since) (reverse b.since) ds rest
       (subst (λ es. HaveEntries v.station.post.worker es ds) (since_is v now a.since a.logged) first.1)

@@ -21,7 +21,7 @@ use Rattle.like_live.specs.Moves.{looked}
 use Rattle.like_live.specs.Deeds.{Act, Deed, IsEntryFor, counted, deeds_of, glimpsed, showed}
 use Rattle.like_live.specs.History.{HasDone, HasLatest, IsLookOrLike, Told}
 use Rattle.like_live.proofs.CallSteps.{by_calls}
-use Rattle.like_live.proofs.DeedEntries.{Enters, HaveEntries, enters, since_is}
+use Rattle.like_live.proofs.DeedEntries.{Enters, HaveEntries, enters, goes_both, since_is}
 use Rattle.like_live.proofs.Places.{within}
 use Rattle.like_live.proofs.Running.{runs_split}
 use Rattle.like_live.proofs.Stepping.{FollowsRows, next, done_by, slices_like}
@@ -201,11 +201,7 @@ places = record {
         let more = reverse b.since in
         let whole : made ++ more ≡ reverse after.station.post.logged =
         sym (ap reverse b.logged ∙ reverse-append b.since now.station.post.logged) in (
-          record {
-            worker = b.worker ∙ a.worker;
-            since = b.since ++ a.since;
-            logged = b.logged ∙ ap (λ es. b.since ++ es) a.logged ∙ sym (append_assoc b.since a.since v.station.post.logged);
-          },
+          goes_both v.station.post now.station.post after.station.post a b,
           subst (λ es. HavePlaces v.station.post.worker es (length v.station.post.logged) (ds ++ rest)) whole
               (places-append v.station.post.worker made more (length v.station.post.logged) ds rest
               (omega (

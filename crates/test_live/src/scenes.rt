@@ -92,6 +92,16 @@ macro_rules! seen {
     };
 }
 
+// A like of a row.
+macro_rules! pair {
+    ($user:literal, $page:literal) => {
+        LikePair {
+            user: $user,
+            page: $page,
+        }
+    };
+}
+
 // A row of likes by a seat, how many of them are counted, and what the next is told.
 macro_rules! row {
     ($seat:literal, $likes:expr, $counted:literal, $answer:expr) => {
@@ -278,15 +288,15 @@ const BATCH_ANSWERS: &[Answer; 5] = &[
 
 // Likes of the users of seat 0 at both pages, one of a user of seat 1, and one more.
 const ROW: &[LikePair] = &[
-    LikePair { user: 0, page: 0 },
-    LikePair { user: 2, page: 1 },
-    LikePair { user: 2, page: 0 },
-    LikePair { user: 1, page: 0 },
-    LikePair { user: 0, page: 1 },
+    pair!(0, 0),
+    pair!(2, 1),
+    pair!(2, 0),
+    pair!(1, 0),
+    pair!(0, 1),
 ];
 
 // The first three of them.
-const WHOLE_ROW: &[LikePair] = &[ROW[0], ROW[1], ROW[2]];
+const WHOLE_ROW: &[LikePair] = &[pair!(0, 0), pair!(2, 1), pair!(2, 0)];
 
 static SCENES: [Scene; 11] = [
     Scene {
