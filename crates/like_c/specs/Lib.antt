@@ -1,3 +1,4 @@
+pub mod Closes
 pub mod Handle
 pub mod Held
 pub mod Layout

@@ -3,9 +3,11 @@
 #![tactic(auto)]
 
 ghost use Rattle.std.specs.Prelude.{◌≡◌, ◌<◌, ◌≤◌, ℕ, length, slice_get, None};
+ghost use Rattle.like_c.specs.Closes.{ClosesAt, HoldItsSeats};
 ghost use Rattle.like_c.specs.Held.{ComesBackAt, DriverPhaseAt, DrivesAt, GlancesAt, HandsPhase, HandsSeat, LastAt, LastLikeAt, LastLikesAt, LikesAt, LooksAt, OpensAt, PhaseAt, PhaseNowAt, ProposesAt, RetiresAt, RunsAt, SnapshotAt, SplitPagesAt, TakesFoundAt, TurnsAt, end_of};
 ghost use Rattle.like_c.specs.Status.{version};
 
+mod closing;
 mod driver_handle;
 mod opened;
 mod parts;
@@ -14,6 +16,7 @@ mod rows;
 mod seat_handle;
 mod status;
 
+use crate::closing::{check_seats, end};
 use crate::opened::Opened;
 pub use driver_handle::DriverHandle;
 use like_live::End;
@@ -183,8 +186,8 @@ pub extern "C" fn likes_driver_propose_nonnull(driver: &mut DriverHandle, pages:
     status::OK
 }
 
-/// The last counts of the pages from `from` on, once all seats are gone in a joined phase. No seats are given back: C
-/// can't show whose they are.
+/// The last counts of the pages from `from` on, once all seats are gone in a joined phase. No seats are given back, so
+/// no clause says whose likes they are.
 #[unsafe(no_mangle)]
 pub extern "C" fn likes_driver_last_counts_nonnull(
     driver: &mut DriverHandle,
@@ -204,6 +207,34 @@ pub extern "C" fn likes_driver_last_counts_nonnull(
     } else {
         status::NOT_ENDED
     }
+}
+
+/// Ends a service, whose driver and seats its host hands back together, all gone and in order, and writes each page's
+/// last count. All handles are empty then. Otherwise nothing is done.
+#[unsafe(no_mangle)]
+pub extern "C" fn likes_close_nonnull(
+    alloc: Global,
+    driver: &mut DriverHandle,
+    seats: &mut [SeatHandle],
+    counts: &mut [u64],
+) -> u32
+    requires whole { HoldItsSeats driver.old.home seats.old }
+    ensures { ClosesAt driver.old.home seats.old counts.old result counts.new driver.new.home seats.new }
+{
+    let Some(opened) = driver.get() else {
+        return status::EMPTY;
+    };
+    if counts.len() != opened.driver.pages() as usize {
+        return status::WRONG_PAGES;
+    }
+    if let Err(refused) = check_seats(opened, seats) {
+        return refused;
+    }
+    match driver.take(alloc) {
+        Some(opened) => end(alloc, Box::into_inner(opened), seats, counts),
+        None => unreachable!(),
+    }
+    status::COUNTED
 }
 
 #[unsafe(no_mangle)]

@@ -30,13 +30,15 @@ pub struct BoxedPhase {
     apart: Apart,
 }
 
-/// A driver, and what was not taken yet: seats, the first one last, and the phase.
+/// A driver; what was not taken yet: seats, the first one last, and the phase; and room for the seats at the end.
 #[derive(Drop)]
 #[repr(C)]
 pub struct Opened {
     pub(crate) driver: Driver<Guided>,
     pub(crate) seats: Vec<Box<BoxedSeat, Global>>,
     pub(crate) phase: Option<Box<BoxedPhase, Global>>,
+    /// Room for all seats, which come back at the end.
+    pub(crate) back: Vec<LiveSeat<SharedPost>>,
     apart: Apart,
 }
 
@@ -75,6 +77,9 @@ impl Opened {
         ensures refused { IfErr result (λ error. error ≡ OpenError.Memory) }
     {
         let Service { driver, seats } = service;
+        let Ok(back) = Vec::with_capacity(alloc, seats.len()) else {
+            return Err(OpenError::Memory);
+        };
         let seats = boxed(alloc, seats)?;
         let Ok(phase) = boxed_phase(alloc, &driver) else {
             return Err(OpenError::Memory);
@@ -83,10 +88,18 @@ impl Opened {
             driver,
             seats,
             phase: Some(phase),
+            back,
             apart: APART,
         };
         in_box(alloc, opened)
     }
+}
+
+/// The seat in a box.
+pub(crate) fn live_of(seat: BoxedSeat) -> LiveSeat<SharedPost>
+    ensures { result ≡ seat.live }
+{
+    seat.live
 }
 
 // A value in a box.

@@ -23,6 +23,7 @@ use crate::opening::Opening;
 use crate::phase_now::PhaseNow;
 use like_board::{Board, CoordSeat, SharedPost, WorkerSeat};
 use like_choice::{Choice, Guided};
+use like_core::SlotPost;
 use like_seat::Lead;
 use std::alloc::{AllocError, Global};
 use std::marker::Model;
@@ -187,6 +188,12 @@ impl<C: Choice> Driver<C> {
     /// The phase for other threads, which read it without the driver (see `PhaseNow::share`).
     pub fn phase_now(&self) -> Result<PhaseNow, AllocError> {
         self.phase_now.share()
+    }
+
+    /// Whether the seat is one of this service, as the hint that all its seats share tells. No clause says so, since the
+    /// kit has no proved test of that.
+    pub fn has_seat<P: SlotPost>(&self, seat: &LiveSeat<P>) -> bool {
+        self.hint.is_from(seat.hint())
     }
 
     /// Whether there are `many` pages from `from` on.

@@ -29,6 +29,16 @@ impl Hint {
         })
     }
 
+    /// Whether both are owners of one hint: whether there is one owner more of the other while this has one more. So the
+    /// kit compares two `Rc`s, since pointers to two blocks can't be compared. No clause says what the answer means.
+    pub fn is_same(&self, other: &Hint) -> bool {
+        let owners = Arc::strong_count(&other.asked);
+        match Arc::try_clone(&self.asked) {
+            Ok(_one_more) => Arc::strong_count(&other.asked) != owners,
+            Err(AllocError) => false,
+        }
+    }
+
     /// Asks for the end of the phase.
     pub fn ask(&self) {
         self.asked.store(1, Ordering::SeqCst);
@@ -69,6 +79,11 @@ impl HeardHint {
             hint,
             was_asked: false,
         }
+    }
+
+    /// Whether it is heard from this one (see `Hint::is_same`).
+    pub fn is_from(&self, hint: &Hint) -> bool {
+        self.hint.is_same(hint)
     }
 
     /// Whether someone asked since it was cleared, by one load.

@@ -17,6 +17,7 @@ mod requests;
 
 use crate::answer::{GlanceAnswer, LikeAnswer, LookAnswer, TurnAnswer};
 use crate::asked::{Asked, Found};
+use crate::hint::Hint;
 use crate::look_room::LookRoom;
 use crate::signals::Signals;
 use like_core::{Glances, Post, Returns, SlotPost};
@@ -211,6 +212,11 @@ impl<P: SlotPost> LiveSeat<P> {
         ensures { result ≡ phase_at self.now.station }
     {
         self.station.phase()
+    }
+
+    /// The hint that it shares with its driver and the other seats.
+    pub(crate) fn hint(&self) -> &Hint {
+        self.signals.hint()
     }
 
     /// Its users, with their last likes.

@@ -57,6 +57,11 @@ impl Signals {
         looks
     }
 
+    /// The hint by which it asks for the end of a phase.
+    pub fn hint(&self) -> &Hint {
+        &self.hint
+    }
+
     /// Asks for the end of the phase, unless somebody has.
     pub fn ask(&self) {
         if !self.hint.is_asked() {
