@@ -1,5 +1,9 @@
+pub mod Backs
 pub mod Batches
+pub mod Clients
+pub mod Closing
 pub mod Counted
+pub mod Places
 pub mod Runs
 pub mod Same
 pub mod Strict

@@ -2,14 +2,21 @@
 //! waited for, and each thread has a client.
 #![tactic(auto)]
 
+mod client;
 mod deed;
+mod desk;
+mod driver;
 mod laws;
 mod seat_call;
 mod seat_calls;
+mod service;
 
+pub use client::Client;
 pub use deed::{DriverDeed, DriverDeeds, SeatDeed, SeatDeeds};
+pub use desk::{Card, Desk, Parked, Parks, close, park};
 pub use laws::{batches_are_calls, counts_stay, same_stays, shared_services_are_strict};
 pub use seat_call::{Busy, SeatCall, SeatLock, SeatPass, try_call};
 pub use seat_calls::{
     ComeBackCall, GlanceCall, LastCall, LikeCall, LookCall, RetireCall, TakeFoundCall, TurnCall,
 };
+pub use service::{NotClosed, ServiceKeeper, SharedService};
