@@ -8,17 +8,17 @@ use Rattle.told_lock.specs.Deeds.{Leads, Named, deeds_in}
 use Rattle.told_lock.specs.Rights.{IsKeeper, first_of, told_of}
 use Rattle.told_lock.specs.declared.keeper.Keeper.{Keeper}
 use Rattle.told_lock.specs.declared.lock.Lock.{Lock}
-use Rattle.like_live.specs.Driver.{DriverView, IsSameDriver}
+use Rattle.like_live.specs.Driver.{DriverView}
 use Rattle.like_live.specs.LiveView.{IsSameSeat, LiveView}
 use Rattle.like_live.specs.Service.{AreGone, AreItsSeats, AreOpened, CallsKeepSeats, IsClosedService}
 use Rattle.like_shared.specs.declared.deed.SeatDeed.{SeatDeed}
 use Rattle.like_shared.specs.declared.deed.SeatDeeds.{SeatDeeds}
 use Rattle.like_shared.specs.declared.service.ServiceKeeper.{ServiceKeeper}
 use Rattle.like_shared.specs.declared.service.SharedService.{SharedService}
-use Rattle.like_shared.specs.Closed.{AreEndsOf, IsClosedShared}
+use Rattle.like_shared.specs.Closed.{AreEndsOf, IsClosedShared, LeadsTo, driver_end}
 use Rattle.like_shared.specs.Deeds.{DriverDoes, SeatDoes}
 use Rattle.like_shared.specs.Shared.{driver_told, first_driver, first_seats, seats_told}
-use Rattle.like_shared.specs.Strict.{DriverEnd, SeatEnd, SharedServicesAreStrict, firsts, lasts}
+use Rattle.like_shared.specs.Strict.{SeatEnd, SharedServicesAreStrict, firsts, lasts}
 use Rattle.like_shared.proofs.Runs.{driver-runs, seat-runs}
 
 -- one seat more
@@ -39,30 +39,31 @@ same-ends : (ends : List SeatEnd) → AllZip IsSameSeat (firsts ends) (lasts end
 same-ends [] = tt
 same-ends (e ∷ es) = (seat-runs e.first e.last (deeds_in e.leads.order) e.leads.run, same-ends es)
 
-pub keeps-seats : CallsKeepSeats → (s : SharedService) (driver : DriverView) (back : List LiveView)
-    (told : List (Named SeatDeed)) → AreItsSeats (first_driver s) (first_seats s) → IsSameDriver (first_driver s) driver
-    → AreEndsOf (first_seats s) told back → AreItsSeats driver back
-keeps-seats keep s driver back told whole same are =
-    keep (first_driver s) driver (first_seats s) back whole same
-    (subst (λ l. AllZip IsSameSeat l back) are.firsts_are
-    (subst (AllZip IsSameSeat (firsts are.ends)) are.lasts_are (same-ends are.ends)))
+-- once all passes are back, driver and seats are those to which its clients led
+pub leads-to : CallsKeepSeats → (s : SharedService) (k : ServiceKeeper) (driver : DriverView) (back : List LiveView)
+    → AreItsSeats (first_driver s) (first_seats s) → Leads DriverDoes (first_driver s) (driver_told k) driver
+    → AreEndsOf (first_seats s) (seats_told k) back → LeadsTo s k driver back
+leads-to keep s k driver back whole leads are = record {
+  driver_leads = leads;
+  seats_lead = are;
+  whole = keep (first_driver s) driver (first_seats s) back whole
+      (driver-runs (first_driver s) driver (deeds_in leads.order) leads.run)
+      (subst (λ l. AllZip IsSameSeat l back) are.firsts_are
+      (subst (AllZip IsSameSeat (firsts are.ends)) are.lasts_are (same-ends are.ends)));
+}
 
 pub closed-shared : SharedServicesAreStrict → (s : SharedService) (k : ServiceKeeper) (driver : DriverView)
-    (back : List LiveView) (counts : List ℕ) → Leads DriverDoes (first_driver s) (driver_told k) driver
-    → AreEndsOf (first_seats s) (seats_told k) back → IsClosedService driver back counts → AreGone back
-    → IsClosedShared s k counts
-closed-shared law s k driver back counts leads are closed gone =
-    let end : DriverEnd =
-    record { first = first_driver s; last = driver; told = driver_told k; leads = leads } in
+    (back : List LiveView) (counts : List ℕ) → LeadsTo s k driver back → IsClosedService driver back counts
+    → AreGone back → IsClosedShared s k counts
+closed-shared law s k driver back counts leads closed gone =
+    let are = leads.seats_lead in
     record {
-      driver = end;
-      driver_first = refl;
-      driver_told = refl;
-      ends = are.ends;
-      firsts_are = are.firsts_are;
-      told_are = are.told_are;
+      driver = driver;
+      seats = back;
+      leads = leads;
       strict = λ o opened.
-          law o end are.ends counts (subst (AreOpened o (first_driver s)) (sym are.firsts_are) opened)
+          law o (driver_end leads) are.ends counts
+          (subst (AreOpened o (first_driver s)) (sym are.firsts_are) opened)
           (subst (λ (l : List LiveView). IsClosedService driver l counts) (sym are.lasts_are) closed)
           (subst AreGone (sym are.lasts_are) gone);
     }
@@ -86,7 +87,7 @@ pub ends-kept : (pairs : List Kept) (lock : Lock LiveView SeatDeed SeatDeeds) (k
     (last : List LiveView) (y : LiveView) → AreEndsOf (map first_at pairs) (map told_at pairs) last
     → Leads SeatDoes (first_of lock) (told_of keeper) y
     → AreEndsOf (map first_at (pairs ++ (lock, keeper) ∷ [])) (map told_at (pairs ++ (lock, keeper) ∷ []))
-      (last ++ y ∷ [])
+    (last ++ y ∷ [])
 ends-kept pairs lock keeper last y are leads =
     subst (λ l. AreEndsOf l (map told_at (pairs ++ (lock, keeper) ∷ [])) (last ++ y ∷ []))
     (sym (map-append first_at pairs ((lock, keeper) ∷ [])))

@@ -3,6 +3,8 @@ pub mod Batches
 pub mod Clients
 pub mod Closing
 pub mod Counted
+pub mod Desks
+pub mod Kept
 pub mod Places
 pub mod Runs
 pub mod Same

@@ -6,6 +6,7 @@ mod client;
 mod deed;
 mod desk;
 mod driver;
+mod hub;
 mod laws;
 mod seat_call;
 mod seat_calls;
@@ -13,7 +14,8 @@ mod service;
 
 pub use client::Client;
 pub use deed::{DriverDeed, DriverDeeds, SeatDeed, SeatDeeds};
-pub use desk::{Card, Desk, Parked, Parks, close, park};
+pub use desk::{Card, Cards, Desk, DeskDeed, DeskDeeds};
+pub use hub::{Hub, HubNotClosed, NoClient};
 pub use laws::{batches_are_calls, counts_stay, same_stays, shared_services_are_strict};
 pub use seat_call::{Busy, SeatCall, SeatLock, SeatPass, try_call};
 pub use seat_calls::{

@@ -29,6 +29,7 @@ impl SeatCall for TurnCall {
 }
 
 /// A user's like of a page.
+#[derive(Drop)]
 pub struct LikeCall {
     pub user: u32,
     pub page: u32,
@@ -55,6 +56,7 @@ impl SeatCall for LikeCall {
 }
 
 /// A user's look at a page, with a tag of the host's.
+#[derive(Drop)]
 pub struct LookCall {
     pub user: u32,
     pub page: u32,
@@ -83,6 +85,7 @@ impl SeatCall for LookCall {
 }
 
 /// A user's glance at a page.
+#[derive(Drop)]
 pub struct GlanceCall {
     pub user: u32,
     pub page: u32,
@@ -166,6 +169,7 @@ impl SeatCall for ComeBackCall {
 }
 
 /// A user's last like is told.
+#[derive(Drop)]
 pub struct LastCall {
     pub user: u32,
 }

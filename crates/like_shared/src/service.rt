@@ -1,7 +1,8 @@
 //! A service whose seats and driver lie behind locks.
-ghost use Rattle.std.specs.Prelude.{◌≡◌, ◌%◌, ◌<◌, ◌≤◌, [], All, IfOk, length, map};
+ghost use Rattle.std.specs.Prelude.{◌≡◌, ◌%◌, ◌<◌, ◌≤◌, [], All, IfErr, IfOk, length, map};
 ghost use Rattle.std.specs.List.{AllZip};
 ghost use Rattle.told_lock.specs.Rights.{IsKeeper, first_of, told_of};
+ghost use Rattle.like_live.specs.Opening.{IsRefused};
 ghost use Rattle.like_live.specs.Service.{AreItsSeats, AreOpened};
 ghost use Rattle.like_shared.specs.Shared.{IsServiceKeeper, IsUnused, first_driver, first_seats, seats_of};
 
@@ -45,21 +46,35 @@ pub enum NotClosed {
         keeper: ServiceKeeper,
     },
     /// A seat isn't gone. The service comes back, and is shared no more.
-    SeatNotGone { service: Service<Guided> },
+    SeatNotGone {
+        service: Service<Guided>,
+    },
 }
 
 impl SharedService {
     /// Opens a service in phase 0 that threads share. No client is out yet.
-    pub fn open(alloc: Global, opening: &Opening) -> Result<(SharedService, ServiceKeeper), OpenError>
+    pub fn open(
+        alloc: Global,
+        opening: &Opening,
+    ) -> Result<(SharedService, ServiceKeeper), OpenError>
         ensures opened { IfOk result (λ r. AreOpened opening.now (first_driver r.0) (first_seats r.0)) }
         ensures keeper { IfOk result (λ r. IsServiceKeeper r.0 r.1) }
         ensures unused { IfOk result (λ r. IsUnused r.1) }
+        ensures refused { IfErr result (IsRefused opening.now) }
     {
         let Service { driver, seats } = Service::open(alloc, opening)?;
         match share(alloc, driver, seats) {
             Ok(shared) => Ok(shared),
             Err(AllocError) => Err(OpenError::Memory),
         }
+    }
+
+    /// How many seats it has.
+    #[inline(always)]
+    pub fn seat_count(&self) -> usize
+        ensures { result ≡ seats_of self.now }
+    {
+        self.seats.len()
     }
 
     /// The seat of a user.
@@ -79,7 +94,8 @@ fn share(
     driver: Driver<Guided>,
     seats: Vec<LiveSeat<SharedPost>>,
 ) -> Result<(SharedService, ServiceKeeper), AllocError>
-    requires { AreItsSeats driver seats.items }
+    requires some { 1 ≤ length seats.items }
+    requires whole { AreItsSeats driver seats.items }
     ensures driver { IfOk result (λ r. first_driver r.0 ≡ driver) }
     ensures seats { IfOk result (λ r. first_seats r.0 ≡ seats.items) }
     ensures keeper { IfOk result (λ r. IsServiceKeeper r.0 r.1) }

@@ -1,8 +1,8 @@
 //! The end of a shared service.
-ghost use Rattle.std.specs.Prelude.{◌≡◌, ◌≤◌, [], All, IsTrue, OnOk, length, map, vec_capacity};
+ghost use Rattle.std.specs.Prelude.{◌≡◌, ◌≤◌, [], All, IfErr, MatchBool, OnOk, length, map, vec_capacity};
 ghost use Rattle.std.specs.List.{AllZip};
 ghost use Rattle.told_lock.specs.Rights.{IsKeeper, first_of, told_of};
-ghost use Rattle.like_shared.specs.Closed.{AreEndsOf, IsClosedShared};
+ghost use Rattle.like_shared.specs.Closed.{AreBack, AreEndsOf, IsClosedShared, IsNotClosed};
 ghost use Rattle.like_shared.specs.Shared.{IsServiceKeeper, first_driver};
 
 use super::{NotClosed, SeatKeeper, ServiceKeeper, SharedService};
@@ -17,6 +17,8 @@ impl SharedService {
         requires keeper { IsServiceKeeper self keeper }
         requires places { length counts.old ≡ length (first_driver self).lead.seat.opening.counts }
         ensures closed { OnOk result (IsClosedShared self keeper counts.new) }
+        ensures not { IfErr result (IsNotClosed self keeper) }
+        ensures unchanged { IfErr result (λ _. counts.new ≡ counts.old) }
     {
         if !are_back(&keeper) {
             return Err(NotClosed::ClientOut {
@@ -47,8 +49,7 @@ impl SharedService {
 
 // Whether no client is out.
 fn are_back(keeper: &ServiceKeeper) -> bool
-    ensures driver { IsTrue result → keeper.now.driver.out ≡ 0 }
-    ensures seats { IsTrue result → All (λ k. k.out ≡ 0) keeper.now.seats.items }
+    ensures { MatchBool result (AreBack keeper.now) (¬ AreBack keeper.now) }
 {
     keeper.driver.out == 0 && keeper.seats.iter().all(|seat| seat.out == 0)
 }

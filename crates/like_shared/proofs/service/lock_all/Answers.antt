@@ -1,10 +1,17 @@
-use Rattle.std.proofs.Common.{◌≡◌, [], ◌∷◌, ◌++◌, map, sym, ap, ◌∙◌, subst}
+use Rattle.std.proofs.Common.{◌≡◌, List, [], ◌∷◌, ◌++◌, map, sym, ap, ◌∙◌, subst}
 use Rattle.std.proofs.lemmas.List.{map-append}
 use Rattle.std.proofs.lemmas.List.Elements.{All-push}
 use Rattle.std.proofs.lemmas.Slice.Zip.{all_zipped_more}
 use Rattle.std.specs.List.{All, AllZip}
 use Rattle.told_lock.specs.Rights.{IsKeeper, first_of, told_of}
 use Rattle.like_shared.proofs.service.lock_all.Goals as goal
+
+-- two lists, side by side, with one element more each
+zip-pushed : {A B : Type 0} (R : A → B → Type 0) (xs zs : List A) (ys ws : List B) (x : A) (y : B) → zs ≡ xs ++ x ∷ []
+    → ws ≡ ys ++ y ∷ [] → AllZip R xs ys → R x y → AllZip R zs ws
+zip-pushed R xs zs ys ws x y left right zip is =
+    subst (λ l. AllZip R l ws) (sym left)
+    (subst (AllZip R (xs ++ x ∷ [])) (sym right) (all_zipped_more R xs ys x y zip is))
 
 pub loop-seat-preserved : goal.loop-seat-preserved
 loop-seat-preserved c =
@@ -16,9 +23,8 @@ loop-seat-preserved c =
     record {
       seats = ap (map first_of) locks ∙ map-append first_of l.locks.items (lock ∷ [])
           ∙ (λ i. l.invariant.seats i ++ c.in_ok-lock.ensures.first i ∷ []);
-      keepers = subst (AllZip IsKeeper _) (sym keepers) (subst (λ xs. AllZip IsKeeper xs _) (sym locks)
-          (all_zipped_more IsKeeper l.locks.items l.keepers.items lock keeper l.invariant.keepers
-          c.in_ok-lock.ensures.keeper));
+      keepers = zip-pushed IsKeeper l.locks.items _ l.keepers.items _ lock keeper locks keepers l.invariant.keepers
+          c.in_ok-lock.ensures.keeper;
       told = subst (All (λ k. told_of k ≡ [])) (sym keepers)
           (All-push (λ k. told_of k ≡ []) l.keepers.items keeper l.invariant.told c.in_ok-lock.ensures.told);
     }
