@@ -4,6 +4,7 @@ pub mod Clients
 pub mod Closing
 pub mod Counted
 pub mod Places
+pub mod Rows
 pub mod Runs
 pub mod Same
 pub mod Strict
