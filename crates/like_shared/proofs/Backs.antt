@@ -1,5 +1,5 @@
 -- A client's passes come back, one after the other.
-use Rattle.std.proofs.Common.{◌≡◌, ℕ, ◌+◌, ◌<◌, List, [], ◌∷◌, ◌++◌, get_or, length, map, set, refl, sym, ap, ◌∙◌, subst, arith}
+use Rattle.std.proofs.Common.{◌≡◌, suc, ◌<◌, List, [], ◌∷◌, ◌++◌, get_or, length, map, set, refl, sym, ap, ◌∙◌, subst, arith}
 use Rattle.std.proofs.lemmas.List.{length-map, map-set}
 use Rattle.told_lock.specs.Deeds.{Named, named}
 use Rattle.told_lock.specs.Rights.{log_of, name_of, told_of}
@@ -23,7 +23,7 @@ logs-long : (old : List (Named SeatDeed)) (done : List (Pass LiveView SeatDeed))
     → length (with_logs old done) ≡ length old
 logs-long old [] = refl
 logs-long [] (q ∷ done) = refl
-logs-long (x ∷ old) (q ∷ done) = ap (λ n. 1 + n) (logs-long old done)
+logs-long (x ∷ old) (q ∷ done) = ap suc (logs-long old done)
 
 -- its keeper took it back
 pub told-more : (old : List (Named SeatDeed)) (keepers : List (Keeper LiveView SeatDeed))

@@ -6,6 +6,7 @@ pub mod Counted
 pub mod Desks
 pub mod Kept
 pub mod Places
+pub mod Rows
 pub mod Runs
 pub mod Same
 pub mod Strict

@@ -1,5 +1,5 @@
 -- A shared service, its keeper and its clients.
-use Rattle.std.specs.Prelude.{◌≡◌, ℕ, ◌+◌, ◌^◌, ◌<◌, ◌≤◌, All, List, [], ◌∷◌, ◌++◌, length, map, slice_index_or, slice_set, vec_capacity}
+use Rattle.std.specs.Prelude.{◌≡◌, ℕ, ◌+◌, ◌^◌, ◌<◌, ◌≤◌, All, List, [], ◌∷◌, ◌++◌, length, map, MatchResult, Result, slice_index_or, slice_set, vec_capacity}
 use Rattle.std.specs.List.{AllZip}
 use Rattle.told_lock.specs.Deeds.{Named, named}
 use Rattle.told_lock.specs.Rights.{IsIdle, IsKeeper, first_of, log_of, name_of, told_of}
@@ -13,8 +13,10 @@ use Rattle.like_shared.specs.declared.client.Client.{Client}
 use Rattle.like_shared.specs.declared.deed.DriverDeed.{DriverDeed}
 use Rattle.like_shared.specs.declared.deed.SeatDeed.{SeatDeed}
 use Rattle.like_shared.specs.declared.deed.SeatDeeds.{SeatDeeds}
+use Rattle.like_shared.specs.declared.seat_call.Busy.{Busy}
 use Rattle.like_shared.specs.declared.service.ServiceKeeper.{ServiceKeeper}
 use Rattle.like_shared.specs.declared.service.SharedService.{SharedService}
+use Rattle.like_shared.specs.Deeds.{pages_at}
 
 -- the driver and the seats with which it was opened
 abbrev pub first_driver : SharedService → DriverView
@@ -29,7 +31,7 @@ seats_of s = length s.seats.items
 
 -- how many pages it has
 abbrev pub pages_of : SharedService → ℕ
-pages_of s = length (first_driver s).lead.seat.opening.counts
+pages_of s = pages_at (first_driver s)
 
 -- the keeper of this service
 pub record IsServiceKeeper (s : SharedService) (k : ServiceKeeper) : Type 0 where
@@ -60,9 +62,27 @@ seat_logs c = map log_of c.seats.items
 abbrev pub driver_log : Client → List DriverDeed
 driver_log c = log_of c.driver
 
--- the log at each seat, with this deed behind the one of this seat
-abbrev pub with_deed : List (List SeatDeed) → ℕ → SeatDeed → List (List SeatDeed)
-with_deed logs seat d = slice_set logs seat (slice_index_or logs seat [] ++ d ∷ [])
+-- the logs, with these deeds behind the one at this seat
+abbrev pub with_deeds : List (List SeatDeed) → ℕ → List SeatDeed → List (List SeatDeed)
+with_deeds logs seat ds = slice_set logs seat (slice_index_or logs seat [] ++ ds)
+
+-- calls of a seat are in a client's log, with what they were told; or the seat was busy, and the log is as before
+pub record AreLogged {A : Type 0} (before : Client) (seat : ℕ) (deeds : A → List SeatDeed) (result : Result A Busy)
+    (after : Client) : Type 0 where
+  pub seats : MatchResult result (λ told. seat_logs after ≡ with_deeds (seat_logs before) seat (deeds told))
+      (λ busy. seat_logs after ≡ seat_logs before)
+  pub driver : driver_log after ≡ driver_log before
+
+-- so is one call
+abbrev pub IsLogged : {A : Type 0} → Client → ℕ → (A → SeatDeed) → Result A Busy → Client → Type 0
+IsLogged before seat deed result after = AreLogged before seat (λ told. deed told ∷ []) result after
+
+-- and a call of the driver
+pub record IsDriverLogged {A : Type 0} (before : Client) (deed : A → DriverDeed) (result : Result A Busy)
+    (after : Client) : Type 0 where
+  pub driver : MatchResult result (λ told. driver_log after ≡ driver_log before ++ deed told ∷ [])
+      (λ busy. driver_log after ≡ driver_log before)
+  pub seats : seat_logs after ≡ seat_logs before
 
 -- what was told at each seat, and then these logs of a client
 abbrev pub with_logs : List (Named SeatDeed) → List (Pass LiveView SeatDeed) → List (Named SeatDeed)

@@ -1,132 +1,102 @@
-//! The calls of a driver behind its lock, if no other thread has it.
-ghost use Rattle.std.specs.Prelude.{◌≡◌, ◌+◌, ◌≤◌, ◌++◌, [], ◌∷◌, IfErr, MatchResult, length};
+//! A call of a driver behind its lock, if no other thread has it.
+ghost use Rattle.std.specs.Prelude.{◌≡◌, ◌≤◌, ◌++◌, ℕ, List, [], ◌∷◌, MatchResult, length};
 ghost use Rattle.told_lock.specs.Rights.{IsHolding, IsIdle, first_of, log_of, name_of};
-ghost use Rattle.like_shared.specs.declared.deed.DriverDeed.TheVariants.{Propose, Snapshot, Turn};
-ghost use Rattle.like_shared.specs.Deeds.{DriverDoes};
+ghost use Rattle.like_shared.specs.declared.deed.DriverDeed.{DriverDeed};
+ghost use Rattle.like_shared.specs.Deeds.{DriverDoes, pages_at};
 
 use crate::deed::{DriverDeed, DriverDeeds};
 use crate::seat_call::Busy;
 use like_choice::Guided;
-use like_live::{Driver, DriverAnswer, End};
+use like_live::Driver;
 use std::marker::Brand;
 use told_lock::{Done, Lock, Pass};
 
 /// A driver behind its lock.
-pub(crate) type DriverLock = Lock<Driver<Guided>, DriverDeed, DriverDeeds>;
+pub type DriverLock = Lock<Driver<Guided>, DriverDeed, DriverDeeds>;
 
 /// The right of one thread to take it.
-pub(crate) type DriverPass = Pass<Driver<Guided>, DriverDeed>;
+pub type DriverPass = Pass<Driver<Guided>, DriverDeed>;
 
-/// Has the driver take a turn if no other thread has it.
-pub(crate) fn try_turn(lock: &DriverLock, pass: &mut DriverPass, end: End) -> Result<DriverAnswer, Busy>
-    requires { IsIdle lock.now pass.old }
+/// A call of a driver. With its answer, and with what it wrote, it is a deed.
+pub trait DriverCall {
+    /// What it is told.
+    type Answer;
+
+    /// What it writes, one at each place that it is given.
+    type Written;
+
+    /// The deed that it is, with this answer, and with this at its places.
+    ghost deed: { Self → Self.Answer → List Self.Written → DriverDeed };
+
+    /// What was at the places, and what is there after this answer.
+    ghost writes: { Self → Self.Answer → List Self.Written → List Self.Written → Type 0 };
+
+    /// How many pages there must be, if it is given so many places.
+    ghost reach: { Self → ℕ → ℕ };
+
+    /// Makes the call.
+    fn make(&self, driver: &mut Driver<Guided>, places: &mut [Self::Written]) -> Self::Answer
+        requires { reach self.now (length places.old) ≤ pages_at driver.old }
+        ensures does { DriverDoes driver.old (deed self.now result places.new) driver.new }
+        ensures writes { writes self.now result places.old places.new };
+}
+
+/// Makes the call if no other thread has the driver. The log has it then, with its answer, and with what it wrote.
+pub fn try_drive<Q: DriverCall>(
+    lock: &DriverLock,
+    pass: &mut DriverPass,
+    call: &Q,
+    places: &mut [Q::Written],
+) -> Result<Q::Answer, Busy>
+    requires idle { IsIdle lock.now pass.old }
+    requires places { Q.reach call.now (length places.old) ≤ pages_at (first_of lock.now) }
     ensures idle { IsIdle lock.now pass.new }
-    ensures log { MatchResult result (λ answer. log_of pass.new ≡ log_of pass.old ++ Turn end answer ∷ [])
+    ensures name { name_of pass.new ≡ name_of pass.old }
+    ensures log { MatchResult result
+        (λ answer. log_of pass.new ≡ log_of pass.old ++ Q.deed call.now answer places.new ∷ [])
         (λ _. log_of pass.new ≡ log_of pass.old) }
+    ensures places { MatchResult result (λ answer. Q.writes call.now answer places.old places.new)
+        (λ _. places.new ≡ places.old) }
 {
     if !lock.try_take(pass) {
         return Err(Busy);
     }
-    let answer = turn_at(lock, pass, end);
-    tell_turn::<Brand>(lock, pass, end, answer);
+    let answer = make_at(lock, pass, call, places);
+    tell::<Q, Brand>(lock, pass, call, &answer, places);
     Ok(answer)
 }
 
-/// Proposes pages if no other thread has the driver.
-pub(crate) fn try_propose(lock: &DriverLock, pass: &mut DriverPass, pages: &[u32]) -> Result<(), Busy>
-    requires { IsIdle lock.now pass.old }
-    ensures idle { IsIdle lock.now pass.new }
-    ensures log { MatchResult result (λ _. log_of pass.new ≡ log_of pass.old ++ Propose pages.now ∷ [])
-        (λ _. log_of pass.new ≡ log_of pass.old) }
-{
-    if !lock.try_take(pass) {
-        return Err(Busy);
-    }
-    propose_at(lock, pass, pages);
-    tell_proposal::<Brand>(lock, pass, pages);
-    Ok(())
-}
-
-/// Takes a snapshot if no other thread has the driver.
-pub(crate) fn try_snapshot(
+// Makes the call at the driver that the pass has taken.
+fn make_at<Q: DriverCall>(
     lock: &DriverLock,
     pass: &mut DriverPass,
-    from: u32,
-    counts: &mut [u64],
-) -> Result<Option<u64>, Busy>
-    requires idle { IsIdle lock.now pass.old }
-    requires places { from + length counts.old ≤ length (first_of lock.now).lead.seat.opening.counts }
-    ensures idle { IsIdle lock.now pass.new }
-    ensures log { MatchResult result (λ phase. log_of pass.new
-        ≡ log_of pass.old ++ Snapshot from counts.new phase ∷ [])
-        (λ _. log_of pass.new ≡ log_of pass.old) }
-    ensures busy { IfErr result (λ _. counts.new ≡ counts.old) }
-{
-    if !lock.try_take(pass) {
-        return Err(Busy);
-    }
-    let phase = snapshot_at(lock, pass, from, counts);
-    tell_snapshot::<Brand>(lock, pass, from, counts, phase);
-    Ok(phase)
-}
-
-fn turn_at(lock: &DriverLock, pass: &mut DriverPass, end: End) -> DriverAnswer
-    requires { (x : _) × IsHolding lock.now pass.old x x }
+    call: &Q,
+    places: &mut [Q::Written],
+) -> Q::Answer
+    requires { (x : _) × IsHolding lock.now pass.old x x × (Q.reach call.now (length places.old) ≤ pages_at x) }
+    ensures name { name_of pass.new ≡ name_of pass.old }
     ensures log { log_of pass.new ≡ log_of pass.old }
-    ensures made { (x : _) × (y : _) × IsHolding lock.now pass.new x y × DriverDoes x (Turn end result) y }
+    ensures made { (x : _) × (y : _) × IsHolding lock.now pass.new x y
+        × DriverDoes x (Q.deed call.now result places.new) y }
+    ensures writes { Q.writes call.now result places.old places.new }
 {
-    pass.value_mut(lock).turn(end)
+    call.make(pass.value_mut(lock), places)
 }
 
-fn propose_at(lock: &DriverLock, pass: &mut DriverPass, pages: &[u32])
-    requires { (x : _) × IsHolding lock.now pass.old x x }
-    ensures log { log_of pass.new ≡ log_of pass.old }
-    ensures made { (x : _) × (y : _) × IsHolding lock.now pass.new x y × DriverDoes x (Propose pages.now) y }
-{
-    pass.value_mut(lock).propose(pages);
-}
-
-fn snapshot_at(lock: &DriverLock, pass: &mut DriverPass, from: u32, counts: &mut [u64]) -> Option<u64>
-    requires { (x : _) × IsHolding lock.now pass.old x x × (from + length counts.old ≤ length x.lead.seat.opening.counts) }
-    ensures log { log_of pass.new ≡ log_of pass.old }
-    ensures made { (x : _) × (y : _) × IsHolding lock.now pass.new x y × DriverDoes x (Snapshot from counts.new result) y }
-{
-    pass.value_mut(lock).snapshot(from, counts)
-}
-
-// The lock is given back after a turn: the proof of a call picks the deed as that of `J`.
-fn tell_turn<J: Done<DriverDeed>>(lock: &DriverLock, pass: &mut DriverPass, _end: End, _answer: DriverAnswer)
-    requires deed { J.done ≡ Turn _end _answer ∷ [] }
-    requires made { (x : _) × (y : _) × IsHolding lock.now pass.old x y × DriverDoes x (Turn _end _answer) y }
-    ensures idle { IsIdle lock.now pass.new }
-    ensures log { log_of pass.new ≡ log_of pass.old ++ Turn _end _answer ∷ [] }
-{
-    lock.give_back_after::<J>(pass);
-}
-
-// The same after a proposal.
-fn tell_proposal<J: Done<DriverDeed>>(lock: &DriverLock, pass: &mut DriverPass, _pages: &[u32])
-    requires deed { J.done ≡ Propose _pages.now ∷ [] }
-    requires made { (x : _) × (y : _) × IsHolding lock.now pass.old x y × DriverDoes x (Propose _pages.now) y }
-    ensures idle { IsIdle lock.now pass.new }
-    ensures log { log_of pass.new ≡ log_of pass.old ++ Propose _pages.now ∷ [] }
-{
-    lock.give_back_after::<J>(pass);
-}
-
-// The same after a snapshot.
-fn tell_snapshot<J: Done<DriverDeed>>(
+// Gives the driver back, after this call: the proof of a call of this picks the deed as that of `J`.
+fn tell<Q: DriverCall, J: Done<DriverDeed>>(
     lock: &DriverLock,
     pass: &mut DriverPass,
-    _from: u32,
-    _counts: &[u64],
-    _phase: Option<u64>,
+    _call: &Q,
+    _answer: &Q::Answer,
+    _places: &[Q::Written],
 )
-    requires deed { J.done ≡ Snapshot _from _counts.now _phase ∷ [] }
+    requires deed { J.done ≡ Q.deed _call.now _answer.now _places.now ∷ [] }
     requires made { (x : _) × (y : _) × IsHolding lock.now pass.old x y
-        × DriverDoes x (Snapshot _from _counts.now _phase) y }
+        × DriverDoes x (Q.deed _call.now _answer.now _places.now) y }
     ensures idle { IsIdle lock.now pass.new }
-    ensures log { log_of pass.new ≡ log_of pass.old ++ Snapshot _from _counts.now _phase ∷ [] }
+    ensures name { name_of pass.new ≡ name_of pass.old }
+    ensures log { log_of pass.new ≡ log_of pass.old ++ Q.deed _call.now _answer.now _places.now ∷ [] }
 {
     lock.give_back_after::<J>(pass);
 }

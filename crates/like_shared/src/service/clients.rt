@@ -63,9 +63,8 @@ fn new_passes(locks: &[SeatLock], keepers: &mut [SeatKeeper], mut passes: Vec<Se
     ensures passes { AllZip IsIdle locks.now result.items }
     ensures logs { map log_of result.items ≡ replicate (length locks.now) [] }
 {
-    for lock in locks {
-        let seat = passes.len();
-        passes.push_reserved(lock.new_pass(&mut keepers[seat]));
+    for seat in 0..locks.len() {
+        passes.push_reserved(locks[seat].new_pass(&mut keepers[seat]));
     }
     passes
 }

@@ -1,7 +1,7 @@
 use Rattle.std.proofs.Common.{refl, sym, subst}
 use Rattle.told_lock.specs.Deeds.{HasRun}
 use Rattle.like_shared.specs.Deeds.{DriverDoes}
-use Rattle.like_shared.proofs.driver.tell_snapshot.Goals as goal
+use Rattle.like_shared.proofs.driver.tell.Goals as goal
 
 pub give_back_after-requires : goal.give_back_after-requires
 give_back_after-requires g c =
