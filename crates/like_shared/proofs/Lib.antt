@@ -1,5 +1,12 @@
+pub mod Backs
 pub mod Batches
+pub mod Clients
+pub mod Closing
 pub mod Counted
+pub mod Desks
+pub mod Kept
+pub mod Places
+pub mod Rows
 pub mod Runs
 pub mod Same
 pub mod Strict

@@ -1,5 +1,5 @@
 -- All that all clients did is what one thread could have done.
-use Rattle.std.proofs.Common.{◌≡◌, ℕ, zero, suc, ◌+◌, List, [], ◌∷◌, map, Some, None, refl, sym, ap, ◌∙◌, subst}
+use Rattle.std.proofs.Common.{◌≡◌, ℕ, zero, suc, ◌+◌, false, true, List, [], ◌∷◌, map, Some, None, refl, sym, ap, ◌∙◌, subst}
 use Rattle.std.specs.List.{AllZip, slice_get}
 use Rattle.std.specs.Prelude.{filter, flat_map, nat_lt, slice_index, sum_by}
 use Rattle.std.proofs.lemmas.List.Concat.{flat_map-cons}
@@ -21,7 +21,7 @@ use Rattle.like_live.specs.DeedStore.{store_after}
 use Rattle.like_live.specs.Deeds.{Deed}
 use Rattle.like_live.specs.StrictService.{HasLastLikes, SeatHistory, ServicesAreStrict, opened}
 use Rattle.like_shared.specs.declared.deed.DriverDeed.{DriverDeed}
-use Rattle.like_shared.specs.declared.deed.DriverDeed.TheVariants.{Propose, Snapshot, Turn}
+use Rattle.like_shared.specs.declared.deed.DriverDeed.TheVariants.{LastCounts, Propose, Snapshot, SplitPages, Turn}
 use Rattle.like_shared.specs.declared.deed.SeatDeed.{SeatDeed}
 use Rattle.like_shared.specs.declared.deed.SeatDeed.TheVariants as deed
 use Rattle.like_shared.specs.Deeds.{SeatDoes, SeatMakes, calls_of, liked_by}
@@ -121,12 +121,15 @@ abbrev Stands : Opening → List Deed → PageCount → Type 0
 Stands o serial r =
     r.count ≡ (store_after (opened o) (filter (λ d. nat_lt d.phase (r.phase + 1)) serial)).count r.page
 
--- so a snapshot shows the store
+-- so counts that a client was told show the store
 shows : (o : Opening) (serial : List Deed) (d : DriverDeed) → Written (Stands o serial) d → ShowsStore o serial d
 shows o serial (Turn end answer) written = tt
 shows o serial (Propose pages) written = tt
 shows o serial (Snapshot from counts None) written = tt
 shows o serial (Snapshot from counts (Some phase)) written = written
+shows o serial (SplitPages pages many) written = tt
+shows o serial (LastCounts from counts false) written = tt
+shows o serial (LastCounts from counts true) written = written
 
 pub shared-strict : ServicesAreStrict → HistoriesAreCounted → LogsWeighAll SeatDoes → SharedServicesAreStrict
 shared-strict strict counted weigh o driver ends counts begun closed gone =

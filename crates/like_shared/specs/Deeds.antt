@@ -1,7 +1,8 @@
 -- The calls that clients make, with their answers, and what they do.
-use Rattle.std.specs.Prelude.{◌≡◌, ℕ, List, [], ◌∷◌, take}
+use Rattle.std.specs.Prelude.{◌≡◌, ℕ, ◌≤◌, List, [], ◌∷◌, length, take}
+use Rattle.like_choice.specs.Slots.{pages_in_use}
 use Rattle.like_limits.specs.Limits.{hot_pages}
-use Rattle.like_live.specs.Driver.{DriverTurns, DriverView, IsSameDriver, TakesSnapshot}
+use Rattle.like_live.specs.Driver.{DriverTurns, DriverView, IsSameDriver, TakesLast, TakesSnapshot}
 use Rattle.like_live.specs.History.{Does, Told, come_back, glance, like, likes_told, look, retire, take_found, turn}
 use Rattle.like_live.specs.Lasts.{TellsLast}
 use Rattle.like_live.specs.LiveView.{IsSameSeat, LiveView}
@@ -40,11 +41,18 @@ SeatDoes v d w = SeatMakes v d w × IsSameSeat v w
 abbrev pub liked_by : ℕ → SeatDeed → ℕ
 liked_by page d = likes_told page (calls_of d)
 
+-- how many pages a driver has
+abbrev pub pages_at : DriverView → ℕ
+pages_at v = length v.lead.seat.opening.counts
+
 -- a call of a driver
 abbrev pub DriverMakes : DriverView → DriverDeed → DriverView → Type 0
 DriverMakes v (driver.Turn end answer) w = DriverTurns v end answer w
 DriverMakes v (driver.Propose pages) w = w ≡ record v { splits = record v.splits { told = take hot_pages pages } }
 DriverMakes v (driver.Snapshot from counts phase) w = (old : List ℕ) × TakesSnapshot v from old phase w counts
+DriverMakes v (driver.SplitPages pages many) w =
+    (many ≤ length pages) × (take many pages ≡ take (length pages) (pages_in_use v.splits.slots)) × (w ≡ v)
+DriverMakes v (driver.LastCounts from counts is_done) w = (old : List ℕ) × TakesLast v from old is_done w counts
 
 -- what a deed does to a driver, which stays the same one
 abbrev pub DriverDoes : DriverView → DriverDeed → DriverView → Type 0

@@ -1,5 +1,5 @@
 -- All that all clients did at a shared service, as the calls of one thread.
-use Rattle.std.specs.Prelude.{◌≡◌, ℕ, ◌+◌, ◌<◌, nat_lt, All, List, filter, flat_map, length, map, slice_index, sum_by, Some, ⊤}
+use Rattle.std.specs.Prelude.{◌≡◌, ℕ, ◌+◌, ◌<◌, nat_lt, All, List, filter, flat_map, length, map, slice_index, sum_by, Some, true, ⊤}
 use Rattle.std.specs.List.{AllZip}
 use Rattle.told_lock.specs.Deeds.{Leads, Named, deeds_in}
 use Rattle.like_live.specs.declared.opening.Opening.{Opening}
@@ -11,7 +11,7 @@ use Rattle.like_live.specs.StrictService.{HasLastCounts, HasLastLikes, IsStrictS
 use Rattle.like_live.specs.StrictService as strict
 use Rattle.like_live.specs.DeedStore.{store_after}
 use Rattle.like_shared.specs.declared.deed.DriverDeed.{DriverDeed}
-use Rattle.like_shared.specs.declared.deed.DriverDeed.TheVariants.{Snapshot}
+use Rattle.like_shared.specs.declared.deed.DriverDeed.TheVariants.{LastCounts, Snapshot}
 use Rattle.like_shared.specs.declared.deed.SeatDeed.{SeatDeed}
 use Rattle.like_shared.specs.Deeds.{DriverDoes, SeatDoes, calls_of, liked_by}
 
@@ -46,12 +46,18 @@ pub record IsHistoryOf (e : SeatEnd) (h : SeatHistory) : Type 0 where
 abbrev pub likes_at : ℕ → SeatEnd → ℕ
 likes_at page e = sum_by (liked_by page) (deeds_in e.told)
 
--- the counts of a snapshot that a client was told are the store's at the end of their phase
-abbrev pub ShowsStore : Opening → List Deed → DriverDeed → Type 0
-ShowsStore o serial (Snapshot from counts (Some phase)) =
+-- these are the store's counts at the end of the phase, of the pages from this one on
+abbrev pub AreCountsAt : Opening → List Deed → (phase from : ℕ) → List ℕ → Type 0
+AreCountsAt o serial phase from counts =
     (i : ℕ) → i < length counts
     → slice_index counts i
     ≡ (store_after (opened o) (filter (λ d. nat_lt d.phase (phase + 1)) serial)).count (from + i)
+
+-- counts that a client was told are the store's at the end of a phase: those of a snapshot, of which it was told the
+-- phase, and last counts
+abbrev pub ShowsStore : Opening → List Deed → DriverDeed → Type 0
+ShowsStore o serial (Snapshot from counts (Some phase)) = AreCountsAt o serial phase from counts
+ShowsStore o serial (LastCounts from counts true) = (phase : ℕ) × AreCountsAt o serial phase from counts
 ShowsStore o serial d = ⊤
 
 -- one thread could have done all that all clients did: the seats have histories of all clients' calls, and all their

@@ -10,8 +10,7 @@ use like_requests::Verdict;
 use std::collections::LinkedList;
 use told_lock::Deeds;
 
-/// A call of a seat, with its answer.
-#[derive(Clone, Copy)]
+/// A call of a seat, with its answer, as contracts see it. No value of it is made.
 pub enum SeatDeed {
     Turn {
         answer: TurnAnswer,
@@ -69,6 +68,17 @@ pub enum DriverDeed {
         from: u32,
         counts: LinkedList<u64>,
         phase: Option<u64>,
+    },
+    /// The places that were given, and how many split pages were written to them.
+    SplitPages {
+        pages: LinkedList<u32>,
+        many: usize,
+    },
+    /// The counts of the pages from this one on, and whether they were written as last counts.
+    LastCounts {
+        from: u32,
+        counts: LinkedList<u64>,
+        is_done: bool,
     },
 }
 

@@ -7,7 +7,8 @@ ghost use Rattle.like_shared.specs.Deeds.{SeatDoes};
 use crate::deed::{SeatDeed, SeatDeeds};
 use like_board::SharedPost;
 use like_live::LiveSeat;
-use told_lock::{Lock, Pass};
+use std::marker::Brand;
+use told_lock::{Done, Lock, Pass};
 
 /// A seat behind its lock.
 pub type SeatLock = Lock<LiveSeat<SharedPost>, SeatDeed, SeatDeeds>;
@@ -30,10 +31,6 @@ pub trait SeatCall {
     /// Makes the call.
     fn make(&self, seat: &mut LiveSeat<SharedPost>) -> Self::Answer
         ensures { SeatDoes seat.old (deed self.now result) seat.new };
-
-    /// The deed that it is.
-    fn tell(&self, answer: &Self::Answer) -> SeatDeed
-        ensures { result ≡ deed self.now answer.now };
 }
 
 /// Makes the call if no other thread has the seat. The log has it then, with its answer.
@@ -53,7 +50,7 @@ pub fn try_call<Q: SeatCall>(
         return Err(Busy);
     }
     let answer = make_at(lock, pass, call);
-    lock.give_back(pass, &call.tell(&answer));
+    tell::<Q, Brand>(lock, pass, call, &answer);
     Ok(answer)
 }
 
@@ -66,4 +63,22 @@ fn make_at<Q: SeatCall>(lock: &SeatLock, pass: &mut SeatPass, call: &Q) -> Q::An
     ensures made { (x : _) × (y : _) × IsHolding lock.now pass.new x y × SeatDoes x (Q.deed call.now result) y }
 {
     call.make(pass.value_mut(lock))
+}
+
+// Gives the seat back, after this call: the proof of a call of this picks the deed as that of `J`.
+#[inline(always)]
+fn tell<Q: SeatCall, J: Done<SeatDeed>>(
+    lock: &SeatLock,
+    pass: &mut SeatPass,
+    _call: &Q,
+    _answer: &Q::Answer,
+)
+    requires deed { J.done ≡ Q.deed _call.now _answer.now ∷ [] }
+    requires made { (x : _) × (y : _) × IsHolding lock.now pass.old x y
+        × SeatDoes x (Q.deed _call.now _answer.now) y }
+    ensures idle { IsIdle lock.now pass.new }
+    ensures name { name_of pass.new ≡ name_of pass.old }
+    ensures log { log_of pass.new ≡ log_of pass.old ++ Q.deed _call.now _answer.now ∷ [] }
+{
+    lock.give_back_after::<J>(pass);
 }

@@ -1,7 +1,6 @@
 //! The calls of a seat.
 ghost use Rattle.like_shared.specs.declared.deed.SeatDeed.TheVariants.{ComeBack, Glance, Last, Like, Look, Retire, TakeFound, Turn};
 
-use crate::deed::SeatDeed;
 use crate::seat_call::SeatCall;
 use like_board::SharedPost;
 use like_live::{Found, GlanceAnswer, LikeAnswer, LiveSeat, LookAnswer, TurnAnswer};
@@ -10,6 +9,7 @@ use like_requests::Verdict;
 type Seat = LiveSeat<SharedPost>;
 
 /// Phase work alone.
+#[derive(Clone, Copy)]
 pub struct TurnCall;
 
 impl SeatCall for TurnCall {
@@ -21,14 +21,10 @@ impl SeatCall for TurnCall {
     fn make(&self, seat: &mut Seat) -> TurnAnswer {
         seat.turn()
     }
-
-    #[inline(always)]
-    fn tell(&self, answer: &TurnAnswer) -> SeatDeed {
-        SeatDeed::Turn { answer: *answer }
-    }
 }
 
 /// A user's like of a page.
+#[derive(Clone, Copy)]
 pub struct LikeCall {
     pub user: u32,
     pub page: u32,
@@ -43,18 +39,10 @@ impl SeatCall for LikeCall {
     fn make(&self, seat: &mut Seat) -> LikeAnswer {
         seat.like(self.user, self.page)
     }
-
-    #[inline(always)]
-    fn tell(&self, answer: &LikeAnswer) -> SeatDeed {
-        SeatDeed::Like {
-            user: self.user,
-            page: self.page,
-            answer: *answer,
-        }
-    }
 }
 
 /// A user's look at a page, with a tag of the host's.
+#[derive(Clone, Copy)]
 pub struct LookCall {
     pub user: u32,
     pub page: u32,
@@ -70,19 +58,10 @@ impl SeatCall for LookCall {
     fn make(&self, seat: &mut Seat) -> LookAnswer {
         seat.look(self.user, self.page, self.tag)
     }
-
-    #[inline(always)]
-    fn tell(&self, answer: &LookAnswer) -> SeatDeed {
-        SeatDeed::Look {
-            user: self.user,
-            page: self.page,
-            tag: self.tag,
-            answer: *answer,
-        }
-    }
 }
 
 /// A user's glance at a page.
+#[derive(Clone, Copy)]
 pub struct GlanceCall {
     pub user: u32,
     pub page: u32,
@@ -97,18 +76,10 @@ impl SeatCall for GlanceCall {
     fn make(&self, seat: &mut Seat) -> GlanceAnswer {
         seat.glance(self.user, self.page)
     }
-
-    #[inline(always)]
-    fn tell(&self, answer: &GlanceAnswer) -> SeatDeed {
-        SeatDeed::Glance {
-            user: self.user,
-            page: self.page,
-            answer: *answer,
-        }
-    }
 }
 
 /// The first found look is taken.
+#[derive(Clone, Copy)]
 pub struct TakeFoundCall;
 
 impl SeatCall for TakeFoundCall {
@@ -120,14 +91,10 @@ impl SeatCall for TakeFoundCall {
     fn make(&self, seat: &mut Seat) -> Option<Found> {
         seat.take_found()
     }
-
-    #[inline(always)]
-    fn tell(&self, taken: &Option<Found>) -> SeatDeed {
-        SeatDeed::TakeFound { taken: *taken }
-    }
 }
 
 /// The seat retires.
+#[derive(Clone, Copy)]
 pub struct RetireCall;
 
 impl SeatCall for RetireCall {
@@ -139,14 +106,10 @@ impl SeatCall for RetireCall {
     fn make(&self, seat: &mut Seat) -> TurnAnswer {
         seat.retire()
     }
-
-    #[inline(always)]
-    fn tell(&self, answer: &TurnAnswer) -> SeatDeed {
-        SeatDeed::Retire { answer: *answer }
-    }
 }
 
 /// A seat that is gone comes back.
+#[derive(Clone, Copy)]
 pub struct ComeBackCall;
 
 impl SeatCall for ComeBackCall {
@@ -158,14 +121,10 @@ impl SeatCall for ComeBackCall {
     fn make(&self, seat: &mut Seat) -> TurnAnswer {
         seat.come_back()
     }
-
-    #[inline(always)]
-    fn tell(&self, answer: &TurnAnswer) -> SeatDeed {
-        SeatDeed::ComeBack { answer: *answer }
-    }
 }
 
 /// A user's last like is told.
+#[derive(Clone, Copy)]
 pub struct LastCall {
     pub user: u32,
 }
@@ -178,13 +137,5 @@ impl SeatCall for LastCall {
     #[inline(always)]
     fn make(&self, seat: &mut Seat) -> Result<Option<u32>, Verdict> {
         seat.last(self.user)
-    }
-
-    #[inline(always)]
-    fn tell(&self, answer: &Result<Option<u32>, Verdict>) -> SeatDeed {
-        SeatDeed::Last {
-            user: self.user,
-            answer: *answer,
-        }
     }
 }

@@ -1,2 +1,1 @@
 pub mod Adding
-pub mod Keepers

@@ -1,5 +1,6 @@
 pub mod Ends
 pub mod Holding
+pub mod Keepers
 pub mod Keeping
 pub mod Logs
 pub mod Views

@@ -50,7 +50,7 @@ unnamed n [] = refl
 unnamed {C} n (c ∷ cs) = ap (λ (l : List C). c ∷ l) (unnamed n cs)
 
 -- deeds, and then others
-run-append : {T C : Type 0} (does : T → C → T → Type 0) (x y z : T) (cs ds : List C) → HasRun does x cs y
+pub run-append : {T C : Type 0} (does : T → C → T → Type 0) (x y z : T) (cs ds : List C) → HasRun does x cs y
     → HasRun does y ds z → HasRun does x (cs ++ ds) z
 run-append does x y z [] ds first then = subst (λ u. HasRun does u ds z) first then
 run-append does x y z (c ∷ cs) ds first then =

@@ -1,4 +1,4 @@
-use Rattle.test_lock.proofs.Keepers.{stays}
+use Rattle.told_lock.proofs.Keepers.{stays}
 use Rattle.test_lock.proofs.desk.close.Goals as goal
 
 pub close-requires-clause-keeper : goal.close-requires-clause-keeper

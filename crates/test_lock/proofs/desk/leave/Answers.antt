@@ -1,5 +1,5 @@
 use Rattle.told_lock.specs.Deeds.{deeds_in}
-use Rattle.test_lock.proofs.Keepers.{stays}
+use Rattle.told_lock.proofs.Keepers.{stays}
 use Rattle.test_lock.proofs.desk.leave.Goals as goal
 
 pub hand_over-requires-clause-keeper : goal.hand_over-requires-clause-keeper

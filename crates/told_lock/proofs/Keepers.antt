@@ -12,7 +12,7 @@ Stays {T} {C} D k e l = (lock : Lock T C D) × IsKeeper lock k × IsKeeper lock 
 
 module _ {T C D : Type 0} where
   -- it has one lock
-  one-lock : (lock other : Lock T C D) (k l : Keeper T C) → IsKeeper lock k → IsKeeper other k → IsKeeper other l
+  pub one-lock : (lock other : Lock T C D) (k l : Keeper T C) → IsKeeper lock k → IsKeeper other k → IsKeeper other l
       → IsKeeper lock l
   one-lock lock other k l this that after =
       let first : first_of other ≡ first_of lock = cc (sym (ap (λ m. m.0) that.keeping) ∙ ap (λ m. m.0) this.keeping) in

@@ -1,0 +1,15 @@
+use Rattle.std.proofs.Common.{◌≡◌, ℕ, ◌≤◌, [], get_or, length, map, replicate, take, vec_capacity}
+use Rattle.std.specs.List.{AllZip}
+use Rattle.told_lock.specs.Rights.{IsIdle, IsKeeper, log_of, told_of}
+use Rattle.like_shared.proofs.service.clients.new_passes.Given as goal
+
+abbrev pub invariant-loop-seat : goal.invariant-loop-seat
+invariant-loop-seat l = record {
+  keepers : AllZip IsKeeper l.locks l.keepers;
+  told : map told_of l.keepers ≡ map told_of l.initial.keepers;
+  rest : (i : ℕ) (d : _) → l.seat ≤ i → get_or l.keepers i d ≡ get_or l.initial.keepers i d;
+  passes : AllZip IsIdle (take l.seat l.locks) l.passes.items;
+  logs : map log_of l.passes.items ≡ replicate l.seat [];
+  len : length l.passes.items ≡ l.seat;
+  room : vec_capacity l.passes ≡ vec_capacity l.initial.passes;
+}

@@ -1,0 +1,54 @@
+-- The end of a shared service.
+use Rattle.std.specs.Prelude.{◌≡◌, ℕ, All, List, map}
+use Rattle.told_lock.specs.Deeds.{Leads, Named}
+use Rattle.like_live.specs.declared.opening.Opening.{Opening}
+use Rattle.like_live.specs.Driver.{DriverView}
+use Rattle.like_live.specs.LiveView.{LiveView}
+use Rattle.like_live.specs.Service.{AreGone, AreItsSeats, AreOpened}
+use Rattle.like_shared.specs.declared.deed.SeatDeed.{SeatDeed}
+use Rattle.like_shared.specs.declared.service.NotClosed.{NotClosed}
+use Rattle.like_shared.specs.declared.service.NotClosed.TheVariants.{ClientOut, SeatNotGone}
+use Rattle.like_shared.specs.declared.service.ServiceKeeper.{ServiceKeeper}
+use Rattle.like_shared.specs.declared.service.SharedService.{SharedService}
+use Rattle.like_shared.specs.Deeds.{DriverDoes}
+use Rattle.like_shared.specs.Shared.{driver_told, first_driver, first_seats, seats_told}
+use Rattle.like_shared.specs.Strict.{DriverEnd, IsStrictlyShared, SeatEnd, firsts, lasts}
+
+-- no client is out
+pub record AreBack (k : ServiceKeeper) : Type 0 where
+  pub driver : k.driver.out ≡ 0
+  pub seats : All (λ s. s.out ≡ 0) k.seats.items
+
+-- what clients told of seats leads from these to those
+pub record AreEndsOf (first : List LiveView) (told : List (Named SeatDeed)) (last : List LiveView) : Type 0 where
+  pub ends : List SeatEnd
+  pub firsts_are : firsts ends ≡ first
+  pub told_are : map (λ e. e.told) ends ≡ told
+  pub lasts_are : lasts ends ≡ last
+
+-- what its clients told leads to this driver and to these seats, which are its own
+pub record LeadsTo (s : SharedService) (k : ServiceKeeper) (driver : DriverView) (seats : List LiveView) : Type 0 where
+  pub driver_leads : Leads DriverDoes (first_driver s) (driver_told k) driver
+  pub seats_lead : AreEndsOf (first_seats s) (seats_told k) seats
+  pub whole : AreItsSeats driver seats
+
+-- its driver, from its opening to there
+abbrev pub driver_end : {s : SharedService} {k : ServiceKeeper} {driver : DriverView} {seats : List LiveView}
+    → LeadsTo s k driver seats → DriverEnd
+driver_end {s} {k} {driver} it =
+    record { first = first_driver s; last = driver; told = driver_told k; leads = it.driver_leads }
+
+-- a shared service is closed: however it was opened, one thread could have done all that its clients told
+pub record IsClosedShared (s : SharedService) (k : ServiceKeeper) (counts : List ℕ) : Type 0 where
+  pub driver : DriverView
+  pub seats : List LiveView
+  pub leads : LeadsTo s k driver seats
+  pub strict : (o : Opening) → AreOpened o (first_driver s) (first_seats s)
+      → IsStrictlyShared o (driver_end leads) leads.seats_lead.ends counts
+
+-- why it isn't closed: a client is out, and service and keeper come back as they were; or a seat isn't gone, and the
+-- service comes back, shared no more
+abbrev pub IsNotClosed : SharedService → ServiceKeeper → NotClosed → Type 0
+IsNotClosed s k (ClientOut service keeper) = (service ≡ s) × (keeper ≡ k) × ¬ AreBack k
+IsNotClosed s k (SeatNotGone service) =
+    LeadsTo s k service.driver service.seats.items × ¬ AreGone service.seats.items

@@ -1,0 +1,23 @@
+-- The desk of a shared service, at which clients are made and parked.
+use Rattle.std.specs.Prelude.{◌≡◌, ◌++◌, List}
+use Rattle.told_lock.specs.Deeds.{HasRun, named}
+use Rattle.told_lock.specs.Rights.{first_of, name_of}
+use Rattle.like_shared.specs.declared.client.Client.{Client}
+use Rattle.like_shared.specs.declared.desk.DeskDeed.{DeskDeed}
+use Rattle.like_shared.specs.declared.desk.DeskDeed.TheVariants.{Made, Parked}
+use Rattle.like_shared.specs.declared.service.ServiceKeeper.{ServiceKeeper}
+use Rattle.like_shared.specs.declared.service.SharedService.{SharedService}
+use Rattle.like_shared.specs.Shared.{IsClient, IsServiceKeeper, driver_log, driver_told, seats_told, with_logs}
+
+-- what the keeper of a service knows after a deed at its desk: what it knew, and the log of the client that was parked
+abbrev pub KeepsTold : SharedService → ServiceKeeper → DeskDeed → ServiceKeeper → Type 0
+KeepsTold s before Made after =
+    (seats_told after ≡ seats_told before) × (driver_told after ≡ driver_told before)
+KeepsTold s before (Parked client) after =
+    IsClient s client × (seats_told after ≡ with_logs (seats_told before) client.seats.items)
+    × (driver_told after ≡ driver_told before ++ named (name_of client.driver) (driver_log client))
+
+-- what a deed at the desk does: it leaves the keeper of the same service, which has lost nothing that clients told
+abbrev pub DeskDoes : ServiceKeeper → DeskDeed → ServiceKeeper → Type 0
+DeskDoes before d after =
+    (s : SharedService) × IsServiceKeeper s before × IsServiceKeeper s after × KeepsTold s before d after

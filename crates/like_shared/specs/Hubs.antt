@@ -1,0 +1,47 @@
+-- What a hub's calls do at its desk, and its end.
+use Rattle.std.specs.Prelude.{ℕ, List, [], ◌∷◌, Result, Err, ⊤}
+use Rattle.told_lock.specs.Deeds.{HasRun, Leads, Named}
+use Rattle.told_lock.specs.Rights.{first_of}
+use Rattle.like_shared.specs.declared.desk.DeskDeed.{DeskDeed}
+use Rattle.like_shared.specs.declared.desk.DeskDeed.TheVariants.{Made}
+use Rattle.like_shared.specs.declared.hub.Hub.{Hub}
+use Rattle.like_shared.specs.declared.hub.HubNotClosed.{HubNotClosed}
+use Rattle.like_shared.specs.declared.hub.HubNotClosed.TheVariants.{DeskTaken, Open}
+use Rattle.like_shared.specs.declared.hub.NoClient.{NoClient}
+use Rattle.like_shared.specs.declared.hub.NoClient.TheVariants.{Busy}
+use Rattle.like_shared.specs.declared.service.NotClosed.{NotClosed}
+use Rattle.like_shared.specs.declared.service.ServiceKeeper.{ServiceKeeper}
+use Rattle.like_shared.specs.Closed.{IsClosedShared, IsNotClosed}
+use Rattle.like_shared.specs.Desk.{DeskDoes}
+
+-- what a call for a client does at the desk: nothing, if another thread was there
+abbrev pub done_for : {A : Type 0} → Result A NoClient → List DeskDeed
+done_for (Err Busy) = []
+done_for result = Made ∷ []
+
+-- the keeper to which all led that was done at the hub's desk: it has the logs of the clients that were parked there,
+-- and no others
+pub record IsLastKeeper (h : Hub) (k : ServiceKeeper) : Type 0 where
+  pub done : List DeskDeed
+  pub run : HasRun DeskDoes (first_of h.desk) done k
+
+-- a hub is closed: its service is, with the logs of the clients that were parked
+pub record IsClosedHub (h : Hub) (counts : List ℕ) : Type 0 where
+  pub keeper : ServiceKeeper
+  pub last : IsLastKeeper h keeper
+  pub closed : IsClosedShared h.service keeper counts
+
+-- why it isn't closed: its service isn't
+abbrev pub IsHubNotClosed : Hub → HubNotClosed → Type 0
+IsHubNotClosed h DeskTaken = ⊤
+IsHubNotClosed h (Open why) = (k : ServiceKeeper) × IsLastKeeper h k × IsNotClosed h.service k why
+
+-- the same if all cards are back: what they told leads to that keeper
+pub record IsClosedWith (h : Hub) (told : Named DeskDeed) (counts : List ℕ) : Type 0 where
+  pub keeper : ServiceKeeper
+  pub last : Leads DeskDoes (first_of h.desk) told keeper
+  pub closed : IsClosedShared h.service keeper counts
+
+abbrev pub IsNotClosedWith : Hub → Named DeskDeed → NotClosed → Type 0
+IsNotClosedWith h told why =
+    (k : ServiceKeeper) × Leads DeskDoes (first_of h.desk) told k × IsNotClosed h.service k why

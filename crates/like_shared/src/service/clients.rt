@@ -1,0 +1,84 @@
+//! Clients of a shared service are made, and come back.
+ghost use Rattle.std.specs.Prelude.{◌≡◌, ◌++◌, ◌≤◌, [], All, IfOk, IsTrue, length, map, replicate, vec_capacity};
+ghost use Rattle.std.specs.List.{AllZip};
+ghost use Rattle.told_lock.specs.Deeds.{named};
+ghost use Rattle.told_lock.specs.Rights.{IsIdle, IsKeeper, log_of, name_of, told_of};
+ghost use Rattle.like_shared.specs.Shared.{HasRoom, IsClient, IsServiceKeeper, driver_log, driver_told, seat_logs, seats_of, seats_told, with_logs};
+
+use super::{SeatKeeper, ServiceKeeper, SharedService};
+use crate::client::Client;
+use crate::seat_call::{SeatLock, SeatPass};
+use std::alloc::{AllocError, Global};
+
+impl SharedService {
+    /// Another client. `Err`: there is no memory, or 2^64 - 1 clients are out.
+    pub fn new_client(&self, alloc: Global, keeper: &mut ServiceKeeper) -> Result<Client, AllocError>
+        requires { IsServiceKeeper self.now keeper.old }
+        ensures keeper { IsServiceKeeper self.now keeper.new }
+        ensures told { seats_told keeper.new ≡ seats_told keeper.old }
+        ensures driver_told { driver_told keeper.new ≡ driver_told keeper.old }
+        ensures client { IfOk result (λ client. IsClient self.now client) }
+        ensures logs { IfOk result (λ client. seat_logs client ≡ replicate (seats_of self.now) []) }
+        ensures driver_log { IfOk result (λ client. driver_log client ≡ []) }
+    {
+        if keeper.driver.out == u64::MAX || !have_room(&keeper.seats) {
+            return Err(AllocError);
+        }
+        let seats = Vec::with_capacity(alloc, self.seats.len())?;
+        let seats = new_passes(&self.seats, &mut keeper.seats, seats);
+        let driver = self.driver.new_pass(&mut keeper.driver);
+        Ok(Client { seats, driver })
+    }
+
+    /// Takes a client back, any of those that are out.
+    pub fn take_back(&self, keeper: &mut ServiceKeeper, client: Client)
+        requires keeper { IsServiceKeeper self.now keeper.old }
+        requires client { IsClient self.now client }
+        ensures keeper { IsServiceKeeper self.now keeper.new }
+        ensures told { seats_told keeper.new ≡ with_logs (seats_told keeper.old) client.seats.items }
+        ensures driver_told { driver_told keeper.new
+            ≡ driver_told keeper.old ++ named (name_of client.driver) (driver_log client) }
+    {
+        let Client { seats, driver } = client;
+        take_passes(&self.seats, &mut keeper.seats, seats);
+        self.driver.take_back(&mut keeper.driver, driver);
+    }
+}
+
+// Whether each keeper can make a pass.
+fn have_room(keepers: &[SeatKeeper]) -> bool
+    ensures { IsTrue result → All HasRoom keepers.now }
+{
+    keepers.iter().all(|keeper| keeper.out < u64::MAX)
+}
+
+// A pass of each seat, in order.
+fn new_passes(locks: &[SeatLock], keepers: &mut [SeatKeeper], mut passes: Vec<SeatPass>) -> Vec<SeatPass>
+    requires keepers { AllZip IsKeeper locks.now keepers.old }
+    requires room { All HasRoom keepers.old }
+    requires none { passes.items ≡ [] }
+    requires places { length locks.now ≤ vec_capacity passes }
+    ensures keepers { AllZip IsKeeper locks.now keepers.new }
+    ensures told { map told_of keepers.new ≡ map told_of keepers.old }
+    ensures passes { AllZip IsIdle locks.now result.items }
+    ensures logs { map log_of result.items ≡ replicate (length locks.now) [] }
+{
+    for seat in 0..locks.len() {
+        passes.push_reserved(locks[seat].new_pass(&mut keepers[seat]));
+    }
+    passes
+}
+
+// Takes a pass of each seat back, in order.
+fn take_passes(locks: &[SeatLock], keepers: &mut [SeatKeeper], passes: Vec<SeatPass>)
+    requires keepers { AllZip IsKeeper locks.now keepers.old }
+    requires passes { AllZip IsIdle locks.now passes.items }
+    ensures keepers { AllZip IsKeeper locks.now keepers.new }
+    ensures told { map told_of keepers.new ≡ with_logs (map told_of keepers.old) passes.items }
+{
+    let mut seat = 0;
+    for pass in passes {
+        locks[seat].take_back(&mut keepers[seat], pass);
+        seat += 1;
+    }
+}
