@@ -1,7 +1,7 @@
 -- What is lent to a post comes back, and its looks are fresh.
 use Rattle.std.proofs.Common.{◌≡◌, ℕ, zero, suc, ◌<◌, ◌≤◌, List, [], ◌∷◌, ◌++◌, length, drop, slice_set, refl, subst, ap, sym, ◌∙◌, arith}
 use Rattle.std.specs.Prelude.{All}
-use Rattle.std.proofs.lemmas.List.{append_assoc, drop_all, length-append}
+use Rattle.std.proofs.lemmas.List.{append_assoc, length-append}
 use Rattle.std.proofs.lemmas.List.Elements.{All-append, All-cons, All-nil}
 use base.Stored.{Gv, gnil, gnum, gcons}
 use mathlib.Core.Option.{Option, some, some-ne-none}
@@ -93,15 +93,7 @@ drop_more zero l m few = refl
 drop_more (suc n) [] m few = absurd (omega arith)
 drop_more (suc n) (x ∷ l) m few = drop_more n l m (omega arith)
 
--- nothing was looked at since now
-pub looked_none : (first : Option View) (v : WorkerSeatView) → HasLooked first v v
-looked_none first v = record {
-  more = omega arith;
-  fresh = subst (All (λ look. ShowsBy first look.sight)) (sym (drop_all (length v.looks) v.looks (omega arith)))
-      (All-nil (λ look. ShowsBy first look.sight));
-}
-
--- a step that is no look leaves that
+-- a step that is no look leaves what each look since then showed
 pub looked_same : (first next : Option View) (before v w : WorkerSeatView)
     → next ≡ first
     → w.looks ≡ v.looks

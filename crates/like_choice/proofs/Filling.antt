@@ -9,45 +9,9 @@ use Rattle.like_limits.specs.Limits.{hot_pages}
 use Rattle.like_limits.specs.Buckets.{bucket}
 use Rattle.like_core.specs.Functions.{has_bit}
 use Rattle.like_core.specs.Slots.{IsChoice}
-use Rattle.like_choice.specs.Slots.{IsFull, IsTaken}
-use Rattle.like_choice.specs.Steps.{CameBy, Fills, IsServedBy, StayInUse}
+use Rattle.like_choice.specs.Slots.{IsTaken}
+use Rattle.like_choice.specs.Steps.{CameBy, Fills, IsServedBy}
 use Rattle.like_choice.proofs.Masks.{in_use-set}
-
--- a list of one page has no other
-only : (page other : ℕ) → Contains (page ∷ []) other → other ≡ page
-only page other (zero, below, is) = sym is
-only page other (suc k, below, is) = absurd (omega arith)
-
--- no page is put in
-pub Fills-none : (factor pages : ℕ) (slots : List ℕ) (bits : ℕ) → Fills factor pages [] slots bits slots bits
-Fills-none factor pages slots bits = record {
-  stay = λ slot used. (used.1, refl);
-  asked = λ slot used. inl used.1;
-  lawful = λ choice. choice;
-  left_out = λ k below there. absurd (omega (arith, below));
-}
-
--- the only page of a list finds its bucket or all slots taken
-left-only : (factor pages page : ℕ) (slots : List ℕ) (bits : ℕ)
-    → (page < pages → IsTaken factor slots bits page ⊎ IsFull bits)
-    → (k : ℕ) → k < length (page ∷ []) → get_or (page ∷ []) k 0 < pages
-    → IsServedBy factor (page ∷ []) k bits slots bits
-left-only factor pages page slots bits out zero below there = elim (out there) [
-  | inl taken ↦ inl (taken.0, taken.1, taken.2, inl taken.1.1)
-  | inr full ↦ inr (λ slot small. (full slot small, inl (full slot small)))
-]
-left-only factor pages page slots bits out (suc k) below there = absurd (omega (arith, below))
-
--- a page is left out
-pub Fills-left : (factor pages page : ℕ) (slots : List ℕ) (bits : ℕ)
-    → (page < pages → IsTaken factor slots bits page ⊎ IsFull bits)
-    → Fills factor pages (page ∷ []) slots bits slots bits
-Fills-left factor pages page slots bits out = record {
-  stay = λ slot used. (used.1, refl);
-  asked = λ slot used. inl used.1;
-  lawful = λ choice. choice;
-  left_out = left-only factor pages page slots bits out;
-}
 
 -- a slot that is free, and the page in it after it was put there
 record IsPut (factor page : ℕ) (slots : List ℕ) (bits after slot : ℕ) : Type 0 where
@@ -147,13 +111,6 @@ Fills-put factor pages page slots bits after slot all there free sets below apar
       };
       left_out = put-left put pages;
     }
-
--- a bucket that is taken stays so
-taken-stays : (factor : ℕ) (slots : List ℕ) (bits : ℕ) (after : List ℕ) (bits_after page : ℕ)
-    → StayInUse slots bits after bits_after → IsTaken factor slots bits page → IsTaken factor after bits_after page
-taken-stays factor slots bits after bits_after page stay (slot, used, same) =
-    let kept = stay slot used in
-    (slot, (used.0, kept.0), ap (bucket factor) kept.1 ∙ same)
 
 -- what came by the first list
 came-first : (some more : List ℕ) (k bits slot : ℕ) (between after : List ℕ) → k < length some

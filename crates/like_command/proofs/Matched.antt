@@ -4,7 +4,7 @@ use Rattle.std.specs.Prelude.{pos, option_map}
 use Rattle.std.specs.List.{find, fold, slice_index_or}
 use Rattle.std.specs.Option.{option_map_or}
 use Rattle.std.specs.Str.{bytes_eq}
-use Rattle.std.proofs.lemmas.Option.{none-some, same_Some}
+use Rattle.std.proofs.lemmas.Option.{same_Some}
 use Rattle.std.proofs.lemmas.Slice.Eq.{bytes_eq-Decides}
 use Rattle.clap.proofs.ValueTestLemmas.{accepts-Accepts}
 use Rattle.clap.specs.Facts.{explicit_source, parser_of_value}
@@ -12,9 +12,7 @@ use Rattle.clap.specs.Faults.{check_fault, entered_fault, fault_of, is_simple_an
 use Rattle.clap.specs.Kinds.{HasKind, Kinds, value_kinds}
 use Rattle.clap.specs.Simple.{App, HasMatchesOf, Shape, app_of, built, built_leaf, entered, inherited, is_simple, marked_built, names_of, new_rule, rows_at, subcommand_of, with_leaf_noted}
 use Rattle.clap.specs.Words.{subcommand_rows_of}
-use Rattle.clap.specs.Matches.{subcommand_name_of}
 use Rattle.clap.specs.declared.parser.matches.ArgMatches.{ArgMatches}
-use Rattle.clap.specs.declared.parser.matches.ArgMatches.TheViews.{out-ArgMatches}
 use Rattle.clap.specs.Takes.{is_given}
 use Rattle.clap.specs.Values.{bool_text, reading_of, refused_kind}
 use Rattle.clap.specs.ValueTests.{accepts}
@@ -396,34 +394,6 @@ enters words none = go (stop_after (built likes_app).top.rules (names_of (built 
 
 -- ---- the matches of the subcommand
 
--- the name of what was entered, and what was entered by its name and its rows
-entered_name : {B : Type 0} (f : B → Text) (g : B → List Row) (o : Option B) (name : Text) (rows : List Row)
-    → option_map {U = Text × List Row} (λ b. (f b, g b)) o ≡ Some (name, rows)
-    → option_map f o ≡ Some name
-entered_name f g None name rows e = absurd (none-some (name, rows) e)
-entered_name f g (Some b) name rows e = ap (option_map (λ p. p.0)) e
-
-entered_whole : {B : Type 0} (f : B → Text) (g : B → List Row) (o : Option B) (name : Text) (rows : List Row)
-    → option_map f o ≡ Some name
-    → option_map (λ (p : Text × List Row). p.1) (option_map {U = Text × List Row} (λ b. (f b, g b)) o) ≡ Some rows
-    → option_map {U = Text × List Row} (λ b. (f b, g b)) o ≡ Some (name, rows)
-entered_whole f g None name rows e h = absurd (none-some name e)
-entered_whole f g (Some b) name rows e h =
-    ap₂ (λ (x : Text) (y : List Row). Some (x, y)) (same_Some (f b) name e) (same_Some (g b) rows h)
-
--- a parse that entered this subcommand has its name
-pub named : (m : ArgMatches) (name : Text) (rows : List Row)
-    → subcommand_rows_of m ≡ Some (name, rows)
-    → subcommand_name_of m ≡ Some name
-named m name rows e = entered_name _ _ (out-ArgMatches m).subcommand name rows e
-
--- a parse that has the name entered this subcommand
-pub whole : (m : ArgMatches) (name : Text) (rows : List Row)
-    → subcommand_name_of m ≡ Some name
-    → option_map (λ (p : Text × List Row). p.1) (subcommand_rows_of m) ≡ Some rows
-    → subcommand_rows_of m ≡ Some (name, rows)
-whole m name rows e h = entered_whole _ _ (out-ArgMatches m).subcommand name rows e h
-
 -- the rows that a parse entered are those that its subcommand has
 pub same_rows : (m : ArgMatches) (inner : List Row) (rows : List Row)
     → IsEntered (subcommand_rows_of m) rows
@@ -431,14 +401,6 @@ pub same_rows : (m : ArgMatches) (inner : List Row) (rows : List Row)
     → rows ≡ inner
 same_rows m inner rows (inl e) has = same_Some rows inner (sym (ap (option_map (λ (p : Text × List Row). p.1)) e) ∙ has)
 same_rows m inner rows (inr e) has = same_Some rows inner (sym (ap (option_map (λ (p : Text × List Row). p.1)) e) ∙ has)
-
--- one of the names was entered
-pub one_named : (m : ArgMatches) (rows : List Row)
-    → IsEntered (subcommand_rows_of m) rows
-    → ¬ (subcommand_name_of m ≡ Some (codes "run"))
-    → subcommand_name_of m ≡ Some (codes "replay")
-one_named m rows (inl e) no_run = absurd (no_run (named m (codes "run") rows e))
-one_named m rows (inr e) no_run = named m (codes "replay") rows e
 
 -- what a subcommand gives is what the words ask for
 pub asks : (words : List Text) (m : ArgMatches) (asked : Asked)

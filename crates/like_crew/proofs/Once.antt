@@ -1,7 +1,6 @@
 -- Logs that have one entry for each request and no other are collected.
-use Rattle.std.proofs.Common.{◌≡◌, ◌≢◌, ℕ, suc, ◌+◌, ◌<◌, ◌≤◌, Bool, true, false, cond, List, [], ◌∷◌, ◌++◌, Result, Ok, Err, IfErr, MatchResult, length, filter, refl, sym, ap, subst, ◌∙◌, arith, zero-add}
-use Rattle.std.proofs.lemmas.Bool.{eq-eqb, lt-ltb}
-use Rattle.like_tables.specs.Share.{owns, share_of, worker_of}
+use Rattle.std.proofs.Common.{◌≡◌, ◌≢◌, ℕ, suc, ◌+◌, ◌≤◌, Bool, true, false, cond, List, [], ◌∷◌, ◌++◌, Result, Ok, Err, IfErr, MatchResult, length, filter, refl, sym, ap, subst, ◌∙◌, arith, zero-add}
+use Rattle.std.proofs.lemmas.Bool.{eq-eqb}
 use Rattle.like_promises.specs.declared.log.Ran.{Ran}
 use Rattle.like_collection.specs.declared.collect_fault.CollectFault.{CollectFault}
 use Rattle.like_collection.specs.declared.collect_fault.CollectFault.TheVariants.{Stranger, Double, Missing, Memory}
@@ -9,7 +8,6 @@ use Rattle.like_collection.specs.CollectFaults.{IsCollectFault, IsFirstBadEntry}
 use Rattle.like_promises.specs.declared.replies.Replies.{Replies}
 use Rattle.like_promises.specs.Collected.{IsCollected, entries_of, rows_of}
 use Rattle.like_collection.specs.Entries.{IsRequest, is_of}
-use Rattle.like_requests.specs.Verdict.{home}
 
 -- each request has one entry, and there is no other entry
 pub record RunsOnce (sizes : List ℕ) (entries : List Ran) : Type 0 where
@@ -83,13 +81,3 @@ pub collected-at : (sizes : List ℕ) (entries : List Ran) (collected : Result R
 collected-at sizes entries collected replies is match =
     subst (λ r. MatchResult r (λ replies. IsCollected sizes entries (rows_of replies)) (IsCollectFault sizes entries)) is
     match
-
--- a worker owns the users whose home it serves
-pub owns-own : (users submitters workers user : ℕ)
-    → user < users
-    → owns (share_of users submitters workers (worker_of workers (home submitters user))) user ≡ true
-owns-own users submitters workers user there =
-    rw (
-      lt-ltb user users there,
-      eq-eqb (worker_of workers (home submitters user)) (worker_of workers (home submitters user)) refl,
-    ) refl

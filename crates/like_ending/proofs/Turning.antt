@@ -7,9 +7,9 @@ use Rattle.like_core.specs.declared.worker_state.WorkerState.TheVariants.{Runs, 
 use Rattle.like_core.specs.Phase.{last_phase}
 use Rattle.like_core.specs.WorkerState.{RunsJoined, RunsSplit, looked}
 use Rattle.like_ending.specs.Progress.{AllAreGone, CrewProgress, WorkerProgress}
-use Rattle.like_ending.specs.FreshTurns.{FreshWorks, FreshTurns, answered, saw, took}
+use Rattle.like_ending.specs.FreshTurns.{FreshTurns}
 use Rattle.like_ending.specs.FreshTurns as turn
-use Rattle.like_ending.specs.FreshCoordTurns.{FreshCoordTurns, released}
+use Rattle.like_ending.specs.FreshCoordTurns.{FreshCoordTurns}
 use Rattle.like_ending.specs.FreshCoordTurns as lead
 use Rattle.like_ending.specs.InPhase.{IsCrewInPhase, SuitsPhase}
 use Rattle.like_ending.specs.Schedules.{coordinator, worker}

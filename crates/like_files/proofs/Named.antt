@@ -1,5 +1,5 @@
 -- The files that options name, opened one after the other.
-use Rattle.std.proofs.Common.{◌≡◌, ◌+◌, ◌<◌, ◌∙◌, ℕ, suc, List, [], ◌∷◌, ◌++◌, Option, None, Some, ap, append-nil, append_assoc, arith, get_or, length, length-append, min, refl, sym, take}
+use Rattle.std.proofs.Common.{◌≡◌, ◌+◌, ◌<◌, ◌∙◌, ℕ, suc, List, [], ◌∷◌, ◌++◌, Option, None, Some, ap, append_assoc, arith, get_or, length, length-append, min, refl, sym, take}
 use Rattle.std.specs.Prelude.{IsSomeAnd, String, slice_get}
 use Rattle.std.specs.declared.alloc.Global.{Global}
 use Rattle.std.proofs.lemmas.List.{length-take-le, take_more}
@@ -20,10 +20,6 @@ module _ {R : Type 0} where
   Tries-trans (Some x) None c xs ys p q = absurd p
   Tries-trans (Some x) (Some y) None xs ys p q = absurd q
   Tries-trans (Some x) (Some y) (Some z) xs ys p q = q ∙ ap (λ l. l ++ ys) p ∙ append_assoc x xs ys
-
-  pub Tries-none : (a : Option (List (Try R))) → Tries a a []
-  Tries-none None = tt
-  Tries-none (Some x) = sym (append-nil x)
 
   -- the files of names, and of one more
   pub opened_as-more : (names : List (String Global)) (readers : List R) (name : String Global) (reader : R)

@@ -22,9 +22,9 @@ use Rattle.like_live.specs.declared.asked.Asked.{Asked}
 use Rattle.like_live.specs.declared.asked.Found.{Found}
 use Rattle.like_live.specs.LiveView.{LiveView, with_station}
 use Rattle.like_live.specs.Moves as moves
-use Rattle.like_live.specs.Moves.{FindsAll, IsFoundAt, Moves, MovesBy, Works, acknowledged, looked, step_for, with_found}
+use Rattle.like_live.specs.Moves.{FindsAll, Moves, MovesBy, Works, looked, with_found}
 use Rattle.like_live.specs.Calls as calls
-use Rattle.like_live.specs.Calls.{ComeBackCase, GlanceCase, GlancesNow, LikeCase, LikesNow, LookCase, LooksNow, RetireWorks, TakesFound, asked_in, retired_seat, verdict_at}
+use Rattle.like_live.specs.Calls.{ComeBackCase, GlanceCase, GlancesNow, LikeCase, LikesNow, LookCase, LooksNow, RetireWorks, TakesFound, verdict_at}
 use Rattle.like_live.specs.History.{Does, HasDone, Told, come_back, glance, like, look, retire, take_found, turn}
 use Rattle.like_live.specs.Deeds.{Deed, counted, deed_now, deeds_found, deeds_of, deeds_of_call, found_by, made_since, own_deed}
 use Rattle.like_live.proofs.Finding.{running}

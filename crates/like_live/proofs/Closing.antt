@@ -1,12 +1,12 @@
 -- What the seats of a service tell of the workers' seats that they give back.
-use Rattle.std.proofs.Common.{◌≡◌, ℕ, ◌+◌, ◌==◌, ◌<◌, cond, List, [], ◌∷◌, map, get_or, slice_index, drop, ap, sym, ◌∙◌, subst, refl, arith}
+use Rattle.std.proofs.Common.{◌≡◌, ℕ, ◌+◌, ◌==◌, ◌<◌, cond, List, [], ◌∷◌, map, slice_index, ap, sym, ◌∙◌, subst, refl, arith}
 use Rattle.std.specs.List.{All, sum_by}
 use Rattle.std.proofs.lemmas.List.{get_or-map, length-map}
 use Rattle.std.proofs.lemmas.List.Elements.{All-map, All-tail}
 use Rattle.std.proofs.lemmas.List.Sums.{sum_by-cons}
 use Rattle.like_board.specs.declared.worker_seat.WorkerSeat.{WorkerSeat}
 use Rattle.like_board.specs.Closed.{count_with}
-use Rattle.like_board.specs.Seats.{AreAll, BoardId, board_numbers, seat_board, seat_view}
+use Rattle.like_board.specs.Seats.{AreAll, board_numbers, seat_board, seat_view}
 use Rattle.like_core.specs.Post.{additions_of}
 use Rattle.like_core.specs.declared.view.WorkerSeatView.{WorkerSeatView}
 use Rattle.like_core.specs.views.Posts.{last_count}

@@ -10,7 +10,7 @@ use Rattle.like_live.specs.declared.answer.TurnAnswer.{TurnAnswer}
 use Rattle.like_live.specs.declared.asked.Found.{Found}
 use Rattle.like_live.specs.LiveView.{LiveView}
 use Rattle.like_live.specs.Moves as moves
-use Rattle.like_live.specs.Moves.{FindsAll, IsFoundAt, Moves, MovesBy, Works, acknowledged, looked, step_for, with_found}
+use Rattle.like_live.specs.Moves.{FindsAll, Moves, Works, looked, step_for}
 use Rattle.like_live.specs.Deeds.{deed_found, deeds_found, found_by, made_since}
 
 -- a call's turn made enough entries for what it found

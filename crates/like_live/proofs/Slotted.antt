@@ -20,11 +20,9 @@ use Rattle.like_core.specs.views.Shows.{FitsCoord, Moment}
 use Rattle.like_core.proofs.Slots.{slots_tell}
 use Rattle.like_core.proofs.core.Moved.{reached_is_exclusive}
 use Rattle.like_core.proofs.views.SplitPages.{slices_are_split}
-use Rattle.like_seat.specs.StationView.{HasPhaseMask}
 use Rattle.like_seat.proofs.Moments.{state_at}
 use Rattle.like_limits.specs.Limits.{hot_pages}
 use Rattle.like_choice.specs.Slots.{SlotsView}
-use Rattle.like_core.specs.declared.view.WorkerSeatView.{WorkerSeatView}
 use Rattle.like_live.specs.Driver.{DriverView, IsService}
 use Rattle.like_live.specs.Moments.{MarkedKeepSlots, SlicesAreSlots}
 use Rattle.like_live.specs.Splits.{slots_mask}

@@ -1,7 +1,7 @@
 -- What the program has done for its words, by what its parts answered.
 use Rattle.std.proofs.Common.{◌≡◌, ◌==◌, ℕ, List, [], ◌∷◌, inl, inr, Option, Result, Ok, Err, IfErr, IfOk, ap, false, length, map, refl, subst, sym, true≢false}
 use Rattle.std.specs.Prelude.{◌⊎◌, MatchResult}
-use Rattle.like_command.specs.Asked.{Asks, AsksForHelp, Words}
+use Rattle.like_command.specs.Asked.{Asks, Words}
 use Rattle.like_files.specs.Faults.{IsBeforeOutput}
 use Rattle.like_files.specs.Outcome.{TellsWrite}
 use Rattle.like_program.specs.Fault.{of_files}
@@ -12,7 +12,7 @@ use Rattle.like_command.specs.declared.options.Options.{Options}
 use Rattle.like_replies.specs.declared.notice.Notice.{Notice}
 use Rattle.like_files.specs.declared.fault.DriverFault.{DriverFault}
 use Rattle.like_program.specs.declared.fault.ProgramFault.{ProgramFault}
-use Rattle.like_program.specs.declared.fault.ProgramFault.TheVariants.{Files, Inputs, Output}
+use Rattle.like_program.specs.declared.fault.ProgramFault.TheVariants.{Files, Inputs}
 
 -- what is asked for by some words was done
 pub served : (words : Words) (old new : Option (List ℕ)) (asked : Asked) (notice : Option Notice)
@@ -73,12 +73,3 @@ files-not_served words old new options (Err fault) some asks (inl why) =
 files-not_served words old new options (Err fault) some asks (inr twice) =
     subst (IsServeFault words old new) (sym twice.0)
     (not_served words old new Inputs some (options, asks, twice.1, twice.2))
-
--- why help was not printed
-pub help-fault : {A : Type 0} (words : Words) (old new : Option (List ℕ)) (done : Result A ProgramFault)
-    → ¬ (words ≡ [])
-    → AsksForHelp words
-    → IfErr done (λ fault. fault ≡ Output) → IfErr done (IsServeFault words old new)
-help-fault words old new (Ok x) some asks h = tt
-help-fault words old new (Err fault) some asks h =
-    not_served words old new fault some (subst (IsWordsFault words old new) (sym h) asks)

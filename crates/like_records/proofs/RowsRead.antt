@@ -1,8 +1,7 @@
 -- How far the reading of a file's rows has come.
 use Rattle.std.proofs.Common.{◌≡◌, ◌≢◌, ◌⊎◌, Result, Ok, Err, IfErr, ℕ, zero, suc, ◌+◌, ◌<◌, List, [], ◌∷◌, ◌++◌, length, slice_get, Option, Some, refl, sym, ap, ◌∙◌, subst, arith, inl, inr, append_assoc}
 use Rattle.std.specs.List.{AllByRecursion}
-use Rattle.std.specs.Option.{ForSome}
-use Rattle.std.proofs.lemmas.List.{append-nil, take-append-le, take_at, length_push}
+use Rattle.std.proofs.lemmas.List.{take-append-le, take_at, length_push}
 use Rattle.std.proofs.lemmas.Option.{slice_get_within, same_Some, get_or_from_slice_get}
 use Rattle.std.proofs.lemmas.Bool.{cases_lt}
 use Rattle.like_records.specs.First.{FailsFirst}
@@ -41,12 +40,6 @@ module _ {T : Type 0} (Asks : List Record → Record → T → Type 0) (tests : 
     pub passed : PassAll Asks tests done
     pub whole : (body : List Record) → before ≡ Some body
         → (rest : List Record) × (left ≡ Some rest) × (body ≡ done ++ rest)
-
-  pub reading_starts : (before : Option (List Record)) → HasRead before before []
-  reading_starts before = record {
-    passed = λ k r e. absurd (omega (arith, slice_get_within [] k r e));
-    whole = λ body known. (body, known, refl);
-  }
 
   PassAll-push : (done : List Record) (r : Record) → PassAll Asks tests done
       → AllByRecursion (Asks done r) (tests (length done + 1)) → PassAll Asks tests (done ++ r ∷ [])
@@ -90,15 +83,6 @@ module _ {T : Type 0} (Asks : List Record → Record → T → Type 0) (tests : 
           rw (take_at done (new.fields ∷ rest) (length done) refl) h.passed,
           rw (take_at done (new.fields ∷ rest) (length done) refl) fails,
         )
-
-  -- no record is left
-  pub reading_ends : (before left : Option (List Record)) (done : List Record) → HasRead before left done
-      → ForSome left (λ rows. rows ≡ [])
-      → (body : List Record) → before ≡ Some body → PassAll Asks tests body × (done ≡ body)
-  reading_ends before left done h none body known =
-      let (rest, left_is, whole) = h.whole body known in
-      let all : body ≡ done = whole ∙ ap (λ rows. done ++ rows) (none rest left_is) ∙ append-nil done in
-      (rw all h.passed, sym all)
 
 -- what each of the three ways to stop says of a fault, it says of the fault that stopped a file
 pub stopped : {T : Type 0} (Says : T → Type 0) (fault_of : RecordsFault → T) (header : Record) (headless : T)

@@ -1,15 +1,11 @@
 -- A front of a text that was written.
 use Rattle.std.proofs.Common.{◌+◌, ◌++◌, ◌∙◌, ℕ, List, [], Option, Result, Ok, Err, ap, append-nil, append_assoc, drop, refl, sym, subst, take, take-append-drop}
-use Rattle.std.proofs.KnownBytes.{Appends-kept, Appends-nil, Appends-trans}
+use Rattle.std.proofs.KnownBytes.{Appends-kept, Appends-trans}
 use Rattle.std.proofs.Math.Seq.{take-add}
 use Rattle.std.specs.Io.KnownBytes.{Appends, Keeps}
 use Rattle.like_replies.specs.Output.{HasBegun, TellsOutput, Writes}
 use Rattle.like_replies.specs.declared.write_fault.WriteFault.{WriteFault}
 use Rattle.like_replies.specs.declared.write_fault.WriteFault.TheVariants as write
-
--- nothing was written
-pub begun-none : (a : Option (List ℕ)) (text : List ℕ) → HasBegun a a text
-begun-none a text = record { front = []; rest = text; whole = refl; written = Appends-nil a }
 
 -- the first bytes were
 pub begun-first : (a b : Option (List ℕ)) (n : ℕ) (text : List ℕ) → Appends a b (take n text) → HasBegun a b text

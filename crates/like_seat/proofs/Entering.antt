@@ -1,7 +1,7 @@
 -- A seat that enters the next phase.
 use Rattle.std.proofs.Common.{◌≡◌, ℕ, ◌+◌, ◌%◌, ◌==◌, ◌<◌, ◌≤◌, ◌⊎◌, ◌&&◌, ◌||◌, nat_lt, Bool, true, false, cond, List, [], ◌∷◌, length, get_or, sum, inl, inr, refl, sym, ap, subst, ◌∙◌, arith}
 use Rattle.std.specs.List.{list_any}
-use Rattle.std.proofs.lemmas.Bool.{and_from, and_parts, cases_eq, cond-true, eq-eqb, lt-ltb, ltb-false, ltb-true, or_right}
+use Rattle.std.proofs.lemmas.Bool.{and_from, and_parts, cases_eq, cond-true, eq-eqb, lt-ltb, ltb-true, or_right}
 use Rattle.like_core.specs.declared.sight.Sight.{Sight}
 use Rattle.like_core.specs.declared.view.PhaseMask.{PhaseMask}
 use Rattle.like_core.specs.declared.worker_state.WorkerState.{WorkerState}
@@ -23,7 +23,7 @@ use Rattle.like_tables.specs.SplitSlice.{IsSplitSlice, SplitSlice, by_page, has_
 use Rattle.like_tables.proofs.ByPage.{by_page-none, length-by_page, likes_in-none, likes_in-other}
 use Rattle.like_tables.proofs.Sliced.{counts-none}
 use Rattle.like_seat.specs.declared.tables.Tables.{Tables}
-use Rattle.like_seat.specs.Kept.{EntersBy, IsFilled, IsFilledBySlots, IsKept, IsOfRun, IsOfService, MayEnter, SplitsPages, is_split_by, is_split_in_run}
+use Rattle.like_seat.specs.Kept.{EntersBy, IsFilled, IsFilledBySlots, IsKept, IsOfService, MayEnter, SplitsPages, is_split_by}
 use Rattle.like_seat.specs.Steps.{masks_entered}
 use Rattle.like_seat.proofs.Filling.{number-kept, same_tests}
 use Rattle.like_seat.proofs.Keeping.{in-split, splits-none}
@@ -74,23 +74,7 @@ pub opening-ran : (post looked : WorkerSeatView) (phase : ℕ) → looked ≡ ra
     → looked.opening ≡ post.opening
 opening-ran post looked phase look = ap (λ (p : WorkerSeatView). p.opening) look
 
--- in a run the pages that are marked or hot are split
-pub filled-run : (post : WorkerSeatView) (marks : List Bool) (mask : ℕ) (s after : SplitSlice) → IsOfRun post.opening marks
-    → AreLimits post.opening.limits → IsFilled s (length marks) (is_split_in_run marks mask) after
-    → IsFilled s (pages_of post) (is_split_by post mask) after
-filled-run post marks mask s after run limits f =
-    let hot : post.opening.limits.hot ≡ hot_pages = omega (arith, ltb-false hot_pages post.opening.limits.hot run.plain, limits.hot) in
-    record {
-      slice = f.slice;
-      factor = f.factor;
-      counts = f.counts;
-      splits = λ page. f.splits page
-          ∙ ap (λ (ms : List Bool). nat_lt page (length ms) && (is_marked ms page || is_hot_by hot_pages mask page))
-          (sym run.marks)
-          ∙ ap (λ (h : ℕ). nat_lt page (pages_of post) && (is_marked post.opening.marks page || is_hot_by h mask page)) (sym hot);
-    }
-
--- in a service those in the slots in use are
+-- in a service the pages in the slots in use are split
 pub filled-service : (post : WorkerSeatView) (slots : ℕ → ℕ) (word : ℕ) (s after : SplitSlice) → IsOfService post.opening
     → AreLimits post.opening.limits → pages_of post ≤ post.opening.limits.pages → IsChoice post.opening.factor (pages_of post) slots word
     → IsFilledBySlots s slots word hot_pages after

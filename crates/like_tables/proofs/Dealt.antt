@@ -52,8 +52,3 @@ pub map-dealt : {A B : Type 0} (f : A → B) (n k : ℕ) (xs : List A) → map f
 map-dealt f n k [] = refl
 map-dealt f n zero (x ∷ xs) = ap (λ ys. f x ∷ ys) (map-dealt f n (n - 1) xs)
 map-dealt f n (suc k) (x ∷ xs) = map-dealt f n k xs
-
--- a single worker has them all
-pub dealt-one : {A : Type 0} (xs : List A) → dealt 1 0 xs ≡ xs
-dealt-one [] = refl
-dealt-one (x ∷ xs) = ap (λ ys. x ∷ ys) (dealt-one xs)

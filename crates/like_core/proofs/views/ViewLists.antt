@@ -97,21 +97,6 @@ module _ {A : Type 0} where
       let rest = sum_mono f g xs each in
       omega (arith, sum_by-cons f x xs, sum_by-cons g x xs)
 
-  -- and one term is this much more
-  pub sum_more : (f g : A → ℕ) (l : List A) (i : ℕ) (a : A) (more : ℕ) → ((b : A) → f b ≤ g b) → get_elem? l i ≡ some a
-      → f a + more ≤ g a → sum_by f l + more ≤ sum_by g l
-  sum_more f g [] i a more each e here = absurd (some-ne-none a (sym e))
-  sum_more f g (x ∷ xs) zero a more each e here =
-      let first = some-injective x a e in
-      let of_f = ap f first in
-      let of_g = ap g first in
-      let rest = sum_mono f g xs each in
-      omega (arith, sum_by-cons f x xs, sum_by-cons g x xs)
-  sum_more f g (x ∷ xs) (suc i) a more each e here =
-      let first = each x in
-      let rest = sum_more f g xs i a more each e here in
-      omega (arith, sum_by-cons f x xs, sum_by-cons g x xs)
-
   -- a sum in which none counts
   sum_none : (f : A → ℕ) (l : List A) → ((j : ℕ) (b : A) → get_elem? l j ≡ some b → f b ≡ 0) → sum_by f l ≡ 0
   sum_none f [] none = refl

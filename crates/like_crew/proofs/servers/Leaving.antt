@@ -14,16 +14,6 @@ pub all-one : {A : Type 0} (P : A → Type 0) (x : A) → P x → All P (x ∷ [
 all-one P x h zero d within = h
 all-one P x h (suc k) d within = absurd (omega (arith, within))
 
-pub none-left : HaveLeft [] [] []
-none-left = record {
-  servers =
-      [];
-  later = tt;
-  gone = λ k d within. absurd (omega (arith, within));
-  logs_are = tt;
-  seats_are = tt;
-}
-
 -- one more
 pub one-left : (first more : List ServerView) (logs logs_more : List WorkerLog) (seats seats_more : List WorkerSeat)
     (s : ServerView) (log : WorkerLog) (seat : WorkerSeat)

@@ -1,5 +1,4 @@
-use Rattle.std.proofs.Common.{◌≡◌, ◌<◌, ℕ, List, false, replicate, ap, refl, sym, subst, ◌∙◌, arith}
-use Rattle.std.specs.Arc.{arc_value}
+use Rattle.std.proofs.Common.{◌<◌, ℕ, List, false, replicate, ap, refl, sym, subst, ◌∙◌, arith}
 use Rattle.like_core.specs.Post.{IsFresh, fresh}
 use Rattle.like_core.specs.declared.view.WorkerSeatView.{WorkerSeatView}
 use Rattle.like_board.specs.Seats.{board_id, board_numbers, post_board, post_view}
