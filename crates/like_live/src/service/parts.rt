@@ -2,7 +2,7 @@
 ghost use Rattle.std.specs.Prelude.{◌≡◌, ◌^◌, ◌≤◌, ◌<◌, ◌↔◌, IfOk, IsTrue, length};
 ghost use Rattle.std.specs.Arc.{arc_value};
 ghost use Rattle.like_board.specs.Seats.{AreFresh, board_id, seat_board, seat_view};
-ghost use Rattle.like_core.specs.Post.{IsFresh, fresh};
+ghost use Rattle.like_core.specs.Post.{fresh};
 ghost use Rattle.like_tables.specs.Share.{share_of};
 ghost use Rattle.like_tables.specs.UserTable.{table_with_lasts};
 ghost use Rattle.like_live.specs.Opening.{IsWithinLimits, board_opening};
