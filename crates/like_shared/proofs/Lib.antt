@@ -2,7 +2,6 @@ pub mod Backs
 pub mod Batches
 pub mod Clients
 pub mod Closing
-pub mod Counted
 pub mod Places
 pub mod Rows
 pub mod Runs
