@@ -10,6 +10,7 @@ pub mod Whole
 pub mod Once
 pub mod OneOrder
 pub mod Ending
+pub mod Asked
 pub mod LastLikes
 pub mod additions
 pub mod Leading

@@ -21,7 +21,7 @@ logs-after : {A : Type 0} (result : Result A Busy) (deeds : A → List SeatDeed)
     (seat : ℕ) (p q : Pass LiveView SeatDeed) → seat < length passes → p ≡ get_or passes seat p
     → MatchResult result (λ told. log_of q ≡ log_of p ++ deeds told) (λ busy. log_of q ≡ log_of p)
     → MatchResult result (λ told. map log_of (set passes seat q) ≡ with_deeds (map log_of passes) seat (deeds told))
-      (λ busy. map log_of (set passes seat q) ≡ map log_of passes)
+    (λ busy. map log_of (set passes seat q) ≡ map log_of passes)
 logs-after (Ok told) deeds passes seat p q less at log =
     map-set log_of passes seat q
     ∙ ap (set (map log_of passes) seat)

@@ -11,7 +11,7 @@ use Rattle.told_lock.proofs.Logs.{run-append}
 use Rattle.told_lock.specs.Deeds.{HasRun}
 use Rattle.like_core.specs.declared.log.Logged.{Logged}
 use Rattle.like_core.specs.Post.{answered as answered_post, number_of}
-use Rattle.like_seat.specs.Merge.{MergesAndReports, merged}
+use Rattle.like_seat.specs.Merge.{merged}
 use Rattle.like_seat.specs.StationView.{StationView}
 use Rattle.like_live.specs.declared.answer.TurnAnswer.{TurnAnswer}
 use Rattle.like_live.specs.declared.asked.Asked.{Asked}

@@ -1,7 +1,7 @@
 -- The counts that a driver has read stay among those that it knows.
 use Rattle.std.proofs.Common.{◌≡◌, ℕ, zero, suc, ◌+◌, ◌<◌, Bool, true, false, List, [], ◌∷◌, length, Option, Some, sym, ap, ◌∙◌, subst, arith}
-use Rattle.std.specs.Prelude.{All, slice_index, ⊤}
-use Rattle.std.proofs.lemmas.List.Elements.{All-cons, All-head, All-nil, All-tail}
+use Rattle.std.specs.Prelude.{All, Contains, slice_index, ⊤}
+use Rattle.std.proofs.lemmas.List.Elements.{All-cons, All-contains_itself, All-head, All-nil, All-tail}
 use Rattle.told_lock.specs.Deeds.{HasRun}
 use Rattle.like_core.specs.declared.view.PageCount.{PageCount}
 use Rattle.like_core.specs.declared.view.CoordSeatView.{CoordSeatView}
@@ -15,7 +15,7 @@ use Rattle.like_live.specs.Driver.{counted as counts_last}
 use Rattle.like_shared.specs.declared.deed.DriverDeed.{DriverDeed}
 use Rattle.like_shared.specs.declared.deed.DriverDeed.TheVariants as driver
 use Rattle.like_shared.specs.Deeds.{DriverDoes, DriverMakes}
-use Rattle.like_shared.specs.Staying.{counted}
+use Rattle.like_shared.specs.Staying.{CountsStay, counted}
 
 -- a look reads no count
 seen-alike : (v w : LeadView) (sight : CoordSight) → Sees v sight w → w.seat.counted ≡ v.seat.counted
@@ -143,3 +143,15 @@ module _ (P : PageCount → Type 0) where
       let rest = all-written run.0 w ds run.2 all in
       let one = deed-alike v run.0 d run.1.0 rest.0 in
       (one.0, All-cons Written d ds one.1 rest.1)
+
+-- so the counts that a driver has read stay among those that it knows
+module _ (v w : DriverView) (d : DriverDeed) (does : DriverDoes v d w) where
+  stays : All (Contains (counted w)) (counted v) × Written (Contains (counted w)) d
+  stays = deed-alike (Contains (counted w)) v w d does.0 (All-contains_itself (counted w))
+
+pub counts-stay : CountsStay
+counts-stay = record {
+  kept = λ v w d does. (stays v w d does).0;
+  snapshots = λ v w from phase counts does. (stays v w (driver.Snapshot from counts (Some phase)) does).1;
+  lasts = λ v w from counts does. (stays v w (driver.LastCounts from counts true) does).1;
+}

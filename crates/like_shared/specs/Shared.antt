@@ -4,7 +4,6 @@ use Rattle.std.specs.List.{AllZip}
 use Rattle.told_lock.specs.Deeds.{Named, named}
 use Rattle.told_lock.specs.Rights.{IsIdle, IsKeeper, first_of, log_of, name_of, told_of}
 use Rattle.told_lock.specs.declared.keeper.Keeper.{Keeper}
-use Rattle.told_lock.specs.declared.lock.Lock.{Lock}
 use Rattle.told_lock.specs.declared.pass.Pass.{Pass}
 use Rattle.like_live.specs.Driver.{DriverView}
 use Rattle.like_live.specs.LiveView.{LiveView}
@@ -12,7 +11,6 @@ use Rattle.like_live.specs.Service.{AreItsSeats}
 use Rattle.like_shared.specs.declared.client.Client.{Client}
 use Rattle.like_shared.specs.declared.deed.DriverDeed.{DriverDeed}
 use Rattle.like_shared.specs.declared.deed.SeatDeed.{SeatDeed}
-use Rattle.like_shared.specs.declared.deed.SeatDeeds.{SeatDeeds}
 use Rattle.like_shared.specs.declared.seat_call.Busy.{Busy}
 use Rattle.like_shared.specs.declared.service.ServiceKeeper.{ServiceKeeper}
 use Rattle.like_shared.specs.declared.service.SharedService.{SharedService}

@@ -1,10 +1,11 @@
 -- What stays along all calls of a service.
-use Rattle.std.specs.Prelude.{ℕ, ◌+◌, ◌<◌, All, Contains, List, length, slice_index, Option, Some}
+use Rattle.std.specs.Prelude.{ℕ, ◌+◌, ◌<◌, All, Contains, List, length, slice_index, Some, true}
 use Rattle.like_core.specs.declared.view.PageCount.{PageCount}
-use Rattle.like_live.specs.declared.driver_answer.DriverAnswer.{DriverAnswer}
-use Rattle.like_live.specs.declared.driver_end.End.{End}
-use Rattle.like_live.specs.Driver.{DriverTurns, DriverView, IsSameDriver, TakesSnapshot}
+use Rattle.like_live.specs.Driver.{DriverView, IsSameDriver}
 use Rattle.like_live.specs.LiveView.{IsSameSeat, LiveView}
+use Rattle.like_shared.specs.declared.deed.DriverDeed.{DriverDeed}
+use Rattle.like_shared.specs.declared.deed.DriverDeed.TheVariants.{LastCounts, Snapshot}
+use Rattle.like_shared.specs.Deeds.{DriverDoes}
 
 -- the counts that a driver has read
 abbrev pub counted : DriverView → List PageCount
@@ -21,12 +22,17 @@ pub record SameStays : Type 0 where
   pub seat_first : (v : LiveView) → IsSameSeat v v
   pub seat_then : (u v w : LiveView) → IsSameSeat u v → IsSameSeat v w → IsSameSeat u w
 
--- the law of counts: a driver's turns and snapshots keep the counts that it has read, and it then knows those that a
--- snapshot wrote, as counts of the snapshot's phase
+-- it knows these counts, of the pages from this one on, as those of the phase
+abbrev pub KnowsCounts : DriverView → (phase from : ℕ) → List ℕ → Type 0
+KnowsCounts v phase from counts =
+    (i : ℕ) → i < length counts
+    → Contains (counted v) (record { phase = phase; page = from + i; count = slice_index counts i })
+
+-- the law of counts: a driver's calls keep the counts that it has read, and it then knows those that a snapshot wrote, as
+-- counts of the snapshot's phase, and those that were written as last ones
 pub record CountsStay : Type 0 where
-  pub turns : (v w : DriverView) (end : End) (answer : DriverAnswer) → DriverTurns v end answer w → KeepsCounts v w
-  pub snapshots : (v w : DriverView) (from : ℕ) (old counts : List ℕ) (phase : Option ℕ)
-      → TakesSnapshot v from old phase w counts → KeepsCounts v w
-  pub written : (v w : DriverView) (from : ℕ) (old counts : List ℕ) (phase : ℕ)
-      → TakesSnapshot v from old (Some phase) w counts → (i : ℕ) → i < length counts
-      → Contains (counted w) (record { phase = phase; page = from + i; count = slice_index counts i })
+  pub kept : (v w : DriverView) (d : DriverDeed) → DriverDoes v d w → KeepsCounts v w
+  pub snapshots : (v w : DriverView) (from phase : ℕ) (counts : List ℕ)
+      → DriverDoes v (Snapshot from counts (Some phase)) w → KnowsCounts w phase from counts
+  pub lasts : (v w : DriverView) (from : ℕ) (counts : List ℕ)
+      → DriverDoes v (LastCounts from counts true) w → (phase : ℕ) × KnowsCounts w phase from counts

@@ -10,11 +10,11 @@ use crate::driver::{DriverPass, try_drive};
 use crate::driver_calls::{
     DriverTurnCall, LastCountsCall, ProposeCall, SnapshotCall, SplitPagesCall,
 };
-use crate::seat_rows::try_run;
 use crate::seat_call::{Busy, SeatCall, SeatPass, try_call};
 use crate::seat_calls::{
     ComeBackCall, GlanceCall, LastCall, LikeCall, LookCall, RetireCall, TakeFoundCall, TurnCall,
 };
+use crate::seat_rows::try_run;
 use crate::service::SharedService;
 use like_live::{
     Answer, Call, DriverAnswer, End, Found, GlanceAnswer, LikeAnswer, LookAnswer, TurnAnswer,
@@ -31,7 +31,12 @@ pub struct Client {
 impl Client {
     /// Counts a user's like of a page, which is then the user's last.
     #[inline(always)]
-    pub fn like(&mut self, service: &SharedService, user: u32, page: u32) -> Result<LikeAnswer, Busy>
+    pub fn like(
+        &mut self,
+        service: &SharedService,
+        user: u32,
+        page: u32,
+    ) -> Result<LikeAnswer, Busy>
         requires { IsClient service.now self.old }
         ensures client { IsClient service.now self.new }
         ensures log { IsLogged self.old (home (seats_of service.now) user) (deed.Like user page) result self.new }
@@ -41,7 +46,13 @@ impl Client {
 
     /// Looks at a page for a user. A look that waits is found later, with its tag.
     #[inline(always)]
-    pub fn look(&mut self, service: &SharedService, user: u32, page: u32, tag: u64) -> Result<LookAnswer, Busy>
+    pub fn look(
+        &mut self,
+        service: &SharedService,
+        user: u32,
+        page: u32,
+        tag: u64,
+    ) -> Result<LookAnswer, Busy>
         requires { IsClient service.now self.old }
         ensures client { IsClient service.now self.new }
         ensures log { IsLogged self.old (home (seats_of service.now) user) (deed.Look user page tag) result self.new }
@@ -51,7 +62,12 @@ impl Client {
 
     /// Looks at a page for a user, and never waits. If the page is split now, the count may lack likes.
     #[inline(always)]
-    pub fn glance(&mut self, service: &SharedService, user: u32, page: u32) -> Result<GlanceAnswer, Busy>
+    pub fn glance(
+        &mut self,
+        service: &SharedService,
+        user: u32,
+        page: u32,
+    ) -> Result<GlanceAnswer, Busy>
         requires { IsClient service.now self.old }
         ensures client { IsClient service.now self.new }
         ensures log { IsLogged self.old (home (seats_of service.now) user) (deed.Glance user page) result self.new }
@@ -61,7 +77,11 @@ impl Client {
 
     /// The page of a user's last like, if there is one.
     #[inline(always)]
-    pub fn last(&mut self, service: &SharedService, user: u32) -> Result<Result<Option<u32>, Verdict>, Busy>
+    pub fn last(
+        &mut self,
+        service: &SharedService,
+        user: u32,
+    ) -> Result<Result<Option<u32>, Verdict>, Busy>
         requires { IsClient service.now self.old }
         ensures client { IsClient service.now self.new }
         ensures log { IsLogged self.old (home (seats_of service.now) user) (deed.Last user) result self.new }
@@ -82,7 +102,11 @@ impl Client {
 
     /// Takes the first found look of a seat, if there is one.
     #[inline(always)]
-    pub fn take_found(&mut self, service: &SharedService, seat: usize) -> Result<Option<Found>, Busy>
+    pub fn take_found(
+        &mut self,
+        service: &SharedService,
+        seat: usize,
+    ) -> Result<Option<Found>, Busy>
         requires client { IsClient service.now self.old }
         requires seat { seat < seats_of service.now }
         ensures client { IsClient service.now self.new }
@@ -169,7 +193,12 @@ impl Client {
         ensures client { IsClient service.now self.new }
         ensures log { IsDriverLogged self.old (driver_deed.Turn end) result self.new }
     {
-        try_drive(&service.driver, &mut self.driver, &DriverTurnCall { end }, &mut [])
+        try_drive(
+            &service.driver,
+            &mut self.driver,
+            &DriverTurnCall { end },
+            &mut [],
+        )
     }
 
     /// Proposes these pages for slots.
@@ -178,12 +207,22 @@ impl Client {
         ensures client { IsClient service.now self.new }
         ensures log { IsDriverLogged self.old (λ _. driver_deed.Propose pages.now) result self.new }
     {
-        try_drive(&service.driver, &mut self.driver, &ProposeCall { pages }, &mut [])
+        try_drive(
+            &service.driver,
+            &mut self.driver,
+            &ProposeCall { pages },
+            &mut [],
+        )
     }
 
     /// Writes the counts of the pages from `from` on, if all seats are in at the end of a joined phase. The answer is that
     /// phase.
-    pub fn snapshot(&mut self, service: &SharedService, from: u32, counts: &mut [u64]) -> Result<Option<u64>, Busy>
+    pub fn snapshot(
+        &mut self,
+        service: &SharedService,
+        from: u32,
+        counts: &mut [u64],
+    ) -> Result<Option<u64>, Busy>
         requires client { IsClient service.now self.old }
         requires places { from + length counts.old ≤ pages_of service.now }
         ensures client { IsClient service.now self.new }
@@ -191,7 +230,12 @@ impl Client {
         ensures counts { MatchResult result (λ phase. IfNone phase (counts.new ≡ counts.old))
             (λ _. counts.new ≡ counts.old) }
     {
-        try_drive(&service.driver, &mut self.driver, &SnapshotCall { from }, counts)
+        try_drive(
+            &service.driver,
+            &mut self.driver,
+            &SnapshotCall { from },
+            counts,
+        )
     }
 
     /// Writes the pages that are split in the present or the last split phase, as many as there is room for. The answer
@@ -208,7 +252,12 @@ impl Client {
 
     /// Writes the last counts of the pages from `from` on, if all seats are gone, and says whether it did. Then the
     /// service is over: no phase is released.
-    pub fn last_counts(&mut self, service: &SharedService, from: u32, counts: &mut [u64]) -> Result<bool, Busy>
+    pub fn last_counts(
+        &mut self,
+        service: &SharedService,
+        from: u32,
+        counts: &mut [u64],
+    ) -> Result<bool, Busy>
         requires client { IsClient service.now self.old }
         requires places { from + length counts.old ≤ pages_of service.now }
         ensures client { IsClient service.now self.new }
@@ -216,6 +265,11 @@ impl Client {
         ensures counts { MatchResult result (λ is_done. IsFalse is_done → counts.new ≡ counts.old)
             (λ _. counts.new ≡ counts.old) }
     {
-        try_drive(&service.driver, &mut self.driver, &LastCountsCall { from }, counts)
+        try_drive(
+            &service.driver,
+            &mut self.driver,
+            &LastCountsCall { from },
+            counts,
+        )
     }
 }

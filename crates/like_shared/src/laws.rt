@@ -30,7 +30,7 @@ pub fn same_stays()
     ensures { SameStays }
 {}
 
-/// A snapshot's counts stay among those that the driver knows.
+/// The counts that a snapshot wrote stay among those that the driver knows, and so do last counts.
 pub fn counts_stay()
     ensures { CountsStay }
 {}

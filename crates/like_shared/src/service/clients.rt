@@ -12,7 +12,11 @@ use std::alloc::{AllocError, Global};
 
 impl SharedService {
     /// Another client. `Err`: there is no memory, or 2^64 - 1 clients are out.
-    pub fn new_client(&self, alloc: Global, keeper: &mut ServiceKeeper) -> Result<Client, AllocError>
+    pub fn new_client(
+        &self,
+        alloc: Global,
+        keeper: &mut ServiceKeeper,
+    ) -> Result<Client, AllocError>
         requires { IsServiceKeeper self.now keeper.old }
         ensures keeper { IsServiceKeeper self.now keeper.new }
         ensures told { seats_told keeper.new ≡ seats_told keeper.old }
@@ -53,7 +57,11 @@ fn have_room(keepers: &[SeatKeeper]) -> bool
 }
 
 // A pass of each seat, in order.
-fn new_passes(locks: &[SeatLock], keepers: &mut [SeatKeeper], mut passes: Vec<SeatPass>) -> Vec<SeatPass>
+fn new_passes(
+    locks: &[SeatLock],
+    keepers: &mut [SeatKeeper],
+    mut passes: Vec<SeatPass>,
+) -> Vec<SeatPass>
     requires keepers { AllZip IsKeeper locks.now keepers.old }
     requires room { All HasRoom keepers.old }
     requires none { passes.items ≡ [] }

@@ -4,8 +4,7 @@ use Rattle.like_shared.proofs.driver.try_drive.Goals as goal
 
 pub make_at-answer-requires : goal.make_at-answer-requires
 make_at-answer-requires g c =
-    let taken = rw c.if-not-try_take.false at c.try_take.ensures.taken in
-    (
+    let taken = rw c.if-not-try_take.false at c.try_take.ensures.taken in (
       taken.0,
       taken.1,
       pages-reached (first_of c.args.lock.now) taken.0 (name_of c.args.pass.now) (log_of c.args.pass.now) _ taken.2
