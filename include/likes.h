@@ -13,11 +13,13 @@
  *   - NULL. It may be an array of no entries, counts that are all 0, or a handle that is to be freed. Any other array
  *     that is NULL is refused, and so are NULL options and a NULL driver of likes_open: by LIKES_NULL, or by 0 where a
  *     call gives a number. No other pointer of these calls is NULL.
+ *   - likes_close gets the seats of that driver's service, each once. (It refuses any other seat: that is tested, and
+ *     not proved. It is a call on the driver and on all these seats.)
  *   - One call at a time on each driver and each seat, from any thread. Two calls on the same object are ordered by a
  *     lock, by a thread's start or join, or by a sequentially consistent atomic. Only likes_phase_now may be called by
  *     several threads at once, until one of them frees the phase.
  *   - A handle, likes_driver, likes_seat or likes_phase, begins as {0}, which is empty. Only the call that fills it and
- *     the one that frees it change it. After a copy, only one of the two is used.
+ *     the one that frees it or closes its service change it. After a copy, only one of the two is used.
  *   - No call is made from a signal handler, or in the child of a fork.
  *   - Every seat that isn't gone is called at least once while a phase is ending, by likes_seat_turn if there is
  *     nothing else to do. A seat that isn't called holds up all others.
@@ -28,7 +30,7 @@
  *     look, a glance or a turn of a seat does the phase work first: a seat that is between two phases answers
  *     LIKES_BETWEEN to a wrong user too.
  *   - No call waits, sleeps or takes a lock, beside what malloc and free do. Only likes_open takes memory, and beside
- *     it only the calls that free give some back.
+ *     it only likes_close and the calls that free give some back.
  */
 #ifndef LIKES_H
 #define LIKES_H
@@ -136,12 +138,12 @@ enum likes_status {
     LIKES_UNKNOWN_END = 107,    /* the end isn't one of likes_end */
     LIKES_WRONG_RANGE = 108,    /* the range goes past the last page, or past the seat's last user */
     LIKES_WRONG_RESERVED = 109, /* a reserved field of the options isn't 0 */
-    LIKES_WRONG_PAGES = 110,    /* there are no pages, or more than LIKES_MAX_PAGES */
+    LIKES_WRONG_PAGES = 110,    /* there are no pages, or more than LIKES_MAX_PAGES; or counts hasn't one for each */
     LIKES_WRONG_MARKS = 111,    /* more than LIKES_MAX_MARKS, a mark of no page, two of the same, or marks that can't
                                    all have buckets of their own, as very few lists of many marks; or an array without
                                    its length, or a length without an array */
     LIKES_WRONG_COUNT = 112,    /* an initial count is over LIKES_MAX_COUNT */
-    LIKES_WRONG_SEATS = 113,
+    LIKES_WRONG_SEATS = 113, /* more than LIKES_MAX_SEATS; or the array hasn't all seats of the service, in order */
     LIKES_WRONG_USERS = 114,
     LIKES_WRONG_ROOM = 115,
     LIKES_WRONG_HOT = 116,
@@ -322,6 +324,15 @@ uint64_t likes_driver_phase(likes_driver *driver);
  * a split phase goes on. The joined phase is ending then if a seat came back during the call. Call likes_driver_turn
  * with LIKES_END_IF_IT_SERVES until it answers LIKES_ENDED, and try again. */
 uint32_t likes_driver_last_counts(likes_driver *driver, uint32_t from, uint64_t *counts, size_t counts_len);
+
+/* Ends a service whose seats are all gone: LIKES_COUNTED. It writes the final count of each page, its first count and
+ * all likes that the seats counted. It frees the driver and all seats, and leaves their handles empty. seats has all of
+ * them, seat 0 first, and counts one entry for each page. Take found looks and read last likes before that.
+ *
+ * Else nothing is done: the first that applies of LIKES_NULL, EMPTY and WRONG_PAGES; LIKES_WRONG_SEATS if there are not
+ * as many seats as the service has; or, of the first seat in the array that isn't right, LIKES_EMPTY, WRONG_SEATS if it
+ * isn't the service's seat with that number, or NOT_ENDED if it isn't gone. */
+uint32_t likes_close(likes_driver *driver, likes_seat *seats, size_t seats_len, uint64_t *counts, size_t counts_len);
 
 /* Give back memory, and leave the handle empty. With an empty handle or NULL they do nothing. Found looks that were not
  * taken are lost. A seat that is freed before it is gone holds up all others for ever. */

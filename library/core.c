@@ -148,6 +148,18 @@ uint32_t likes_driver_last_counts(likes_driver *driver, uint32_t from, uint64_t 
     return likes_proved_driver_last_counts(driver, from, counts_len == 0 ? &count : counts, counts_len);
 }
 
+uint32_t likes_close(likes_driver *driver, likes_seat *seats, size_t seats_len, uint64_t *counts, size_t counts_len) {
+    likes_seat seat = {NULL};
+    uint64_t count;
+    if (likes_is_missing(seats, seats_len) || likes_is_missing(counts, counts_len))
+        return LIKES_NULL;
+    uint32_t status = likes_proved_close(driver, seats_len == 0 ? &seat : seats, seats_len,
+                                         counts_len == 0 ? &count : counts, counts_len);
+    if (status == LIKES_COUNTED)
+        driver->seats = 0;
+    return status;
+}
+
 void likes_seat_free(likes_seat *seat) {
     if (seat != NULL)
         likes_proved_seat_free(seat);

@@ -18,6 +18,8 @@ size_t likes_proved_seat_run(likes_seat *seat, const likes_request *requests, si
                              likes_answer *answers, size_t answers_len);
 uint32_t likes_proved_driver_snapshot(likes_driver *driver, uint32_t from, uint64_t *counts, size_t counts_len);
 uint32_t likes_proved_driver_last_counts(likes_driver *driver, uint32_t from, uint64_t *counts, size_t counts_len);
+uint32_t likes_proved_close(likes_driver *driver, likes_seat *seats, size_t seats_len, uint64_t *counts,
+                            size_t counts_len);
 size_t likes_proved_driver_split_pages(likes_driver *driver, uint32_t *pages, size_t pages_len);
 uint32_t likes_proved_driver_propose(likes_driver *driver, const uint32_t *pages, size_t pages_len);
 bool likes_proved_seat_take_found(likes_seat *seat, likes_found *found);

@@ -22,7 +22,7 @@ static const char *const errors[] = {
     "pages is 1 to 16777216, with a count for each",
     "marks are at most 64 pages, no two alike",
     "an initial count is at most 1000000000000000000",
-    "seats is 1 to 64",
+    "seats is 1 to 64; a service is closed with all of its own in order",
     "users is 1 to 4294967295",
     "room is 1 to 4096",
     "hot is 1 to 1000000",

@@ -1,7 +1,8 @@
 /* Counts what the library allocates.
  *
- *   - No call but likes_open may allocate, and none but those that free may give memory back. Each free of a seat or of
- *     a driver must give some back, and once all of a service and its phase are freed, in any order, all of it.
+ *   - No call but likes_open may allocate, and none but likes_close and those that free may give memory back. Each free
+ *     of a seat or of a driver must give some back, and once all of a service and its phase are freed, in any order, or
+ *     the service is closed, all of it.
  *   - Each allocation of an opening is refused in turn, alone and with all that follow it, also where counts are NULL.
  *     Each such opening must answer that it is out of memory, leave the driver empty, and give back what it took.
  *
@@ -212,6 +213,21 @@ static void end(void) {
     IS(likes_driver_snapshot(&driver, 0, counts, PAGES), LIKES_NO_MOMENT);
 }
 
+/* The service is closed with all its seats, and its phase is freed before or after that. */
+static void close_service(bool is_phase_last) {
+    uint64_t counts[PAGES];
+    IS(likes_close(&driver, seats, SEATS, counts, PAGES - 1), LIKES_WRONG_PAGES);
+    IS(likes_close(&driver, seats, SEATS - 1, counts, PAGES), LIKES_WRONG_SEATS);
+    if (!is_phase_last)
+        FREES(likes_phase_free(&phase_now));
+    uint32_t status;
+    FREES(status = likes_close(&driver, seats, SEATS, counts, PAGES));
+    if (is_phase_last)
+        FREES(likes_phase_free(&phase_now));
+    if (status != LIKES_COUNTED || blocks != 0)
+        fail(__LINE__, "likes_close", "has the wrong answer, or leaves blocks behind");
+}
+
 /* Calls on empty handles, and openings that are refused. */
 static void refused(void) {
     static const uint64_t counts[1] = {LIKES_MAX_COUNT + 1};
@@ -243,7 +259,7 @@ static void refused(void) {
 }
 
 /* How far a service has come when it is freed. */
-enum stage { OPENED, TAKEN, USED, ENDED, STAGES };
+enum stage { OPENED, TAKEN, USED, ENDED, CLOSED, STAGES };
 
 /* Makes every call of likes.h on a service up to a stage, and frees it: the driver and the phase once so many seats are
  * freed, and the phase last if that is one more. */
@@ -257,8 +273,12 @@ static void use(enum stage stage, uint32_t driver_after, uint32_t phase_after) {
         play(phase);
     if (stage == USED)
         request(8);
-    if (stage == ENDED)
+    if (stage >= ENDED)
         end();
+    if (stage == CLOSED) {
+        close_service(phase_after > 0);
+        return;
+    }
     for (uint32_t i = 0; i <= SEATS + 1; i++) {
         if (i == phase_after && stage >= TAKEN)
             FREES(likes_phase_free(&phase_now));

@@ -644,6 +644,8 @@ static void empty_handles(void) {
     IS(likes_driver_phase(&driver), 0);
     IS(likes_driver_last_counts(&driver, 0, counts, 1), LIKES_EMPTY);
     IS(likes_driver_last_counts(&driver, UINT32_MAX, NULL, 0), LIKES_EMPTY);
+    IS(likes_close(&driver, &seat, 1, counts, 1), LIKES_EMPTY);
+    IS(likes_close(&driver, NULL, 0, NULL, 0), LIKES_EMPTY);
     IS(likes_driver_split_pages(&driver, &page, 1), 0);
     IS(likes_driver_split_pages(&driver, NULL, 0), 0);
     IS(page, 7);
@@ -1303,7 +1305,7 @@ static const struct {
     {LIKES_WRONG_PAGES, "pages is 1 to 16777216, with a count for each"},
     {LIKES_WRONG_MARKS, "marks are at most 64 pages, no two alike"},
     {LIKES_WRONG_COUNT, "an initial count is at most 1000000000000000000"},
-    {LIKES_WRONG_SEATS, "seats is 1 to 64"},
+    {LIKES_WRONG_SEATS, "seats is 1 to 64; a service is closed with all of its own in order"},
     {LIKES_WRONG_USERS, "users is 1 to 4294967295"},
     {LIKES_WRONG_ROOM, "room is 1 to 4096"},
     {LIKES_WRONG_HOT, "hot is 1 to 1000000"},
@@ -1368,6 +1370,110 @@ static void memory(uint64_t millions) {
     free_service(&it);
 }
 
+/* Tries to close a service, and requires that this is refused and changes nothing. */
+static void refuses_end(opened *it, const likes_seat *seats, size_t many, size_t pages, uint32_t status) {
+    likes_seat passed[4], after[4];
+    uint64_t last[3];
+    memcpy(passed, seats, sizeof passed);
+    memcpy(after, seats, sizeof after);
+    clear(last, 3);
+    IS(likes_close(&it->driver, passed, many, last, pages), status);
+    IS(memcmp(passed, after, sizeof passed), 0);
+    IS(memcmp(it, it->filled, sizeof it->filled), 0);
+    IS(last[0] == UNWRITTEN && last[1] == UNWRITTEN && last[2] == UNWRITTEN, true);
+}
+
+/* The end of a service with all its seats: what is refused, by right and wrong seats, and what is left. */
+static void closes(void) {
+    static const opened none;
+    const uint64_t counts[] = {10, 20};
+    const likes_options options = {.seats = 3, .users = 6, .room = 1, .hot = 0};
+    uint64_t last[2];
+    opened it = open_service(options, counts, 2, NULL, 0), other = open_service(options, counts, 2, NULL, 0);
+    for (uint32_t user = 0; user < 6; user++)
+        IS(likes_seat_like(&it.seats[user % 3], user, user % 2), LIKES_LIKED);
+    IS(likes_seat_like(&other.seats[0], 0, 1), LIKES_LIKED);
+    likes_seat *own = it.seats;
+    const likes_seat empty = {0}, more[] = {own[0], own[1], own[2], own[2]}, turned[4] = {own[0], own[2], own[1]},
+                     twice[4] = {own[0], own[1], own[1]}, first[4] = {own[0], own[0], own[0]},
+                     lacking[4] = {own[0], empty, own[2]}, strange[4] = {own[0], other.seats[1], own[2]};
+    for (uint32_t gone = 0; gone < 3; gone++) {
+        refuses_end(&it, more, 3, 2, LIKES_NOT_ENDED);
+        IS(likes_seat_retire(&own[gone]), LIKES_GONE);
+        IS(likes_seat_retire(&other.seats[gone]), LIKES_GONE);
+    }
+    for (size_t pages = 0; pages < 4; pages++)
+        if (pages != 2)
+            refuses_end(&it, more, 3, pages, LIKES_WRONG_PAGES);
+    for (size_t many = 0; many < 5; many++)
+        if (many != 3)
+            refuses_end(&it, more, many, 2, LIKES_WRONG_SEATS);
+    refuses_end(&it, turned, 3, 2, LIKES_WRONG_SEATS);
+    refuses_end(&it, twice, 3, 2, LIKES_WRONG_SEATS);
+    refuses_end(&it, first, 3, 2, LIKES_WRONG_SEATS);
+    refuses_end(&it, strange, 3, 2, LIKES_WRONG_SEATS);
+    refuses_end(&it, other.seats, 3, 2, LIKES_WRONG_SEATS);
+    refuses_end(&other, more, 3, 2, LIKES_WRONG_SEATS);
+    refuses_end(&it, lacking, 3, 2, LIKES_EMPTY);
+    IS(likes_close(&it.driver, NULL, 3, last, 2), LIKES_NULL);
+    IS(likes_close(&it.driver, own, 3, NULL, 2), LIKES_NULL);
+    IS(likes_close(&it.driver, NULL, 0, last, 2), LIKES_WRONG_SEATS);
+    IS(likes_close(&it.driver, own, 3, NULL, 0), LIKES_WRONG_PAGES);
+    IS(likes_seat_come_back(&own[1]), LIKES_RUNS);
+    refuses_end(&it, more, 3, 2, LIKES_NOT_ENDED);
+    IS(likes_seat_like(&own[1], 1, 0), LIKES_LIKED);
+    IS(likes_seat_retire(&own[1]), LIKES_GONE);
+    IS(likes_close(&it.driver, own, 3, last, 2), LIKES_COUNTED);
+    IS(last[0] == 14 && last[1] == 23, true);
+    IS(memcmp(&it.driver, &none.driver, sizeof it.driver), 0);
+    IS(memcmp(own, none.seats, sizeof it.seats), 0);
+    IS(likes_close(&it.driver, own, 3, last, 2), LIKES_EMPTY);
+    IS(likes_phase_now(&it.phase), 0);
+    likes_phase_free(&it.phase);
+    /* The other service is as it was, and last counts that were written before are the same. */
+    IS(likes_driver_last_counts(&other.driver, 0, last, 2), LIKES_COUNTED);
+    IS(last[0] == 10 && last[1] == 21, true);
+    clear(last, 2);
+    likes_phase_free(&other.phase);
+    IS(likes_close(&other.driver, other.seats, 3, last, 2), LIKES_COUNTED);
+    IS(last[0] == 10 && last[1] == 21, true);
+    IS(memcmp(&other, &none, offsetof(opened, filled)), 0);
+}
+
+/* A service closes where a split phase goes on, too, and where seats that left keep looks that were found. A driver that
+ * has a seat to hand out still can't be closed. */
+static void closes_late(void) {
+    const uint64_t counts[] = {10, 20};
+    const uint32_t marks[] = {0};
+    uint64_t last[2];
+    likes_answer answer;
+    likes_driver driver = {0};
+    likes_seat seats[2] = {{0}};
+    IS(open_core((likes_options){.seats = 2, .users = 2, .room = 2}, counts, 2, marks, 1, NULL, 0, &driver), LIKES_OK);
+    IS(likes_driver_take_seat(&driver, &seats[0]), LIKES_OK);
+    IS(likes_seat_retire(&seats[0]), LIKES_GONE);
+    IS(likes_close(&driver, seats, 1, last, 2), LIKES_WRONG_SEATS);
+    IS(likes_close(&driver, seats, 2, last, 2), LIKES_EMPTY);
+    IS(likes_driver_take_seat(&driver, &seats[1]), LIKES_OK);
+    IS(likes_driver_turn(&driver, LIKES_END_IF_IT_SERVES), LIKES_ANNOUNCED);
+    IS(likes_seat_turn(&seats[1]), LIKES_BETWEEN);
+    IS(likes_driver_turn(&driver, LIKES_NO_END), LIKES_RELEASED);
+    IS(likes_seat_like(&seats[1], 1, 0), LIKES_LIKED);
+    IS(likes_seat_look(&seats[1], 1, 0, 5, &answer), LIKES_WAITS);
+    IS(likes_close(&driver, seats, 2, last, 2), LIKES_NOT_ENDED);
+    IS(likes_driver_turn(&driver, LIKES_END), LIKES_ANNOUNCED);
+    IS(likes_seat_retire(&seats[1]), LIKES_BETWEEN);
+    IS(likes_driver_turn(&driver, LIKES_END), LIKES_RELEASED);
+    IS(likes_driver_turn(&driver, LIKES_END), LIKES_ANNOUNCED);
+    IS(likes_seat_retire(&seats[1]), LIKES_GONE);
+    IS(likes_driver_turn(&driver, LIKES_END), LIKES_RELEASED);
+    IS(likes_driver_phase(&driver), 3);
+    IS(likes_driver_last_counts(&driver, 0, last, 2), LIKES_NOT_ENDED);
+    IS(likes_close(&driver, seats, 2, last, 2), LIKES_COUNTED);
+    IS(last[0] == 11 && last[1] == 20, true);
+    IS(driver.at == NULL && driver.seats == 0 && seats[0].at == NULL && seats[1].at == NULL, true);
+}
+
 int main(int count, char **words) {
     statuses();
     plain();
@@ -1401,6 +1507,8 @@ int main(int count, char **words) {
     last_counts();
     all_gone_in_split();
     last_of_ending();
+    closes();
+    closes_late();
     driving();
     early_end();
     still_handles();

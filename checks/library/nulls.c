@@ -99,6 +99,16 @@ uint32_t likes_proved_driver_last_counts(likes_driver *driver, uint32_t from, ui
     return see_counts(driver, from, counts, counts_len) + 1;
 }
 
+uint32_t likes_proved_close(likes_driver *driver, likes_seat *seats, size_t seats_len, uint64_t *counts,
+                            size_t counts_len) {
+    seen.calls += driver != NULL;
+    seen.first = seats;
+    seen.first_len = seats_len;
+    seen.second = counts;
+    seen.second_len = counts_len;
+    return 48;
+}
+
 static void see_pages(const likes_driver *driver, const uint32_t *pages, size_t pages_len) {
     seen.calls += driver != NULL;
     seen.first = pages;
@@ -216,6 +226,7 @@ static void refuses(void) {
     HOLD(likes_seat_lasts(&seat, 0, NULL, 1) == LIKES_NULL);
     HOLD(likes_driver_snapshot(&driver, 0, NULL, 1) == LIKES_NULL);
     HOLD(likes_driver_last_counts(&driver, 0, NULL, 1) == LIKES_NULL);
+    HOLD(likes_close(&driver, NULL, 1, NULL, 0) == LIKES_NULL && likes_close(&driver, &seat, 1, NULL, 1) == LIKES_NULL);
     HOLD(likes_driver_propose(&driver, NULL, 1) == LIKES_NULL);
     HOLD(likes_driver_split_pages(&driver, NULL, 1) == 0);
     HOLD(likes_seat_run(&seat, &request, 1, NULL, 1) == 0 && likes_seat_run(&seat, NULL, 1, NULL, 1) == 0);
@@ -251,24 +262,26 @@ int main(void) {
         HOLD(has_passed(lasts, 6 * first, answers, 4 * second));
         HOLD(likes_driver_propose(&driver, first ? marks : NULL, 2 * first) == 47);
         HOLD(has_passed(marks, 2 * first, answers, 4 * second));
+        HOLD(likes_close(&driver, first ? &seat : NULL, first, second ? counts : NULL, 3 * second) == 48);
+        HOLD(has_passed(&seat, first, counts, 3 * second));
     }
-    HOLD(seen.calls == 56);
+    HOLD(seen.calls == 64);
     HOLD(driver.seats == 0); /* nothing was opened */
     has_defaults();
     has_zeros();
     has_wrong_lists();
     refuses();
-    HOLD(seen.calls == 69);
+    HOLD(seen.calls == 77);
     likes_seat_free(NULL);
     likes_driver_free(NULL);
     likes_phase_free(NULL);
-    HOLD(seen.calls == 69);
+    HOLD(seen.calls == 77);
     likes_seat_free(&seat);
     HOLD(seen.first == &seat);
     likes_driver_free(&driver);
     HOLD(seen.first == &driver);
     likes_phase_free(&phase);
-    HOLD(seen.first == &phase && seen.calls == 72);
+    HOLD(seen.first == &phase && seen.calls == 80);
     HOLD(likes_seat_of(7, 3) == 1 && likes_seat_of(UINT32_MAX, 16) == 15);
     puts("all passed on as it should be");
     return 0;

@@ -133,6 +133,16 @@ uint32_t likes_service_retire(likes_service *service) {
     return LIKES_OK;
 }
 
+/* Ends the core with all its seats, which are gone, and writes the last counts. */
+static void close_core(likes_service *service, uint64_t *counts, size_t pages) {
+    likes_seat seats[LIKES_MAX_SEATS];
+    for (uint32_t i = 0; i < service->seats; i++) {
+        seats[i] = service->places[i].seat;
+        service->places[i].seat.at = NULL;
+    }
+    likes_close(&service->driver, seats, service->seats, counts, pages);
+}
+
 uint32_t likes_service_stop(likes_service *service, uint64_t *counts, size_t pages) {
     uint32_t fault = end_fault(service);
     if (likes_is_missing(counts, pages))
@@ -142,7 +152,7 @@ uint32_t likes_service_stop(likes_service *service, uint64_t *counts, size_t pag
     if (pages != service->pages)
         return LIKES_WRONG_LENGTH;
     likes_service_retire(service);
-    likes_driver_last_counts(&service->driver, 0, counts, pages);
+    close_core(service, counts, pages);
     likes_service_end(service);
     return LIKES_OK;
 }
