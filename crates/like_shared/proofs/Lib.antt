@@ -2,7 +2,6 @@ pub mod Backs
 pub mod Batches
 pub mod Clients
 pub mod Closing
-pub mod Counted
 pub mod Desks
 pub mod Kept
 pub mod Places
