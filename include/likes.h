@@ -143,7 +143,7 @@ enum likes_status {
                                    all have buckets of their own, as very few lists of many marks; or an array without
                                    its length, or a length without an array */
     LIKES_WRONG_COUNT = 112,    /* an initial count is over LIKES_MAX_COUNT */
-    LIKES_WRONG_SEATS = 113, /* more than LIKES_MAX_SEATS; or the array hasn't all seats of the service, in order */
+    LIKES_WRONG_SEATS = 113,    /* more than LIKES_MAX_SEATS; or the array hasn't all seats of the service, in order */
     LIKES_WRONG_USERS = 114,
     LIKES_WRONG_ROOM = 115,
     LIKES_WRONG_HOT = 116,
