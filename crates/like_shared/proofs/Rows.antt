@@ -28,7 +28,7 @@ use Rattle.like_live.proofs.Calling.{GlancesNow-leaves, LeavesLikes, LikesNow-sa
 use Rattle.like_live.proofs.Moving.{Leaves-looked}
 use Rattle.like_shared.specs.declared.deed.SeatDeed.{SeatDeed}
 use Rattle.like_shared.specs.Deeds.{SeatDoes}
-use Rattle.like_shared.specs.Rows.{deeds_of_call, deeds_of_rows}
+use Rattle.like_shared.specs.Rows.{IsAnswerTo, deeds_of_call, deeds_of_rows}
 use Rattle.like_shared.proofs.Same.{same-seat, same-seats}
 
 -- phase work leaves the same seat
@@ -165,35 +165,56 @@ batch-run v after rows answers done (stops_at now row told answered at there las
     (run-append SeatDoes v now after (flat_map deeds_of pairs) (deeds_of_call row told)
     (rows-run v now (take done rows) (take done answers) answered) (row-run now after row told true last))
 
--- an answer says whether the call must be made again
-row-again : (v now : LiveView) (row : Call) (told : Answer) (put_off : Bool)
-    → AnswersRow (λ c. Ok c) (λ a. a) v row told put_off now → IsTrue put_off ↔ IsPutOff told
-row-again v now row told put_off (makes_call c a asks made is again) =
-    subst (λ x. IsTrue put_off ↔ IsPutOff x) (sym is) again
-row-again v now row told put_off (has_no_call asks none same) = absurd (cc asks)
+-- a call is told an answer to it
+call-told : (v after : LiveView) (c : Call) (a : Answer) → Makes v c a after → IsAnswerTo c a
+call-told v after (call.Like user page) (answer.Like a) made = tt
+call-told v after (call.Look user page tag) (answer.Look a) made = tt
+call-told v after (call.Glance user page) (answer.Glance a) made = tt
+call-told v after (call.Like user page) (answer.Look a) wrong = absurd wrong
+call-told v after (call.Like user page) (answer.Glance a) wrong = absurd wrong
+call-told v after (call.Look user page tag) (answer.Like a) wrong = absurd wrong
+call-told v after (call.Look user page tag) (answer.Glance a) wrong = absurd wrong
+call-told v after (call.Glance user page) (answer.Like a) wrong = absurd wrong
+call-told v after (call.Glance user page) (answer.Look a) wrong = absurd wrong
 
--- none of these must be
+-- so is a row, and the answer says whether its call must be made again
+row-told : (v now : LiveView) (row : Call) (told : Answer) (put_off : Bool)
+    → AnswersRow (λ c. Ok c) (λ a. a) v row told put_off now
+    → IsAnswerTo row told × (IsTrue put_off ↔ IsPutOff told)
+row-told v now row told put_off (makes_call c a asks made is again) =
+    subst (λ x. IsAnswerTo row x × (IsTrue put_off ↔ IsPutOff x)) (sym is)
+    (subst (λ r. IsAnswerTo r a) (sym (ap (asked_by row) asks)) (call-told v now c a made), again)
+row-told v now row told put_off (has_no_call asks none same) = absurd (cc asks)
+
+-- no call of these must be
 rows-made : (n : ℕ) (rows : List Call) (answers : List Answer) (v after : LiveView)
-    → AnswersRows (λ c. Ok c) (λ a. a) v (take n rows) (take n answers) after → (i : ℕ) (a : Answer) → i < n
-    → slice_get answers i ≡ Some a → ¬ IsPutOff a
-rows-made zero rows answers v after answered i a less at = absurd (omega arith)
-rows-made (suc n) rows [] v after answered i a less at = absurd (cc at)
-rows-made (suc n) [] (x ∷ answers) v after answered i a less at = absurd answered
-rows-made (suc n) (row ∷ rows) (x ∷ answers) v after answered zero a less at =
-    λ off. absurd (false≢true ((row-again v answered.0 row x false answered.1.0).1 (subst IsPutOff (sym (same_Some x a at)) off)))
-rows-made (suc n) (row ∷ rows) (x ∷ answers) v after answered (suc i) a less at =
-    rows-made n rows answers answered.0 after answered.1.1 i a (omega arith) at
+    → AnswersRows (λ c. Ok c) (λ a. a) v (take n rows) (take n answers) after → (i : ℕ) (c : Call) (a : Answer) → i < n
+    → slice_get rows i ≡ Some c → slice_get answers i ≡ Some a → IsAnswerTo c a × (¬ IsPutOff a)
+rows-made zero rows answers v after answered i c a less at there = absurd (omega arith)
+rows-made (suc n) rows [] v after answered i c a less at there = absurd (cc there)
+rows-made (suc n) [] (x ∷ answers) v after answered i c a less at there = absurd (cc at)
+rows-made (suc n) (row ∷ rows) (x ∷ answers) v after answered zero c a less at there =
+    let told = row-told v answered.0 row x false answered.1.0 in
+    subst (λ y. IsAnswerTo c y × (¬ IsPutOff y)) (same_Some x a there)
+    (subst (λ r. IsAnswerTo r x) (same_Some row c at) told.0, λ off. absurd (false≢true (told.1.1 off)))
+rows-made (suc n) (row ∷ rows) (x ∷ answers) v after answered (suc i) c a less at there =
+    rows-made n rows answers answered.0 after answered.1.1 i c a (omega arith) at there
 
 -- what was done of a batch
 pub batch-made : (v after : LiveView) (rows : List Call) (answers : List Answer) (done : ℕ)
     → RunCase (λ c. Ok c) (λ a. a) v rows answers done after
-    → ((i : ℕ) (a : Answer) → i < done → slice_get answers i ≡ Some a → ¬ IsPutOff a)
-    × ((a : Answer) → done < length rows → slice_get answers done ≡ Some a → IsPutOff a)
+    → ((i : ℕ) (c : Call) (a : Answer) → i < done → slice_get rows i ≡ Some c → slice_get answers i ≡ Some a
+    → IsAnswerTo c a × (¬ IsPutOff a))
+    × ((c : Call) (a : Answer) → slice_get rows done ≡ Some c → slice_get answers done ≡ Some a
+    → IsAnswerTo c a × IsPutOff a)
 batch-made v after rows answers done (all_rows is answered) = (
   rows-made done rows answers v after answered,
-  λ a less at. absurd (omega (arith, is, less, slice_get_within answers done a at)),
+  λ c a at there. absurd (omega (arith, is, slice_get_within rows done c at, slice_get_within answers done a there)),
 )
-batch-made v after rows answers done (stops_at now row told answered at there last) = (
-  rows-made done rows answers v now answered,
-  λ a less is. subst IsPutOff (same_Some told a (sym there ∙ is)) ((row-again now after row told true last).0 refl),
-)
+batch-made v after rows answers done (stops_at now row told answered at there last) =
+    let stop = row-told now after row told true last in (
+      rows-made done rows answers v now answered,
+      λ c a here is.
+          subst (λ y. IsAnswerTo c y × IsPutOff y) (same_Some told a (sym there ∙ is))
+          (subst (λ r. IsAnswerTo r told) (same_Some row c (sym at ∙ here)) stop.0, stop.1.0 refl),
+    )

@@ -1,5 +1,5 @@
 -- The deeds of rows of calls.
-use Rattle.std.specs.Prelude.{◌≡◌, ℕ, ◌+◌, ◌<◌, ◌≤◌, List, [], ◌∷◌, flat_map, length, slice_get, take, Some}
+use Rattle.std.specs.Prelude.{◌≡◌, ℕ, ◌+◌, ◌<◌, ◌≤◌, List, [], ◌∷◌, flat_map, length, slice_get, take, Some, ⊤}
 use Rattle.std.specs.List.{zip}
 use Rattle.like_live.specs.declared.call.Answer.{Answer}
 use Rattle.like_live.specs.declared.call.Answer.TheVariants as answer
@@ -21,12 +21,21 @@ deeds_of_call c a = []
 abbrev pub deeds_of_rows : List Call → List Answer → ℕ → List SeatDeed
 deeds_of_rows rows answers done = flat_map (λ r. deeds_of_call r.0 r.1) (take (done + 1) (zip rows answers))
 
--- so many rows were done: no answer of theirs says that its call must be made again. That of the next row does, if there
--- is one. Later answers are as they were
+-- the answer is one to this call
+abbrev pub IsAnswerTo : Call → Answer → Type 0
+IsAnswerTo (call.Like user page) (answer.Like a) = ⊤
+IsAnswerTo (call.Look user page tag) (answer.Look a) = ⊤
+IsAnswerTo (call.Glance user page) (answer.Glance a) = ⊤
+IsAnswerTo c a = ⊥
+
+-- so many rows were done: they are answered, and no answer says that the call must be made again. The next row's says so,
+-- if there is one. Later answers are as they were
 pub record AreAnswered (rows : List Call) (old answers : List Answer) (done : ℕ) : Type 0 where
   pub rows_few : done ≤ length rows
   pub answers_few : done ≤ length answers
-  pub made : (i : ℕ) (a : Answer) → i < done → slice_get answers i ≡ Some a → ¬ IsPutOff a
-  pub next : (a : Answer) → done < length rows → slice_get answers done ≡ Some a → IsPutOff a
+  pub made : (i : ℕ) (c : Call) (a : Answer) → i < done → slice_get rows i ≡ Some c → slice_get answers i ≡ Some a
+      → IsAnswerTo c a × (¬ IsPutOff a)
+  pub next : (c : Call) (a : Answer) → slice_get rows done ≡ Some c → slice_get answers done ≡ Some a
+      → IsAnswerTo c a × IsPutOff a
   pub later : (i : ℕ) → done < i → slice_get answers i ≡ slice_get old i
   pub unasked : (i : ℕ) → length rows ≤ i → slice_get answers i ≡ slice_get old i
