@@ -25,6 +25,6 @@ returns-clause-parked c =
         c.requires.client,
         told.told ∙ ap (λ (k : ServiceKeeper). with_logs (seats_told k) client.seats.items) same,
         told.driver_told
-        ∙ ap (λ (k : ServiceKeeper). driver_told k ++ named (name_of client.driver) (driver_log client)) same,
+            ∙ ap (λ (k : ServiceKeeper). driver_told k ++ named (name_of client.driver) (driver_log client)) same,
       ),
     )

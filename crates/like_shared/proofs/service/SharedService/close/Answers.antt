@@ -40,8 +40,8 @@ returns-in-Err-clause-not c =
     let is = c.in-Err.ensures.back in
     let seats-are = ap (λ x. x.seats.items) is in (
       subst (λ d. LeadsTo s k d service.seats.items) (sym (ap (λ x. x.driver) is))
-      (subst (LeadsTo s k driver) (sym seats-are)
-      (leads-to c.calls_keep_seats.ensures s k driver back c.requires.keeper.whole c.close-driver.ensures
-      c.close_all.ensures)),
+          (subst (LeadsTo s k driver) (sym seats-are)
+          (leads-to c.calls_keep_seats.ensures s k driver back c.requires.keeper.whole c.close-driver.ensures
+          c.close_all.ensures)),
       λ gone. c.in-Err.ensures.some (subst AreGone seats-are gone),
     )

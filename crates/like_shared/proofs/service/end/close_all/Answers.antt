@@ -38,8 +38,13 @@ loop-lock-preserved c =
       ends = subst (AreEndsOf (map first_at more) (map told_at more)) (sym {A = List LiveView} pushed)
           (ends-kept l.yielded c.in-Some.lock c.in-Some.keeper l.back.items c.close.result l.invariant.ends
           c.close.ensures);
-      len = omega (arith, ap length pushed, length-append l.back.items (c.close.result ∷ []),
-          length-append l.yielded ((c.in-Some.lock, c.in-Some.keeper) ∷ []), l.invariant.len);
+      len = omega (
+        arith,
+        ap length pushed,
+        length-append l.back.items (c.close.result ∷ []),
+        length-append l.yielded ((c.in-Some.lock, c.in-Some.keeper) ∷ []),
+        l.invariant.len,
+      );
       room = c.push_reserved.ensures.capacity ∙ l.invariant.room;
     }
 
