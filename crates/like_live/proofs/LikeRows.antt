@@ -15,7 +15,7 @@ use Rattle.like_live.specs.Calls as calls
 use Rattle.like_live.specs.Calls.{LikesNow}
 use Rattle.like_live.specs.History.{HasDone, HasLatest, IsInRow, IsLookOrLike, like_on}
 use Rattle.like_live.specs.LikeRow as row
-use Rattle.like_live.specs.LikeRow.{CountsAll, LikesAll, RowCase, RowsAreLikes, row_calls, turn_of}
+use Rattle.like_live.specs.LikeRow.{CountsAll, LikesAll, RowsAreLikes, row_calls, turn_of}
 use Rattle.like_live.proofs.CallSteps.{has_looked, moves_run}
 use Rattle.like_live.proofs.Stepping.{saw_phase}
 

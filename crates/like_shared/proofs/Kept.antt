@@ -1,5 +1,5 @@
 -- That a keeper is a service's has one proof at most, so a hub can keep it.
-use Rattle.std.proofs.Common.{◌≡◌, ℕ, List, [], ◌∷◌, get_or, length, refl, sym, ap, ◌∙◌, arith}
+use Rattle.std.proofs.Common.{◌≡◌, List, [], ◌∷◌, get_or, length, refl, sym, ap, ◌∙◌, arith}
 use Rattle.std.specs.Coded.{Coded-set, Unit-prop, Π_prop, ×_prop, coded_list, coded_ℕ, le_prop}
 use Rattle.std.specs.List.{AllZip}
 use mathlib.Core.HLevel.{collapsible→set}

@@ -21,7 +21,6 @@ use Rattle.like_live.specs.declared.call.Call.{Call}
 use Rattle.like_live.specs.declared.call.Call.TheVariants as call
 use Rattle.like_live.specs.Batch.{AnswersRow, AnswersRows, IsPutOff, Makes, RunCase, all_rows, has_no_call, makes_call, stops_at}
 use Rattle.like_live.specs.Calls as calls
-use Rattle.like_live.specs.Calls.{GlanceCase, LikeCase, LookCase}
 use Rattle.like_live.specs.LiveView.{IsSameSeat, LiveView, with_station}
 use Rattle.like_live.specs.Moves.{FindsAll, Moves, Works, acknowledged, acknowledges, is_gone, looked, reports, runs_joined, runs_split, waits, works}
 use Rattle.like_live.proofs.Calling.{GlancesNow-leaves, LeavesLikes, LikesNow-same, LooksNow-leaves}

@@ -1,8 +1,7 @@
 -- The desk of a shared service, at which clients are made and parked.
-use Rattle.std.specs.Prelude.{◌≡◌, ◌++◌, List}
-use Rattle.told_lock.specs.Deeds.{HasRun, named}
-use Rattle.told_lock.specs.Rights.{first_of, name_of}
-use Rattle.like_shared.specs.declared.client.Client.{Client}
+use Rattle.std.specs.Prelude.{◌≡◌, ◌++◌}
+use Rattle.told_lock.specs.Deeds.{named}
+use Rattle.told_lock.specs.Rights.{name_of}
 use Rattle.like_shared.specs.declared.desk.DeskDeed.{DeskDeed}
 use Rattle.like_shared.specs.declared.desk.DeskDeed.TheVariants.{Made, Parked}
 use Rattle.like_shared.specs.declared.service.ServiceKeeper.{ServiceKeeper}
