@@ -1,0 +1,2 @@
+pub mod Likes
+pub mod Whole

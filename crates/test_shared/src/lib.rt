@@ -1,0 +1,8 @@
+//! Hosts of a shared service. The contract of each ensures the theorem of what it did.
+#![tactic(auto)]
+
+mod calls;
+pub mod host;
+pub mod hub;
+#[cfg(test)]
+mod tests;
