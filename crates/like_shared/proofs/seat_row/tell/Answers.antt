@@ -1,7 +1,7 @@
 use Rattle.std.proofs.Common.{sym, subst}
 use Rattle.told_lock.specs.Deeds.{HasRun}
 use Rattle.like_shared.specs.Deeds.{SeatDoes}
-use Rattle.like_shared.proofs.seat_rows.tell.Goals as goal
+use Rattle.like_shared.proofs.seat_row.tell.Goals as goal
 
 pub give_back_after-requires : goal.give_back_after-requires
 give_back_after-requires g c =

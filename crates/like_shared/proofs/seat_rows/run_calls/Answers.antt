@@ -1,6 +1,6 @@
 use Rattle.std.proofs.Common.{arith}
 use Rattle.like_shared.proofs.Rows.{batch-made, batch-run}
-use Rattle.like_shared.proofs.seat_rows.run_rows.Goals as goal
+use Rattle.like_shared.proofs.seat_rows.run_calls.Goals as goal
 
 pub returns-clause-run : goal.returns-clause-run
 returns-clause-run c = batch-run _ _ c.args.rows.now c.run.new.answers c.run.result c.run.ensures.case
