@@ -152,11 +152,12 @@ class Table(reading.Log):
             yield from ((first + at, text) for at, text in lines.long.items())
             first += len(lines.piece)
         if header is None:
-            self.places_of([], ",", first)
+            self.places_of([], ",", 1)
 
     def header_of(self, lines, first):
         """The header of a file, or without one the columns by their numbers."""
         at, front = next((at, line) for at, line in enumerate(lines.piece) if line.strip())
+        lines.piece[:at] = ["\n"] * at
         delimiter = self.delimiter or max(DELIMITERS, key=lambda one: self.fit(front, one))
         names = self.record_in(lines, first, at, delimiter) if self.has_header else []
         places = self.places_of(names, delimiter, first + at)

@@ -47,8 +47,8 @@ LIKE_ONE = re.compile(r'[^ \n]+ [^\n]*\[[^][\n]{0,99}\] "')
 ASKS = '] "'
 TWO = re.compile(r'^[^\n]*?\[{0}\] "[^\n]*?\[{0}\] "[^\n]*'.format(r"[0-9]{2,4}[/-][^][\n]{9,99}"), re.M)
 
-# Reads JSON.
-DECODER = json.JSONDecoder()
+# Reads JSON, in which halves of characters may be escaped.
+DECODER, HALF = json.JSONDecoder(), re.compile(r"\\u[dD]")
 
 # How a server escapes characters.
 ESCAPE = re.compile(rb"\\(?:x([0-9a-fA-F]{2})|(.))", re.S)
@@ -70,7 +70,7 @@ FIELDS = {
     "agent": "http_user_agent request.headers.User-Agent request_User-Agent",
 }
 
-BLANK = ("",) * len(FIELDS)
+BLANK, REQUEST = ("",) * len(FIELDS), list(FIELDS).index("request")
 
 # Why lines are left out.
 JUNK, TORN = "not of the combined format", "a log line that can't be read"
@@ -318,27 +318,20 @@ class Combined(Web):
 
 
 class Shapes(Cache):
-    """Where objects have what columns need, by the names of their fields and which of them are objects: the name of a
-    field for each column, if none has to be looked for in an object or under several names; and else the paths."""
+    """The name of a field for each column in objects that have fields of these names, or none if it has to be looked
+    for under several names or in objects, other than a request that is one."""
 
     def __init__(self, columns):
         super().__init__()
         self.columns = columns
-        self.objects = sorted({path[0] for paths in columns for path in paths if len(path) > 1})
 
-    def of(self, found):
-        """The shape of an object."""
-        return self[tuple(found), tuple([name for name in self.objects if type(found.get(name)) is dict])]
-
-    def __missing__(self, key):
-        names, objects = key
-        paths = [
-            [path for path in several if path[0] in names and (path[0] in objects) == (len(path) > 1)]
-            for several in self.columns
-        ]
-        is_flat = all(len(several) < 2 and not any(rest for _, *rest in several) for several in paths)
-        self[key] = [several[0][0] if several else None for several in paths] if is_flat else None, paths
-        return self[key]
+    def __missing__(self, names):
+        paths = [[path for path in several if path[0] in names] for several in self.columns]
+        plain = [[path[0] for path in several if len(path) == 1] for several in paths]
+        objects = {path[0] for several in paths for path in several if len(path) > 1}
+        is_flat = all(len(several) < 2 for several in plain) and objects <= {*plain[REQUEST]}
+        self[names] = [several[0] if several else None for several in plain] if is_flat else None
+        return self[names]
 
 
 class Json(Web):
@@ -349,14 +342,16 @@ class Json(Web):
         paths = {name: [path.split(".") for path in text.split()] for name, text in FIELDS.items()}
         # A dot may also be in a field's name.
         paths |= {name: [[path], path.split(".")] for name, path in (words.fields or {}).items()}
-        self.shapes = Shapes(list(paths.values()))
+        self.fields = list(paths.values())
+        self.shapes = Shapes(self.fields)
 
     def columns_of(self, text):
         self.shapes.make_room()
         lines = text.split("\n")[:-1]
-        times, addresses, users, requests, methods, uris, statuses, agents = map(
-            texts_of, zip(*map(self.row_of, lines))
-        )
+        columns = list(map(texts_of, zip(*map(self.row_of, lines))))
+        if HALF.search(text):
+            columns = [list(map(without_halves, column)) for column in columns]
+        times, addresses, users, requests, methods, uris, statuses, agents = columns
         if "" in requests:
             asked = zip(requests, methods, uris)
             requests = [request or f"{method} {uri}" for request, method, uri in asked]
@@ -372,8 +367,11 @@ class Json(Web):
         found = json_of(line)
         if type(found) is not dict:
             return BLANK
-        names, paths = self.shapes.of(found)
-        return list(map(found.get, names, BLANK)) if names else [value_at(found, several) for several in paths]
+        if names := self.shapes[tuple(found)]:
+            row = list(map(found.get, names, BLANK))
+            if type(row[REQUEST]) is not dict:
+                return row
+        return [value_at(found, paths) for paths in self.fields]
 
     def read_apart(self, columns, at, line):
         text = columns[-1][at]
@@ -391,7 +389,7 @@ def json_of(line):
     try:
         if line.startswith("{"):
             found, end = DECODER.raw_decode(line)
-            return found if end == len(line) or not line[end:].strip() else None
+            return found if end == len(line) or not line[end:].strip(" \t\r") else None
         front = PREFIX.match(line)
         return json.loads(line[front.end() :] if front else line)
     except (ValueError, RecursionError):
@@ -399,10 +397,9 @@ def json_of(line):
 
 
 def value_at(found, paths):
-    """What an object has at the first of these paths, beginning with one of its names, where it has a text or a
-    number."""
+    """What an object has at the first of these paths where it has a text or a number."""
     for first, *rest in paths:
-        value = found[first]
+        value = found.get(first)
         for name in rest:
             value = value.get(name) if isinstance(value, dict) else None
         if type(value := plain(value)) in (str, int, float):
@@ -423,13 +420,14 @@ def text_of(value):
 
 def texts_of(values):
     """Values as texts."""
-    if set(map(type, values)) != {str}:
-        values = [value if type(value) is str else text_of(value) for value in values]
-    try:
-        "".join(values).encode()
+    if set(map(type, values)) == {str}:
         return list(values)
-    except UnicodeEncodeError:  # halves of characters, as in \\ud800
-        return [value.encode(errors="surrogatepass").decode(errors=reading.ESCAPED) for value in values]
+    return [value if type(value) is str else text_of(value) for value in values]
+
+
+def without_halves(text):
+    """A text with what is no character as it is escaped in addresses."""
+    return text if text.isascii() else text.encode(errors="surrogatepass").decode(errors=reading.ESCAPED)
 
 
 def fits(status, forms):
