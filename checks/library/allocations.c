@@ -351,7 +351,8 @@ static uint32_t close_shared(size_t from, size_t to) {
 static void refuse_sharing(void) {
     likes_client client = {0};
     blocks = 0;
-    IS(share(1, SIZE_MAX), LIKES_NO_MEMORY);
+    if (share(1, SIZE_MAX) != LIKES_NO_MEMORY || blocks != 0)
+        fail(__LINE__, "likes_shared_open", "has the wrong answer, or leaves blocks behind");
     share(0, 0);
     size_t of_shared = made, held;
     likes_shared_free(&shared);
@@ -415,9 +416,10 @@ static void use_shared(bool is_closed) {
         for (uint32_t seat = 0; seat < SEATS; seat++)
             IS(likes_client_retire(&two, seat), LIKES_GONE);
         IS(likes_client_drive(&two, LIKES_END_IF_IT_SERVES), LIKES_ENDED);
-        IS(close_shared(0, 0), LIKES_OPEN_CLIENT);
+        if (close_shared(0, 0) != LIKES_OPEN_CLIENT)
+            fail(__LINE__, "likes_shared_close", "has the wrong answer");
     } else {
-        STILL(likes_shared_free(&shared));
+        FREES(likes_shared_free(&shared));
     }
     FREES(likes_client_close(&two));
     if (is_closed) {
