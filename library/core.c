@@ -46,41 +46,62 @@ static page_list list_of(const uint32_t *pages, size_t length) {
     return list;
 }
 
+/* What is opened: a driver or a shared service. The other is NULL. */
+typedef struct to_open {
+    likes_driver *driver;
+    likes_shared *shared;
+} to_open;
+
 /* Opens with counts of so many pages, which aren't NULL. */
-static uint32_t open_with(const likes_options *options, const uint64_t *counts, size_t pages, likes_driver *driver) {
+static uint32_t open_with(const likes_options *options, const uint64_t *counts, size_t pages, to_open it) {
     likes_proved_options numbers = numbers_of(options);
     page_list marks = list_of(options->marks, options->marks_len), lasts = list_of(options->lasts, options->lasts_len);
-    uint32_t status =
-        likes_proved_open(&numbers, counts, pages, marks.at, marks.length, lasts.at, lasts.length, driver);
+    uint32_t status;
+    if (it.shared != NULL)
+        status = likes_proved_shared_open(&numbers, counts, pages, marks.at, marks.length, lasts.at, lasts.length,
+                                          it.shared);
+    else
+        status = likes_proved_open(&numbers, counts, pages, marks.at, marks.length, lasts.at, lasts.length, it.driver);
     if (status == LIKES_OK)
-        driver->seats = numbers.seats;
+        *(it.shared != NULL ? &it.shared->seats : &it.driver->seats) = numbers.seats;
     return status;
 }
 
 /* Opens with counts of 0, for which it takes memory meanwhile, unless their number is wrong. */
-static uint32_t open_with_zeros(const likes_options *options, likes_driver *driver) {
+static uint32_t open_with_zeros(const likes_options *options, to_open it) {
     size_t pages = options->pages;
     if (pages == 0 || pages > LIKES_MAX_PAGES)
-        return open_with(options, &no_count, 0, driver);
+        return open_with(options, &no_count, 0, it);
     uint64_t *zeros = (uint64_t *)calloc(pages, sizeof *zeros);
     if (zeros == NULL)
         return LIKES_NO_MEMORY;
-    uint32_t status = open_with(options, zeros, pages, driver);
+    uint32_t status = open_with(options, zeros, pages, it);
     free(zeros);
     return status;
 }
 
-uint32_t likes_open(const likes_options *options, likes_driver *driver) {
+/* Opens, and leaves errno as it was. */
+static uint32_t open_it(const likes_options *options, to_open it) {
     int error = errno;
     uint32_t status;
-    if (options == NULL || driver == NULL)
-        return LIKES_NULL;
     if (options->counts == NULL)
-        status = open_with_zeros(options, driver);
+        status = open_with_zeros(options, it);
     else
-        status = open_with(options, options->counts, options->pages, driver);
+        status = open_with(options, options->counts, options->pages, it);
     errno = error;
     return status;
+}
+
+uint32_t likes_open(const likes_options *options, likes_driver *driver) {
+    if (options == NULL || driver == NULL)
+        return LIKES_NULL;
+    return open_it(options, (to_open){.driver = driver});
+}
+
+uint32_t likes_shared_open(const likes_options *options, likes_shared *shared) {
+    if (options == NULL || shared == NULL)
+        return LIKES_NULL;
+    return open_it(options, (to_open){.shared = shared});
 }
 
 uint32_t likes_driver_seats(const likes_driver *driver) {
