@@ -14,7 +14,7 @@ from command import SIGNALS, Fault
 LENGTH, ROOM = 8, 1 << 20
 
 # The fields of a batch.
-FIELDS = "lines numbers users times periods end least place new name read reader"
+FIELDS = "first others numbers users times periods end least place new name read reader"
 
 
 class Batch(collections.namedtuple("Batch", FIELDS)):
@@ -23,9 +23,15 @@ class Batch(collections.namedtuple("Batch", FIELDS)):
 
     __slots__ = ()
 
+    def line(self, at):
+        """The line of the request at a place."""
+        for other in self.others:
+            at += other <= at
+        return self.first + at
+
     def line_of(self, number):
         """The line of the first request with this number."""
-        return self.lines[self.numbers.index(number)]
+        return self.line(self.numbers.index(number))
 
 
 class Numbers(dict):
@@ -40,10 +46,10 @@ class Numbers(dict):
 def batches(log):
     """The requests of a log."""
     numbers = Numbers()
-    for lines, found, *others in log.batches():
+    for first, others, found, *columns in log.batches():
         numbers.new = []
         found = list(map(numbers.__getitem__, found))
-        yield lines, found, *others, list(map(log.whats.__getitem__, numbers.new)), log.name, log.read()
+        yield first, others, found, *columns, list(map(log.whats.__getitem__, numbers.new)), log.name, log.read()
 
 
 def send(log, out):

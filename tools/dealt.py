@@ -242,7 +242,7 @@ class Dealt:
 
     def line_past(self, batch):
         """The line of the first user who is too many."""
-        return next(line for line, user in zip(batch.lines, batch.users) if self.users[user] >= USERS)
+        return batch.line(next(at for at, user in enumerate(batch.users) if self.users[user] >= USERS))
 
     def write_requests(self):
         self.count = 0
@@ -320,7 +320,7 @@ class Dealt:
 def kept_names(log, earlier, rest):
     """The new pages of a log that keep their names, while the others are named `rest`: all, or else the most liked."""
     counts, likes = collections.Counter(), collections.Counter()
-    for _, numbers, *_ in log.batches():
+    for _, _, numbers, *_ in log.batches():
         counts.update(numbers)
     log.judge()
     for number, count in counts.items():

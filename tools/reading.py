@@ -214,9 +214,9 @@ class Log:
                 heapq.heappush(at_hand, (piece, follow))
 
     def batches(self):
-        """The requests in batches: their lines, the number of each one's op and page, and their users; if needed, the
-        latest time so far in the piece of each, and its day or hour; then the latest time of the piece, its first one,
-        and the log's place."""
+        """The requests in batches: the first line of the piece, and the places of those that aren't requests; the number
+        of each one's op and page, and their users; if needed, the latest time so far in the piece of each, and its day
+        or hour; then the latest time of the piece, its first one, and the log's place."""
         self.begin()
         turns = itertools.cycle(range(1, self.sharers + 1))
         for least, place, line, piece in self.pieces():
@@ -229,8 +229,8 @@ class Log:
                 if self.has_times:
                     self.note_fall(place, columns[0], columns[3])
                 batch = self.batch_of(*columns)
-                self.has_requests = self.has_requests or bool(batch[0])
-                yield *batch, least, place
+                self.has_requests = self.has_requests or bool(batch[1])
+                yield line, *batch, least, place
 
     def note_fall(self, place, lines, times):
         """Notes where times in a log fall far back, as where the newest of several logs comes first in one."""
@@ -262,8 +262,8 @@ class Log:
                 end = latest[-1]
                 latest = list(itertools.compress(latest, numbers))
             periods = [period for (*_, period), number in zip(found, numbers) if number] if self.by else None
-        kept = [list(itertools.compress(column, numbers)) for column in (lines, numbers, users)]
-        return *kept, latest, periods, end
+        kept = [list(itertools.compress(column, numbers)) for column in (numbers, users)]
+        return list(places(numbers, 0)), *kept, latest, periods, end
 
     def drop_times(self, found, numbers, lines, texts):
         """Leaves out requests whose time can't be read, if it is needed, and those of other times than asked for."""

@@ -35,26 +35,33 @@ class Header:
 
 
 class Lines:
-    """The lines of a file, a piece at a time. A record that goes on behind the piece makes it longer."""
+    """The lines of a file, a piece at a time. A record that goes on behind the piece makes it longer. Only those of a
+    block with CR keep their ends, which a record may have within quotes."""
 
     def __init__(self, blocks):
         self.blocks = blocks
         self.piece, self.long = [], {}  # and by their places: the beginnings of lines that are too long
+        self.has_ends = False
         self.at = 0  # the place behind the last record
 
     def begin(self, block):
         """Begins a piece."""
-        self.piece, self.long, self.at = [], {}, 0
+        self.piece, self.long, self.has_ends, self.at = [], {}, False, 0
         self.add(block)
 
     def add(self, block):
         """Adds a block. In place of a line that is too long there is an empty one."""
         if isinstance(block, str):
             self.long[len(self.piece)] = block
-            self.piece.append("\n")
+            self.piece.append("")
         else:
             text = block.decode(errors=reading.ESCAPED).replace("\0", reading.NUL)
-            self.piece += io.StringIO(text, newline="")
+            self.has_ends = self.has_ends or "\r" in text
+            self.piece += io.StringIO(text, newline="") if self.has_ends else text[:-1].split("\n")
+
+    def bare(self):
+        """The lines without their ends."""
+        return [line.rstrip("\r\n") for line in self.piece] if self.has_ends else self.piece
 
     def __iter__(self):
         return self
@@ -64,13 +71,14 @@ class Lines:
         if self.at == len(self.piece):
             self.add(next(self.blocks)[1])
         self.at += 1
-        return self.piece[self.at - 1]
+        line = self.piece[self.at - 1]
+        return line if line.endswith(("\r", "\n")) else f"{line}\n"
 
     def read(self, at, delimiter):
         """The record that begins at a place. It leaves its lines empty."""
         self.at = at
         record = next(rows.reader_of(self, delimiter))
-        self.piece[at : self.at] = ["\n"] * (self.at - at)
+        self.piece[at : self.at] = [""] * (self.at - at)
         return record
 
 
@@ -112,11 +120,10 @@ class Meanings(Cache):
 
     def __init__(self, log):
         super().__init__()
-        self.ops, self.page_of, self.number_of = log.ops, log.page_of, log.number_of
+        self.page_of, self.number_of = log.page_of, log.number_of
 
     def __missing__(self, what):
-        word, page = what
-        op = self.ops.get(word)
+        op, page = what
         self[what] = self.number_of((op, self.page_of(page))) if op and page else 0
         return self[what]
 
@@ -148,7 +155,7 @@ class Table(reading.Log):
                 header = self.header_of(lines, first)
             if header is not None:
                 records = self.records_in(lines, first, header)
-                yield first, Rows(header, [line.rstrip("\r\n") for line in lines.piece], records)
+                yield first, Rows(header, lines.bare(), records)
             yield from ((first + at, text) for at, text in lines.long.items())
             first += len(lines.piece)
         if header is None:
@@ -157,7 +164,7 @@ class Table(reading.Log):
     def header_of(self, lines, first):
         """The header of a file, or without one the columns by their numbers."""
         at, front = next((at, line) for at, line in enumerate(lines.piece) if line.strip())
-        lines.piece[:at] = ["\n"] * at
+        lines.piece[:at] = [""] * at
         delimiter = self.delimiter or max(DELIMITERS, key=lambda one: self.fit(front, one))
         names = self.record_in(lines, first, at, delimiter) if self.has_header else []
         places = self.places_of(names, delimiter, first + at)
@@ -200,7 +207,7 @@ class Table(reading.Log):
     def requests_in(self, first, piece):
         ops, users, pages, *times = piece.columns()
         self.meanings.make_room()
-        numbers = list(map(self.meanings.__getitem__, zip(ops, pages)))
+        numbers = list(map(self.meanings.__getitem__, zip(map(self.ops.get, ops), pages)))
         for at in reading.places(numbers, 0):
             if row := piece.row(at):
                 self.leave_out_row(first + at, row, piece.header)
