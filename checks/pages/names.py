@@ -12,6 +12,11 @@ import specs
 SECTION = re.compile(r"([A-Z]\w*\.md)`?,? \(?\"([^\"]+)\"")
 SOURCE = re.compile(r"(?<![\w./-])((?:specs|src)/[\w./-]+\.(?:antt|rt))")
 
+# A like's way through the code in ARCHITECTURE.md, a step of it, and a name with the file that defines it.
+WAY = re.compile(r"^## (?:One|A writer's) like, .*?(?=^## )", re.M | re.S)
+STEP = re.compile(r"^\d+\. .*$", re.M)
+PLACED = re.compile(r"`([\w:]+)` \((?:`(\w+)`: )?([\w./]+\.(?:rt|c|h))\)")
+
 # How many names of definitions stand in several modules, at most.
 SHARED = 99
 
@@ -79,6 +84,24 @@ def unknown(named):
             for part in re.split(r"::|\.", name):
                 if re.search(r"\w_\w|[a-z][A-Z]", part) and part not in known and part not in shown:
                     yield f"{page}: no source has {name}"
+
+
+def astray():
+    """What is wrong with the ways of a like: a step without such a name, or one that isn't defined in its file."""
+    ways = WAY.findall(pages.text_of("docs/ARCHITECTURE.md"))
+    if len(ways) < 3:
+        yield "docs/ARCHITECTURE.md: not three ways of a like"
+    for way in ways:
+        for step in STEP.findall(way):
+            if not PLACED.search(step):
+                yield f"docs/ARCHITECTURE.md: no name with its file: {step[:60]}"
+        for name, crate, file in PLACED.findall(way):
+            path, last = f"crates/{crate}/{file}" if crate else file, name.split("::")[-1]
+            definition = rf"\b(?:fn|struct|enum|trait) {last}\b" if crate else rf"^(?!.*;$)\w.*\b{last}\("
+            if not os.path.exists(f"{runs.ROOT}/{path}"):
+                yield f"docs/ARCHITECTURE.md: there is no {path}"
+            elif not re.search(definition, pages.text_of(path), re.M):
+                yield f"docs/ARCHITECTURE.md: {path} doesn't define {name}"
 
 
 def shared():

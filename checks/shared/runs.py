@@ -17,6 +17,9 @@ import time
 
 ROOT = os.path.realpath(f"{__file__}/../../..")
 
+# The header of a report.
+HEADER = "row,id,number,phase,answer,page,count"
+
 # The fault lines of too little memory and too few threads.
 MEMORY = b"likes: out of memory\n"
 START = b"likes: a thread could not be started\n"
