@@ -46,9 +46,9 @@
 extern "C" {
 #endif
 
-/* The version of this file and of the library, 0.5: 1,000 times the number of the ABI, plus a number within it.
+/* The version of this file and of the library, 0.6: 1,000 times the number of the ABI, plus a number within it.
  * EMBEDDING.md says when it changes. */
-#define LIKES_VERSION 5
+#define LIKES_VERSION 6
 
 /* The version of the library that the program runs with. A shared library may be newer than this file. */
 uint32_t likes_version(void);

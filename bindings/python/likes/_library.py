@@ -9,8 +9,8 @@ from typing import Any, Optional, Sequence
 
 from ._statuses import MAX_PERIOD_US, NO_PAGE
 
-VERSION = 5  # LIKES_VERSION of the likes.h that this package is written for
-SHARED = "liblikes.so.0.5"
+VERSION = 6  # LIKES_VERSION of the likes.h that this package is written for
+SHARED = "liblikes.so.0.6"
 MOST = 2**32 - 1
 MOST_64 = 2**64 - 1
 

@@ -8,7 +8,7 @@ use crate::answers::Last;
 use crate::rows::{Answer, Found, Request};
 
 /// `LIKES_VERSION` of the `likes.h` that this crate is written for.
-pub const VERSION: u32 = 5;
+pub const VERSION: u32 = 6;
 
 /// A driver, a seat or a phase. NULL: it is empty. Only a driver has the number of its seats beside.
 #[repr(C)]

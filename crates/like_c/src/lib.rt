@@ -37,7 +37,7 @@ pub use shared_handle::SharedHandle;
 use std::alloc::Global;
 
 /// 1,000 times the number of the ABI, plus a number within it.
-const VERSION: u32 = 5;
+const VERSION: u32 = 6;
 
 /// The version of `likes.h` that the library has.
 #[unsafe(no_mangle)]

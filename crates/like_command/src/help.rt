@@ -1,7 +1,7 @@
 //! The texts of help.
 
 /// The program's version, which is that of the repository and its library, and the logic hash of the kit that proves it.
-pub const VERSION: &str = "0.5 (logic dac8208d650f15bf)";
+pub const VERSION: &str = "0.6 (logic dac8208d650f15bf)";
 
 pub const LIKES: &str = "\
 Counts likes and looks from CSV files, exactly, on several threads. Reads a file

@@ -42,8 +42,8 @@ pages: \"p.csv\", requests: [\"a.csv\"], script: None })).
 help => Ok(Help(\"
 help run => Ok(Help(\"
 run -h => Ok(Help(\"
---version => Ok(Help(\"likes 0.5 (logic dac8208d650f15bf)\\n\")).
--V => Ok(Help(\"likes 0.5 (logic dac8208d650f15bf)\\n\")).
+--version => Ok(Help(\"likes 0.6 (logic dac8208d650f15bf)\\n\")).
+-V => Ok(Help(\"likes 0.6 (logic dac8208d650f15bf)\\n\")).
 replay --workers=1 p.csv r.csv => Ok(Replay(
 replay --workers=16 p.csv r.csv => Ok(Replay(
 replay --users=1 p.csv r.csv => Ok(Replay(

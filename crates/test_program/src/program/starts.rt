@@ -116,7 +116,7 @@ tells-two-inputs||run p.csv - r.csv -|2||likes: only one file can be -, which is
 tells-two-inputs||replay p.csv - --script -|2||likes: only one file can be -, which is standard input\n;\
 shows-help||replay --help|0|Runs the requests on one thread..|;\
 shows-help||help replay|0|Runs the requests on one thread..|;\
-shows-its-version||--version|0|likes 0.5 (logic dac8208d650f15bf)\n|;\
+shows-its-version||--version|0|likes 0.6 (logic dac8208d650f15bf)\n|;\
 tells-wrong-words||walk p.csv r.csv|2||error: unrecognized subcommand 'walk'..;\
 tells-wrong-words||replay --places p.csv --places r.csv|2||\
 error: the argument '--places' cannot be used multiple times..";
