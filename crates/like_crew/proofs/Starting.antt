@@ -46,7 +46,7 @@ pub new-start : (setup : Setup) (plans : List (List Request)) (c : CrewView)
     → IsNewCrew setup plans c
     → IsStart (progress_in c)
 new-start setup plans c new =
-    let R : ℕ → ServerView → Type 0 = IsNewServer setup plans new.notes in
+    let R : ℕ → ServerView → Type 0 = IsNewServer setup plans new.terms in
     record {
       phase = ap (λ (v : CoordinatorView). v.seat.phase) new.coordinator;
       ending = ap (λ (v : CoordinatorView). v.seat.ending) new.coordinator;
@@ -71,7 +71,7 @@ pub new-workers : (setup : Setup) (plans : List (List Request)) (c : CrewView)
     → IsNewCrew setup plans c
     → length c.servers ≡ setup.workers
 new-workers setup plans c new =
-    sym (pairs-length (IsNewServer setup plans new.notes) (range_with_len 0 setup.workers) c.servers new.servers)
+    sym (pairs-length (IsNewServer setup plans new.terms) (range_with_len 0 setup.workers) c.servers new.servers)
     ∙ length-range_with_len 0 setup.workers
 
 -- all items of the plans are left
@@ -81,7 +81,7 @@ pub new-items : (setup : Setup) (plans : List (List Request)) (c : CrewView)
     → items_in (progress_in c) ≡ items_of plans
 new-items setup plans c some new =
     sum-of-map (λ (w : WorkerProgress). w.items) progress_of c.servers
-    ∙ sym (pairs-sum (IsNewServer setup plans new.notes) (λ k. sum_by item_count (dealt setup.workers k plans))
+    ∙ sym (pairs-sum (IsNewServer setup plans new.terms) (λ k. sum_by item_count (dealt setup.workers k plans))
     (λ (s : ServerView). sum_by items_left s.inboxes) (range_with_len 0 setup.workers) c.servers
     (λ k s is. sym (ap (sum_by items_left) is.inboxes ∙ left-untouched (dealt setup.workers k plans))) new.servers)
     ∙ deal-sum item_count setup.workers plans some

@@ -1,14 +1,13 @@
 -- The crew of a run: the coordinator at its board, and the servers of the workers.
-use Rattle.std.specs.Prelude.{◌≡◌, ◌<◌, ℕ, Bool, List, Option, Some, length, slice_get, All}
+use Rattle.std.specs.Prelude.{◌≡◌, ◌<◌, ℕ, Bool, List, Some, length, map, slice_get, All}
 use Rattle.std.specs.List.{AllZip}
 use Rattle.like_requests.specs.declared.request.Request.{Request}
 use Rattle.like_requests.specs.declared.setup.Setup.{Setup}
 use Rattle.like_core.specs.declared.worker_state.WorkerState.TheVariants.{Gone}
-use Rattle.like_core.specs.declared.view.CoordSeatView.{CoordSeatView}
 use Rattle.like_board.specs.Rule.{opened_coord}
 use Rattle.like_board.specs.Seats.{BoardId, board_id, board_numbers}
-use Rattle.like_roles.specs.coordinator.Choice.{first_choice}
-use Rattle.like_roles.specs.coordinator.CoordTurns.{CoordinatorView}
+use Rattle.like_roles.specs.declared.terms.Terms.{Terms}
+use Rattle.like_roles.specs.coordinator.CoordTurns.{CoordinatorGoesOn, CoordinatorView, new_coordinator}
 use Rattle.like_tables.specs.Share.{place_of, worker_of}
 use Rattle.like_crew.specs.declared.crew.Crew.{Crew}
 use Rattle.like_crew.specs.declared.site.Site.{Site}
@@ -16,14 +15,6 @@ use Rattle.like_promises.specs.Workload.{workload_of}
 use Rattle.like_crew.specs.Server.{ServerGoesOn, ServerView}
 use Rattle.like_crew.specs.Servers.{AreNewServers, AreServers}
 use Rattle.like_crew.specs.Site.{opening_of}
-
--- the same coordinator, later: of the same board, which opened in the same way, with the same number of turns in each
--- phase, and of likes that make a page hot
-pub record CoordinatorGoesOn (v w : CoordinatorView) : Type 0 where
-  pub board : w.board ≡ v.board
-  pub opening : w.seat.opening ≡ v.seat.opening
-  pub turns : w.turns ≡ v.turns
-  pub hot : w.choice.hot ≡ v.choice.hot
 
 -- the crew as contracts see it: the coordinator, and the servers of the workers in order
 pub record CrewView : Type 0 where
@@ -53,24 +44,13 @@ pub record IsCrew (setup : Setup) (plans : List (List Request)) (site : Site) (c
   pub board : c.coordinator.board ≡ board_id site.board
   pub crew : IsCrewAt setup plans (board_numbers (board_id site.board)) site.notes c
 
--- the coordinator with this seat that has made no turn: it counts this many turns in each phase, and `hot` likes make a
--- page hot
-abbrev pub new_coordinator : BoardId → CoordSeatView → ℕ → Option ℕ → CoordinatorView
-new_coordinator board seat turns hot = record {
-  board = board;
-  seat = seat;
-  turns = turns;
-  left = turns;
-  phase = 0;
-  choice = first_choice hot seat.opening.counts;
-}
-
 -- a new crew of these settings and plans: its coordinator has made no turn, and its servers have done nothing
 pub record IsNewCrew (setup : Setup) (plans : List (List Request)) (c : CrewView) : Type 0 where
   pub board : BoardId
-  pub notes : Bool
+  pub terms : Terms
+  pub sizes : terms.sizes.now ≡ map length plans
   pub coordinator : c.coordinator ≡ new_coordinator board (opened_coord (opening_of setup)) setup.turns setup.hot
-  pub servers : AreNewServers setup plans notes c.servers
+  pub servers : AreNewServers setup plans terms c.servers
 
 -- among these servers a submitter has an inbox: its worker's server has it
 abbrev pub HasInbox : List ServerView → ℕ → Type 0

@@ -6,7 +6,7 @@ use Rattle.like_core.specs.declared.worker_state.WorkerState.TheVariants.{Gone}
 use Rattle.like_board.specs.declared.coord_seat.CoordSeat.{CoordSeat}
 use Rattle.like_board.specs.declared.worker_seat.WorkerSeat.{WorkerSeat}
 use Rattle.like_board.specs.Seats.{AreAll, BoardId, board_id, board_numbers, coord_board, coord_view, seat_board, seat_view}
-use Rattle.like_roles.specs.coordinator.CoordTurns.{ChoseByCounts, CoordinatorView, HasEndedJoined}
+use Rattle.like_roles.specs.coordinator.CoordTurns.{ChoseByCounts, CoordinatorGoesOn, CoordinatorView, HasEndedJoined}
 use Rattle.like_promises.specs.declared.log.WorkerLog.{WorkerLog}
 use Rattle.like_requests.specs.declared.request.Request.{Request}
 use Rattle.like_requests.specs.declared.setup.Setup.{Setup}
@@ -15,7 +15,7 @@ use Rattle.like_crew.specs.declared.ended.Ended.{Ended}
 use Rattle.like_crew.specs.declared.site.Site.{Site}
 use Rattle.like_promises.specs.Workload.{workload_of}
 use Rattle.like_crew.specs.Site.{opening_of}
-use Rattle.like_crew.specs.Crew.{AreGone, CoordinatorGoesOn, CrewView}
+use Rattle.like_crew.specs.Crew.{AreGone, CrewView}
 use Rattle.like_crew.specs.Server.{IsLogOf, ServerGoesOn, ServerView}
 use Rattle.like_crew.specs.Servers.{AreServers}
 

@@ -5,6 +5,7 @@ use Rattle.like_requests.specs.declared.request.Request.{Request}
 use Rattle.like_requests.specs.declared.setup.Setup.{Setup}
 use Rattle.like_tables.specs.Share.{dealt, share_of}
 use Rattle.like_promises.specs.Workload.{Workload, submitters}
+use Rattle.like_roles.specs.declared.terms.Terms.{Terms}
 use Rattle.like_roles.specs.worker.New.{IsNew, IsPostOf}
 use Rattle.like_crew.specs.Server.{ServerView, WorksFor, untouched}
 
@@ -25,14 +26,14 @@ AreServers workload workers board notes servers =
 
 -- a worker's server has done nothing yet: no call was made on its post, and its worker is new; its inboxes are those of
 -- its submitters' plans, from which nothing was taken, and nothing of them is open
-pub record IsNewServer (setup : Setup) (plans : List (List Request)) (notes : Bool) (worker : ℕ) (s : ServerView)
+pub record IsNewServer (setup : Setup) (plans : List (List Request)) (terms : Terms) (worker : ℕ) (s : ServerView)
     : Type 0 where
   pub post : IsPostOf worker setup.pages s.worker.post
-  pub new : IsNew setup (map length plans) worker s.worker.post notes s.worker
+  pub new : IsNew setup terms worker s.worker.post s.worker
   pub inboxes : s.inboxes ≡ map untouched (dealt setup.workers worker plans)
   pub closed : s.opened ≡ replicate (length s.inboxes) 0
 
 -- the servers of all workers, in order
-abbrev pub AreNewServers : Setup → List (List Request) → Bool → List ServerView → Type 0
-AreNewServers setup plans notes servers =
-    AllZip (IsNewServer setup plans notes) (range_with_len 0 setup.workers) servers
+abbrev pub AreNewServers : Setup → List (List Request) → Terms → List ServerView → Type 0
+AreNewServers setup plans terms servers =
+    AllZip (IsNewServer setup plans terms) (range_with_len 0 setup.workers) servers

@@ -12,6 +12,7 @@ use crate::site::{Seats, Site};
 use like_board::BoardPost;
 use like_queue::{Inbox, ListInbox};
 use like_requests::{Request, Setup};
+use like_roles::Terms;
 use std::alloc::{AllocError, Global};
 
 mod coordinator_at;
@@ -19,7 +20,6 @@ mod hands;
 mod new_servers;
 mod own_crew;
 mod own_servers;
-mod run_coordinator;
 mod server;
 mod serving;
 
@@ -56,15 +56,11 @@ impl<'a, I: Inbox> Crew<'a, I> {
             (λ crew. IsNewCrew setup.now (plans_of (map I.view inboxes.items)) (crew_of crew)) }
     {
         let Seats { coord, workers } = seats;
-        let servers = servers_of(
-            alloc,
-            setup,
-            &site.sizes,
-            &site.board,
-            site.notes,
-            workers,
-            inboxes,
-        )?;
+        let terms = Terms {
+            sizes: &site.sizes,
+            notes: site.notes,
+        };
+        let servers = servers_of(alloc, setup, terms, &site.board, workers, inboxes)?;
         let coordinator = CoordinatorAt::new(
             alloc,
             &site.board,

@@ -18,32 +18,32 @@ use like_board::Board;
 use like_collection::{CollectFault, collect, collect_in_parallel};
 use like_promises::{Replies, Report};
 use like_requests::{Request, Setup};
+use like_roles::Terms;
 use std::alloc::{AllocError, Global};
 use std::snapshot::Snapshot;
 use std::thread::Threads;
 
 mod gathered;
 
-/// The report of a run of these plans, of so many requests each, that has left this; it has the places of additions
-/// where the workers noted them.
+/// The report of a run of these plans on these terms that has left this; it has the places of additions where the
+/// workers noted them.
 pub fn report_of(
     alloc: Global,
     setup: &Setup,
     plans: &Snapshot<Vec<Vec<Request>>>,
-    sizes: &[u32],
-    notes: bool,
+    terms: Terms<'_>,
     outcome: Outcome,
 ) -> Result<Report, AllocError>
     requires within { FitsRun setup.now (lists_of plans.now.value.items) }
-    requires sizes { sizes.now ≡ map length (lists_of plans.now.value.items) }
-    requires outcome { IsOutcome setup.now (lists_of plans.now.value.items) notes outcome }
-    ensures report { IfOk result (IsReportOf setup.now (lists_of plans.now.value.items) notes) }
+    requires sizes { terms.sizes.now ≡ map length (lists_of plans.now.value.items) }
+    requires outcome { IsOutcome setup.now (lists_of plans.now.value.items) terms.notes outcome }
+    ensures report { IfOk result (IsReportOf setup.now (lists_of plans.now.value.items) terms.entry.notes) }
     ensures phases { IfOk result (λ report. report.phases ≡ outcome.phases) }
     ensures logs { IfOk result (λ report. report.logs ≡ outcome.logs) }
     ensures hot { IfOk result (λ report. report.hot ≡ outcome.chosen) }
 {
-    let collected = collect(alloc, sizes, &outcome.logs);
-    report_with(alloc, setup, plans, sizes, notes, outcome, collected)
+    let collected = collect(alloc, terms.sizes, &outcome.logs);
+    report_with(alloc, setup, plans, terms, outcome, collected)
 }
 
 /// The report of a run at a site that has ended, with the replies collected in parallel by at most `starts` further threads.
@@ -70,7 +70,11 @@ pub fn report_in_parallel<T: Threads + Sync>(
     } = site;
     let outcome = close(board, counts, ended);
     let collected = collect_in_parallel(rt, alloc, &sizes, &outcome.logs, starts);
-    report_with(alloc, setup, plans, &sizes, notes, outcome, collected)
+    let terms = Terms {
+        sizes: &sizes,
+        notes,
+    };
+    report_with(alloc, setup, plans, terms, outcome, collected)
 }
 
 // The report, with what was collected from the logs.
@@ -78,18 +82,17 @@ fn report_with(
     alloc: Global,
     setup: &Setup,
     plans: &Snapshot<Vec<Vec<Request>>>,
-    sizes: &[u32],
-    notes: bool,
+    terms: Terms<'_>,
     outcome: Outcome,
     collected: Result<Replies, CollectFault>,
 ) -> Result<Report, AllocError>
     requires within { FitsRun setup.now (lists_of plans.now.value.items) }
-    requires sizes { sizes.now ≡ map length (lists_of plans.now.value.items) }
-    requires outcome { IsOutcome setup.now (lists_of plans.now.value.items) notes outcome }
+    requires sizes { terms.sizes.now ≡ map length (lists_of plans.now.value.items) }
+    requires outcome { IsOutcome setup.now (lists_of plans.now.value.items) terms.notes outcome }
     requires collected { MatchResult collected
-        (λ replies. IsCollected sizes.now (entries_in outcome.logs.items) (rows_of replies))
-        (IsCollectFault sizes.now (entries_in outcome.logs.items)) }
-    ensures report { IfOk result (IsReportOf setup.now (lists_of plans.now.value.items) notes) }
+        (λ replies. IsCollected terms.sizes.now (entries_in outcome.logs.items) (rows_of replies))
+        (IsCollectFault terms.sizes.now (entries_in outcome.logs.items)) }
+    ensures report { IfOk result (IsReportOf setup.now (lists_of plans.now.value.items) terms.entry.notes) }
     ensures phases { IfOk result (λ report. report.phases ≡ outcome.phases) }
     ensures logs { IfOk result (λ report. report.logs ≡ outcome.logs) }
     ensures hot { IfOk result (λ report. report.hot ≡ outcome.chosen) }
@@ -101,8 +104,8 @@ fn report_with(
         chosen,
     } = outcome;
     let replies = replies_of(collected)?;
-    let last = last_likes(alloc, setup.users, sizes.len() as u32, &logs)?;
-    let places = places_of(alloc, notes, setup.pages.len(), &logs)?;
+    let last = last_likes(alloc, setup.users, terms.sizes.len() as u32, &logs)?;
+    let places = places_of(alloc, terms.notes, setup.pages.len(), &logs)?;
     Ok(Report {
         logs,
         replies,

@@ -1,5 +1,5 @@
 -- The ends of a worker's life: it starts as the plans say, and ends so.
-use Rattle.std.proofs.Common.{false, ◌≡◌, ℕ, ◌==◌, cond, Bool, true, List, [], ◌++◌, length, map, get_or, Some, None, refl, ap, sym, ◌∙◌, inl, inr, arith, subst, append-nil}
+use Rattle.std.proofs.Common.{false, ◌≡◌, ℕ, ◌==◌, cond, Bool, true, [], ◌++◌, length, map, get_or, Some, None, refl, ap, sym, ◌∙◌, inl, inr, arith, subst, append-nil}
 use Rattle.std.proofs.lemmas.Bool.{cases_eq}
 use Rattle.std.proofs.lemmas.List.{length-map, length-replicate}
 use Rattle.std.proofs.lemmas.List.Elements.{All-nil}
@@ -14,6 +14,7 @@ use Rattle.like_core.specs.Post.{additions_in, additions_of, pages_of}
 use Rattle.like_core.specs.PageSteps.{additions_among, earliest_first, likes_of}
 use Rattle.like_core.specs.declared.view.WorkerSeatView.{WorkerSeatView}
 use Rattle.like_tables.specs.UserTable.{last_of}
+use Rattle.like_roles.specs.declared.terms.Terms.{Terms}
 use Rattle.like_roles.specs.declared.turn.Turn.{Turn}
 use Rattle.like_roles.specs.declared.turn.Turn.TheVariants as turn
 use Rattle.like_roles.specs.worker.Follows.{adds_to, ArePlainReads, Follows, IsDone, IsNoted, IsWorkloadOf, IsUnmerged, HasNothingLater, Stands, entry_held, next_joined}
@@ -31,12 +32,12 @@ use Rattle.like_seat.proofs.MergedLikes.{cond_same, same_everywhere}
 use Rattle.like_roles.proofs.notes.NotedMerge.{noted-nothing, one-of_likes}
 
 -- a new worker follows the plans
-pub follows-new : (s : Setup) (sizes : List ℕ) (worker : ℕ) (post : WorkerSeatView) (notes : Bool) (v : WorkerView)
+pub follows-new : (s : Setup) (terms : Terms) (worker : ℕ) (post : WorkerSeatView) (v : WorkerView)
     (workload : Workload)
     → IsPostOf worker s.pages post
-    → IsNew s sizes worker post notes v
-    → IsWorkloadOf s sizes workload → Follows workload v
-follows-new s sizes worker post notes v workload p new same =
+    → IsNew s terms worker post v
+    → IsWorkloadOf s terms.sizes.now workload → Follows workload v
+follows-new s terms worker post v workload p new same =
     let marks_are : v.post.opening.marks ≡ marks_of workload.pages =
     ap (λ x. x.opening.marks) new.at_post ∙ p.opening.marks ∙ ap (map (λ q. q.split)) (sym same.pages_are) in
     let pages : pages_of v.post ≡ length s.pages =

@@ -1,4 +1,4 @@
-ghost use Rattle.std.specs.Prelude.{◌≡◌, ◌≤◌, [], IfErr, IfOk};
+ghost use Rattle.std.specs.Prelude.{◌≡◌, ◌≤◌, IfErr, IfOk};
 ghost use Rattle.like_board.specs.Led.{IsLedBy, IsSightOf, ShowsTold, led};
 ghost use Rattle.like_board.specs.Seats.{board_id};
 ghost use Rattle.like_core.specs.Phase.{last_phase, IsJoined};
@@ -6,8 +6,8 @@ ghost use Rattle.like_core.specs.OpeningLimits.{run_limits};
 ghost use Rattle.like_core.specs.views.Actions.{Surveys};
 ghost use Rattle.like_core.specs.views.Views.{SawAllIn};
 ghost use Rattle.like_seat.specs.Lead.{saw_word};
-ghost use Rattle.like_roles.specs.coordinator.Choice.{Chooses, choice_of, first_choice, ReleasesNext};
-ghost use Rattle.like_roles.specs.coordinator.CoordTurns.{ChoseByCounts, CoordTurns, HasEndedJoined, IsBeforeEnd, TurnsAt};
+ghost use Rattle.like_roles.specs.coordinator.Choice.{Chooses, choice_of, ReleasesNext};
+ghost use Rattle.like_roles.specs.coordinator.CoordTurns.{ChoseByCounts, CoordTurns, CoordinatorGoesOn, HasEndedJoined, HasReleasedNone, IsBeforeEnd, IsCoordinating, TurnsAt, new_coordinator};
 
 mod choices;
 
@@ -123,17 +123,10 @@ impl<S: LeadSeat> CoordinatorOf<S> {
     ) -> Result<CoordinatorOf<S>, NoCoordinator<S>>
         requires counts { counts.now ≡ (S.view seat).opening.counts }
         requires limits { (S.view seat).opening.limits ≡ run_limits }
-        ensures new { IfOk result (λ coordinator. coordinator ≡ record {
-          board = S.board seat;
-          seat = S.view seat;
-          turns = turns;
-          left = turns;
-          phase = 0;
-          choice = first_choice hot counts.now;
-        }) }
-        ensures chose { IfOk result
-            (λ coordinator. (S.view seat).phase ≡ 0 → (S.view seat).masks ≡ []
-            → ChoseByCounts coordinator) }
+        ensures new { IfOk result (λ coordinator. coordinator
+            ≡ new_coordinator (S.board seat) (S.view seat) turns hot) }
+        ensures coordinating { IfOk result
+            (λ coordinator. HasReleasedNone (S.view seat) → IsCoordinating coordinator) }
         ensures seat { IfErr result (λ refused. refused.seat ≡ seat) }
     {
         let Ok(choices) = Choices::new(alloc) else {
@@ -159,7 +152,7 @@ impl<S: LeadSeat> CoordinatorOf<S> {
         requires { IsLedBy (S.tells board.old) self.old.board self.old.seat }
         ensures case { TurnsAt (S.tells board.old) self.old result self.new }
         ensures led { S.tells board.new ≡ led (S.tells board.old) self.new.seat }
-        ensures board { self.new.board ≡ self.old.board }
+        ensures goes_on { CoordinatorGoesOn self.old self.new }
         ensures keeps { IsBeforeEnd self.old → IsBeforeEnd self.new }
         ensures ended { IsBeforeEnd self.old → result ≡ CoordTurn.Ended → HasEndedJoined self.new }
         ensures chose { ChoseByCounts self.old → ChoseByCounts self.new }
@@ -222,7 +215,7 @@ impl CoordinatorOf<CoordSeat> {
     pub fn turn(&mut self, board: &Board) -> CoordTurn
         requires { self.old.board ≡ board_id board.now }
         ensures case { CoordTurns self.old result self.new }
-        ensures board { self.new.board ≡ self.old.board }
+        ensures goes_on { CoordinatorGoesOn self.old self.new }
         ensures keeps { IsBeforeEnd self.old → IsBeforeEnd self.new }
         ensures ended { IsBeforeEnd self.old → result ≡ CoordTurn.Ended → HasEndedJoined self.new }
         ensures chose { ChoseByCounts self.old → ChoseByCounts self.new }

@@ -8,6 +8,7 @@
 mod coord_turn;
 mod coordinator;
 mod laws;
+mod terms;
 mod turn;
 mod worker;
 
@@ -16,5 +17,6 @@ pub use coordinator::{Coordinator, CoordinatorOf, NoCoordinator, OwnCoordinator}
 pub use laws::workers_are_exclusive;
 pub use like_promises::{Added, Chosen, Ran, Reply, Took, WorkerLog};
 pub use like_requests::{Gate, NoGate};
+pub use terms::Terms;
 pub use turn::Turn;
 pub use worker::{NoWorker, Work, Worker};

@@ -13,6 +13,7 @@ mod places;
 mod tasks;
 
 pub use self::tasks::Work;
+use crate::terms::Terms;
 use crate::turn::Turn;
 use like_core::Post;
 use like_promises::WorkerLog;
@@ -60,37 +61,36 @@ impl<P: Post> Worker<P> {
         requires within { IsWithin setup.now sizes.now }
         requires is_worker { worker < setup.now.workers }
         requires post { IsPostOf worker setup.now.pages (P.view post) }
-        ensures new { IfOk result (IsNewAt setup.now sizes.now worker (P.board post) (P.view post) true) }
+        ensures new { IfOk result (IsNewAt setup.now (record { sizes = sizes.entry; notes = true }) worker
+            (P.board post) (P.view post)) }
         ensures follows { IfOk result
             (λ worker. (workload : Workload)
             → IsWorkloadOf setup.now sizes.now workload
             → Follows workload worker.worker) }
         ensures post { IfErr result (λ refused. refused.post ≡ post) }
     {
-        Worker::noting(alloc, setup, sizes, worker, post, true)
+        Worker::on_terms(alloc, setup, Terms { sizes, notes: true }, worker, post)
     }
 
-    /// Worker `worker` of a run with this many requests of each submitter. It notes its additions only if `notes`, and
-    /// else takes no memory for them. All its memory is taken here.
-    pub fn noting(
+    /// Worker `worker` of a run on these terms. All its memory is taken here.
+    pub fn on_terms(
         alloc: Global,
         setup: &Setup,
-        sizes: &[u32],
+        terms: Terms<'_>,
         worker: u32,
         post: P,
-        notes: bool,
     ) -> Result<Worker<P>, NoWorker<P>>
-        requires within { IsWithin setup.now sizes.now }
+        requires within { IsWithin setup.now terms.sizes.now }
         requires is_worker { worker < setup.now.workers }
         requires post { IsPostOf worker setup.now.pages (P.view post) }
-        ensures new { IfOk result (IsNewAt setup.now sizes.now worker (P.board post) (P.view post) notes) }
+        ensures new { IfOk result (IsNewAt setup.now terms.entry worker (P.board post) (P.view post)) }
         ensures follows { IfOk result
             (λ worker. (workload : Workload)
-            → IsWorkloadOf setup.now sizes.now workload
+            → IsWorkloadOf setup.now terms.entry.sizes.now workload
             → Follows workload worker.worker) }
         ensures post { IfErr result (λ refused. refused.post ≡ post) }
     {
-        match Work::new(alloc, setup, sizes, worker, notes) {
+        match Work::new(alloc, setup, terms, worker) {
             Ok(work) => Ok(Worker { post, work }),
             Err(_) => Err(NoWorker { post }),
         }

@@ -12,6 +12,7 @@ ghost use Rattle.like_run.specs.Script.{EndsInTime, FollowsScript, Makes, MakesA
 use like_crew::{Outcome, OwnCrew, report_of, sizes_of};
 use like_promises::Report;
 use like_requests::{Request, Setup, Turned, check_script, check_setup};
+use like_roles::Terms;
 use std::alloc::Global;
 use std::snapshot::Snapshot;
 
@@ -76,10 +77,14 @@ fn replay_within(
     ensures fault { IfErr result (IsReplayFaultUnderWay setup.now (lists_of plans.items) script.now) }
 {
     let sizes = sizes_of(alloc, &plans)?;
+    let terms = Terms {
+        sizes: &sizes,
+        notes,
+    };
     let lists = Snapshot::of(&plans);
-    let crew = OwnCrew::new(alloc, setup, &sizes, plans, notes)?;
+    let crew = OwnCrew::new(alloc, setup, terms, plans)?;
     let outcome = play(alloc, crew, script)?;
-    Ok(report_of(alloc, setup, &lists, &sizes, notes, outcome)?)
+    Ok(report_of(alloc, setup, &lists, terms, outcome)?)
 }
 
 // Makes a script's entries in their order, opens all lists, makes rounds until the run ended, and takes the crew apart.

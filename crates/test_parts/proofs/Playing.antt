@@ -18,6 +18,7 @@ use Rattle.like_tables.specs.Share.{dealt}
 use Rattle.like_limits.specs.Limits.{max_requests}
 use Rattle.like_promises.specs.Workload.{lists_of}
 use Rattle.like_promises.specs.declared.log.Took.{Took}
+use Rattle.like_roles.specs.declared.terms.Terms.{Terms}
 use Rattle.like_roles.specs.declared.turn.Turn.{Turn}
 use Rattle.like_roles.specs.declared.turn.Turn.TheVariants as turn
 use Rattle.like_roles.specs.worker.New.{IsNew, IsPostOf}
@@ -175,16 +176,17 @@ plan_at pages (plan ∷ plans) (suc submitter) all =
     plan_at pages plans submitter (λ k d below. all (suc k) d (omega arith))
 
 -- a new worker may be played with
-pub plays_new : (s : Setup) (plans : List (List Request)) (sizes : List ℕ) (worker : ℕ)
-    (post : WorkerSeatView) (notes : Bool) (plan : List Request) (v : WorkerView)
+pub plays_new : (s : Setup) (plans : List (List Request)) (terms : Terms) (worker : ℕ)
+    (post : WorkerSeatView) (plan : List Request) (v : WorkerView)
     → FitsRun s plans
-    → sizes ≡ map length plans
-    → length sizes ≤ s.workers
+    → terms.sizes.now ≡ map length plans
+    → length terms.sizes.now ≤ s.workers
     → plan ≡ get_or plans worker []
     → IsPostOf worker s.pages post
-    → IsNew s sizes worker post notes v
+    → IsNew s terms worker post v
     → IsPlaying plan 0 v
-plays_new s plans sizes worker post notes plan v w sized few is his new =
+plays_new s plans terms worker post plan v w sized few is his new =
+    let sizes : List ℕ = terms.sizes.now in
     let own = dealt_one s.workers worker sizes w.numbers.workers.0 few in
     let lists = plan_at s.pages plans worker (plans-within s plans w) in
     let ended : length v.ended ≡ length v.left = ap length new.ended ∙ length-replicate (length v.left) false in

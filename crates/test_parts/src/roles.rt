@@ -14,7 +14,7 @@ use crate::asserts::assert_named;
 use gates::Expecting;
 use like_core::Post;
 use like_requests::{Request, Setup, check_setup, read_pages};
-use like_roles::{Added, Chosen, Ran, Took, WorkerLog};
+use like_roles::{Added, Chosen, Ran, Terms, Took, WorkerLog};
 use like_tables::Users;
 use play::{Play, Step, board_of};
 use scenes::{
@@ -175,17 +175,12 @@ fn play_at_board(
     requires few { length plans.now ≤ setup.now.workers }
 {
     let sizes = sizes_of(alloc, plans)?;
+    let terms = Terms {
+        sizes: &sizes,
+        notes: scene.notes,
+    };
     let (board, coord, seats) = board_of(alloc, setup)?;
-    let play = Play::new(
-        alloc,
-        setup,
-        plans,
-        &sizes,
-        &board,
-        coord,
-        seats,
-        scene.notes,
-    )?;
+    let play = Play::new(alloc, setup, plans, terms, &board, coord, seats)?;
     if often {
         make_often(rt, alloc, scene, play);
     } else {

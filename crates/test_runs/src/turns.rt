@@ -15,7 +15,7 @@ use super::cases::{
 use like_crew::{Outcome, OwnCrew, report_of, sizes_of};
 use like_replies::Report;
 use like_requests::{Request, Setup, check_script, check_setup};
-use like_roles::{CoordTurn, Turn};
+use like_roles::{CoordTurn, Terms, Turn};
 use like_run::{MAX_ENTRIES, MAX_ROUNDS, Turned};
 use std::alloc::Global;
 use std::fmt::Debug;
@@ -113,10 +113,14 @@ fn answers_within(
     requires script { All (IsInRun setup.now.workers (length plans.items)) script.now }
 {
     let sizes = sizes_of(alloc, &plans).expect(rt, "memory");
+    let terms = Terms {
+        sizes: &sizes,
+        notes: true,
+    };
     let lists = Snapshot::of(&plans);
-    let crew = OwnCrew::new(alloc, setup, &sizes, plans, true).expect(rt, "memory");
+    let crew = OwnCrew::new(alloc, setup, terms, plans).expect(rt, "memory");
     let (words, outcome) = play(rt, alloc, crew, script);
-    let report = report_of(alloc, setup, &lists, &sizes, true, outcome).expect(rt, "a report");
+    let report = report_of(alloc, setup, &lists, terms, outcome).expect(rt, "a report");
     (words, report)
 }
 

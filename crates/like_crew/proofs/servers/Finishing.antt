@@ -13,6 +13,7 @@ use Rattle.like_core.specs.declared.view.WorkerSeatView.{WorkerSeatView}
 use Rattle.like_tables.specs.UserTable.{UserTable}
 use Rattle.like_tables.specs.Share.{share_of, Share, place_of, serves}
 use Rattle.like_promises.specs.declared.log.Took.{Took}
+use Rattle.like_roles.specs.declared.terms.Terms.{Terms}
 use Rattle.like_roles.specs.worker.New.{IsNew, IsPostOf}
 use Rattle.like_queue.specs.Inbox.{InboxView}
 use Rattle.like_promises.specs.declared.log.WorkerLog.{WorkerLog}
@@ -116,14 +117,14 @@ there-too pages marks e r =
     (sym (ap (λ (xs : List Bool). length xs) e ∙ length-map pages (λ (p : Page). p.split)))
 
 -- a worker that has done nothing yet agrees with untouched inboxes
-pub agree-new : (s : Setup) (sizes : List ℕ) (number : ℕ) (post : WorkerSeatView) (notes : Bool) (v : WorkerView)
+pub agree-new : (s : Setup) (terms : Terms) (number : ℕ) (post : WorkerSeatView) (v : WorkerView)
     (inboxes : List InboxView)
     → number < s.workers
     → IsPostOf number s.pages post
-    → AreInboxesFor s sizes number inboxes
-    → IsNew s sizes number post notes v → Agree v inboxes
-agree-new s sizes number post notes v inboxes is_worker fresh i new =
-    let share : v.last.share ≡ share_of s.users (length sizes) s.workers number =
+    → AreInboxesFor s terms.sizes.now number inboxes
+    → IsNew s terms number post v → Agree v inboxes
+agree-new s terms number post v inboxes is_worker fresh i new =
+    let share : v.last.share ≡ share_of s.users (length terms.sizes.now) s.workers number =
     ap (λ (x : UserTable). x.share) new.last in
     let marks : v.post.opening.marks ≡ marks_of s.pages = ap (λ (x : WorkerSeatView). x.opening.marks) new.at_post ∙ fresh.opening.marks in
     let sizes_are : v.left ≡ map length (plans_of inboxes) = new.left ∙ sym i.sized in

@@ -1,5 +1,5 @@
 -- How the servers of a run are made, one after the other.
-use Rattle.std.proofs.Common.{◌≡◌, ◌<◌, ◌≤◌, ◌+◌, [], ◌∷◌, ℕ, suc, Bool, Fits, w32, List, Vec, Global, length, map, drop, get_or, remove, replicate, refl, sym, ap, ◌∙◌, subst, add-one, arith}
+use Rattle.std.proofs.Common.{◌≡◌, ◌<◌, ◌≤◌, ◌+◌, [], ◌∷◌, ℕ, suc, Fits, w32, List, Vec, Global, length, map, drop, get_or, remove, replicate, refl, sym, ap, ◌∙◌, subst, add-one, arith}
 use Rattle.std.specs.List.{All, AllZip}
 use Rattle.std.proofs.lemmas.List.{length-drop}
 use Rattle.like_limits.specs.Limits.{max_workers}
@@ -12,6 +12,7 @@ use Rattle.like_tables.specs.Share.{dealt, share_of}
 use Rattle.like_tables.specs.UserTable.{UserTable}
 use Rattle.like_tables.proofs.Dealt.{map-dealt}
 use Rattle.like_promises.specs.Workload.{Workload, workload_of}
+use Rattle.like_roles.specs.declared.terms.Terms.{Terms}
 use Rattle.like_roles.specs.worker.Follows.{IsWorkloadOf}
 use Rattle.like_roles.specs.worker.New.{IsNew, IsPostOf}
 use Rattle.like_crew.specs.Servers.{IsNewServer, IsServer}
@@ -54,21 +55,21 @@ inboxes-at setup sizes number k inboxes own same within sized none is =
     (plans-within setup (plans_of inboxes) within) is)
 
 -- its server, at the post of a new seat
-pub server-at : (setup : Setup) (sizes : List ℕ) (number k : ℕ) (inboxes own : List InboxView) (post : WorkerSeatView)
-    (board : List ℕ) (notes : Bool) (s : ServerView)
+pub server-at : (setup : Setup) (terms : Terms) (number k : ℕ) (inboxes own : List InboxView) (post : WorkerSeatView)
+    (board : List ℕ) (s : ServerView)
     → number ≡ k
-    → sizes ≡ map length (plans_of inboxes)
+    → terms.sizes.now ≡ map length (plans_of inboxes)
     → own ≡ dealt setup.workers k inboxes
     → IsPostOf k setup.pages post
     → s.board ≡ board
-    → IsNew setup sizes number post notes s.worker
-    → ((workload : Workload) → IsWorkloadOf setup sizes workload → AreOwnPlans workload setup.workers number own
-    → WorksFor workload s)
-    → IsServer (workload_of setup (plans_of inboxes)) setup.workers board notes k s
-server-at setup sizes number k inboxes own post board notes s same sized is fresh here new works =
-    is-server setup sizes k inboxes own post board notes s sized is fresh here
+    → IsNew setup terms number post s.worker
+    → ((workload : Workload) → IsWorkloadOf setup terms.sizes.now workload
+    → AreOwnPlans workload setup.workers number own → WorksFor workload s)
+    → IsServer (workload_of setup (plans_of inboxes)) setup.workers board terms.notes k s
+server-at setup terms number k inboxes own post board s same sized is fresh here new works =
+    is-server setup terms.sizes.now k inboxes own post board terms.notes s sized is fresh here
     (ap (λ (t : UserTable). t.share) new.last
-    ∙ ap (λ n. share_of setup.users (length sizes) setup.workers n) same) new.at_post new.notes_are
+    ∙ ap (λ n. share_of setup.users (length terms.sizes.now) setup.workers n) same) new.at_post new.notes_are
     (λ workload of mine. works workload of (subst (λ n. AreOwnPlans workload setup.workers n own) (sym same) mine))
 
 -- inboxes from which nothing was taken are those of their plans
@@ -103,20 +104,18 @@ hand-closed opened view hands left k workers hand items own sized below rest fir
     (all-dealt (λ i. opened i ≡ 0) workers k items (omega (arith, below)) none))
 
 -- a server with a new worker and closed inboxes is new
-pub new-server : (setup : Setup) (sizes : List ℕ) (number k : ℕ) (inboxes own : List InboxView) (post : WorkerSeatView)
-    (notes : Bool) (s : ServerView)
+pub new-server : (setup : Setup) (terms : Terms) (number k : ℕ) (inboxes own : List InboxView) (post : WorkerSeatView)
+    (s : ServerView)
     → number ≡ k
-    → sizes ≡ map length (plans_of inboxes)
     → AreUntouched inboxes
     → own ≡ dealt setup.workers k inboxes
     → IsPostOf k setup.pages post
-    → IsNew setup sizes number post notes s.worker
-    → s.inboxes ≡ own → s.opened ≡ replicate (length own) 0 → IsNewServer setup (plans_of inboxes) notes k s
-new-server setup sizes number k inboxes own post notes s same sized none is fresh new inboxes_are closed = record {
+    → IsNew setup terms number post s.worker
+    → s.inboxes ≡ own → s.opened ≡ replicate (length own) 0 → IsNewServer setup (plans_of inboxes) terms k s
+new-server setup terms number k inboxes own post s same none is fresh new inboxes_are closed = record {
   post = subst (IsPostOf k setup.pages) (sym new.at_post) fresh;
-  new = subst (λ p. IsNew setup (map length (plans_of inboxes)) k p notes s.worker) (sym new.at_post)
-      (subst (λ n. IsNew setup (map length (plans_of inboxes)) n post notes s.worker) same
-      (subst (λ ns. IsNew setup ns number post notes s.worker) sized new));
+  new = subst (λ p. IsNew setup terms k p s.worker) (sym new.at_post)
+      (subst (λ n. IsNew setup terms n post s.worker) same new);
   inboxes = inboxes_are ∙ is ∙ ap (dealt setup.workers k) (as-untouched inboxes none)
       ∙ sym (map-dealt untouched setup.workers k (plans_of inboxes));
   closed = closed ∙ ap (λ (xs : List InboxView). replicate (length xs) 0) (sym inboxes_are);

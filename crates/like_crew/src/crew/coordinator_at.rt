@@ -1,32 +1,31 @@
-ghost use Rattle.std.specs.Prelude.{◌≡◌, [], IfOk};
+ghost use Rattle.std.specs.Prelude.{◌≡◌, IfOk};
 ghost use Rattle.like_core.specs.OpeningLimits.{run_limits};
 ghost use Rattle.like_board.specs.Seats.{board_id, coord_board, coord_view};
-ghost use Rattle.like_roles.specs.coordinator.CoordTurns.{CoordTurns, HasEndedJoined};
-ghost use Rattle.like_crew.specs.Crew.{CoordinatorGoesOn, new_coordinator};
+ghost use Rattle.like_roles.specs.coordinator.CoordTurns.{CoordTurns, CoordinatorGoesOn, HasEndedJoined, HasReleasedNone, new_coordinator};
 
-use crate::crew::run_coordinator::RunCoordinator;
 use like_board::{Board, CoordSeat};
-use like_roles::CoordTurn;
+use like_roles::{CoordTurn, Coordinator};
 use std::alloc::{AllocError, Global};
 use std::marker::Model;
 
-/// The coordinator at its board.
+/// The coordinator of a run at its board. It chose hot pages by the counts that it read, and released no split phase
+/// once all workers were gone.
 #[derive(Drop)]
 pub struct CoordinatorAt<'a> {
     board: &'a Board,
-    pub(crate) coordinator: RunCoordinator<CoordSeat>,
+    pub(crate) coordinator: Coordinator,
 }
 
 impl<'a> Model for CoordinatorAt<'a> {
     ghost use Rattle.std.specs.Prelude.{◌≡◌};
     ghost use Rattle.like_board.specs.Seats.{board_id};
-    ghost use Rattle.like_roles.specs.coordinator.CoordTurns.{CoordinatorView};
+    ghost use Rattle.like_roles.specs.coordinator.CoordTurns.{CoordinatorView, IsCoordinating};
 
     ghost Value = { CoordinatorView };
 
     ghost view = { λ l. l.coordinator };
 
-    ghost invariant = { λ l. l.coordinator.board ≡ board_id l.board.now };
+    ghost invariant = { λ l. (l.coordinator.board ≡ board_id l.board.now) × IsCoordinating l.coordinator };
 }
 
 impl<'a> CoordinatorAt<'a> {
@@ -43,13 +42,14 @@ impl<'a> CoordinatorAt<'a> {
         requires here { coord_board seat ≡ board_id board.now }
         requires counts { counts.now ≡ (coord_view seat).opening.counts }
         requires limits { (coord_view seat).opening.limits ≡ run_limits }
-        requires new { (coord_view seat).phase ≡ 0 }
-        requires no_masks { (coord_view seat).masks ≡ [] }
+        requires new { HasReleasedNone (coord_view seat) }
         ensures { IfOk result (λ coordinator. coordinator
             ≡ new_coordinator (board_id board.now) (coord_view seat) turns hot) }
     {
-        let coordinator = RunCoordinator::new(alloc, seat, turns, hot, counts)?;
-        Ok(CoordinatorAt { board, coordinator })
+        match Coordinator::new(alloc, seat, turns, hot, counts) {
+            Ok(coordinator) => Ok(CoordinatorAt { board, coordinator }),
+            Err(_) => Err(AllocError),
+        }
     }
 
     /// Makes its next turn.
@@ -58,7 +58,6 @@ impl<'a> CoordinatorAt<'a> {
         ensures goes_on { CoordinatorGoesOn self.old self.new }
         ensures ended { result ≡ CoordTurn.Ended → HasEndedJoined self.new }
     {
-        let mut at = self.board;
-        self.coordinator.turn_at(&mut at)
+        self.coordinator.turn(self.board)
     }
 }

@@ -12,13 +12,12 @@ ghost use Rattle.like_crew.specs.Steps.{AtServer, FreshRound, IsFreshTurn, Leads
 
 use crate::crew::list_inboxes;
 use crate::crew::own_servers::{finish_own, own_servers};
-use crate::crew::run_coordinator::RunCoordinator;
 use crate::crew::server::OwnServer;
 use crate::outcome::Outcome;
-use like_board::{OwnBoard, OwnCoordSeat};
+use like_board::OwnBoard;
 use like_queue::ListInbox;
 use like_requests::{Request, Setup};
-use like_roles::{CoordTurn, NoGate, Turn};
+use like_roles::{CoordTurn, NoGate, OwnCoordinator, Terms, Turn};
 use std::alloc::{AllocError, Global};
 use std::marker::Model;
 
@@ -27,7 +26,7 @@ use std::marker::Model;
 #[derive(Drop)]
 pub struct OwnCrew {
     board: OwnBoard,
-    coordinator: RunCoordinator<OwnCoordSeat>,
+    coordinator: OwnCoordinator,
     servers: Vec<OwnServer<ListInbox>>,
     // The count of each page at the start.
     counts: Vec<u64>,
@@ -37,6 +36,7 @@ impl Model for OwnCrew {
     ghost use Rattle.std.specs.Prelude.{◌≡◌, length};
     ghost use Rattle.like_crew.specs.Crew.{CrewView};
     ghost use Rattle.like_board.specs.Own.{own_views};
+    ghost use Rattle.like_roles.specs.coordinator.CoordTurns.{IsCoordinating};
     ghost use Rattle.like_crew.specs.OwnCrew.{servers_of, AreSeated};
 
     ghost Value = { CrewView };
@@ -44,30 +44,33 @@ impl Model for OwnCrew {
     ghost view = { λ c. record { coordinator = c.coordinator; servers = servers_of c.servers.items } };
 
     ghost invariant = { λ c. AreSeated (own_views c.board) c.coordinator.seat c.servers.items
-        × (length c.counts.items ≡ length c.coordinator.seat.opening.counts) };
+        × (length c.counts.items ≡ length c.coordinator.seat.opening.counts)
+        × IsCoordinating c.coordinator };
 }
 
 impl OwnCrew {
-    /// The crew of a run within the limits, at a new board, with the lists of the submitters, of these sizes. None of
-    /// their requests is open.
+    /// The crew of a run within the limits and on these terms, at a new board, with the lists of the submitters. None
+    /// of their requests is open.
     pub fn new(
         alloc: Global,
         setup: &Setup,
-        sizes: &[u32],
+        terms: Terms<'_>,
         plans: Vec<Vec<Request>>,
-        notes: bool,
     ) -> Result<OwnCrew, AllocError>
         requires within { FitsRun setup.now (lists_of plans.items) }
-        requires sizes { sizes.now ≡ map length (lists_of plans.items) }
-        ensures crew { IfOk result (IsCrewAt setup.now (lists_of plans.items) [] notes) }
+        requires sizes { terms.sizes.now ≡ map length (lists_of plans.items) }
+        ensures crew { IfOk result (IsCrewAt setup.now (lists_of plans.items) [] terms.entry.notes) }
         ensures new { IfOk result (IsNewCrew setup.now (lists_of plans.items)) }
     {
         let counts = setup.pages.counts(alloc)?;
         let marks = setup.pages.marks(alloc)?;
         let (board, coord, seats) = OwnBoard::new(alloc, setup.workers, &counts, &marks)?;
         let inboxes = list_inboxes(alloc, plans)?;
-        let servers = own_servers(alloc, setup, sizes, notes, seats, inboxes)?;
-        let coordinator = RunCoordinator::new(alloc, coord, setup.turns, setup.hot, &counts)?;
+        let servers = own_servers(alloc, setup, terms, seats, inboxes)?;
+        let Ok(coordinator) = OwnCoordinator::new(alloc, coord, setup.turns, setup.hot, &counts)
+        else {
+            return Err(AllocError);
+        };
         Ok(OwnCrew {
             board,
             coordinator,

@@ -19,28 +19,28 @@ use like_board::OwnWorkerSeat;
 use like_promises::WorkerLog;
 use like_queue::Inbox;
 use like_requests::Setup;
+use like_roles::Terms;
 use std::alloc::{AllocError, Global};
 
-/// The workers at the seats of a new board, each with the inboxes of its submitters; they note their additions or do not.
+/// The workers of a run on these terms at the seats of a new board, each with the inboxes of its submitters.
 pub fn own_servers<I: Inbox>(
     alloc: Global,
     setup: &Setup,
-    sizes: &[u32],
-    notes: bool,
+    terms: Terms<'_>,
     seats: Vec<OwnWorkerSeat>,
     inboxes: Vec<I>,
 ) -> Result<Vec<OwnServer<I>>, AllocError>
     requires within { FitsRun setup.now (plans_of (map I.view inboxes.items)) }
     requires untouched { AreUntouched (map I.view inboxes.items) }
     requires closed { All (λ inbox. I.opened inbox ≡ 0) inboxes.items }
-    requires sizes { sizes.now ≡ map length (plans_of (map I.view inboxes.items)) }
+    requires sizes { terms.sizes.now ≡ map length (plans_of (map I.view inboxes.items)) }
     requires len { length seats.items ≡ setup.now.workers }
     requires seats { (board : OwnBoard) × (own_opening board ≡ opening_of setup.now) × AreNewOwn board seats.items }
     ensures servers { IfOk result (λ owned.
-        AreServers (workload_of setup.now (plans_of (map I.view inboxes.items))) setup.now.workers [] notes
+        AreServers (workload_of setup.now (plans_of (map I.view inboxes.items))) setup.now.workers [] terms.entry.notes
         (servers_of owned.items)) }
     ensures new { IfOk result (λ owned.
-        AreNewServers setup.now (plans_of (map I.view inboxes.items)) notes (servers_of owned.items)) }
+        AreNewServers setup.now (plans_of (map I.view inboxes.items)) terms.entry (servers_of owned.items)) }
     ensures seated { IfOk result (λ owned. AreSeated (new_views (opening_of setup.now))
         (opened_coord (opening_of setup.now)) owned.items) }
 {
@@ -49,7 +49,7 @@ pub fn own_servers<I: Inbox>(
     for seat in seats {
         let number = servers.len() as u32;
         let inboxes = hands.remove(0);
-        let server = OwnServer::new(alloc, setup, sizes, number, seat, notes, inboxes)?;
+        let server = OwnServer::new(alloc, setup, terms, number, seat, inboxes)?;
         servers.push(server)?;
     }
     Ok(servers)

@@ -16,7 +16,7 @@ use like_core::Post;
 use like_promises::WorkerLog;
 use like_queue::{Inbox, ListInbox, TakeWith};
 use like_requests::Setup;
-use like_roles::{Gate, NoWorker, Turn};
+use like_roles::{Gate, NoWorker, Terms, Turn};
 use std::alloc::Global;
 use std::marker::Model;
 
@@ -40,32 +40,31 @@ impl<P: Post, I: Inbox> Model for Server<P, I> {
 }
 
 impl<P: Post, I: Inbox> Server<P, I> {
-    /// Worker `number` at its post, with the inboxes of its submitters; it notes its additions or does not. All its
-    /// memory is taken here: its turns take none.
+    /// Worker `number` of a run on these terms, at its post, with the inboxes of its submitters. All its memory is
+    /// taken here: its turns take none.
     pub fn new(
         alloc: Global,
         setup: &Setup,
-        sizes: &[u32],
+        terms: Terms<'_>,
         number: u32,
         post: P,
-        notes: bool,
         inboxes: Vec<I>,
     ) -> Result<Server<P, I>, NoWorker<P>>
-        requires within { IsWithin setup.now sizes.now }
+        requires within { IsWithin setup.now terms.sizes.now }
         requires is_worker { number < setup.now.workers }
         requires post { IsPostOf number setup.now.pages (P.view post) }
-        requires inboxes { AreInboxesFor setup.now sizes.now number (map I.view inboxes.items) }
+        requires inboxes { AreInboxesFor setup.now terms.sizes.now number (map I.view inboxes.items) }
         ensures board { IfOk result (λ server. server.board ≡ P.board post) }
         ensures new { IfOk result (λ server.
-            IsNew setup.now sizes.now number (P.view post) notes server.worker) }
+            IsNew setup.now terms.entry number (P.view post) server.worker) }
         ensures inboxes { IfOk result (λ server. server.inboxes ≡ map I.view inboxes.items) }
         ensures opened { IfOk result (λ server. server.opened ≡ map I.opened inboxes.items) }
         ensures works { IfOk result (λ server. (workload : Workload)
-            → IsWorkloadOf setup.now sizes.now workload
+            → IsWorkloadOf setup.now terms.entry.sizes.now workload
             → AreOwnPlans workload setup.now.workers number (map I.view inboxes.items) → WorksFor workload server) }
         ensures post { IfErr result (λ refused. refused.post ≡ post) }
     {
-        match Serving::new(alloc, setup, sizes, number, notes, inboxes) {
+        match Serving::new(alloc, setup, terms, number, inboxes) {
             Ok(serving) => Ok(Server { post, serving }),
             Err(_) => Err(NoWorker { post }),
         }

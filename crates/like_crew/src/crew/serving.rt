@@ -16,7 +16,7 @@ use like_core::Post;
 use like_promises::WorkerLog;
 use like_queue::{Inbox, ListInbox, TakeWith};
 use like_requests::Setup;
-use like_roles::{Gate, Turn, Work};
+use like_roles::{Gate, Terms, Turn, Work};
 use std::alloc::{AllocError, Global};
 
 /// A worker's work with the inboxes of the submitters that it serves, its post aside: the inbox at place `j` is that of
@@ -30,31 +30,30 @@ pub(crate) struct Serving<I: Inbox> {
 }
 
 impl<I: Inbox> Serving<I> {
-    /// Worker `number` with the inboxes of its submitters; it notes its additions or does not. All its memory is taken
-    /// here: its turns take none.
+    /// Worker `number` of a run on these terms, with the inboxes of its submitters. All its memory is taken here: its
+    /// turns take none.
     pub fn new(
         alloc: Global,
         setup: &Setup,
-        sizes: &[u32],
+        terms: Terms<'_>,
         number: u32,
-        notes: bool,
         inboxes: Vec<I>,
     ) -> Result<Serving<I>, AllocError>
-        requires within { IsWithin setup.now sizes.now }
+        requires within { IsWithin setup.now terms.sizes.now }
         requires is_worker { number < setup.now.workers }
-        requires inboxes { AreInboxesFor setup.now sizes.now number (map I.view inboxes.items) }
+        requires inboxes { AreInboxesFor setup.now terms.sizes.now number (map I.view inboxes.items) }
         ensures serving { IfOk result (λ s. (post : WorkerSeatView) → IsPostOf number setup.now.pages post
             → IsServing I.view post s) }
         ensures new { IfOk result (λ s. (post : WorkerSeatView) → IsPostOf number setup.now.pages post
-            → IsNew setup.now sizes.now number post notes (worker_at post s.work)) }
+            → IsNew setup.now terms.entry number post (worker_at post s.work)) }
         ensures inboxes { IfOk result (λ s. s.inboxes ≡ inboxes) }
         ensures works { IfOk result (λ s. (post : WorkerSeatView) → IsPostOf number setup.now.pages post
-            → (workload : Workload) → IsWorkloadOf setup.now sizes.now workload
+            → (workload : Workload) → IsWorkloadOf setup.now terms.entry.sizes.now workload
             → AreOwnPlans workload setup.now.workers number (map I.view inboxes.items)
             → WorksFor workload (server_at I.view I.opened [] post s)) }
     {
         Ok(Serving {
-            work: Work::new(alloc, setup, sizes, number, notes)?,
+            work: Work::new(alloc, setup, terms, number)?,
             workers: setup.workers,
             inboxes,
         })

@@ -1,6 +1,7 @@
 -- What the coordinator's turns keep.
-use Rattle.std.proofs.Common.{◌≡◌, ℕ, List, true, false, subst, ap, sym, ◌∙◌, arith}
+use Rattle.std.proofs.Common.{◌≡◌, ℕ, List, true, false, refl, subst, ap, sym, ◌∙◌, arith}
 use Rattle.like_core.specs.declared.sight.CoordSight.{CoordSight}
+use Rattle.like_core.specs.declared.view.CoordSeatView.{CoordSeatView}
 use Rattle.like_core.specs.views.Views.{announced_coord}
 use Rattle.like_core.specs.Phase.{IsJoined, IsSplit}
 use Rattle.like_core.specs.views.Actions.{Surveys}
@@ -9,9 +10,10 @@ use Rattle.like_seat.specs.Lead.{LeadView, saw_word}
 use Rattle.like_promises.specs.declared.chosen.Chosen.{Chosen}
 use Rattle.like_roles.specs.declared.coord_turn.CoordTurn.{CoordTurn}
 use Rattle.like_roles.specs.declared.coord_turn.CoordTurn.TheVariants.{Ended}
-use Rattle.like_roles.proofs.choice.Choosing.{release-gone}
+use Rattle.like_roles.proofs.choice.Choosing.{release-gone, release-opening}
 use Rattle.like_roles.proofs.choice.Releasing.{release-on}
-use Rattle.like_roles.specs.coordinator.CoordTurns.{Acts, ends, counts, stays, announces, releases, waits, ChoseByCounts, CoordinatorView, CoordTurns, HasEndedJoined, IsBeforeEnd, surveyed, coordinator_of, TurnsAt}
+use Rattle.like_roles.specs.coordinator.Choice.{ChoiceView, ReleasesNext, chooses_none, chooses_risen, releases_joined, releases_split}
+use Rattle.like_roles.specs.coordinator.CoordTurns.{Acts, ends, counts, stays, announces, releases, waits, ChoseByCounts, CoordinatorGoesOn, CoordinatorView, CoordTurns, HasEndedJoined, IsBeforeEnd, surveyed, coordinator_of, TurnsAt}
 
 -- no turn releases a split phase after all are gone
 pub before_end : (v : CoordinatorView) (answer : CoordTurn) (after : CoordinatorView)
@@ -81,19 +83,52 @@ by_case b v lead after turns left phase chosen sight answer w is shows event saw
       fresh = fresh;
     })
 
--- a turn steps on its own board
-pub same_board : (v : CoordinatorView) (answer : CoordTurn) (after : CoordinatorView)
+-- how many likes make a page hot is the same
+release-hot : (c d : CoordSeatView) (v w : ChoiceView) → ReleasesNext c v d w → w.hot ≡ v.hot
+release-hot c d v w (releases_joined split is same) = ap (λ (x : ChoiceView). x.hot) same
+release-hot c d v w (releases_split even ready (chooses_none none published same) is) =
+    ap (λ (x : ChoiceView). x.hot) same
+release-hot c d v w (releases_split even ready (chooses_risen least found some many m limit published same) is) =
+    ap (λ (x : ChoiceView). x.hot) same
+
+pub coordinator-same : (v : CoordinatorView) → CoordinatorGoesOn v v
+coordinator-same v = record { board = refl; opening = refl; turns = refl; hot = refl }
+
+pub coordinator-further : (u v w : CoordinatorView)
+    → CoordinatorGoesOn u v
+    → CoordinatorGoesOn v w
+    → CoordinatorGoesOn u w
+coordinator-further u v w a b = record {
+  board = b.board ∙ a.board;
+  opening = b.opening ∙ a.opening;
+  turns = b.turns ∙ a.turns;
+  hot = b.hot ∙ a.hot;
+}
+
+-- a turn leaves the same coordinator, later
+pub coordinator-goes-on : (v : CoordinatorView) (answer : CoordTurn) (after : CoordinatorView)
     → CoordTurns v answer after
-    → after.board ≡ v.board
-same_board v answer after t = kept t.acts
+    → CoordinatorGoesOn v after
+coordinator-goes-on v answer after t = kept t.acts
   where
-    kept : Acts (surveyed v t.word t.sight) t.sight answer after → after.board ≡ v.board
-    kept (ends g a e) = ap (λ (x : CoordinatorView). x.board) e
-    kept (counts g n l a e) = ap (λ (x : CoordinatorView). x.board) e
-    kept (stays g n l k a e) = ap (λ (x : CoordinatorView). x.board) e
-    kept (announces g n l k a e) = ap (λ (x : CoordinatorView). x.board) e
-    kept (releases g n i seat choice r a e) = ap (λ (x : CoordinatorView). x.board) e
-    kept (waits g n i a e) = ap (λ (x : CoordinatorView). x.board) e
+    kept : Acts (surveyed v t.word t.sight) t.sight answer after → CoordinatorGoesOn v after
+    kept (ends g a e) =
+        subst (CoordinatorGoesOn v) (sym e) (record { board = refl; opening = refl; turns = refl; hot = refl })
+    kept (counts g n l a e) =
+        subst (CoordinatorGoesOn v) (sym e) (record { board = refl; opening = refl; turns = refl; hot = refl })
+    kept (stays g n l k a e) =
+        subst (CoordinatorGoesOn v) (sym e) (record { board = refl; opening = refl; turns = refl; hot = refl })
+    kept (announces g n l k a e) =
+        subst (CoordinatorGoesOn v) (sym e) (record { board = refl; opening = refl; turns = refl; hot = refl })
+    kept (releases g n i seat choice r a e) =
+        subst (CoordinatorGoesOn v) (sym e) (record {
+          board = refl;
+          opening = release-opening _ _ _ _ r;
+          turns = refl;
+          hot = release-hot _ _ _ _ r;
+        })
+    kept (waits g n i a e) =
+        subst (CoordinatorGoesOn v) (sym e) (record { board = refl; opening = refl; turns = refl; hot = refl })
 
 -- a turn keeps that it chose by its counts
 pub chose-on : (v : CoordinatorView) (answer : CoordTurn) (after : CoordinatorView)

@@ -1,5 +1,5 @@
 -- The turns of the coordinator, case by case.
-use Rattle.std.specs.Prelude.{◌≡◌, ℕ, ◌-◌, ◌<◌, true, false, List, IsSomeAnd}
+use Rattle.std.specs.Prelude.{◌≡◌, ℕ, ◌-◌, ◌<◌, true, false, List, [], IsSomeAnd, Option}
 use Rattle.like_core.specs.declared.sight.CoordSight.{CoordSight}
 use Rattle.like_core.specs.declared.view.CoordSeatView.{CoordSeatView}
 use Rattle.like_core.specs.Phase.{last_phase, IsJoined, IsSplit}
@@ -11,7 +11,7 @@ use Rattle.like_seat.specs.Lead.{LeadView}
 use Rattle.like_promises.specs.declared.chosen.Chosen.{Chosen}
 use Rattle.like_roles.specs.declared.coord_turn.CoordTurn.{CoordTurn}
 use Rattle.like_roles.specs.declared.coord_turn.CoordTurn.TheVariants.{Counted, Announced, Waiting, Released, Ended, Stays}
-use Rattle.like_roles.specs.coordinator.Choice.{AreTotals, ChoiceView, HasChosen, ReleasesNext, choice_of}
+use Rattle.like_roles.specs.coordinator.Choice.{AreTotals, ChoiceView, HasChosen, ReleasesNext, choice_of, first_choice}
 
 -- the coordinator as contracts see it: its board; what its seat knows; how many turns it counts in each phase, and how
 -- many of them the present phase has left; the phase of its last look; and what it chooses hot pages by
@@ -32,6 +32,23 @@ coordinator_of lead turns left phase chosen = record {
   left = left;
   phase = phase;
   choice = choice_of lead chosen;
+}
+
+-- a coordinator's seat has released no phase
+pub record HasReleasedNone (seat : CoordSeatView) : Type 0 where
+  pub phase : seat.phase ≡ 0
+  pub masks : seat.masks ≡ []
+
+-- the coordinator with this seat that has made no turn: it counts this many turns in each phase, and `hot` likes make a
+-- page hot
+abbrev pub new_coordinator : BoardId → CoordSeatView → ℕ → Option ℕ → CoordinatorView
+new_coordinator board seat turns hot = record {
+  board = board;
+  seat = seat;
+  turns = turns;
+  left = turns;
+  phase = 0;
+  choice = first_choice hot seat.opening.counts;
 }
 
 -- the coordinator after a look at a word
@@ -84,3 +101,17 @@ pub record HasEndedJoined (v : CoordinatorView) : Type 0 where
 abbrev pub ChoseByCounts : CoordinatorView → Type 0
 ChoseByCounts v =
     (total : ℕ → ℕ → ℕ) → AreTotals total v.seat.counted → HasChosen v.seat v.choice total
+
+-- the same coordinator, later: of the same board, which opened in the same way, with the same number of turns in each
+-- phase, and of likes that make a page hot
+pub record CoordinatorGoesOn (v w : CoordinatorView) : Type 0 where
+  pub board : w.board ≡ v.board
+  pub opening : w.seat.opening ≡ v.seat.opening
+  pub turns : w.turns ≡ v.turns
+  pub hot : w.choice.hot ≡ v.choice.hot
+
+-- what is true between two turns of a coordinator that began with its board: it released no split phase after all
+-- workers were gone, and it chose by the counts that it read
+pub record IsCoordinating (v : CoordinatorView) : Type 0 where
+  pub before_end : IsBeforeEnd v
+  pub chose : ChoseByCounts v

@@ -1,5 +1,5 @@
 -- What a worker keeps, beside its seat.
-use Rattle.std.specs.Prelude.{◌≡◌, ℕ, ◌+◌, ◌-◌, ◌<◌, ◌≤◌, Bool, true, false, List, [], ◌∷◌, ◌++◌, length, sum, All, Some, None, is_some, replicate, slice_index, slice_set, vec_len, vec_capacity, if◌then◌else◌}
+use Rattle.std.specs.Prelude.{◌≡◌, ℕ, ◌+◌, ◌-◌, ◌<◌, ◌≤◌, true, false, List, [], ◌∷◌, ◌++◌, length, sum, All, Some, None, is_some, replicate, slice_index, slice_set, vec_len, vec_capacity, if◌then◌else◌}
 use Rattle.like_requests.specs.declared.setup.Setup.{Setup}
 use Rattle.like_requests.specs.Setup.{IsThere}
 use Rattle.like_core.specs.OpeningLimits.{run_limits}
@@ -14,6 +14,7 @@ use Rattle.like_limits.specs.Limits.{max_likes}
 use Rattle.like_tables.specs.Share.{Share, dealt, submitter_of, worker_of}
 use Rattle.like_seat.specs.StationView.{IsStationOf, StationView, likes_of}
 use Rattle.like_tables.specs.Waiting.{Waiting}
+use Rattle.like_roles.specs.declared.terms.Terms.{Terms}
 use Rattle.like_roles.specs.declared.worker.desk.Desk.{Desk}
 use Rattle.like_roles.specs.declared.worker.judged.Judged.{Judged}
 use Rattle.like_roles.specs.worker.Judged.{IsJudged}
@@ -141,12 +142,12 @@ abbrev pub CanServe : StationView Held → Held → Judged → Type 0
 CanServe s h j = CanServeAt s.post s.last.share h j
 
 -- what a worker keeps at first; it has room for additions only if it notes them
-pub record IsNewDesk (s : Setup) (sizes : List ℕ) (worker : ℕ) (notes : Bool) (d : Desk) : Type 0 where
+pub record IsNewDesk (s : Setup) (terms : Terms) (worker : ℕ) (d : Desk) : Type 0 where
   pub started : d.started ≡ false
   pub ended : d.ended.items ≡ replicate (length d.left.items) false
-  pub left : d.left.items ≡ dealt s.workers worker sizes
+  pub left : d.left.items ≡ dealt s.workers worker terms.sizes.now
   pub there : (place : ℕ) → place < length d.left.items
-      → submitter_of s.workers worker place < length sizes
+      → submitter_of s.workers worker place < length terms.sizes.now
   pub few : sum d.left.items ≤ max_likes
   pub cursor : d.cursor ≡ 0
   pub pending : d.pending ≡ None
@@ -154,6 +155,6 @@ pub record IsNewDesk (s : Setup) (sizes : List ℕ) (worker : ℕ) (notes : Bool
   pub taken_room : vec_capacity d.taken ≡ sum d.left.items
   pub ran : d.ran.items ≡ []
   pub ran_room : vec_capacity d.ran ≡ sum d.left.items
-  pub notes_are : d.notes ≡ notes
+  pub notes_are : d.notes ≡ terms.notes
   pub adds : d.adds.items ≡ []
-  pub adds_room : vec_capacity d.adds ≡ (if notes then sum d.left.items else 0)
+  pub adds_room : vec_capacity d.adds ≡ (if terms.notes then sum d.left.items else 0)

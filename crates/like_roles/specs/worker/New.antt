@@ -1,5 +1,5 @@
 -- A worker that was just made.
-use Rattle.std.specs.Prelude.{◌≡◌, ℕ, Bool, false, List, [], length, replicate, slice_get, Some, None}
+use Rattle.std.specs.Prelude.{◌≡◌, ℕ, false, List, [], length, replicate, slice_get, Some, None}
 use Rattle.like_limits.specs.Buckets.{run_factor}
 use Rattle.like_requests.specs.Pages.{Page, marks_of}
 use Rattle.like_requests.specs.declared.setup.Setup.{Setup}
@@ -11,6 +11,7 @@ use Rattle.like_board.specs.Seats.{BoardId, seat_board, seat_view}
 use Rattle.like_core.specs.declared.view.WorkerSeatView.{WorkerSeatView}
 use Rattle.like_tables.specs.Share.{dealt, share_of}
 use Rattle.like_tables.specs.UserTable.{table_without_likes}
+use Rattle.like_roles.specs.declared.terms.Terms.{Terms}
 use Rattle.like_roles.specs.worker.Posted.{PostedWorker}
 use Rattle.like_roles.specs.worker.WorkerView.{WorkerView}
 
@@ -32,25 +33,24 @@ AreNewSeats board pages seats =
     (worker : ℕ) (seat : WorkerSeat) → slice_get seats worker ≡ Some seat
     → (seat_board seat ≡ board) × IsPostOf worker pages (seat_view seat)
 
--- a worker that has done nothing yet, and notes its additions or does not
-pub record IsNew (s : Setup) (sizes : List ℕ) (worker : ℕ) (post : WorkerSeatView) (notes : Bool) (v : WorkerView)
-    : Type 0 where
+-- a worker of a run on these terms that has done nothing yet
+pub record IsNew (s : Setup) (terms : Terms) (worker : ℕ) (post : WorkerSeatView) (v : WorkerView) : Type 0 where
   pub at_post : v.post ≡ post
   pub held : v.held ≡ record { held = []; capacity = s.stash }
   pub slice : v.slice ≡ replicate (length s.pages) 0
   pub sliced : v.sliced ≡ []
-  pub left : v.left ≡ dealt s.workers worker sizes
+  pub left : v.left ≡ dealt s.workers worker terms.sizes.now
   pub ended : v.ended ≡ replicate (length v.left) false
   pub cursor : v.cursor ≡ 0
   pub pending : v.pending ≡ None
-  pub last : v.last ≡ table_without_likes (share_of s.users (length sizes) s.workers worker)
+  pub last : v.last ≡ table_without_likes (share_of s.users (length terms.sizes.now) s.workers worker)
   pub taken : v.taken ≡ []
   pub ran : v.ran ≡ []
-  pub notes_are : v.notes ≡ notes
+  pub notes_are : v.notes ≡ terms.notes
   pub adds : v.adds ≡ []
 
 -- a new worker at a post of a board with these numbers
-pub record IsNewAt (s : Setup) (sizes : List ℕ) (worker : ℕ) (board : List ℕ) (post : WorkerSeatView) (notes : Bool)
+pub record IsNewAt (s : Setup) (terms : Terms) (worker : ℕ) (board : List ℕ) (post : WorkerSeatView)
     (v : PostedWorker) : Type 0 where
   pub at_board : v.board ≡ board
-  pub new : IsNew s sizes worker post notes v.worker
+  pub new : IsNew s terms worker post v.worker

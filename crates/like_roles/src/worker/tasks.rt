@@ -15,6 +15,7 @@ mod request;
 mod taken;
 mod turns;
 
+use crate::terms::Terms;
 use crate::turn::Turn;
 use crate::worker::desk::Desk;
 use like_core::Post;
@@ -36,34 +37,32 @@ pub struct Work {
 }
 
 impl Work {
-    /// The work of worker `worker` of a run with this many requests of each submitter. It notes its additions only if
-    /// `notes`, and else takes no memory for them. All its memory is taken here: its turns take none.
+    /// The work of worker `worker` of a run on these terms. All its memory is taken here: its turns take none.
     pub fn new(
         alloc: Global,
         setup: &Setup,
-        sizes: &[u32],
+        terms: Terms<'_>,
         worker: u32,
-        notes: bool,
     ) -> Result<Work, AllocError>
-        requires within { IsWithin setup.now sizes.now }
+        requires within { IsWithin setup.now terms.sizes.now }
         requires is_worker { worker < setup.now.workers }
         ensures ready { IfOk result (λ work. (post : WorkerSeatView) → IsPostOf worker setup.now.pages post
             → IsReady post work) }
         ensures new { IfOk result (λ work. (post : WorkerSeatView) → IsPostOf worker setup.now.pages post
-            → IsNew setup.now sizes.now worker post notes (worker_at post work)) }
+            → IsNew setup.now terms.entry worker post (worker_at post work)) }
         ensures follows { IfOk result (λ work. (post : WorkerSeatView) → IsPostOf worker setup.now.pages post
-            → (workload : Workload) → IsWorkloadOf setup.now sizes.now workload
+            → (workload : Workload) → IsWorkloadOf setup.now terms.entry.sizes.now workload
             → Follows workload (worker_at post work)) }
     {
         let marks = setup.pages.marks(alloc)?;
         let last = Users::new(
             alloc,
             setup.users,
-            sizes.len() as u32,
+            terms.sizes.len() as u32,
             setup.workers,
             worker,
         )?;
-        let desk = Desk::new(alloc, setup, sizes, worker, notes)?;
+        let desk = Desk::new(alloc, setup, terms, worker)?;
         let tables = Tables::of_run(alloc, marks, setup.stash, last)?;
         Ok(Work { tables, desk })
     }

@@ -1,6 +1,5 @@
 ghost use Rattle.std.specs.Prelude.{◌≡◌, ◌≤◌, true, [], All, length, map, vec_capacity};
-ghost use Rattle.like_roles.specs.coordinator.CoordTurns.{HasEndedJoined};
-ghost use Rattle.like_crew.specs.Crew.{CoordinatorGoesOn};
+ghost use Rattle.like_roles.specs.coordinator.CoordTurns.{CoordinatorGoesOn, HasEndedJoined};
 ghost use Rattle.like_crew.specs.Ended.{HaveLeft};
 
 use crate::threads::pace::Pace;

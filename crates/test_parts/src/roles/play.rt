@@ -13,7 +13,7 @@ use crate::asserts::assert_call_at;
 use like_board::{Board, BoardPost, CoordSeat, WorkerSeat};
 use like_core::Post;
 use like_requests::{Request, Setup};
-use like_roles::{Chosen, CoordTurn, Coordinator, Turn, WorkerLog};
+use like_roles::{Chosen, CoordTurn, Coordinator, Terms, Turn, WorkerLog};
 use std::alloc::{AllocError, Global};
 use std::process::Abort;
 use std::test::Fail;
@@ -55,57 +55,46 @@ pub fn board_of(
     Board::new(alloc, setup.workers, counts.as_slice(), marks.as_slice())
 }
 
-// Seats the workers of a run, the last first, which note their additions or do not.
+// Seats the workers of a run on these terms, the last first.
 fn seat_players<'a>(
     alloc: Global,
     setup: &Setup,
     plans: &'a [Vec<Request>],
-    sizes: &[u32],
+    terms: Terms<'_>,
     board: &'a Board,
     seats: &mut Vec<WorkerSeat>,
-    notes: bool,
     players: &mut Vec<Player<'a, BoardPost<'a>>>,
 ) -> Result<(), Fail>
     requires within { FitsRun setup.now (lists_of plans.now) }
-    requires sizes { sizes.now ≡ map length (lists_of plans.now) }
-    requires few { length sizes.now ≤ setup.now.workers }
+    requires sizes { terms.sizes.now ≡ map length (lists_of plans.now) }
+    requires few { length terms.sizes.now ≤ setup.now.workers }
     requires seats { AreNewSeats (board_id board.now) setup.now.pages seats.old.items }
     requires len { length seats.old.items ≤ setup.now.workers }
 {
     while let Some(seat) = seats.pop() {
         let number = seats.len() as u32;
-        players.push(Player::new(alloc, setup, plans, sizes, number, seat.at(board), notes)?)?;
+        players.push(Player::new(alloc, setup, plans, terms, number, seat.at(board))?)?;
     }
     Ok(())
 }
 
-// The workers of a run, in order.
+// The workers of a run on these terms, in order.
 fn players_of<'a>(
     alloc: Global,
     setup: &Setup,
     plans: &'a [Vec<Request>],
-    sizes: &[u32],
+    terms: Terms<'_>,
     board: &'a Board,
     mut seats: Vec<WorkerSeat>,
-    notes: bool,
 ) -> Result<Vec<Player<'a, BoardPost<'a>>>, Fail>
     requires within { FitsRun setup.now (lists_of plans.now) }
-    requires sizes { sizes.now ≡ map length (lists_of plans.now) }
-    requires few { length sizes.now ≤ setup.now.workers }
+    requires sizes { terms.sizes.now ≡ map length (lists_of plans.now) }
+    requires few { length terms.sizes.now ≤ setup.now.workers }
     requires seats { AreNewSeats (board_id board.now) setup.now.pages seats.items }
     requires len { length seats.items ≤ setup.now.workers }
 {
     let mut players = Vec::new(alloc);
-    seat_players(
-        alloc,
-        setup,
-        plans,
-        sizes,
-        board,
-        &mut seats,
-        notes,
-        &mut players,
-    )?;
+    seat_players(alloc, setup, plans, terms, board, &mut seats, &mut players)?;
     players.reverse();
     Ok(players)
 }
@@ -124,20 +113,19 @@ fn coordinator_of(alloc: Global, setup: &Setup, coord: CoordSeat) -> Result<Coor
 }
 
 impl<'a> Play<'a, BoardPost<'a>> {
-    /// The start of a run with one submitter for each worker at most. The workers note their additions or do not.
+    /// The start of a run on these terms, with one submitter for each worker at most.
     pub fn new(
         alloc: Global,
         setup: &Setup,
         plans: &'a [Vec<Request>],
-        sizes: &[u32],
+        terms: Terms<'_>,
         board: &'a Board,
         coord: CoordSeat,
         seats: Vec<WorkerSeat>,
-        notes: bool,
     ) -> Result<Play<'a, BoardPost<'a>>, Fail>
         requires within { FitsRun setup.now (lists_of plans.now) }
-        requires sizes { sizes.now ≡ map length (lists_of plans.now) }
-        requires few { length sizes.now ≤ setup.now.workers }
+        requires sizes { terms.sizes.now ≡ map length (lists_of plans.now) }
+        requires few { length terms.sizes.now ≤ setup.now.workers }
         requires coord { coord_board coord ≡ board_id board.now }
         requires opened { (coord_view coord).opening.counts ≡ counts_of setup.now.pages }
         requires run { (coord_view coord).opening.limits ≡ run_limits }
@@ -147,7 +135,7 @@ impl<'a> Play<'a, BoardPost<'a>> {
         Ok(Play {
             board,
             coordinator: coordinator_of(alloc, setup, coord)?,
-            players: players_of(alloc, setup, plans, sizes, board, seats, notes)?,
+            players: players_of(alloc, setup, plans, terms, board, seats)?,
         })
     }
 }

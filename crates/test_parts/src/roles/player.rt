@@ -9,7 +9,7 @@ use super::gates::Expecting;
 use crate::asserts::assert_named;
 use like_core::Post;
 use like_requests::{Numbered, Request, Setup, Taken};
-use like_roles::{NoWorker, Turn, Worker, WorkerLog};
+use like_roles::{NoWorker, Terms, Turn, Worker, WorkerLog};
 use std::alloc::Global;
 use std::marker::Model;
 use std::process::Abort;
@@ -61,45 +61,43 @@ fn own_plan(plans: &[Vec<Request>], number: u32) -> &[Request]
     }
 }
 
-// The worker with this number in a run of submitters with this many requests.
+// The worker with this number in a run on these terms.
 fn worker_of<P: Post>(
     alloc: Global,
     setup: &Setup,
-    sizes: &[u32],
+    terms: Terms<'_>,
     number: u32,
     post: P,
-    notes: bool,
 ) -> Result<Worker<P>, NoWorker<P>>
-    requires within { IsWithin setup.now sizes.now }
+    requires within { IsWithin setup.now terms.sizes.now }
     requires is_worker { number < setup.now.workers }
     requires post { IsPostOf number setup.now.pages (P.view post) }
-    ensures { IfOk result (IsNewAt setup.now sizes.now number (P.board post) (P.view post) notes) }
+    ensures { IfOk result (IsNewAt setup.now terms.entry number (P.board post) (P.view post)) }
 {
-    if notes {
-        return Worker::new(alloc, setup, sizes, number, post);
+    if terms.notes {
+        return Worker::new(alloc, setup, terms.sizes, number, post);
     }
-    Worker::noting(alloc, setup, sizes, number, post, notes)
+    Worker::on_terms(alloc, setup, terms, number, post)
 }
 
 impl<'a, P: Post + Drop> Player<'a, P> {
-    /// The worker with this number, at its post, which notes its additions or does not.
+    /// The worker with this number in a run on these terms, at its post.
     pub fn new(
         alloc: Global,
         setup: &Setup,
         plans: &'a [Vec<Request>],
-        sizes: &[u32],
+        terms: Terms<'_>,
         number: u32,
         post: P,
-        notes: bool,
     ) -> Result<Player<'a, P>, Fail>
         requires within { FitsRun setup.now (lists_of plans.now) }
-        requires sizes { sizes.now ≡ map length (lists_of plans.now) }
-        requires few { length sizes.now ≤ setup.now.workers }
+        requires sizes { terms.sizes.now ≡ map length (lists_of plans.now) }
+        requires few { length terms.sizes.now ≤ setup.now.workers }
         requires is_worker { number < setup.now.workers }
         requires post { IsPostOf number setup.now.pages (P.view post) }
     {
         let plan = own_plan(plans, number);
-        match worker_of(alloc, setup, sizes, number, post, notes) {
+        match worker_of(alloc, setup, terms, number, post) {
             Ok(worker) => Ok(Player {
                 worker,
                 plan,

@@ -19,7 +19,7 @@ use like_board::{LentPost, OwnBoard, OwnWorkerSeat};
 use like_promises::WorkerLog;
 use like_queue::{Inbox, ListInbox, TakeWith};
 use like_requests::Setup;
-use like_roles::{Gate, Turn};
+use like_roles::{Gate, Terms, Turn};
 use std::alloc::{AllocError, Global};
 use std::marker::Model;
 
@@ -48,31 +48,30 @@ impl<I: Inbox> Model for OwnServer<I> {
 }
 
 impl<I: Inbox> OwnServer<I> {
-    /// Worker `number` at its seat, with the inboxes of its submitters; it notes its additions or does not. All its
-    /// memory is taken here: its turns take none.
+    /// Worker `number` of a run on these terms, at its seat, with the inboxes of its submitters. All its memory is
+    /// taken here: its turns take none.
     pub fn new(
         alloc: Global,
         setup: &Setup,
-        sizes: &[u32],
+        terms: Terms<'_>,
         number: u32,
         seat: OwnWorkerSeat,
-        notes: bool,
         inboxes: Vec<I>,
     ) -> Result<OwnServer<I>, AllocError>
-        requires within { IsWithin setup.now sizes.now }
+        requires within { IsWithin setup.now terms.sizes.now }
         requires is_worker { number < setup.now.workers }
         requires post { IsPostOf number setup.now.pages (own_view seat) }
-        requires inboxes { AreInboxesFor setup.now sizes.now number (map I.view inboxes.items) }
-        ensures new { IfOk result (λ s. IsNew setup.now sizes.now number (own_view seat) notes s.server.worker) }
+        requires inboxes { AreInboxesFor setup.now terms.sizes.now number (map I.view inboxes.items) }
+        ensures new { IfOk result (λ s. IsNew setup.now terms.entry number (own_view seat) s.server.worker) }
         ensures board { IfOk result (λ s. s.server.board ≡ []) }
         ensures place { IfOk result (λ s. s.place ≡ own_place seat) }
         ensures inboxes { IfOk result (λ s. s.server.inboxes ≡ map I.view inboxes.items) }
         ensures opened { IfOk result (λ s. s.server.opened ≡ map I.opened inboxes.items) }
         ensures works { IfOk result (λ s. (workload : Workload)
-            → IsWorkloadOf setup.now sizes.now workload
+            → IsWorkloadOf setup.now terms.entry.sizes.now workload
             → AreOwnPlans workload setup.now.workers number (map I.view inboxes.items) → WorksFor workload s.server) }
     {
-        let serving = Serving::new(alloc, setup, sizes, number, notes, inboxes)?;
+        let serving = Serving::new(alloc, setup, terms, number, inboxes)?;
         Ok(OwnServer { seat, serving })
     }
 

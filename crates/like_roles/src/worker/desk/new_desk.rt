@@ -4,6 +4,7 @@ ghost use Rattle.like_tables.specs.Share.{dealt, submitter_of};
 ghost use Rattle.like_requests.specs.Setup.{IsWithin};
 ghost use Rattle.like_roles.specs.worker.Desk.{IsNewDesk};
 
+use crate::terms::Terms;
 use crate::worker::desk::Desk;
 use like_requests::Setup;
 use std::alloc::{AllocError, Global};
@@ -13,15 +14,14 @@ impl Desk {
     pub fn new(
         alloc: Global,
         setup: &Setup,
-        sizes: &[u32],
+        terms: Terms<'_>,
         worker: u32,
-        notes: bool,
     ) -> Result<Desk, AllocError>
-        requires within { IsWithin setup.now sizes.now }
+        requires within { IsWithin setup.now terms.sizes.now }
         requires is_worker { worker < setup.now.workers }
-        ensures { IfOk result (IsNewDesk setup.now sizes.now worker notes) }
+        ensures { IfOk result (IsNewDesk setup.now terms.entry worker) }
     {
-        let left = own_sizes(alloc, sizes, setup.workers, worker)?;
+        let left = own_sizes(alloc, terms.sizes, setup.workers, worker)?;
         let room = left.iter().sum::<u32>() as usize;
         Ok(Desk {
             started: false,
@@ -31,8 +31,8 @@ impl Desk {
             pending: None,
             taken: Vec::with_capacity(alloc, room)?,
             ran: Vec::with_capacity(alloc, room)?,
-            notes,
-            adds: Vec::with_capacity(alloc, if notes { room } else { 0 })?,
+            notes: terms.notes,
+            adds: Vec::with_capacity(alloc, if terms.notes { room } else { 0 })?,
         })
     }
 }

@@ -53,9 +53,9 @@ report_of-requires-clause-within c =
 
 pub report_of-requires-clause-sizes : goal.report_of-requires-clause-sizes
 report_of-requires-clause-sizes c =
-    subst (λ (v : Vec (Vec Request Global) Global). c.deref-3.result.now ≡ map length (lists_of v.items))
+    subst (λ (v : Vec (Vec Request Global) Global). c.deref-2.result.now ≡ map length (lists_of v.items))
     (sym c.of-lists.ensures)
-    (c.deref-3.ensures.value ∙ c.in_ok-sizes.ensures
+    (c.deref-2.ensures.value ∙ c.in_ok-sizes.ensures
     ∙ ap (map (λ (plan : Vec Request Global). length plan.items)) c.deref.ensures.value
     ∙ map-twice requests_of length c.args.plans.items)
 

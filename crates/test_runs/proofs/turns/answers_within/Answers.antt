@@ -52,9 +52,9 @@ report_of-requires-clause-within g c =
 
 pub report_of-requires-clause-sizes : goal.report_of-requires-clause-sizes
 report_of-requires-clause-sizes g c =
-    subst (λ (v : Vec (Vec Request Global) Global). c.deref-3.result.now ≡ map length (lists_of v.items))
+    subst (λ (v : Vec (Vec Request Global) Global). c.deref-2.result.now ≡ map length (lists_of v.items))
     (sym c.of-lists.ensures)
-    (c.deref-3.ensures.value
+    (c.deref-2.ensures.value
     ∙ subst (λ r. IfOk r (λ (sizes : Vec ℕ Global). sizes.items ≡ map (λ (plan : Vec Request Global). length plan.items)
     c.deref.result.now)) c.expect-sizes.ensures c.sizes_of.ensures
     ∙ ap (map (λ (plan : Vec Request Global). length plan.items)) c.deref.ensures.value

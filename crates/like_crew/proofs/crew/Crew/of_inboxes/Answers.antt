@@ -1,8 +1,7 @@
 use Rattle.std.proofs.Common.{ap, ◌∙◌, sym}
 use Rattle.like_core.specs.declared.view.CoordSeatView.{CoordSeatView}
 use Rattle.like_board.specs.Seats.{board_id}
-use Rattle.like_roles.specs.coordinator.CoordTurns.{CoordinatorView}
-use Rattle.like_crew.specs.Crew.{new_coordinator}
+use Rattle.like_roles.specs.coordinator.CoordTurns.{CoordinatorView, new_coordinator}
 use Rattle.like_crew.proofs.crew.Crew.of_inboxes.Goals as goal
 
 pub servers_of-requires-clause-sizes : goal.servers_of-requires-clause-sizes
@@ -17,10 +16,10 @@ pub new-requires-clause-limits : goal.new-requires-clause-limits
 new-requires-clause-limits g c = ap (λ (v : CoordSeatView). v.opening.limits) c.requires.seats.coord
 
 pub new-requires-clause-new : goal.new-requires-clause-new
-new-requires-clause-new g c = ap (λ (v : CoordSeatView). v.phase) c.requires.seats.coord
-
-pub new-requires-clause-no_masks : goal.new-requires-clause-no_masks
-new-requires-clause-no_masks g c = ap (λ (v : CoordSeatView). v.masks) c.requires.seats.coord
+new-requires-clause-new g c = record {
+  phase = ap (λ (v : CoordSeatView). v.phase) c.requires.seats.coord;
+  masks = ap (λ (v : CoordSeatView). v.masks) c.requires.seats.coord;
+}
 
 pub returns-clause-crew : goal.returns-clause-crew
 returns-clause-crew g c =
@@ -39,7 +38,8 @@ returns-clause-crew g c =
 pub returns-clause-new : goal.returns-clause-new
 returns-clause-new g c = record {
   board = board_id c.args.site.now.board;
-  notes = c.args.site.now.notes;
+  terms = record { sizes = c.deref.result; notes = c.args.site.now.notes };
+  sizes = c.deref.ensures.value ∙ c.requires.site.sizes;
   coordinator = c.in_ok-coordinator.ensures
       ∙ ap (λ (v : CoordSeatView). new_coordinator (board_id c.args.site.now.board) v c.args.setup.now.turns c.args.setup.now.hot) c.requires.seats.coord;
   servers = c.in_ok-servers.ensures.new;

@@ -46,7 +46,7 @@ new-requires-clause-inboxes g c =
     c.next.ensures.steps in
     let workers : ℕ = c.args.setup.now.workers in
     let below : k < workers = subst (λ n. k < n) c.requires.len turn.0 in
-    inboxes-at c.args.setup.now c.args.sizes.now c.len-number.result k (map g.I.Inbox.view c.args.inboxes.items)
+    inboxes-at c.args.setup.now c.args.terms.sizes.now c.len-number.result k (map g.I.Inbox.view c.args.inboxes.items)
     (map g.I.Inbox.view c.remove-inboxes.result.items)
     (c.len-number.ensures ∙ l.servers.ok.0 ∙ l.invariant.len) c.requires.within c.requires.sizes c.requires.untouched
     (hand-is g.I.Inbox.view c.in_ok-hands.hands.items l.hands.items k workers c.remove-inboxes.result
@@ -67,7 +67,7 @@ loop-seat-preserved g c =
     let own : List InboxView = map g.I.Inbox.view c.remove-inboxes.result.items in
     let board : List ℕ = board_numbers (board_id c.args.board.now) in
     let R : ℕ → ServerView → Type 0 =
-    IsServer (workload_of c.args.setup.now (plans_of inboxes)) workers board c.args.notes in
+    IsServer (workload_of c.args.setup.now (plans_of inboxes)) workers board c.args.terms.notes in
     let below : k < workers = subst (λ n. k < n) c.requires.len turn.0 in
     let is : own ≡ dealt workers k inboxes =
     hand-is g.I.Inbox.view c.in_ok-hands.hands.items l.hands.items k workers c.remove-inboxes.result
@@ -79,22 +79,22 @@ loop-seat-preserved g c =
     let same : c.len-number.result ≡ k = c.len-number.ensures ∙ l.servers.ok.0 ∙ l.invariant.len in
     let here : c.in-Ok.server.board ≡ board =
     c.in-Ok.ensures.board ∙ ap board_numbers (c.at.ensures.board ∙ fresh.0) in
-    let new = subst (λ (p : WorkerSeatView). IsNew c.args.setup.now c.args.sizes.now c.len-number.result p c.args.notes
+    let new = subst (λ (p : WorkerSeatView). IsNew c.args.setup.now c.args.terms c.len-number.result p
     c.in-Ok.server.worker) c.at.ensures.view c.in-Ok.ensures.new in
     let server : R k c.in-Ok.server =
-    server-at c.args.setup.now c.args.sizes.now c.len-number.result k inboxes own
-    (seat_view c.in-Some.seat) board c.args.notes c.in-Ok.server
+    server-at c.args.setup.now c.args.terms c.len-number.result k inboxes own
+    (seat_view c.in-Some.seat) board c.in-Ok.server
     same c.requires.sizes is fresh.1 here new c.in-Ok.ensures.works in
     let both = one-pushed R k
     (length (l.yielded ++ c.in-Some.seat ∷ [])) l.servers.items _ c.in-Ok.server c.in_ok-push-in-Ok.ensures.items
     l.invariant.len longer l.invariant.servers server in
-    let Q : ℕ → ServerView → Type 0 = IsNewServer c.args.setup.now (plans_of inboxes) c.args.notes in
+    let Q : ℕ → ServerView → Type 0 = IsNewServer c.args.setup.now (plans_of inboxes) c.args.terms in
     let closed = hand-closed g.I.Inbox.opened g.I.Inbox.view c.in_ok-hands.hands.items l.hands.items k workers
     c.remove-inboxes.result c.args.inboxes.items c.in_ok-hands.ensures.dealt c.in_ok-hands.ensures.len below
     l.invariant.hands c.remove-inboxes.ensures.value c.requires.closed in
     let none_done : Q k c.in-Ok.server =
-    new-server c.args.setup.now c.args.sizes.now c.len-number.result k inboxes own (seat_view c.in-Some.seat)
-    c.args.notes c.in-Ok.server same c.requires.sizes c.requires.untouched is fresh.1 new c.in-Ok.ensures.inboxes
+    new-server c.args.setup.now c.args.terms c.len-number.result k inboxes own (seat_view c.in-Some.seat)
+    c.in-Ok.server same c.requires.untouched is fresh.1 new c.in-Ok.ensures.inboxes
     (c.in-Ok.ensures.opened ∙ closed) in
     let news = one-pushed Q k
     (length (l.yielded ++ c.in-Some.seat ∷ [])) l.servers.items _ c.in-Ok.server c.in_ok-push-in-Ok.ensures.items
@@ -116,8 +116,9 @@ loop-seat-init g c = record {
   len = ap length c.new-servers.ensures.items;
   servers = none-made
       (IsServer (workload_of c.args.setup.now (plans_of (map g.I.Inbox.view c.args.inboxes.items))) c.args.setup.now.workers
-      (board_numbers (board_id c.args.board.now)) c.args.notes) c.new-servers.result.items c.new-servers.ensures.items;
-  new = none-made (IsNewServer c.args.setup.now (plans_of (map g.I.Inbox.view c.args.inboxes.items)) c.args.notes)
+      (board_numbers (board_id c.args.board.now)) c.args.terms.notes) c.new-servers.result.items
+      c.new-servers.ensures.items;
+  new = none-made (IsNewServer c.args.setup.now (plans_of (map g.I.Inbox.view c.args.inboxes.items)) c.args.terms)
       c.new-servers.result.items c.new-servers.ensures.items;
 }
 
@@ -164,7 +165,7 @@ returns-clause-servers g c =
     (from.1 ∙ c.args.seats.ok.0) in
     let t = YieldsList-end all l.yielded _ l.yielded_by _ c.next.new.self c.in-None.is c.next.ensures.steps in
     subst (λ n. AllZip (IsServer (workload_of c.args.setup.now (plans_of (map g.I.Inbox.view c.args.inboxes.items)))
-    c.args.setup.now.workers (board_numbers (board_id c.args.board.now)) c.args.notes) (range_with_len 0 n)
+    c.args.setup.now.workers (board_numbers (board_id c.args.board.now)) c.args.terms.notes) (range_with_len 0 n)
     l.servers.items) (t.1 ∙ c.requires.len) l.invariant.servers
 
 pub returns-clause-new : goal.returns-clause-new
@@ -174,7 +175,7 @@ returns-clause-new g c =
     let all = YieldsList-from_vec {s = c.into_iter-seat-iterator.result} c.args.seats.items from.0
     (from.1 ∙ c.args.seats.ok.0) in
     let t = YieldsList-end all l.yielded _ l.yielded_by _ c.next.new.self c.in-None.is c.next.ensures.steps in
-    subst (λ n. AllZip (IsNewServer c.args.setup.now (plans_of (map g.I.Inbox.view c.args.inboxes.items)) c.args.notes)
+    subst (λ n. AllZip (IsNewServer c.args.setup.now (plans_of (map g.I.Inbox.view c.args.inboxes.items)) c.args.terms)
     (range_with_len 0 n) l.servers.items) (t.1 ∙ c.requires.len) l.invariant.new
 
 pub at-requires : goal.at-requires

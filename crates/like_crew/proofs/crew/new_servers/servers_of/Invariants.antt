@@ -12,7 +12,7 @@ invariant-loop-seat g l = record {
   len : length l.servers.items ≡ length l.yielded;
   servers : AllZip
       (IsServer (workload_of l.setup (plans_of (map g.I.Inbox.view l.fn.inboxes.items))) l.setup.workers
-      (board_numbers (board_id l.board)) l.notes) (range_with_len 0 (length l.yielded)) l.servers.items;
-  new : AllZip (IsNewServer l.setup (plans_of (map g.I.Inbox.view l.fn.inboxes.items)) l.notes)
+      (board_numbers (board_id l.board)) l.terms.notes) (range_with_len 0 (length l.yielded)) l.servers.items;
+  new : AllZip (IsNewServer l.setup (plans_of (map g.I.Inbox.view l.fn.inboxes.items)) l.terms)
       (range_with_len 0 (length l.yielded)) l.servers.items;
 }

@@ -38,8 +38,8 @@ loop-seat-init g c =
       len = ap length none;
       servers = none-made
           (IsServer (workload_of c.args.setup.now (plans_of (map g.I.Inbox.view c.args.inboxes.items)))
-          c.args.setup.now.workers [] c.args.notes) (servers_of c.new-servers.result.items) servers;
-      new = none-made (IsNewServer c.args.setup.now (plans_of (map g.I.Inbox.view c.args.inboxes.items)) c.args.notes)
+          c.args.setup.now.workers [] c.args.terms.notes) (servers_of c.new-servers.result.items) servers;
+      new = none-made (IsNewServer c.args.setup.now (plans_of (map g.I.Inbox.view c.args.inboxes.items)) c.args.terms)
           (servers_of c.new-servers.result.items) servers;
       places = λ worker s e. absurd (cc (sym (ap (λ xs. slice_get xs worker) none) ∙ e));
       views = ap (map (λ (s : ServerView). Worker s.worker.post)) servers ∙ sym (workers-none (opening_of c.args.setup.now));
@@ -111,7 +111,7 @@ new-requires-clause-inboxes g c =
     c.next.ensures.steps in
     let workers : ℕ = c.args.setup.now.workers in
     let below : k < workers = subst (λ n. k < n) c.requires.len turn.0 in
-    inboxes-at c.args.setup.now c.args.sizes.now c.len-number.result k (map g.I.Inbox.view c.args.inboxes.items)
+    inboxes-at c.args.setup.now c.args.terms.sizes.now c.len-number.result k (map g.I.Inbox.view c.args.inboxes.items)
     (map g.I.Inbox.view c.remove-inboxes.result.items)
     (c.len-number.ensures ∙ l.servers.ok.0 ∙ l.invariant.len) c.requires.within c.requires.sizes c.requires.untouched
     (hand-is g.I.Inbox.view c.in_ok-hands.hands.items l.hands.items k workers c.remove-inboxes.result
@@ -134,8 +134,8 @@ loop-seat-preserved g c =
     let inboxes : List InboxView = map g.I.Inbox.view c.args.inboxes.items in
     let mine : List InboxView = map g.I.Inbox.view c.remove-inboxes.result.items in
     let R : ℕ → ServerView → Type 0 =
-    IsServer (workload_of c.args.setup.now (plans_of inboxes)) workers [] c.args.notes in
-    let Q : ℕ → ServerView → Type 0 = IsNewServer c.args.setup.now (plans_of inboxes) c.args.notes in
+    IsServer (workload_of c.args.setup.now (plans_of inboxes)) workers [] c.args.terms.notes in
+    let Q : ℕ → ServerView → Type 0 = IsNewServer c.args.setup.now (plans_of inboxes) c.args.terms in
     let is : mine ≡ dealt workers k inboxes =
     hand-is g.I.Inbox.view c.in_ok-hands.hands.items l.hands.items k workers c.remove-inboxes.result
     c.args.inboxes.items c.in_ok-hands.ensures.dealt c.in_ok-hands.ensures.len below l.invariant.hands
@@ -148,14 +148,14 @@ loop-seat-preserved g c =
     let told = c.in_ok-server.ensures in
     let same : c.len-number.result ≡ k = c.len-number.ensures ∙ l.servers.ok.0 ∙ l.invariant.len in
     let server : R k t.server =
-    server-at c.args.setup.now c.args.sizes.now c.len-number.result k inboxes mine at_seat [] c.args.notes t.server
+    server-at c.args.setup.now c.args.terms c.len-number.result k inboxes mine at_seat [] t.server
     same c.requires.sizes is fits told.board told.new told.works in
     let closed = hand-closed g.I.Inbox.opened g.I.Inbox.view c.in_ok-hands.hands.items l.hands.items k workers
     c.remove-inboxes.result c.args.inboxes.items c.in_ok-hands.ensures.dealt c.in_ok-hands.ensures.len below
     l.invariant.hands c.remove-inboxes.ensures.value c.requires.closed in
     let none_done : Q k t.server =
-    new-server c.args.setup.now c.args.sizes.now c.len-number.result k inboxes mine at_seat c.args.notes t.server same
-    c.requires.sizes c.requires.untouched is fits told.new told.inboxes (told.opened ∙ closed) in
+    new-server c.args.setup.now c.args.terms c.len-number.result k inboxes mine at_seat t.server same
+    c.requires.untouched is fits told.new told.inboxes (told.opened ∙ closed) in
     let after = c.push.new.self.items in
     let pushed = c.in_ok-push.ensures.items in
     let more : servers_of after ≡ servers_of l.servers.items ++ t.server ∷ [] =
@@ -194,8 +194,8 @@ returns-clause-servers g c =
     (from.1 ∙ c.args.seats.ok.0) in
     let t = YieldsList-end all l.yielded _ l.yielded_by _ c.next.new.self c.in-None.is c.next.ensures.steps in
     subst (λ n. AllZip (IsServer (workload_of c.args.setup.now (plans_of (map g.I.Inbox.view c.args.inboxes.items)))
-    c.args.setup.now.workers [] c.args.notes) (range_with_len 0 n) (servers_of l.servers.items)) (t.1 ∙ c.requires.len)
-    l.invariant.servers
+    c.args.setup.now.workers [] c.args.terms.notes) (range_with_len 0 n) (servers_of l.servers.items))
+    (t.1 ∙ c.requires.len) l.invariant.servers
 
 pub returns-clause-new : goal.returns-clause-new
 returns-clause-new g c =
@@ -204,7 +204,7 @@ returns-clause-new g c =
     let all = YieldsList-from_vec {s = c.into_iter-seat-iterator.result} c.args.seats.items from.0
     (from.1 ∙ c.args.seats.ok.0) in
     let t = YieldsList-end all l.yielded _ l.yielded_by _ c.next.new.self c.in-None.is c.next.ensures.steps in
-    subst (λ n. AllZip (IsNewServer c.args.setup.now (plans_of (map g.I.Inbox.view c.args.inboxes.items)) c.args.notes)
+    subst (λ n. AllZip (IsNewServer c.args.setup.now (plans_of (map g.I.Inbox.view c.args.inboxes.items)) c.args.terms)
     (range_with_len 0 n) (servers_of l.servers.items)) (t.1 ∙ c.requires.len) l.invariant.new
 
 pub returns-clause-seated : goal.returns-clause-seated

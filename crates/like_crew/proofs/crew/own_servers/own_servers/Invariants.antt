@@ -15,9 +15,9 @@ invariant-loop-seat g l = record {
   hands : l.hands.items ≡ drop (length l.yielded) l.initial.hands.items;
   len : length l.servers.items ≡ length l.yielded;
   servers : AllZip
-      (IsServer (workload_of l.setup (plans_of (map g.I.Inbox.view l.fn.inboxes.items))) l.setup.workers [] l.notes)
-      (range_with_len 0 (length l.yielded)) (servers_of l.servers.items);
-  new : AllZip (IsNewServer l.setup (plans_of (map g.I.Inbox.view l.fn.inboxes.items)) l.notes)
+      (IsServer (workload_of l.setup (plans_of (map g.I.Inbox.view l.fn.inboxes.items))) l.setup.workers []
+      l.terms.notes) (range_with_len 0 (length l.yielded)) (servers_of l.servers.items);
+  new : AllZip (IsNewServer l.setup (plans_of (map g.I.Inbox.view l.fn.inboxes.items)) l.terms)
       (range_with_len 0 (length l.yielded)) (servers_of l.servers.items);
   places : (worker : ℕ) (s : OwnServerView) → slice_get l.servers.items worker ≡ Some s → s.place ≡ worker + 1;
   views : map (λ s. Worker s.worker.post) (servers_of l.servers.items)

@@ -9,5 +9,5 @@ returns-clause-coordinator c = record {
   view = c.finish-coord.ensures.view ∙ ap (λ (v : CoordinatorView). v.seat) c.done.view_is;
   phases = c.phase-phases.ensures ∙ ap (λ (v : CoordinatorView). v.phase) c.done.view_is;
   chosen = c.finish-coord.ensures.chosen ∙ ap (λ (v : CoordinatorView). v.choice.chosen) c.done.view_is;
-  chose = subst ChoseByCounts c.done.view_is c.finish-coord.ensures.chose;
+  chose = subst ChoseByCounts c.done.view_is c.done.invariant.1.chose;
 }

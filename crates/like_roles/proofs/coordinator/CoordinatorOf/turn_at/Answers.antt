@@ -1,4 +1,4 @@
-use Rattle.like_roles.proofs.choice.Coordinating.{before_end, chose-on, ended_joined, same_board}
+use Rattle.like_roles.proofs.choice.Coordinating.{before_end, chose-on, coordinator-goes-on, ended_joined}
 use Rattle.like_roles.proofs.coordinator.CoordinatorOf.turn_at.Goals as goal
 
 pub returns : goal.returns
@@ -7,7 +7,7 @@ returns g c =
     record {
       case = c.act.ensures.case;
       led = c.act.ensures.led;
-      board = same_board _ _ _ turn;
+      goes_on = coordinator-goes-on _ _ _ turn;
       keeps = before_end _ _ _ turn;
       ended = ended_joined _ _ _ turn;
       chose = chose-on _ _ _ turn;

@@ -1,4 +1,4 @@
-use Rattle.like_crew.proofs.Coordinated.{coordinator-further, coordinator-same}
+use Rattle.like_roles.proofs.choice.Coordinating.{coordinator-further, coordinator-same}
 use Rattle.like_run.proofs.threads.coordinator.coordinate.Goals as goal
 
 pub loop-init : goal.loop-init

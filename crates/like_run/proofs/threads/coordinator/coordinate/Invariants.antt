@@ -1,4 +1,4 @@
-use Rattle.like_crew.specs.Crew.{CoordinatorGoesOn}
+use Rattle.like_roles.specs.coordinator.CoordTurns.{CoordinatorGoesOn}
 use Rattle.like_run.proofs.threads.coordinator.coordinate.Given as goal
 
 abbrev pub invariant-loop : goal.invariant-loop

@@ -77,5 +77,5 @@ returns c =
           (sym (with_items_is c.self.inside.counts c.close.new.counts many)) c.close.ensures;
       phases = c.phase-phases.ensures;
       chosen = c.finish-coord.ensures.chosen;
-      chose = c.finish-coord.ensures.chose;
+      chose = c.self.invariant.2.chose;
     })

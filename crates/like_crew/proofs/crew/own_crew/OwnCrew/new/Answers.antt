@@ -5,7 +5,6 @@ use Rattle.like_limits.specs.Limits.{max_count, max_pages}
 use Rattle.like_requests.specs.Pages.{Page}
 use Rattle.like_requests.specs.Setup.{FitsRun}
 use Rattle.like_core.specs.core.State.{opening}
-use Rattle.like_core.specs.declared.opening.Opening.{Opening}
 use Rattle.like_core.specs.declared.view.CoordSeatView.{CoordSeatView}
 use Rattle.like_board.specs.Led.{no_board}
 use Rattle.like_board.specs.NewViews.{new_views}
@@ -13,8 +12,7 @@ use Rattle.like_board.specs.Own.{own_opening}
 use Rattle.like_board.specs.Rule.{opened_coord}
 use Rattle.like_queue.specs.Inbox.{view_of}
 use Rattle.like_promises.specs.Workload.{lists_of, workload_of}
-use Rattle.like_roles.specs.coordinator.CoordTurns.{CoordinatorView}
-use Rattle.like_crew.specs.Crew.{new_coordinator}
+use Rattle.like_roles.specs.coordinator.CoordTurns.{CoordinatorView, new_coordinator}
 use Rattle.like_crew.specs.OwnCrew.{AreSeated, servers_of}
 use Rattle.like_crew.specs.Servers.{AreNewServers, AreServers}
 use Rattle.like_crew.specs.Site.{opening_of}
@@ -90,8 +88,8 @@ new-requires-2-clause-counts c =
     c.in_ok-board.ensures.opening
     ∙ ap (λ (xs : List ℕ). opening setup.workers xs c.deref-2.result.now) counts
     ∙ ap (λ (xs : List Bool). opening setup.workers (map (λ (p : Page). p.count) setup.pages) xs) marks in
-    c.deref-3.ensures.value ∙ c.in_ok-counts.ensures.counts ∙ sym (ap (λ (o : Opening). o.counts) opened)
-    ∙ sym (ap (λ (v : CoordSeatView). v.opening.counts) c.in_ok-board.ensures.coord)
+    c.deref-3.ensures.value ∙ c.in_ok-counts.ensures.counts
+    ∙ sym (ap (λ (v : CoordSeatView). v.opening.counts) (c.in_ok-board.ensures.coord ∙ ap opened_coord opened))
 
 pub new-requires-2-clause-limits : goal.new-requires-2-clause-limits
 new-requires-2-clause-limits c =
@@ -104,13 +102,7 @@ new-requires-2-clause-limits c =
     c.in_ok-board.ensures.opening
     ∙ ap (λ (xs : List ℕ). opening setup.workers xs c.deref-2.result.now) counts
     ∙ ap (λ (xs : List Bool). opening setup.workers (map (λ (p : Page). p.count) setup.pages) xs) marks in
-    ap (λ (v : CoordSeatView). v.opening.limits) c.in_ok-board.ensures.coord ∙ ap (λ (o : Opening). o.limits) opened
-
-pub new-requires-2-clause-new : goal.new-requires-2-clause-new
-new-requires-2-clause-new c = ap (λ (v : CoordSeatView). v.phase) c.in_ok-board.ensures.coord
-
-pub new-requires-2-clause-no_masks : goal.new-requires-2-clause-no_masks
-new-requires-2-clause-no_masks c = ap (λ (v : CoordSeatView). v.masks) c.in_ok-board.ensures.coord
+    ap (λ (v : CoordSeatView). v.opening.limits) (c.in_ok-board.ensures.coord ∙ ap opened_coord opened)
 
 pub invariant_of-result : goal.invariant_of-result
 invariant_of-result c =
@@ -123,15 +115,19 @@ invariant_of-result c =
     c.in_ok-board.ensures.opening
     ∙ ap (λ (xs : List ℕ). opening setup.workers xs c.deref-2.result.now) counts
     ∙ ap (λ (xs : List Bool). opening setup.workers (map (λ (p : Page). p.count) setup.pages) xs) marks in
-    let seat : c.in_ok-coordinator.coordinator.seat ≡ opened_coord (opening_of setup) =
-    ap (λ (v : CoordinatorView). v.seat) c.in_ok-coordinator.ensures ∙ c.in_ok-board.ensures.coord
-    ∙ ap opened_coord opened in (
-      subst (λ vs. AreSeated vs c.in_ok-coordinator.coordinator.seat c.in_ok-servers.servers.items)
+    let begun = c.in_ok-board.ensures.coord ∙ ap opened_coord opened in
+    let seat : c.in-Ok.coordinator.seat ≡ opened_coord (opening_of setup) =
+    ap (λ (v : CoordinatorView). v.seat) c.in-Ok.ensures.new ∙ begun in (
+      subst (λ vs. AreSeated vs c.in-Ok.coordinator.seat c.in_ok-servers.servers.items)
           (sym (c.in_ok-board.ensures.views ∙ ap new_views opened))
           (subst (λ (v : CoordSeatView). AreSeated (new_views (opening_of setup)) v c.in_ok-servers.servers.items)
           (sym seat) c.in_ok-servers.ensures.seated),
       ap (λ (xs : List ℕ). length xs) c.in_ok-counts.ensures.counts
           ∙ sym (ap (λ (v : CoordSeatView). length v.opening.counts) seat),
+      c.in-Ok.ensures.coordinating (record {
+        phase = ap (λ (v : CoordSeatView). v.phase) begun;
+        masks = ap (λ (v : CoordSeatView). v.masks) begun;
+      }),
     )
 
 pub returns-clause-crew : goal.returns-clause-crew
@@ -145,16 +141,16 @@ returns-clause-crew c =
     c.in_ok-board.ensures.opening
     ∙ ap (λ (xs : List ℕ). opening setup.workers xs c.deref-2.result.now) counts
     ∙ ap (λ (xs : List Bool). opening setup.workers (map (λ (p : Page). p.count) setup.pages) xs) marks in
-    let seat : c.in_ok-coordinator.coordinator.seat ≡ opened_coord (opening_of setup) =
-    ap (λ (v : CoordinatorView). v.seat) c.in_ok-coordinator.ensures ∙ c.in_ok-board.ensures.coord
+    let seat : c.in-Ok.coordinator.seat ≡ opened_coord (opening_of setup) =
+    ap (λ (v : CoordinatorView). v.seat) c.in-Ok.ensures.new ∙ c.in_ok-board.ensures.coord
     ∙ ap opened_coord opened in
     let plans = plans-are (map view_of c.in_ok-inboxes.inboxes.items) (lists_of c.args.plans.items)
     c.in_ok-inboxes.ensures.untouched in
     record {
       opening = ap (λ (v : CoordSeatView). v.opening) seat;
-      turns = ap (λ (v : CoordinatorView). v.turns) c.in_ok-coordinator.ensures;
-      hot = ap (λ (v : CoordinatorView). v.choice.hot) c.in_ok-coordinator.ensures;
-      servers = subst (λ ps. AreServers (workload_of setup ps) setup.workers [] c.args.notes
+      turns = ap (λ (v : CoordinatorView). v.turns) c.in-Ok.ensures.new;
+      hot = ap (λ (v : CoordinatorView). v.choice.hot) c.in-Ok.ensures.new;
+      servers = subst (λ ps. AreServers (workload_of setup ps) setup.workers [] c.args.terms.notes
           (servers_of c.in_ok-servers.servers.items)) plans c.in_ok-servers.ensures.servers;
     }
 
@@ -173,10 +169,11 @@ returns-clause-new c =
     c.in_ok-inboxes.ensures.untouched in
     record {
       board = no_board;
-      notes = c.args.notes;
-      coordinator = c.in_ok-coordinator.ensures
+      terms = c.args.terms;
+      sizes = c.requires.sizes;
+      coordinator = c.in-Ok.ensures.new
           ∙ ap (λ (v : CoordSeatView). new_coordinator no_board v setup.turns setup.hot)
           (c.in_ok-board.ensures.coord ∙ ap opened_coord opened);
-      servers = subst (λ ps. AreNewServers setup ps c.args.notes (servers_of c.in_ok-servers.servers.items)) plans
+      servers = subst (λ ps. AreNewServers setup ps c.args.terms (servers_of c.in_ok-servers.servers.items)) plans
           c.in_ok-servers.ensures.new;
     }

@@ -7,7 +7,7 @@ use Rattle.like_crew.specs.OwnCrew.{servers_of}
 use Rattle.like_crew.specs.OwnServer.{OwnServerView}
 use Rattle.like_crew.specs.ServerTurns.{OpensOne}
 use Rattle.like_crew.specs.Steps.{AtServer}
-use Rattle.like_crew.proofs.Coordinated.{coordinator-same}
+use Rattle.like_roles.proofs.choice.Coordinating.{coordinator-same}
 use Rattle.like_crew.proofs.servers.Seated.{all-go-on, at-server, seated-same, server-at}
 use Rattle.like_crew.proofs.crew.own_crew.OwnCrew.open_list_of.Goals as goal
 
@@ -46,6 +46,7 @@ invariant_of-self c =
     let told = c.open_one.ensures in (
       seated-same (own_views c.self.inside.board) seat servers c.self.invariant.0 k s t at told.place told.post,
       c.self.invariant.1,
+      c.self.invariant.2,
     )
 
 pub returns-clause-opens : goal.returns-clause-opens

@@ -28,6 +28,10 @@ invariant_of-self c =
     let led : own_views c.turn_at.new.board ≡ set views 0 (Coord after.seat) = ap views_told c.turn_at.ensures.led in (
       lead-after views c.self.inside.coordinator.seat c.self.inside.servers.items c.self.invariant.0 _ after.seat led,
       c.self.invariant.1 ∙ sym (ap (λ (z : Opening). length z.counts) c.turn_at.ensures.goes_on.opening),
+      record {
+        before_end = c.turn_at.ensures.keeps c.self.invariant.2.before_end;
+        chose = c.turn_at.ensures.chose c.self.invariant.2.chose;
+      },
     )
 
 pub returns-clause-leads : goal.returns-clause-leads
@@ -48,3 +52,6 @@ returns-clause-goes_on c =
     let servers = c.self.inside.servers.items in
     subst (λ (v : CrewView). GoesOn v (record { coordinator = c.turn_at.new.self; servers = servers_of servers }))
     c.self.view_is (record { coordinator = c.turn_at.ensures.goes_on; servers = all-same (servers_of servers) })
+
+pub returns-clause-ended : goal.returns-clause-ended
+returns-clause-ended c = c.turn_at.ensures.ended c.self.invariant.2.before_end

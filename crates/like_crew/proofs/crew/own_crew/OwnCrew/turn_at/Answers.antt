@@ -9,7 +9,7 @@ use Rattle.like_crew.specs.OwnCrew.{servers_of}
 use Rattle.like_crew.specs.OwnServer.{OwnServerView}
 use Rattle.like_crew.specs.Server.{ServerView}
 use Rattle.like_crew.specs.Steps.{AtServer, IsFreshTurn}
-use Rattle.like_crew.proofs.Coordinated.{coordinator-same}
+use Rattle.like_roles.proofs.choice.Coordinating.{coordinator-same}
 use Rattle.like_crew.proofs.servers.Seated.{all-go-on, at-server, lead-known, seat-known, seated-after}
 use Rattle.like_crew.proofs.crew.own_crew.OwnCrew.turn_at.Goals as goal
 
@@ -48,6 +48,7 @@ invariant_of-self c =
       seated-after (own_views c.self.inside.board) seat servers c.self.invariant.0 _ k s t at told.came.place_is
           told.came.views_are,
       c.self.invariant.1,
+      c.self.invariant.2,
     )
 
 pub returns-clause-case : goal.returns-clause-case

@@ -16,8 +16,9 @@ returns-clause-serving g c = λ post is.
       ready = c.in_ok-new.ensures.ready post is;
       untried = new.pending;
       workers = workers-new _
-          (share_of c.args.setup.now.users (length c.args.sizes.now) c.args.setup.now.workers c.args.number) new.last;
-      agree = agree-new c.args.setup.now c.args.sizes.now c.args.number post c.args.notes _
+          (share_of c.args.setup.now.users (length c.args.terms.sizes.now) c.args.setup.now.workers c.args.number)
+          new.last;
+      agree = agree-new c.args.setup.now c.args.terms c.args.number post _
           (map g.I.Inbox.view c.args.inboxes.items) c.requires.is_worker is c.requires.inboxes new;
     }
 

@@ -20,6 +20,7 @@ use Rattle.like_tables.specs.Share.{share_of}
 use Rattle.like_tables.specs.UserTable.{UserTable, table_without_likes}
 use Rattle.like_tables.specs.Waiting.{Waiting}
 use Rattle.like_tables.specs.declared.held.Held.{Held}
+use Rattle.like_roles.specs.declared.terms.Terms.{Terms}
 use Rattle.like_roles.specs.declared.worker.desk.Desk.{Desk}
 use Rattle.like_roles.specs.worker.Desk.{HasSubmitters, IsNewDesk, IsOwn, IsSound, view_of}
 use Rattle.like_roles.specs.worker.New.{IsNew, IsPostOf}
@@ -31,11 +32,11 @@ pages_are : (worker : ℕ) (s : Setup) (post : WorkerSeatView) → IsPostOf work
 pages_are worker s post p = ap (λ (xs : List Bool). length xs) p.opening.marks ∙ length-map s.pages (λ q. q.split)
 
 -- a new seat at its post and a new desk make a new worker
-new_worker : (s : Setup) (sizes : List ℕ) (worker : ℕ) (post : WorkerSeatView) (notes : Bool) (last : UserTable)
+new_worker : (s : Setup) (terms : Terms) (worker : ℕ) (post : WorkerSeatView) (last : UserTable)
     (seat : StationView Held) (d : Desk) → IsPostOf worker s.pages post → IsNewStation [] post s.stash last seat
-    → last ≡ table_without_likes (share_of s.users (length sizes) s.workers worker)
-    → IsNewDesk s sizes worker notes d → IsNew s sizes worker post notes (view_of seat d)
-new_worker s sizes worker post notes last seat d p n users k = record {
+    → last ≡ table_without_likes (share_of s.users (length terms.sizes.now) s.workers worker)
+    → IsNewDesk s terms worker d → IsNew s terms worker post (view_of seat d)
+new_worker s terms worker post last seat d p n users k = record {
   at_post = n.at_post;
   held = n.held;
   slice = n.slice ∙ ap (λ (x : ℕ). replicate x 0) (pages_are worker s post p);
@@ -52,11 +53,11 @@ new_worker s sizes worker post notes last seat d p n users k = record {
 }
 
 -- which is sound
-new_sound : (s : Setup) (sizes : List ℕ) (worker : ℕ) (post : WorkerSeatView) (notes : Bool) (last : UserTable)
+new_sound : (s : Setup) (terms : Terms) (worker : ℕ) (post : WorkerSeatView) (last : UserTable)
     (seat : StationView Held) (d : Desk) → IsPostOf worker s.pages post → IsNewStation [] post s.stash last seat
-    → last ≡ table_without_likes (share_of s.users (length sizes) s.workers worker)
-    → IsNewDesk s sizes worker notes d → worker < s.workers → IsSound seat d
-new_sound s sizes worker post notes last seat d p n users k is_worker =
+    → last ≡ table_without_likes (share_of s.users (length terms.sizes.now) s.workers worker)
+    → IsNewDesk s terms worker d → worker < s.workers → IsSound seat d
+new_sound s terms worker post last seat d p n users k is_worker =
     let held : seat.held.held ≡ [] = ap (λ (x : Waiting Held). x.held) n.held in
     let none : length seat.held.held ≡ 0 = ap (λ (xs : List Held). length xs) held in
     let zeros : sum seat.slice ≡ 0 = ap (λ (xs : List ℕ). sum xs) n.slice ∙ sum-zeros (length post.opening.marks) in
@@ -114,16 +115,16 @@ returns c =
     let of_run = λ (post : WorkerSeatView) (p : IsPostOf c.args.worker s.pages post).
     new_post c.args.worker s.pages c.in_ok-marks.marks.items post marks.marks marks.pages.entries.few p in
     let new = λ (post : WorkerSeatView) (p : IsPostOf c.args.worker s.pages post).
-    new_worker s c.args.sizes.now c.args.worker post c.args.notes c.in_ok-last.last (kept.view_of [] post c.in_ok-tables.tables) d p
+    new_worker s c.args.terms c.args.worker post c.in_ok-last.last (kept.view_of [] post c.in_ok-tables.tables) d p
     (tables.new [] post (of_run post p)) c.in_ok-last.ensures c.in_ok-desk.ensures in
     record {
       ready = λ post p. record {
         kept = tables.kept post (of_run post p);
-        sound = new_sound s c.args.sizes.now c.args.worker post c.args.notes c.in_ok-last.last
+        sound = new_sound s c.args.terms c.args.worker post c.in_ok-last.last
             (kept.view_of [] post c.in_ok-tables.tables) d p (tables.new [] post (of_run post p)) c.in_ok-last.ensures
             c.in_ok-desk.ensures c.requires.is_worker;
       };
       new = new;
       follows = λ post p workload same.
-          follows-new s c.args.sizes.now c.args.worker post c.args.notes _ workload p (new post p) same;
+          follows-new s c.args.terms c.args.worker post _ workload p (new post p) same;
     }

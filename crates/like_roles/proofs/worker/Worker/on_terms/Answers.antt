@@ -1,5 +1,5 @@
 use Rattle.std.proofs.Common.{refl}
-use Rattle.like_roles.proofs.worker.Worker.noting.Goals as goal
+use Rattle.like_roles.proofs.worker.Worker.on_terms.Goals as goal
 
 pub invariant_of-result : goal.invariant_of-result
 invariant_of-result g c = c.in-Ok.ensures.ready (g.P.Post.view c.args.post) c.requires.post
