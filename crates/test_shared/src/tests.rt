@@ -1,10 +1,16 @@
-//! The hosts are tried with two pages.
+//! The hosts are tried with two pages, and each call of a client and of a hub is made.
 ghost use Rattle.std.specs.Prelude.{◌≡◌, IfOk, length};
+ghost use Rattle.like_shared.specs.Shared.{IsServiceKeeper, pages_of};
 
+use crate::calls::retire_all;
 use crate::host::host;
 use crate::hub;
+use crate::scenes::{each_call, holding_a_seat};
+use crate::steps::{Part, first_wrong_part};
 use like_live::Opening;
+use like_shared::{Hub, ServiceKeeper, SharedService};
 use std::alloc::{AllocError, Global};
+use std::process::Abort;
 use std::test::*;
 
 // Two pages with 10 and 20 likes, the first of them marked, and users 0 to 3 of two seats.
@@ -57,5 +63,57 @@ fn many_come_one_after_another(rt: HostRuntime) -> Result<(), Fail> {
     let closed = hub::host_many(alloc, &opening, 0, &[0], 1_000, &mut counts);
     assert!(rt; matches!(closed, Ok(true)));
     assert_eq!(rt; counts, [1_010, 20]);
+    Ok(())
+}
+
+// A service of two pages, with its keeper.
+fn opened(alloc: Global) -> Result<(SharedService, ServiceKeeper), Fail>
+    ensures keeper { IfOk result (λ r. IsServiceKeeper r.0 r.1) }
+    ensures pages { IfOk result (λ r. pages_of r.0 ≡ 2) }
+{
+    let opening = opening(alloc)?;
+    match SharedService::open(alloc, &opening) {
+        Ok(service) => Ok(service),
+        Err(_) => Err(Fail::new("no service")),
+    }
+}
+
+// Has two clients make the calls of a scene.
+fn plays(rt: &impl Abort, alloc: Global, parts: &[Part]) -> Result<(), Fail> {
+    let (service, mut keeper) = opened(alloc)?;
+    let mut one = service.new_client(alloc, &mut keeper)?;
+    let mut two = service.new_client(alloc, &mut keeper)?;
+    assert_eq!(rt; first_wrong_part(&service, &mut one, &mut two, parts), None);
+    Ok(())
+}
+
+#[test]
+fn each_call_is_answered(rt: HostRuntime) -> Result<(), Fail> {
+    plays(&rt, rt.alloc(), each_call())
+}
+
+#[test]
+fn a_seat_that_is_held_is_busy(rt: HostRuntime) -> Result<(), Fail> {
+    plays(&rt, rt.alloc(), holding_a_seat())
+}
+
+#[test]
+fn cards_come_back(rt: HostRuntime) -> Result<(), Fail> {
+    let opening = opening(rt.alloc())?;
+    let Ok((hub, mut cards)) = Hub::open(rt.alloc(), &opening) else {
+        return Err(Fail::new("no hub"));
+    };
+    let mut card = hub.new_card(&mut cards);
+    let Ok(mut client) = hub.new_client(rt.alloc(), &mut card) else {
+        return Err(Fail::new("no client"));
+    };
+    retire_all(hub.service(), &mut client);
+    let Ok(()) = hub.park(&mut card, client) else {
+        return Err(Fail::new("the desk is taken"));
+    };
+    hub.take_card(&mut cards, card);
+    let mut counts = [0; 2];
+    assert!(rt; matches!(hub.close_with(cards, &mut counts), Ok(())));
+    assert_eq!(rt; counts, [10, 20]);
     Ok(())
 }
