@@ -43,6 +43,10 @@ const JOINED: &[Step] = &[
     Step::Seat(1, OnSeat::Like(1, Ok(LikeAnswer::Liked))),
     Step::Seat(1, OnSeat::Glance(1, GlanceAnswer::Seen(seen!(Some(1), 21)))),
     Step::Seat(1, OnSeat::Last(Some(1))),
+    Step::Seat(
+        1,
+        OnSeat::LikeOf(0, LikeAnswer::Refused(Verdict::OtherHome)),
+    ),
     Step::Seat(1, OnSeat::Lasts([1, NO_PAGE])),
     Step::Seat(
         1,
@@ -87,6 +91,7 @@ const SPLIT: &[Step] = &[
 ];
 
 const JOINED_AGAIN: &[Step] = &[
+    Step::Driver(OnDriver::Phase(2)),
     Step::Seat(0, OnSeat::Turn(TurnAnswer::Runs)),
     Step::Seat(
         0,

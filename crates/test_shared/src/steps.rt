@@ -6,7 +6,7 @@ use like_live::{
     Answer, Call, DriverAnswer, End, Found, GlanceAnswer, LikeAnswer, LikePair, LookAnswer,
     RowAnswer, TurnAnswer,
 };
-use like_shared::{Busy, Client, SharedService};
+use like_shared::{Busy, Client, LikeCall, SharedService};
 
 /// A call at the seat of a user, with its answer.
 #[derive(Clone, Copy)]
@@ -18,6 +18,8 @@ pub(crate) enum OnSeat {
     /// A page.
     Glance(u32, GlanceAnswer),
     Last(Option<u32>),
+    /// A like of page 0 by this user, made at the seat whosever user that is.
+    LikeOf(u32, LikeAnswer),
     /// The last likes of the seat's first two users.
     Lasts([u32; 2]),
     LikeRow(&'static [LikePair], RowAnswer),
@@ -36,6 +38,8 @@ pub(crate) enum OnSeat {
 pub(crate) enum OnDriver {
     Turn(DriverAnswer),
     Propose(&'static [u32]),
+    /// The phase that was released last.
+    Phase(u64),
     /// The phase of a snapshot, if there is one, and the counts behind it.
     Snapshot(Option<u64>, [u64; 2]),
     /// The only page that is split.
@@ -87,6 +91,9 @@ fn is_seat_answer(service: &SharedService, client: &mut Client, seat: usize, cal
     ensures { IsClient service.now client.new }
 {
     match call {
+        OnSeat::LikeOf(user, wanted) => {
+            client.call(service, seat, &LikeCall { user, page: 0 }) == Ok(wanted)
+        }
         OnSeat::Lasts(wanted) => are_lasts(service, client, seat, wanted),
         OnSeat::LikeRow(likes, wanted) => client.like_row(service, seat, likes) == Ok(wanted),
         OnSeat::Run(calls, wanted) => is_run(service, client, seat, calls, wanted),
@@ -139,6 +146,7 @@ fn is_driver_answer(service: &SharedService, client: &mut Client, call: OnDriver
     match call {
         OnDriver::Turn(wanted) => client.turn_driver(service, End::IfItServes) == Ok(wanted),
         OnDriver::Propose(pages) => client.propose(service, pages) == Ok(()),
+        OnDriver::Phase(wanted) => service.phase_now().get() == wanted,
         OnDriver::Snapshot(phase, wanted) => {
             client.snapshot(service, 0, &mut counts) == Ok(phase) && counts == wanted
         }

@@ -1,5 +1,6 @@
 //! The hosts are tried with two pages, and each call of a client and of a hub is made.
 ghost use Rattle.std.specs.Prelude.{◌≡◌, IfOk, length};
+ghost use Rattle.told_lock.specs.Rights.{IsKeeper};
 ghost use Rattle.like_shared.specs.Shared.{IsServiceKeeper, pages_of};
 
 use crate::calls::retire_all;
@@ -8,7 +9,7 @@ use crate::hub;
 use crate::scenes::{each_call, holding_a_seat};
 use crate::steps::{Part, first_wrong_part};
 use like_live::Opening;
-use like_shared::{Hub, ServiceKeeper, SharedService};
+use like_shared::{Cards, Hub, NoClient, ServiceKeeper, SharedService};
 use std::alloc::{AllocError, Global};
 use std::process::Abort;
 use std::test::*;
@@ -97,12 +98,41 @@ fn a_seat_that_is_held_is_busy(rt: HostRuntime) -> Result<(), Fail> {
     plays(&rt, rt.alloc(), holding_a_seat())
 }
 
+// A hub of two pages, of which no card is out.
+fn opened_hub(alloc: Global) -> Result<(Hub, Cards), Fail>
+    ensures cards { IfOk result (λ r. IsKeeper r.0.desk r.1) }
+    ensures out { IfOk result (λ r. r.1.out ≡ 0) }
+    ensures pages { IfOk result (λ r. pages_of r.0.service ≡ 2) }
+{
+    let opening = opening(alloc)?;
+    match Hub::open(alloc, &opening) {
+        Ok(hub) => Ok(hub),
+        Err(_) => Err(Fail::new("no hub")),
+    }
+}
+
+#[test]
+fn one_is_at_the_desk(rt: HostRuntime) -> Result<(), Fail> {
+    let alloc = rt.alloc();
+    let (hub, mut cards) = opened_hub(alloc)?;
+    assert!(rt; hub.pages() == 2 && hub.has_pages(1, 1) && !hub.has_pages(1, 2));
+    let mut card = hub.new_card(&mut cards);
+    let mut other = hub.new_card(&mut cards);
+    let Ok(client) = hub.new_client(alloc, &mut card) else {
+        return Err(Fail::new("no client"));
+    };
+    if !hub.enter(&mut card) {
+        return Err(Fail::new("the desk is taken"));
+    }
+    assert!(rt; matches!(hub.new_client(alloc, &mut other), Err(NoClient::Busy)));
+    hub.park_there(&mut card, client);
+    assert!(rt; matches!(hub.new_client(alloc, &mut other), Ok(_)));
+    Ok(())
+}
+
 #[test]
 fn cards_come_back(rt: HostRuntime) -> Result<(), Fail> {
-    let opening = opening(rt.alloc())?;
-    let Ok((hub, mut cards)) = Hub::open(rt.alloc(), &opening) else {
-        return Err(Fail::new("no hub"));
-    };
+    let (hub, mut cards) = opened_hub(rt.alloc())?;
     let mut card = hub.new_card(&mut cards);
     let Ok(mut client) = hub.new_client(rt.alloc(), &mut card) else {
         return Err(Fail::new("no client"));
