@@ -1,7 +1,7 @@
 -- How many likes a call adds to a client's log.
-use Rattle.std.proofs.Common.{◌≡◌, ℕ, ◌+◌, ◌<◌, List, [], ◌∷◌, ◌++◌, get_or, length, Result, Ok, Err, refl, ap, ◌∙◌, arith}
+use Rattle.std.proofs.Common.{◌≡◌, ◌≢◌, ℕ, ◌+◌, ◌<◌, List, [], ◌∷◌, ◌++◌, get_or, length, Result, Ok, Err, refl, sym, ap, ◌∙◌, arith}
 use Rattle.std.specs.Prelude.{if◌then◌else◌, MatchResult, sum_by}
-use Rattle.std.proofs.lemmas.Bool.{eq-eqb}
+use Rattle.std.proofs.lemmas.Bool.{eq-eqb, ne_eqb}
 use Rattle.std.proofs.lemmas.Nat.{mod_below}
 use Rattle.std.proofs.lemmas.List.{length-map}
 use Rattle.std.proofs.lemmas.List.Sums.{sum_by-append, sum_by-cons, sum_by-set}
@@ -19,7 +19,7 @@ use Rattle.like_shared.specs.declared.service.SharedService.{SharedService}
 use Rattle.like_shared.specs.Deeds.{liked_by}
 use Rattle.like_shared.specs.Passes.{IsReady, log_at}
 use Rattle.like_shared.specs.Shared.{AreLogged, IsClient, IsLogged, seat_logs, seats_of, with_deeds}
-use Rattle.test_shared.specs.Likes.{counted, likes_in, likes_of}
+use Rattle.test_shared.specs.Likes.{LikesNoOther, counted, likes_in, likes_of}
 
 -- deeds more at a seat
 deeds-more : (page : ℕ) (logs : List (List SeatDeed)) (seat : ℕ) (ds : List SeatDeed) → seat < length logs
@@ -83,3 +83,26 @@ adds-none {A} page s before after seat d result none client less logged =
         → likes_in page after ≡ likes_in page before
     by-answer (Ok told) is = omega (arith, is, none told)
     by-answer (Err busy) is = is
+
+-- a like of a page is none of another
+liked-none : (p page user : ℕ) (answer : LikeAnswer) → p ≢ page
+    → sum_by (liked_by p) (deed.Like user page answer ∷ []) ≡ 0
+liked-none p page user like.Liked other =
+    sum_by-cons (liked_by p) (deed.Like user page like.Liked) []
+    ∙ ap (λ n. n + 0)
+    (sum_by-cons (like_told p) (told.like user page like.Liked) []
+    ∙ ap (λ b. (if b then 1 else 0) + 0) (ne_eqb page p (λ same. other (sym same))))
+liked-none p page user like.Between other = refl
+liked-none p page user (like.Refused verdict) other = refl
+liked-none p page user like.Full other = refl
+liked-none p page user like.Gone other = refl
+
+-- a like of a page adds none of another
+pub like-adds-no-other : (page : ℕ) (s : SharedService) (before after : Client) (user : ℕ) (result : Result LikeAnswer Busy)
+    → IsClient s before → IsLogged before (home (seats_of s) user) (deed.Like user page) result after
+    → LikesNoOther page before after
+like-adds-no-other page s before after user result client logged p other =
+    let seat = home (seats_of s) user in
+    let less : seat < seats_of s = mod_below user (seats_of s) (omega (arith, client.some)) in
+    adds-none p s before after seat (deed.Like user page) result (λ answer. liked-none p page user answer other) client
+    less logged

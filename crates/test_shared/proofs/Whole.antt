@@ -1,5 +1,5 @@
 -- The likes that all clients of a host were told.
-use Rattle.std.proofs.Common.{◌≡◌, ℕ, ◌+◌, ◌<◌, List, [], ◌∷◌, ◌++◌, length, map, refl, sym, ap, ◌∙◌, arith}
+use Rattle.std.proofs.Common.{◌≡◌, ℕ, ◌+◌, ◌<◌, List, [], ◌∷◌, ◌++◌, length, map, refl, sym, ap, ◌∙◌, arith, subst}
 use Rattle.std.specs.Prelude.{All, slice_index, sum_by}
 use Rattle.std.proofs.lemmas.List.{length-map}
 use Rattle.std.proofs.lemmas.List.Elements.{All-head, All-tail}
@@ -22,7 +22,7 @@ use Rattle.like_shared.specs.Deeds.{liked_by}
 use Rattle.like_shared.specs.Passes.{IsReady, log_at}
 use Rattle.like_shared.specs.Shared.{IsClient, IsServiceKeeper, IsUnused, first_driver, first_seats, seats_told, with_logs}
 use Rattle.like_shared.specs.Strict.{SeatEnd, likes_at}
-use Rattle.test_shared.specs.Hosts.{HasGrown, IsHosted}
+use Rattle.test_shared.specs.Hosts.{IsHosted}
 use Rattle.test_shared.specs.Likes.{likes_in, likes_of}
 
 -- how many likes of a page were told at all seats
@@ -85,13 +85,14 @@ pub hosted : (o : Opening) (s : SharedService) (k : ServiceKeeper) (counts : Lis
 hosted o s k counts opened closed = record {
   driver = driver_end closed.leads;
   ends = closed.leads.seats_lead.ends;
+  opened = subst (AreOpened o (first_driver s)) (sym closed.leads.seats_lead.firsts_are) opened;
   strict = closed.strict o opened;
 }
 
 -- and a page's count has grown by all likes that were told
 pub grown : (o : Opening) (s : SharedService) (k : ServiceKeeper) (counts : List ℕ) (page : ℕ)
     → AreOpened o (first_driver s) (first_seats s) → IsClosedShared s k counts → page < length counts
-    → HasGrown o page (told_likes page (seats_told k)) counts
+    → slice_index counts page ≡ slice_index o.counts.items page + told_likes page (seats_told k)
 grown o s k counts page opened closed less =
     let ends = closed.leads.seats_lead.ends in
     (closed.strict o opened).totals page less

@@ -1,7 +1,7 @@
 //! What threads do at a shared service, each with its client.
 ghost use Rattle.std.specs.Prelude.{◌≡◌, ℕ, ◌+◌, ◌<◌, ◌≤◌, if◌then◌else◌, length};
 ghost use Rattle.like_shared.specs.Shared.{IsClient, seats_of};
-ghost use Rattle.test_shared.specs.Likes.{counted, likes_in};
+ghost use Rattle.test_shared.specs.Likes.{LikesNoOther, counted, likes_in};
 
 use like_live::{DriverAnswer, End, LikeAnswer, TurnAnswer};
 use like_shared::{Busy, Client, SharedService};
@@ -19,6 +19,7 @@ pub(crate) fn like_all(
     requires { IsClient service.now client.old }
     ensures client { IsClient service.now client.new }
     ensures likes { likes_in page client.new ≡ likes_in page client.old + result }
+    ensures others { LikesNoOther page client.old client.new }
     ensures few { result ≤ length users.now }
 {
     let mut liked = 0;
@@ -35,6 +36,7 @@ fn like(service: &SharedService, client: &mut Client, page: u32, user: u32) -> b
     requires { IsClient service.now client.old }
     ensures client { IsClient service.now client.new }
     ensures likes { likes_in page client.new ≡ likes_in page client.old + (if result then 1 else 0) }
+    ensures others { LikesNoOther page client.old client.new }
 {
     for _ in 0..CALLS {
         let answer = client.like(service, user, page);

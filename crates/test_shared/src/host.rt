@@ -3,7 +3,7 @@ ghost use Rattle.std.specs.Prelude.{◌≡◌, ℕ, ◌+◌, ◌<◌, IfOk, IfSo
 ghost use Rattle.std.specs.Thread.{IsSync};
 ghost use Rattle.like_shared.specs.Shared.{IsClient, IsServiceKeeper, seats_told};
 ghost use Rattle.test_shared.specs.Hosts.{HasGrown, IsHosted};
-ghost use Rattle.test_shared.specs.Likes.{likes_in};
+ghost use Rattle.test_shared.specs.Likes.{LikesNoOther, likes_in};
 
 use crate::calls::{drive, like_all, retire_all};
 use like_live::{OpenError, Opening};
@@ -12,7 +12,7 @@ use std::alloc::{AllocError, Global};
 use std::thread::{Threads, join_mut};
 
 /// Opens a service, has two threads like a page for these users, and closes it. If it is closed, how many likes the two
-/// were told: one thread could have done all that they did, and the page's count has grown by these likes.
+/// were told: one thread could have done all that they did, and the page's count alone has grown, by these likes.
 pub fn host<R: Threads + Sync>(
     rt: &R,
     alloc: Global,
@@ -25,7 +25,7 @@ pub fn host<R: Threads + Sync>(
     requires places { length counts.old ≡ length opening.now.counts.items }
     requires page { page < length counts.old }
     ensures strict { IfOk result (λ closed. IfSome closed (λ _. IsHosted opening.now counts.new)) }
-    ensures total { IfOk result (λ closed. IfSome closed (λ likes. HasGrown opening.now page likes counts.new)) }
+    ensures grown { IfOk result (λ closed. IfSome closed (λ likes. HasGrown opening.now page likes counts.new)) }
 {
     let (service, mut keeper) = SharedService::open(alloc, opening)?;
     let mut one = new_client(&service, alloc, &mut keeper)?;
@@ -80,7 +80,8 @@ fn work<R: Threads + Sync>(
     ensures third { IsClient service.now third.new }
     ensures likes { likes_in page one.new + likes_in page two.new
         ≡ likes_in page one.old + likes_in page two.old + result }
-    ensures none { likes_in page third.new ≡ likes_in page third.old }
+    ensures others { LikesNoOther page one.old one.new × LikesNoOther page two.old two.new }
+    ensures none { (p : ℕ) → likes_in p third.new ≡ likes_in p third.old }
 {
     let (liked, ()) = join_mut(
         rt,
@@ -92,6 +93,8 @@ fn work<R: Threads + Sync>(
             ensures two { IsClient service.entry.now two.exit.now }
             ensures likes { likes_in page one.exit.now + likes_in page two.exit.now
                 ≡ likes_in page one.entry.now + likes_in page two.entry.now + result }
+            ensures others { LikesNoOther page one.entry.now one.exit.now
+                × LikesNoOther page two.entry.now two.exit.now }
         { like_both(rt, service, one, two, page, by_one, by_two) },
         &mut || drive(service, third),
     );
@@ -114,6 +117,7 @@ fn like_both<R: Threads + Sync>(
     ensures two { IsClient service.now two.new }
     ensures likes { likes_in page one.new + likes_in page two.new
         ≡ likes_in page one.old + likes_in page two.old + result }
+    ensures others { LikesNoOther page one.old one.new × LikesNoOther page two.old two.new }
 {
     let (told_one, told_two) = join_mut(
         rt,

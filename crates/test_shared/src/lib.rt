@@ -5,4 +5,8 @@ mod calls;
 pub mod host;
 pub mod hub;
 #[cfg(test)]
+mod scenes;
+#[cfg(test)]
+mod steps;
+#[cfg(test)]
 mod tests;
