@@ -3,7 +3,8 @@
  * Most programs need five calls: likes_service_open, likes_service_like, likes_service_look, likes_service_stop, which
  * gives the final counts, and likes_service_close.
  *
- * The code is C, and not proved. It is part of liblikes, and tested, also under the address and thread sanitizers.
+ * What counts a like or touches a seat is proved. The code here, which waits, is C and is tested, also under the address
+ * and thread sanitizers.
  *
  * Calls keep time, as is tested: one that returned before another began comes first, on whatever threads. A writer's
  * likes come where they are handed over, and a glance may lack likes if it says so.
@@ -14,7 +15,8 @@
  * that are found there are answered at its next row, or once it unlocks the seat.
  *
  * A call whose seat is between two phases tries again for 50 microseconds, and then sleeps. A look that waits to be
- * found sleeps at once.
+ * found sleeps at once. A thread's first call of a service takes some memory for it: it answers LIKES_NO_MEMORY, or NULL,
+ * 0 or false where it gives no status, if there is none.
  */
 #ifndef LIKES_SERVICE_H
 #define LIKES_SERVICE_H
@@ -57,7 +59,7 @@ typedef struct likes_writer likes_writer;
 /* What a service has done since it was started. */
 typedef struct likes_statistics {
     uint64_t phases;       /* how many phases have ended */
-    uint64_t likes;        /* how many likes were counted, but by likes_seat_like or likes_seat_run at a locked seat */
+    uint64_t likes;        /* how many likes were counted */
     uint64_t looks;        /* how many looks were answered by likes_service_look and likes_service_look_within */
     uint64_t waits;        /* how many of these looks had to wait until they were found */
     uint64_t wait_time;    /* how long they waited in all, in nanoseconds */
@@ -163,8 +165,8 @@ uint32_t likes_service_snapshot(likes_service *service, uint64_t *counts, size_t
  * and it doesn't wait for the driver. */
 uint64_t likes_service_phase(likes_service *service);
 
-/* Writes what the service has done so far: LIKES_OK. The numbers are those of nearly the same moment. Any thread may
- * call it, and it waits for nobody. */
+/* Writes what the service has done so far, also once it is stopped: LIKES_OK. The numbers are those of nearly the same
+ * moment. Any thread may call it, and it waits for nobody. */
 uint32_t likes_service_statistics(likes_service *service, likes_statistics *statistics);
 
 /* Proposes pages to be split, as likes_driver_propose does: LIKES_OK. The driver takes them at its next turn where no
@@ -176,18 +178,20 @@ uint32_t likes_service_propose(likes_service *service, const uint32_t *pages, si
  * likes_service_fault isn't LIKES_OK. Any thread may call it. It waits as likes_service_propose does. */
 size_t likes_service_split_pages(likes_service *service, uint32_t *pages, size_t pages_len);
 
-/* Takes a seat's lock. Until likes_service_unlock, the seat is this thread's, which may make any call on it. NULL, and
- * nothing is done, where likes_service_seat_fault isn't LIKES_OK: a thread holds one seat of a service at a time. */
+/* Takes a seat's lock. Until likes_service_unlock, the seat is this thread's, which may make any call of likes_seat_* on
+ * it: in another thread they answer LIKES_NOT_LOCKED. NULL, and nothing is done, where likes_service_seat_fault isn't
+ * LIKES_OK: a thread holds one seat of a service at a time. */
 likes_seat *likes_service_lock(likes_service *service, uint32_t number);
 
 /* Gives the lock back. The thread that took it does so, before it waits for anything. Of a seat that it doesn't hold it
  * does nothing. */
 void likes_service_unlock(likes_service *service, uint32_t number);
 
-/* Runs requests at a seat that the thread has locked, through changes of phases, and gives the number of those done. It
- * stops early only at a look that has no room: take found looks, and go on with that request. At a seat that the thread
- * doesn't hold no request is done, and the first answer is LIKES_NOT_STARTED, STOPPED, UNKNOWN_SEAT or NOT_LOCKED. Tags
- * of looks are below 2^63: another is answered LIKES_WRONG_TAG, and is none of those that wait. */
+/* Runs requests at a seat that the thread has locked, through changes of phases, and gives the number of those done.
+ * While it sleeps until a phase begins, other threads may call the seat. It stops early only at a look that has no room:
+ * take found looks, and go on with that request. At a seat that the thread doesn't hold no request is done, and the first
+ * answer is LIKES_NOT_STARTED, STOPPED, UNKNOWN_SEAT or NOT_LOCKED. Tags of looks are below 2^63: another is answered
+ * LIKES_WRONG_TAG, and is none of those that wait. */
 size_t likes_service_run(likes_service *service, uint32_t number, const likes_request *requests, size_t length,
                          likes_answer *answers);
 

@@ -1,15 +1,14 @@
-/* The calls of likes.h that have defaults or take NULL, over the proved ones, which don't. All other calls of likes.h
- * are the proved ones themselves. */
+/* The calls of likes.h that have defaults or take NULL, over the proved ones, which don't. Those of a seat are in
+ * seats.c, and all others are the proved ones themselves. */
+#include "client.h"
 #include "defaults.h"
 #include "missing.h"
-#include "proved.h"
 
 #include <errno.h>
 #include <stdlib.h>
 
 static const uint64_t no_count;
 static const uint32_t no_page, wrong_page = LIKES_NO_PAGE - 1;
-static const likes_request no_request;
 
 /* The numbers for the proved call, with defaults. There `hot` 0 means that no page gets hot by itself. */
 static likes_proved_options numbers_of(const likes_options *options) {
@@ -46,41 +45,55 @@ static page_list list_of(const uint32_t *pages, size_t length) {
     return list;
 }
 
+/* What is opened: a driver, or else a service that threads share. */
+typedef struct opening {
+    likes_driver *driver;
+    likes_shared *shared;
+} opening;
+
 /* Opens with counts of so many pages, which aren't NULL. */
-static uint32_t open_with(const likes_options *options, const uint64_t *counts, size_t pages, likes_driver *driver) {
+static uint32_t open_with(const likes_options *options, const uint64_t *counts, size_t pages, opening to) {
     likes_proved_options numbers = numbers_of(options);
     page_list marks = list_of(options->marks, options->marks_len), lasts = list_of(options->lasts, options->lasts_len);
-    uint32_t status =
-        likes_proved_open(&numbers, counts, pages, marks.at, marks.length, lasts.at, lasts.length, driver);
+    uint64_t *seats = to.driver != NULL ? &to.driver->seats : &to.shared->seats;
+    uint32_t status = to.driver != NULL ? likes_proved_open(&numbers, counts, pages, marks.at, marks.length, lasts.at,
+                                                            lasts.length, to.driver)
+                                        : likes_proved_shared_open(&numbers, counts, pages, marks.at, marks.length,
+                                                                   lasts.at, lasts.length, to.shared);
     if (status == LIKES_OK)
-        driver->seats = numbers.seats;
+        *seats = numbers.seats;
     return status;
 }
 
 /* Opens with counts of 0, for which it takes memory meanwhile, unless their number is wrong. */
-static uint32_t open_with_zeros(const likes_options *options, likes_driver *driver) {
+static uint32_t open_with_zeros(const likes_options *options, opening to) {
     size_t pages = options->pages;
     if (pages == 0 || pages > LIKES_MAX_PAGES)
-        return open_with(options, &no_count, 0, driver);
+        return open_with(options, &no_count, 0, to);
     uint64_t *zeros = (uint64_t *)calloc(pages, sizeof *zeros);
     if (zeros == NULL)
         return LIKES_NO_MEMORY;
-    uint32_t status = open_with(options, zeros, pages, driver);
+    uint32_t status = open_with(options, zeros, pages, to);
     free(zeros);
     return status;
 }
 
-uint32_t likes_open(const likes_options *options, likes_driver *driver) {
+static uint32_t open_any(const likes_options *options, opening to) {
     int error = errno;
-    uint32_t status;
-    if (options == NULL || driver == NULL)
-        return LIKES_NULL;
-    if (options->counts == NULL)
-        status = open_with_zeros(options, driver);
-    else
-        status = open_with(options, options->counts, options->pages, driver);
+    uint32_t status = options->counts == NULL ? open_with_zeros(options, to)
+                                              : open_with(options, options->counts, options->pages, to);
     errno = error;
     return status;
+}
+
+uint32_t likes_open(const likes_options *options, likes_driver *driver) {
+    opening to = {driver, NULL};
+    return options == NULL || driver == NULL ? (uint32_t)LIKES_NULL : open_any(options, to);
+}
+
+uint32_t likes_shared_open(const likes_options *options, likes_shared *shared) {
+    opening to = {NULL, shared};
+    return open_any(options, to);
 }
 
 uint32_t likes_driver_seats(const likes_driver *driver) {
@@ -89,36 +102,6 @@ uint32_t likes_driver_seats(const likes_driver *driver) {
 
 uint32_t likes_seat_of(uint32_t user, uint32_t seats) {
     return user % seats;
-}
-
-uint32_t likes_seat_lasts(likes_seat *seat, uint32_t from, uint32_t *pages, size_t pages_len) {
-    uint32_t page;
-    if (likes_is_missing(pages, pages_len))
-        return LIKES_NULL;
-    return likes_proved_seat_lasts(seat, from, pages_len == 0 ? &page : pages, pages_len);
-}
-
-/* Runs requests where an array is NULL: none, if that has a length. */
-__attribute__((noinline, cold)) static size_t run_without(likes_seat *seat, const likes_request *requests,
-                                                          size_t requests_len, likes_answer *answers,
-                                                          size_t answers_len) {
-    likes_answer answer;
-    if (likes_is_missing(answers, answers_len))
-        return 0;
-    if (likes_is_missing(requests, requests_len)) {
-        if (answers_len > 0)
-            answers[0] = (likes_answer){.status = LIKES_NULL};
-        return 0;
-    }
-    return likes_proved_seat_run(seat, requests_len == 0 ? &no_request : requests, requests_len,
-                                 answers_len == 0 ? &answer : answers, answers_len);
-}
-
-size_t likes_seat_run(likes_seat *seat, const likes_request *requests, size_t requests_len, likes_answer *answers,
-                      size_t answers_len) {
-    if (requests == NULL || answers == NULL)
-        return run_without(seat, requests, requests_len, answers, answers_len);
-    return likes_proved_seat_run(seat, requests, requests_len, answers, answers_len);
 }
 
 uint32_t likes_driver_snapshot(likes_driver *driver, uint32_t from, uint64_t *counts, size_t counts_len) {

@@ -23,6 +23,14 @@ uint32_t likes_proved_close(likes_driver *driver, likes_seat *seats, size_t seat
 size_t likes_proved_driver_split_pages(likes_driver *driver, uint32_t *pages, size_t pages_len);
 uint32_t likes_proved_driver_propose(likes_driver *driver, const uint32_t *pages, size_t pages_len);
 bool likes_proved_seat_take_found(likes_seat *seat, likes_found *found);
+uint32_t likes_proved_seat_like(likes_seat *seat, uint32_t user, uint32_t page);
+uint32_t likes_proved_seat_look(likes_seat *seat, uint32_t user, uint32_t page, uint64_t tag, likes_answer *answer);
+uint32_t likes_proved_seat_glance(likes_seat *seat, uint32_t user, uint32_t page, likes_answer *answer);
+uint32_t likes_proved_seat_last(likes_seat *seat, uint32_t user, uint32_t *page);
+uint32_t likes_proved_seat_turn(likes_seat *seat);
+uint32_t likes_proved_seat_retire(likes_seat *seat);
+uint32_t likes_proved_seat_come_back(likes_seat *seat);
+uint64_t likes_proved_seat_phase(likes_seat *seat);
 void likes_proved_seat_free(likes_seat *seat);
 void likes_proved_driver_free(likes_driver *driver);
 void likes_proved_phase_free(likes_phase *phase);

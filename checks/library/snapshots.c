@@ -136,8 +136,13 @@ static void be_late(uint32_t user, uint32_t page) {
     IS(took >= 2 * MS && took < 400 * MS, true);
 }
 
-static void *be_late_at(void *at) {
-    be_late(*(uint32_t *)at, 1);
+/* A look that is late, or was made while the thread that holds its seat waited for a phase. */
+static void *look_at_lent(void *at) {
+    likes_answer answer;
+    uint64_t began = clock_now();
+    uint32_t status = likes_service_look_within(service, *(uint32_t *)at, 1, 2000, &answer);
+    IS(status == LIKES_LATE || status == LIKES_SEEN, true);
+    IS(clock_now() - began < 400 * MS, true);
     return NULL;
 }
 
@@ -357,7 +362,7 @@ static void lent_seat(void) {
     while (!is_set(&is_held))
         sleep_for(MS);
     sleep_for(50 * MS); /* until a phase is ending, which waits for this thread's seat */
-    start_thread(&holder, be_late_at, &lent);
+    start_thread(&holder, look_at_lent, &lent);
     sleep_for(MS / 2);
     likes_service_unlock(service, held);
     pthread_join(holder, NULL);
