@@ -10,26 +10,26 @@ static inline bool is_held(const likes_seat *seat) {
 }
 
 /* The place of a seat that the thread holds. NULL: it doesn't hold it. A call of it counts, as others do. */
-static likes_place *begin(const likes_seat *seat, likes_member **member) {
-    likes_place *place = (likes_place *)((uintptr_t)seat->at - 1);
-    *member = likes_member_of(place->service);
+static inner_place *begin(const likes_seat *seat, inner_member **member) {
+    inner_place *place = (inner_place *)((uintptr_t)seat->at - 1);
+    *member = inner_member_of(place->service);
     if (*member == NULL || (*member)->held != place)
         return NULL;
-    likes_add(&(*member)->calls, 1);
+    inner_note_use(place->service);
     return place;
 }
 
-static uint32_t end(likes_member *member, likes_place *place, uint32_t status) {
-    likes_note_call(place, 2);
-    likes_after(member, place);
+static uint32_t end(inner_member *member, inner_place *place, uint32_t status) {
+    inner_note_call(place, 2);
+    inner_after(member, place);
     return status;
 }
 
 /* A call of a client, if the thread holds the seat. */
 #define HELD(call)                                                                                                     \
     do {                                                                                                               \
-        likes_member *member;                                                                                          \
-        likes_place *place = begin(seat, &member);                                                                     \
+        inner_member *member;                                                                                          \
+        inner_place *place = begin(seat, &member);                                                                     \
         if (place == NULL)                                                                                             \
             return LIKES_NOT_LOCKED;                                                                                   \
         likes_client *client = &member->client;                                                                        \
@@ -37,70 +37,72 @@ static uint32_t end(likes_member *member, likes_place *place, uint32_t status) {
         return end(member, place, likes_client_##call);                                                                \
     } while (0)
 
-LIKES_SELDOM static uint32_t held_like(const likes_seat *seat, uint32_t user, uint32_t page) {
-    likes_member *member;
-    likes_place *place = begin(seat, &member);
+INNER_SELDOM static uint32_t held_like(const likes_seat *seat, uint32_t user, uint32_t page) {
+    inner_member *member;
+    inner_place *place = begin(seat, &member);
     if (place == NULL)
         return LIKES_NOT_LOCKED;
     uint32_t status = likes_client_like(&member->client, place->number, user, page);
-    likes_add(&member->likes, status == LIKES_LIKED);
+    inner_add(&member->told.likes, status == LIKES_LIKED);
     return end(member, place, status);
 }
 
-LIKES_SELDOM static uint32_t held_glance(const likes_seat *seat, uint32_t user, uint32_t page, likes_answer *answer) {
+INNER_SELDOM static uint32_t held_glance(const likes_seat *seat, uint32_t user, uint32_t page, likes_answer *answer) {
     HELD(glance(client, number, user, page, answer));
 }
 
-LIKES_SELDOM static uint32_t held_last(const likes_seat *seat, uint32_t user, uint32_t *page) {
+INNER_SELDOM static uint32_t held_last(const likes_seat *seat, uint32_t user, uint32_t *page) {
     HELD(last(client, number, user, page));
 }
 
-LIKES_SELDOM static uint32_t held_lasts(const likes_seat *seat, uint32_t from, uint32_t *pages, size_t pages_len) {
+INNER_SELDOM static uint32_t held_lasts(const likes_seat *seat, uint32_t from, uint32_t *pages, size_t pages_len) {
     HELD(lasts(client, number, from, pages, pages_len));
 }
 
-LIKES_SELDOM static uint32_t held_turn(const likes_seat *seat) {
+INNER_SELDOM static uint32_t held_turn(const likes_seat *seat) {
     HELD(turn(client, number));
 }
 
-LIKES_SELDOM static uint32_t held_retire(const likes_seat *seat) {
+INNER_SELDOM static uint32_t held_retire(const likes_seat *seat) {
     HELD(retire(client, number));
 }
 
-LIKES_SELDOM static uint32_t held_come_back(const likes_seat *seat) {
+INNER_SELDOM static uint32_t held_come_back(const likes_seat *seat) {
     HELD(come_back(client, number));
 }
 
-LIKES_SELDOM static uint32_t held_phase(const likes_seat *seat, uint64_t *phase) {
+INNER_SELDOM static uint32_t held_phase(const likes_seat *seat, uint64_t *phase) {
     HELD(phase(client, number, phase));
 }
 
-LIKES_SELDOM static size_t held_run(const likes_seat *seat, const likes_request *requests, size_t requests_len,
+INNER_SELDOM static size_t held_run(const likes_seat *seat, const likes_request *requests, size_t requests_len,
                                     likes_answer *answers, size_t answers_len) {
-    likes_member *member;
-    likes_place *place = begin(seat, &member);
+    inner_member *member;
+    inner_place *place = begin(seat, &member);
     size_t length = requests_len < answers_len ? requests_len : answers_len;
     if (place == NULL) {
         if (answers_len > 0)
-            likes_refuse(answers, LIKES_NOT_LOCKED);
+            inner_refuse(answers, LIKES_NOT_LOCKED);
         return 0;
     }
-    size_t done = likes_held_run(member, place, requests, length, answers, false);
+    size_t done = inner_run(member, place, requests, length, answers, false);
     end(member, place, LIKES_OK);
     return done;
 }
 
-LIKES_SELDOM static uint32_t held_look(const likes_seat *seat, uint32_t user, uint32_t page, uint64_t tag,
+INNER_SELDOM static uint32_t held_look(const likes_seat *seat, uint32_t user, uint32_t page, uint64_t tag,
                                        likes_answer *answer) {
     likes_request request = {.tag = tag, .user = user, .page = page, .op = LIKES_LOOK};
-    held_run(seat, &request, 1, answer, 1);
-    return answer->status;
+    inner_member *member;
+    inner_place *place = begin(seat, &member);
+    return place == NULL ? inner_refuse(answer, LIKES_NOT_LOCKED)
+                         : end(member, place, inner_look(member, place, &request, answer));
 }
 
-LIKES_SELDOM static bool held_take_found(const likes_seat *seat, likes_found *found) {
-    likes_member *member;
-    likes_place *place = begin(seat, &member);
-    bool has = place != NULL && likes_place_take_found(member, place, found);
+INNER_SELDOM static bool held_take_found(const likes_seat *seat, likes_found *found) {
+    inner_member *member;
+    inner_place *place = begin(seat, &member);
+    bool has = place != NULL && inner_take_found(member, place, found);
     if (place != NULL)
         end(member, place, LIKES_OK);
     return has;
@@ -132,14 +134,14 @@ uint32_t likes_seat_lasts(likes_seat *seat, uint32_t from, uint32_t *pages, size
 }
 
 /* Runs requests where an array is NULL: none, if that has a length. */
-LIKES_SELDOM static size_t run_without(likes_seat *seat, const likes_request *requests, size_t requests_len,
+INNER_SELDOM static size_t run_without(likes_seat *seat, const likes_request *requests, size_t requests_len,
                                        likes_answer *answers, size_t answers_len) {
     likes_answer answer;
     if (likes_is_missing(answers, answers_len))
         return 0;
     if (likes_is_missing(requests, requests_len)) {
         if (answers_len > 0)
-            likes_refuse(answers, LIKES_NULL);
+            inner_refuse(answers, LIKES_NULL);
         return 0;
     }
     return likes_seat_run(seat, requests_len == 0 ? &no_request : requests, requests_len,

@@ -194,14 +194,14 @@ static void all_gone(void) {
     IS(totals[0], 11);
 }
 
-/* Makes a look at a seat by its row, with a tag. Whether it waits. */
-static bool look_waits(uint64_t tag) {
+/* Makes a look at a seat by its row, with a tag. */
+static uint32_t look_in_row(uint64_t tag) {
     likes_request request = {.tag = tag, .op = LIKES_LOOK};
     likes_answer answer;
     likes_service_lock(service, 0);
-    bool waits = likes_service_run(service, 0, &request, 1, &answer) == 1 && answer.status == LIKES_WAITS;
+    likes_service_run(service, 0, &request, 1, &answer);
     likes_service_unlock(service, 0);
-    return waits;
+    return answer.status;
 }
 
 /* Takes the looks that waited, whose tags are 1, 2 and so on. */
@@ -221,14 +221,13 @@ static void tagged(void) {
     likes_answer answer;
     IS(start(1, 4, 100), LIKES_OK);
     while (asked < LOOKS || full == 0) {
-        asked += look_waits(asked + 1);
-        uint32_t status = likes_service_look(service, 0, 0, &answer);
+        uint32_t status = look_in_row(asked + 1);
+        asked += status == LIKES_WAITS;
+        IS(likes_service_look(service, 0, 0, &answer), LIKES_SEEN);
+        IS(answer.count, 10);
         if (status == LIKES_NO_ROOM) {
             taken = take_tagged(taken);
             full++;
-        } else {
-            IS(status, LIKES_SEEN);
-            IS(answer.count, 10);
         }
     }
     IS(likes_service_retire(service), LIKES_OK);

@@ -149,11 +149,13 @@ void likes_proved_phase_free(likes_phase *phase) {
     type name(__VA_ARGS__) {        \
         abort();                    \
     }
-_Thread_local likes_thread likes_mine;
-NOT_CALLED(likes_member *, likes_member_find, likes_service *service)
-NOT_CALLED(void, likes_place_attend, likes_member *member, likes_place *place)
-NOT_CALLED(bool, likes_place_take_found, likes_member *member, likes_place *place, likes_found *found)
-NOT_CALLED(size_t, likes_held_run, likes_member *member, likes_place *place, const likes_request *requests,
+_Thread_local inner_thread inner_mine;
+NOT_CALLED(inner_member *, inner_member_find, likes_service *service)
+NOT_CALLED(void, inner_attend, inner_member *member, inner_place *place)
+NOT_CALLED(bool, inner_take_found, inner_member *member, inner_place *place, likes_found *found)
+NOT_CALLED(uint32_t, inner_look, inner_member *member, inner_place *place, const likes_request *request,
+           likes_answer *answer)
+NOT_CALLED(size_t, inner_run, inner_member *member, inner_place *place, const likes_request *requests,
            size_t length, likes_answer *answers, bool waits)
 NOT_CALLED(uint32_t, likes_proved_shared_open, const likes_proved_options *options, const uint64_t *counts,
            size_t pages, const uint32_t *marks, size_t marks_len, const uint32_t *lasts, size_t lasts_len,

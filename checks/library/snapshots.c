@@ -175,7 +175,7 @@ static void late_looks(void) {
     IS(totals[0], 1);
 }
 
-/* Found looks of rows that nobody takes fill the room. A look is refused then as a seat refuses it. */
+/* Found looks of rows that nobody takes fill the room for others of rows, and for no look of the service. */
 static void full_room(void) {
     likes_request row[3];
     likes_answer answers[3];
@@ -183,11 +183,14 @@ static void full_room(void) {
     start(4, 1000, 512);
     for (uint64_t tag = 0; tag < 3; tag++)
         row[tag] = (likes_request){.tag = tag, .op = LIKES_LOOK};
-    do {
+    size_t done = 3;
+    while (done == 3) {
         IS(likes_service_lock(service, 0) != NULL, true);
-        IS(likes_service_run(service, 0, row, 3, answers) <= 3, true);
+        done = likes_service_run(service, 0, row, 3, answers);
         likes_service_unlock(service, 0);
-    } while (likes_service_look(service, 0, 0, answers) != LIKES_NO_ROOM);
+    }
+    IS(answers[done].status, LIKES_NO_ROOM);
+    IS(likes_service_look(service, 0, 0, answers), LIKES_SEEN);
     IS(likes_service_look(service, USERS, 0, answers), LIKES_UNKNOWN_USER);
     IS(likes_service_look(service, 0, PAGES, answers), LIKES_UNKNOWN_PAGE);
     IS(likes_service_retire_seat(service, 0), LIKES_OK);

@@ -6,137 +6,121 @@
 /* How long a thread lets others have a seat, before it holds it, in nanoseconds. */
 #define WAY UINT64_C(1000000)
 
-uint32_t likes_held_fault(likes_service *service, uint32_t number, likes_member **member) {
+uint32_t likes_service_seat_fault(const likes_service *service, uint32_t number) {
     uint32_t fault = likes_service_fault(service);
-    if (fault != LIKES_OK)
-        return fault;
-    if (number >= service->seats)
-        return LIKES_UNKNOWN_SEAT;
-    *member = likes_member_of(service);
-    if (*member == NULL)
-        return LIKES_NO_MEMORY;
+    if (fault != LIKES_OK || number >= service->seats)
+        return fault != LIKES_OK ? fault : (uint32_t)LIKES_UNKNOWN_SEAT;
+    return inner_holds((likes_service *)service) ? (uint32_t)LIKES_HOLDS_SEAT : fault;
+}
+
+uint32_t inner_held_fault(likes_service *service, uint32_t number, inner_member **member) {
+    uint32_t fault = likes_service_seat_fault(service, number);
+    if (fault != LIKES_HOLDS_SEAT)
+        return fault == LIKES_OK ? (uint32_t)LIKES_NOT_LOCKED : fault;
+    *member = inner_member_of(service);
     return (*member)->held == &service->places[number] ? LIKES_OK : LIKES_NOT_LOCKED;
 }
 
-uint32_t likes_service_seat_fault(const likes_service *service, uint32_t number) {
-    uint32_t fault = likes_service_fault(service);
-    if (fault != LIKES_OK)
-        return fault;
-    if (number >= service->seats)
-        return LIKES_UNKNOWN_SEAT;
-    return likes_mine.held > 0 && likes_holds(service) ? LIKES_HOLDS_SEAT : LIKES_OK;
-}
-
-void likes_give_way(const likes_place *place) {
-    if (__atomic_load_n(&place->waiting, __ATOMIC_SEQ_CST) == 0)
-        return;
-    uint64_t until = likes_clock() + WAY;
-    while (__atomic_load_n(&place->waiting, __ATOMIC_SEQ_CST) > 0 && !likes_is_over(until))
-        sched_yield();
-}
-
+/* Threads that wait for the seat already have it first, for a while. */
 likes_seat *likes_service_lock(likes_service *service, uint32_t number) {
-    likes_member *member;
-    if (likes_service_seat_fault(service, number) != LIKES_OK || likes_enter(service, false, &member) != LIKES_OK)
+    inner_member *member;
+    if (likes_service_seat_fault(service, number) != LIKES_OK || inner_enter(service, false, &member) != LIKES_OK)
         return NULL;
-    likes_place *place = &service->places[number];
-    likes_give_way(place);
-    likes_hold(member, place, LIKES_NEVER);
+    inner_place *place = &service->places[number];
+    uint64_t until = __atomic_load_n(&place->waiting, __ATOMIC_SEQ_CST) > 0 ? inner_clock() + WAY : 0;
+    while (__atomic_load_n(&place->waiting, __ATOMIC_SEQ_CST) > 0 && !inner_is_over(until))
+        sched_yield();
+    inner_hold(member, place, INNER_NEVER);
     member->held = place;
-    likes_mine.held++;
-    likes_note_call(place, 1);
+    inner_mine.held++;
+    inner_note_call(place, 1);
     return &place->seat;
 }
 
 void likes_service_unlock(likes_service *service, uint32_t number) {
-    likes_member *member;
-    if (likes_held_fault(service, number, &member) != LIKES_OK)
+    inner_member *member;
+    if (inner_held_fault(service, number, &member) != LIKES_OK)
         return;
-    likes_note_call(member->held, 1);
-    likes_mine.held--;
+    inner_note_call(member->held, 1);
+    inner_mine.held--;
     member->held = NULL;
-    likes_release(member, &service->places[number]);
+    inner_unlock(member, &service->places[number]);
 }
 
-/* How many answers of a row have a status. */
-static uint32_t count_of(const likes_answer *answers, size_t length, uint32_t status) {
-    uint32_t count = 0;
-    for (size_t i = 0; i < length; i++)
-        count += answers[i].status == status;
-    return count;
+/* A look of the host's. No more of them wait, or are found and not taken, than the seat has room for. What isn't split, a
+ * glance shows also then. Looks that wait may take half of the room, which ends the phase, so a turn is made. */
+uint32_t inner_look(inner_member *member, inner_place *place, const likes_request *request, likes_answer *answer) {
+    uint32_t user = request->user, page = request->page;
+    if (request->tag >= INNER_TAGS)
+        return inner_refuse(answer, LIKES_WRONG_TAG);
+    uint32_t status = place->hosts < member->service->room
+                          ? likes_client_look(&member->client, place->number, user, page, request->tag, answer)
+                          : likes_client_glance(&member->client, place->number, user, page, answer);
+    place->hosts += status == LIKES_WAITS;
+    if (status == LIKES_WAITS)
+        inner_turns(member);
+    return status == LIKES_GLIMPSED ? inner_refuse(answer, LIKES_NO_ROOM) : status;
 }
 
-/* A row's part that has yet to run. */
-typedef struct part {
-    const likes_request *requests;
-    likes_answer *answers;
-    size_t length;
-} part;
+/* Answers a look, or runs what comes before the next one. The number of those done, and LIKES_OK, or why the next one
+ * isn't: LIKES_GLIMPSED where the host's looks fill the seat, for which it doesn't wait. */
+static size_t run_part(inner_trial *it, const likes_request *requests, size_t length, likes_answer *answers,
+                       uint32_t *status) {
+    size_t part = 0, done = 1, likes = 0;
+    while (part < length && (requests[part].op != LIKES_LOOK || requests[part].reserved != 0))
+        part++;
+    if (part == 0)
+        *status = inner_look(it->member, it->place, requests, answers);
+    else
+        done = likes_client_run(&it->member->client, it->place->number, requests, part, answers, part);
+    for (size_t i = 0; i < done; i++)
+        likes += answers[i].status == LIKES_LIKED;
+    inner_add(&it->member->told.likes, likes);
+    if (part > 0)
+        *status = done < part ? answers[done].status : (uint32_t)LIKES_OK;
+    else if (*status == LIKES_NO_ROOM && it->place->hosts == it->member->service->room)
+        *status = LIKES_GLIMPSED;
+    else if (*status != LIKES_BETWEEN && *status != LIKES_NO_ROOM)
+        *status = LIKES_OK;
+    return part == 0 && *status != LIKES_OK ? 0 : done;
+}
 
-/* Runs what can run now: LIKES_BETWEEN, or LIKES_OK. Looks that wait may take half of the seat's room, which ends the
- * phase, so a turn is made. */
-static uint32_t run_now(likes_member *member, likes_place *place, void *at) {
-    part *it = (part *)at;
-    size_t done = likes_client_run(&member->client, place->number, it->requests, it->length, it->answers, it->length);
-    uint32_t waits = count_of(it->answers, done, LIKES_WAITS);
-    likes_add(&member->likes, count_of(it->answers, done, LIKES_LIKED));
-    it->requests += done;
-    it->answers += done;
-    it->length -= done;
-    if (waits > 0) {
-        __atomic_fetch_add(&place->hosts, waits, __ATOMIC_SEQ_CST);
-        likes_turns(member);
+size_t inner_run(inner_member *member, inner_place *place, const likes_request *requests, size_t length,
+                 likes_answer *answers, bool waits) {
+    size_t done = 0;
+    uint32_t status = LIKES_OK;
+    while (done < length && status == LIKES_OK) {
+        inner_trial it = {.member = member, .place = place, .until = INNER_NEVER};
+        do
+            done += run_part(&it, requests + done, length - done, answers + done, &status);
+        while (waits && inner_again(&it, &status));
     }
-    return it->length > 0 && it->answers->status == LIKES_BETWEEN ? LIKES_BETWEEN : LIKES_OK;
-}
-
-/* Whether a request is a look whose tag isn't the host's. */
-static bool has_wrong_tag(const likes_request *request) {
-    return request->tag >= LIKES_OWN_TAGS && request->op == LIKES_LOOK;
-}
-
-size_t likes_held_run(likes_member *member, likes_place *place, const likes_request *requests, size_t length,
-                      likes_answer *answers, bool waits) {
-    part rest = {requests, answers, 0};
-    for (size_t done = 0; done < length; done++, rest.requests++) {
-        for (; done < length && !has_wrong_tag(&requests[done]); done++)
-            rest.length++;
-        uint32_t status = run_now(member, place, &rest);
-        likes_after(member, place);
-        if (status == LIKES_BETWEEN && waits)
-            likes_insist(member, place, run_now, &rest, LIKES_NEVER);
-        if (rest.length > 0)
-            break;
-        if (done < length)
-            likes_refuse(rest.answers++, LIKES_WRONG_TAG);
-    }
-    return (size_t)(rest.answers - answers);
+    return done;
 }
 
 size_t likes_service_run(likes_service *service, uint32_t number, const likes_request *requests, size_t length,
                          likes_answer *answers) {
-    likes_member *member;
-    uint32_t fault = likes_held_fault(service, number, &member);
+    inner_member *member;
+    uint32_t fault = inner_held_fault(service, number, &member);
     if ((requests == NULL || answers == NULL) && length > 0)
         fault = LIKES_NULL;
-    if (fault != LIKES_OK) {
-        if (length > 0 && answers != NULL)
-            likes_refuse(answers, fault);
+    if (fault != LIKES_OK)
+        inner_refuse(length > 0 ? answers : NULL, fault);
+    if (fault != LIKES_OK)
         return 0;
-    }
-    likes_note_call(member->held, 1);
-    likes_add(&member->calls, 1);
-    size_t done = likes_held_run(member, member->held, requests, length, answers, true);
-    likes_note_call(member->held, 1);
+    inner_note_call(member->held, 1);
+    inner_note_use(service);
+    size_t done = inner_run(member, member->held, requests, length, answers, true);
+    inner_note_call(member->held, 1);
     return done;
 }
 
 bool likes_service_take_found(likes_service *service, uint32_t number, likes_found *found) {
-    likes_member *member;
-    if (found == NULL || likes_held_fault(service, number, &member) != LIKES_OK)
+    inner_member *member;
+    if (found == NULL || inner_held_fault(service, number, &member) != LIKES_OK)
         return false;
-    bool has = likes_place_take_found(member, member->held, found);
-    likes_note_call(member->held, 2);
-    likes_after(member, member->held);
+    bool has = inner_take_found(member, member->held, found);
+    inner_note_call(member->held, 2);
+    inner_after(member, member->held);
     return has;
 }

@@ -1,50 +1,25 @@
-/* Members: a thread's clients, one for each service that it calls. A thread reaches its members by a list of its own.
- * When it ends, the member of a service that goes on is left to the next thread that calls that service. */
+/* Members: a thread's clients, one for each service that it calls. When the thread ends, the next one that calls the
+ * service has its member. */
 #include "service.h"
 
 #include <stdlib.h>
 
-_Thread_local likes_thread likes_mine;
+_Thread_local inner_thread inner_mine;
 
-/* For the lists of all services, and for `is_dead`. */
 static pthread_mutex_t lock = PTHREAD_MUTEX_INITIALIZER;
 static pthread_once_t once = PTHREAD_ONCE_INIT;
 static pthread_key_t key;
 static bool has_key;
+static inner_member *members;
+static uint64_t numbers; /* of threads and services */
 
-static void free_member(likes_member *member) {
-    for (likes_wait *next, *slot = member->slots; slot != NULL; slot = next) {
-        next = slot->next;
-        free(slot);
-    }
-    free(member);
-}
-
-/* Takes the members of stopped services out of this thread's list, or all. With the lock. A member that holds a seat is
- * nobody's from now on. */
-static void forget(bool all) {
-    likes_member **at = &likes_mine.first;
-    while (*at != NULL) {
-        likes_member *member = *at;
-        if (!all && !member->is_dead) {
-            at = &member->next;
-            continue;
-        }
-        *at = member->next;
-        if (member->is_dead) {
-            free_member(member);
-        } else if (member->held == NULL) {
-            member->next_unused = member->service->unused;
-            member->service->unused = member;
-        }
-    }
-}
-
-/* When a thread ends. */
-static void end_thread(void *it) {
-    (void)it;
+/* When a thread ends. A member that holds a seat is nobody's from now on. */
+static void end_thread(void *at) {
+    uint64_t thread = ((const inner_thread *)at)->number;
     pthread_mutex_lock(&lock);
-    forget(true);
+    for (inner_member *member = members; member != NULL; member = member->next)
+        if (member->thread == thread && member->held == NULL)
+            member->thread = 0;
     pthread_mutex_unlock(&lock);
 }
 
@@ -52,77 +27,113 @@ static void make_key(void) {
     has_key = pthread_key_create(&key, end_thread) == 0;
 }
 
-/* A client of a service that is open, with the lock. */
-static likes_member *made(likes_service *service) {
-    likes_member *member = (likes_member *)aligned_alloc(LIKES_LINES, sizeof *member);
+/* A member with a new client. With the lock. */
+static inner_member *made(likes_service *service) {
+    inner_member *member = (inner_member *)aligned_alloc(_Alignof(inner_member), sizeof *member);
     if (member == NULL)
         return NULL;
-    memset(member, 0, sizeof *member);
-    member->id = service->id;
-    member->service = service;
-    uint32_t status;
-    while ((status = likes_client_open(&service->shared, &member->client)) == LIKES_BUSY)
-        likes_pause();
+    *member = (inner_member){.service = service, .next = members};
+    uint32_t status = LIKES_BUSY;
+    while (status == LIKES_BUSY)
+        status = likes_client_open(&service->shared, &member->client);
     if (status != LIKES_OK) {
         free(member);
         return NULL;
     }
-    member->next_of_service = service->members;
-    __atomic_store_n(&service->members, member, __ATOMIC_RELEASE);
+    return members = member;
+}
+
+/* A thread's member, or by 0 one that no thread has. With the lock. */
+static inner_member *member_of(likes_service *service, uint64_t thread) {
+    inner_member *member = members;
+    while (member != NULL && (member->service != service || member->thread != thread))
+        member = member->next;
     return member;
 }
 
-likes_member *likes_member_open(likes_service *service) {
-    pthread_mutex_lock(&lock);
-    forget(false);
-    likes_member *member = service->unused;
-    if (member != NULL)
-        service->unused = member->next_unused;
-    else
-        member = made(service);
-    pthread_mutex_unlock(&lock);
-    return member;
-}
-
-/* A member that no thread has, once this thread is sure to give it back when it ends. */
-static likes_member *take_member(likes_service *service) {
+/* The thread takes a member once it is sure to give it back when it ends. */
+INNER_SELDOM inner_member *inner_member_find(likes_service *service) {
     int error = errno;
     pthread_once(&once, make_key);
-    bool is_sure = has_key && pthread_setspecific(key, &likes_mine) == 0;
-    likes_member *member = is_sure ? likes_member_open(service) : NULL;
+    if (!has_key || pthread_setspecific(key, &inner_mine) != 0)
+        return NULL;
+    pthread_mutex_lock(&lock);
+    if (inner_mine.number == 0)
+        inner_mine.number = ++numbers;
+    inner_member *member = member_of(service, inner_mine.number);
+    if (member == NULL)
+        member = member_of(service, 0);
+    if (member == NULL)
+        member = made(service);
+    if (member != NULL) {
+        member->thread = inner_mine.number;
+        inner_mine.members[service->id % 8].id = service->id;
+        inner_mine.members[service->id % 8].member = member;
+    }
+    pthread_mutex_unlock(&lock);
     errno = error;
     return member;
 }
 
-LIKES_SELDOM likes_member *likes_member_find(likes_service *service) {
-    likes_member **at = &likes_mine.first;
-    while (*at != NULL && (*at)->id != service->id)
-        at = &(*at)->next;
-    likes_member *member = *at;
-    if (member != NULL)
-        *at = member->next;
-    else if ((member = take_member(service)) == NULL)
-        return NULL;
-    member->next = likes_mine.first;
-    likes_mine.first = member;
-    return member;
+bool inner_members_open(likes_service *service) {
+    pthread_mutex_lock(&lock);
+    service->id = ++numbers;
+    service->own = made(service);
+    if (service->own != NULL)
+        service->own->thread = service->id;
+    pthread_mutex_unlock(&lock);
+    return service->own != NULL;
 }
 
-/* A thread that goes on frees its member when it ends, or makes another one. */
-void likes_members_close(likes_service *service) {
-    pthread_mutex_lock(&lock);
-    for (likes_member *member = service->members; member != NULL; member = member->next_of_service) {
-        while (likes_client_close(&member->client) == LIKES_BUSY)
-            likes_pause();
-        member->is_dead = true;
+static void free_member(inner_member *member) {
+    for (inner_wait *next, *wait = member->waits; wait != NULL; wait = next) {
+        next = wait->next;
+        free(wait);
     }
-    for (likes_member *next, *member = service->unused; member != NULL; member = next) {
-        next = member->next_unused;
+    while (likes_client_close(&member->client) == LIKES_BUSY)
+        inner_pause();
+    free(member);
+}
+
+void inner_members_close(const likes_service *service) {
+    inner_member **at = &members;
+    pthread_mutex_lock(&lock);
+    while (*at != NULL) {
+        inner_member *member = *at;
+        if (member->service != service) {
+            at = &member->next;
+            continue;
+        }
+        *at = member->next;
         free_member(member);
     }
-    if (service->own != NULL)
-        free_member(service->own);
-    service->members = service->unused = service->own = NULL;
-    forget(false);
     pthread_mutex_unlock(&lock);
+}
+
+/* Adds what a member did. */
+static void add_told(const inner_member *member, likes_statistics *to) {
+    const likes_statistics *told = &member->told;
+    uint64_t longest = __atomic_load_n(&told->longest_wait, __ATOMIC_RELAXED);
+    to->likes += __atomic_load_n(&told->likes, __ATOMIC_RELAXED);
+    to->looks += __atomic_load_n(&told->looks, __ATOMIC_RELAXED);
+    to->waits += __atomic_load_n(&told->waits, __ATOMIC_RELAXED);
+    to->wait_time += __atomic_load_n(&told->wait_time, __ATOMIC_RELAXED);
+    to->late += __atomic_load_n(&told->late, __ATOMIC_RELAXED);
+    to->longest_wait = longest > to->longest_wait ? longest : to->longest_wait;
+}
+
+uint32_t likes_service_statistics(likes_service *service, likes_statistics *statistics) {
+    uint32_t fault = likes_service_fault(service);
+    if (statistics == NULL)
+        return LIKES_NULL;
+    *statistics = fault == LIKES_STOPPED ? service->ended : (likes_statistics){0};
+    if (fault != LIKES_OK)
+        return fault == LIKES_STOPPED ? (uint32_t)LIKES_OK : fault;
+    pthread_mutex_lock(&lock);
+    for (const inner_member *member = members; member != NULL; member = member->next)
+        if (member->service == service)
+            add_told(member, statistics);
+    pthread_mutex_unlock(&lock);
+    statistics->phases = inner_get(&service->released);
+    return LIKES_OK;
 }

@@ -4,55 +4,51 @@
 
 #include <stdlib.h>
 
-/* Makes a service with its locks, that has no seats yet. NULL: no memory. */
-static likes_service *made(uint32_t seats, uint32_t room) {
-    static uint64_t ids;
-    size_t size = sizeof(likes_service) + seats * sizeof(likes_place);
-    likes_service *service = (likes_service *)aligned_alloc(LIKES_LINES, size);
-    likes_found *rings = (likes_found *)calloc((size_t)seats * 2 * room, sizeof *rings);
-    if (service == NULL || rings == NULL) {
+/* Makes a service over what is proved of it, which is closed. NULL: no memory. */
+static likes_service *made(const likes_shared *shared, const likes_options *options) {
+    uint32_t seats = (uint32_t)shared->seats, room = options->room > 0 ? options->room : LIKES_DEFAULT_ROOM;
+    size_t size = sizeof(likes_service) + seats * sizeof(inner_place);
+    likes_service *service = (likes_service *)aligned_alloc(_Alignof(likes_service), size);
+    likes_found *found = (likes_found *)calloc((size_t)seats * 2 * room, sizeof *found);
+    if (service == NULL || found == NULL) {
         free(service);
-        free(rings);
+        free(found);
         return NULL;
     }
     memset(service, 0, size);
-    service->id = __atomic_add_fetch(&ids, 1, __ATOMIC_SEQ_CST);
-    service->places = (likes_place *)(service + 1);
+    service->shared = *shared;
+    service->places = (inner_place *)(service + 1);
     service->seats = seats;
     service->room = room;
+    service->users = options->users;
+    service->pages = options->pages;
     service->inverse = UINT64_MAX / seats + 1;
+    service->period = UINT64_C(1000) * (options->period_us > 0 ? options->period_us : 1000);
     for (uint32_t i = 0; i < seats; i++) {
-        likes_place *place = &service->places[i];
+        inner_place *place = &service->places[i];
         place->number = i;
         place->service = service;
         place->seat.at = (void *)((uintptr_t)place + 1);
-        place->others = (likes_ring){.at = rings + (size_t)i * 2 * room, .room = 2 * room};
-        pthread_mutex_init(&place->guard, NULL);
+        place->found = found + (size_t)i * 2 * room;
     }
+    pthread_mutex_init(&service->turning, NULL);
     return service;
 }
 
 /* Closes all clients, and gives back all that a stopped service needs no more. */
 static void end(likes_service *service) {
     service->is_open = false;
-    likes_members_close(service);
-    free(service->places[0].others.at);
-    for (uint32_t i = 0; i < service->seats; i++)
-        pthread_mutex_destroy(&service->places[i].guard);
+    inner_members_close(service);
+    free(service->places[0].found);
+    pthread_mutex_destroy(&service->turning);
 }
 
 /* Starts the driver's thread. */
-static uint32_t begin(likes_service *service, const likes_options *options) {
-    service->users = options->users;
-    service->pages = options->pages;
-    service->period = UINT64_C(1000) * (options->period_us > 0 ? options->period_us : 1000);
-    service->beat = likes_clock() + service->period / 2;
-    service->may_find = options->hot != LIKES_NO_HOT;
+static uint32_t begin(likes_service *service) {
     service->is_open = true;
-    service->own = likes_member_open(service);
-    if (service->own == NULL)
+    if (!inner_members_open(service))
         return LIKES_NO_MEMORY;
-    service->has_thread = pthread_create(&service->thread, NULL, likes_service_thread, service) == 0;
+    service->has_thread = pthread_create(&service->thread, NULL, inner_driver, service) == 0;
     return service->has_thread ? LIKES_OK : LIKES_NO_THREAD;
 }
 
@@ -67,19 +63,15 @@ static uint32_t open_service(const likes_options *options, likes_service **servi
     uint32_t status = likes_shared_open(options, &shared);
     if (status != LIKES_OK)
         return status;
-    likes_service *opened = made((uint32_t)shared.seats, options->room > 0 ? options->room : LIKES_DEFAULT_ROOM);
-    if (opened == NULL) {
-        likes_shared_free(&shared);
-        return LIKES_NO_MEMORY;
-    }
-    opened->shared = shared;
-    status = begin(opened, options);
+    likes_service *opened = made(&shared, options);
+    status = opened == NULL ? (uint32_t)LIKES_NO_MEMORY : begin(opened);
     if (status == LIKES_OK) {
         *service = opened;
         return status;
     }
-    end(opened);
-    likes_shared_free(&opened->shared);
+    if (opened != NULL)
+        end(opened);
+    likes_shared_free(&shared);
     free(opened);
     return status;
 }
@@ -92,14 +84,15 @@ uint32_t likes_service_open(const likes_options *options, likes_service **servic
 }
 
 /* Has all seats leave, if they can, and makes a turn of the driver. */
-static uint32_t leave(likes_member *member) {
+static uint32_t leave(inner_member *member) {
     likes_service *service = member->service;
     for (uint32_t i = 0; i < service->seats; i++)
         __atomic_store_n(&service->places[i].is_leaving, true, __ATOMIC_SEQ_CST);
-    likes_seats_work(member);
-    likes_turns_take(service);
-    uint32_t status = likes_turn(member, LIKES_END_IF_IT_SERVES);
-    likes_turns_go_on(member);
+    inner_seats_work(member);
+    pthread_mutex_lock(&service->turning);
+    uint32_t status = inner_turn(member, LIKES_END_IF_IT_SERVES);
+    pthread_mutex_unlock(&service->turning);
+    inner_turns(member);
     return status;
 }
 
@@ -117,7 +110,7 @@ uint32_t likes_service_retire(likes_service *service) {
     if (fault != LIKES_OK)
         return fault;
     __atomic_store_n(&service->is_stopping, true, __ATOMIC_SEQ_CST);
-    likes_service_call(service);
+    inner_call(service);
     if (service->has_thread)
         pthread_join(service->thread, NULL);
     service->has_thread = false;

@@ -1,6 +1,6 @@
 /* Time, in nanoseconds, and sleeping until a number changes. */
-#ifndef LIKES_SLEEP_H
-#define LIKES_SLEEP_H
+#ifndef INNER_SLEEP_H
+#define INNER_SLEEP_H
 
 #include <errno.h>
 #include <limits.h>
@@ -12,53 +12,47 @@
 #include <unistd.h>
 
 /* A time that never comes. */
-#define LIKES_NEVER UINT64_MAX
+#define INNER_NEVER UINT64_MAX
 
 /* A clock that never goes back. */
-static inline uint64_t likes_clock(void) {
+static inline uint64_t inner_clock(void) {
     struct timespec now;
     clock_gettime(CLOCK_MONOTONIC, &now);
     return (uint64_t)now.tv_sec * UINT64_C(1000000000) + (uint64_t)now.tv_nsec;
 }
 
 /* Whether a time has come. */
-static inline bool likes_is_over(uint64_t until) {
-    return until != LIKES_NEVER && likes_clock() >= until;
+static inline bool inner_is_over(uint64_t until) {
+    return until != INNER_NEVER && inner_clock() >= until;
 }
 
 /* Passes some cycles, for a thread that looks at a number again and again. */
-static inline void likes_pause(void) {
+static inline void inner_pause(void) {
 #if defined(__x86_64__) || defined(__i386__)
     __builtin_ia32_pause();
 #endif
 }
 
 /* A number that other threads read and write, by sequentially consistent steps. */
-static inline uint64_t likes_get(const uint64_t *at) {
+static inline uint64_t inner_get(const uint64_t *at) {
     return __atomic_load_n(at, __ATOMIC_SEQ_CST);
 }
 
-static inline void likes_set(uint64_t *at, uint64_t number) {
+static inline void inner_set(uint64_t *at, uint64_t number) {
     __atomic_store_n(at, number, __ATOMIC_SEQ_CST);
 }
 
-/* How long it is until a time that other threads write. */
-static inline uint64_t likes_time_left(const uint64_t *at, uint64_t now) {
-    uint64_t time = likes_get(at);
-    return time > now ? time - now : 0;
-}
-
 /* Sleeps while a number is this one, until a time at most, or until it is woken. It may wake early. */
-static inline void likes_futex_wait(uint32_t *at, uint32_t number, uint64_t until) {
+static inline void inner_futex_wait(uint32_t *at, uint32_t number, uint64_t until) {
     struct timespec time = {(time_t)(until / 1000000000), (long)(until % 1000000000)};
     int error = errno;
-    syscall(SYS_futex, at, FUTEX_WAIT_BITSET_PRIVATE, number, until == LIKES_NEVER ? NULL : &time, NULL,
+    syscall(SYS_futex, at, FUTEX_WAIT_BITSET_PRIVATE, number, until == INNER_NEVER ? NULL : &time, NULL,
             FUTEX_BITSET_MATCH_ANY);
     errno = error;
 }
 
 /* Wakes this many threads that sleep so. */
-static inline void likes_futex_wake(uint32_t *at, int most) {
+static inline void inner_futex_wake(uint32_t *at, int most) {
     int error = errno;
     syscall(SYS_futex, at, FUTEX_WAKE_PRIVATE, most, NULL, NULL, 0);
     errno = error;

@@ -1,9 +1,8 @@
 /* Writers: each keeps likes in rows, one for each seat, and hands a row over as a whole.
  *
- * A row is handed over when it is full, and else by the service's pulse, a number that its driver's turns raise by 2,
- * twice in a period. A call that sees another one hands over all rows: so none is kept for longer than about a period,
- * as long as the writer is called, and a call reads no clock. When the service begins to rest, the number goes up to an
- * odd one. A call that sees it calls the driver's thread too, which ends the rest and goes up to the next even one. */
+ * A row is handed over when it is full, and else by the service's pulse, a number that the driver's thread raises once in
+ * a period, and when the service begins to rest. A call that sees another one hands over all rows: so none is kept for
+ * longer than about a period, as long as the writer is called, and a call reads no clock. */
 #include "service.h"
 
 #include <stdlib.h>
@@ -23,45 +22,32 @@ struct likes_writer {
 };
 
 static inline size_t seat_of(const likes_writer *writer, uint32_t user) {
-    return likes_remainder(user, writer->service->inverse, writer->service->seats);
+    return inner_remainder(user, writer->service->inverse, writer->service->seats);
 }
 
 /* Notes that so many likes of a row are counted, or dropped. */
-static void take_off(likes_writer *writer, size_t seat, uint32_t done) {
+static void take_off(likes_writer *writer, size_t seat, size_t done) {
     row *it = &writer->rows[seat];
-    it->length -= done;
+    it->length -= (uint32_t)done;
     if (it->length > 0)
         memmove(it->likes, it->likes + done, it->length * sizeof *it->likes);
     else
         writer->begun &= ~(UINT64_C(1) << seat);
 }
 
-/* A row's part that has yet to be counted. */
-typedef struct part {
-    const likes_pair *row;
-    size_t length;
-} part;
-
-static uint32_t like_part(likes_member *member, likes_place *place, void *at) {
-    part *it = (part *)at;
-    size_t counted;
-    uint32_t status = likes_client_like_row(&member->client, place->number, it->row, it->length, &counted);
-    it->row += counted;
-    it->length -= counted;
-    return status;
-}
-
 /* Hands a row over: LIKES_OK, or why likes stay kept. */
 static uint32_t hand_over(likes_writer *writer, size_t seat) {
-    likes_place *place = &writer->service->places[seat];
-    part rest = {writer->rows[seat].likes, writer->rows[seat].length};
-    likes_member *member = likes_member_of(writer->service);
-    if (rest.length == 0 || member == NULL)
-        return rest.length == 0 ? LIKES_OK : LIKES_NO_MEMORY;
-    likes_add(&member->calls, 1);
-    uint32_t status = likes_make(member, place, like_part, &rest);
-    uint32_t done = writer->rows[seat].length - (uint32_t)rest.length;
-    likes_add(&member->likes, done);
+    const row *it = &writer->rows[seat];
+    inner_trial trial;
+    size_t done = 0, counted;
+    if (it->length == 0)
+        return LIKES_OK;
+    uint32_t status = inner_begin(&trial, writer->service, it->likes[0].user, false);
+    for (; inner_again(&trial, &status); done += counted)
+        status = likes_client_like_row(&trial.member->client, trial.place->number, it->likes + done,
+                                       it->length - done, &counted);
+    if (done > 0)
+        inner_add(&trial.member->told.likes, done);
     take_off(writer, seat, done);
     return status == LIKES_LIKED ? (uint32_t)LIKES_OK : status;
 }
@@ -77,23 +63,24 @@ static uint32_t hand_over_all(likes_writer *writer, uint64_t seats) {
 }
 
 static inline uint64_t pulse_of(const likes_writer *writer) {
-    return __atomic_load_n(&writer->service->pulse, __ATOMIC_RELAXED);
+    return __atomic_load_n(&writer->service->pulse, __ATOMIC_ACQUIRE);
 }
 
-/* Hands over all rows, where there is another pulse. */
+/* Hands over all rows, where there is another pulse. Where the service rests there would be no next one: this call ends
+ * that, also if there are no rows. */
 static void notice(likes_writer *writer) {
-    uint64_t pulse = pulse_of(writer);
-    writer->pulse = pulse;
-    if (pulse % 2 == 1)
-        likes_service_call(writer->service);
+    writer->pulse = pulse_of(writer);
     hand_over_all(writer, writer->begun);
+    inner_note_use(writer->service);
+    if (__atomic_load_n(&writer->service->is_resting, __ATOMIC_SEQ_CST))
+        inner_call(writer->service);
 }
 
 /* Why a call of a writer is refused, or LIKES_OK. */
 static inline uint32_t fault_of(const likes_writer *writer) {
     if (writer == NULL)
         return LIKES_NOT_STARTED;
-    return likes_mine.held > 0 && likes_holds(writer->service) ? (uint32_t)LIKES_HOLDS_SEAT : (uint32_t)LIKES_OK;
+    return inner_holds(writer->service) ? (uint32_t)LIKES_HOLDS_SEAT : (uint32_t)LIKES_OK;
 }
 
 uint32_t likes_writer_open(likes_service *service, likes_writer **writer) {
@@ -113,26 +100,28 @@ uint32_t likes_writer_open(likes_service *service, likes_writer **writer) {
     made->pulse = pulse_of(made);
     __atomic_fetch_add(&service->writers, 1, __ATOMIC_SEQ_CST);
     /* From now on the driver's thread sleeps until the next pulse at most. */
-    likes_service_call(service);
+    inner_note_use(service);
+    inner_call(service);
     *writer = made;
     return LIKES_OK;
 }
 
 /* Hands over a row that is full, and makes the driver's turn, if one is due: the writer may have the only processor. */
-LIKES_SELDOM static uint32_t hand_over_full(likes_writer *writer, size_t seat) {
+INNER_SELDOM static uint32_t hand_over_full(likes_writer *writer, size_t seat) {
     uint32_t status = hand_over(writer, seat);
     likes_service_tick(writer->service);
     return status;
 }
 
 uint32_t likes_writer_like(likes_writer *writer, uint32_t user, uint32_t page) {
-    uint32_t fault = writer == NULL || likes_mine.held > 0 ? fault_of(writer) : (uint32_t)LIKES_OK;
+    uint32_t fault = fault_of(writer);
     if (fault != LIKES_OK)
         return fault;
     if (user >= writer->service->users)
         return LIKES_UNKNOWN_USER;
     if (page >= writer->service->pages)
         return LIKES_UNKNOWN_PAGE;
+    inner_note_use(writer->service);
     if (pulse_of(writer) != writer->pulse)
         notice(writer);
     size_t seat = seat_of(writer, user);
@@ -167,13 +156,13 @@ static uint64_t seats_with(const likes_writer *writer, uint32_t user, uint32_t p
 uint32_t likes_writer_look(likes_writer *writer, uint32_t user, uint32_t page, likes_answer *answer) {
     uint32_t fault = answer == NULL ? (uint32_t)LIKES_NULL : fault_of(writer);
     if (fault != LIKES_OK)
-        return likes_refuse(answer, fault);
+        return inner_refuse(answer, fault);
     if (pulse_of(writer) != writer->pulse)
         notice(writer);
     if (user < writer->service->users)
         fault = hand_over_all(writer, seats_with(writer, user, page));
     if (fault != LIKES_OK)
-        return likes_refuse(answer, fault);
+        return inner_refuse(answer, fault);
     return likes_service_look(writer->service, user, page, answer);
 }
 
@@ -184,9 +173,7 @@ uint32_t likes_writer_flush(likes_writer *writer) {
 
 size_t likes_writer_drop(likes_writer *writer) {
     size_t dropped = 0;
-    if (writer == NULL)
-        return 0;
-    for (size_t seat = 0; seat < writer->service->seats; seat++) {
+    for (size_t seat = 0; writer != NULL && seat < writer->service->seats; seat++) {
         dropped += writer->rows[seat].length;
         take_off(writer, seat, writer->rows[seat].length);
     }

@@ -912,3 +912,37 @@ size_t likes_proved_seat_run(likes_seat *seat, const likes_request *requests, si
         tell(answers, LIKES_EMPTY, 0, 0);
     return 0;
 }
+
+/* For the explorer: what is left, where no thread takes a step. */
+
+static const stub_core *core_of(const likes_shared *shared) {
+    return (const stub_core *)shared->at;
+}
+
+bool stub_is_free(const likes_shared *shared, uint32_t seat) {
+    return core_of(shared)->all[seat].lock == 0;
+}
+
+/* Whether a seat has yet to answer the end of a phase, or to run looks that wait. */
+bool stub_has_work(const likes_shared *shared, uint32_t number) {
+    const stub_seat *seat = &core_of(shared)->all[number];
+    uint64_t word = core_of(shared)->word;
+    bool is_behind = seat->phase != phase_of(word);
+    return !seat->is_gone && ((word & ENDING ? is_behind || seat->runs : false) || (is_behind && seat->waiting > 0));
+}
+
+bool stub_has_found(const likes_shared *shared, uint32_t seat) {
+    return core_of(shared)->all[seat].found > 0;
+}
+
+bool stub_is_ending(const likes_shared *shared) {
+    return (core_of(shared)->word & ENDING) != 0;
+}
+
+bool stub_all_in(const likes_shared *shared) {
+    return missing_of(core_of(shared)->word) == 0;
+}
+
+uint64_t stub_phase(const likes_shared *shared) {
+    return phase_of(core_of(shared)->word);
+}
