@@ -48,7 +48,12 @@ enum likes_service_status {
     LIKES_OPEN_WRITER = 1007,  /* a writer of the service is open */
     LIKES_WRONG_TAG = 1008,    /* the tag of a look in a row is 2^63 or more */
     LIKES_STOPPED = 1009,      /* the service was stopped */
-    LIKES_WRONG_LENGTH = 1010  /* an array hasn't one entry for each page, or for each user */
+    LIKES_WRONG_LENGTH = 1010, /* an array hasn't one entry for each page, or for each user */
+    LIKES_FILE_FAULT = 1011,   /* a file can't be read or written: errno has the reason */
+    LIKES_NOT_SAVED = 1012,    /* the file is none that likes_service_save has written */
+    LIKES_OTHER_VERSION = 1013, /* the file has a version that this library doesn't know */
+    LIKES_WRONG_SIZE = 1014,   /* the file is too short or too long: it is not whole */
+    LIKES_WRONG_SUM = 1015     /* the file was changed since it was written */
 };
 
 typedef struct likes_service likes_service;
@@ -93,9 +98,8 @@ uint32_t likes_service_seat_fault(const likes_service *service, uint32_t number)
 /* Adds one like: an answer of likes_seat_like, but never LIKES_BETWEEN. Any thread may call it. */
 uint32_t likes_service_like(likes_service *service, uint32_t user, uint32_t page);
 
-/* Looks, and waits until the look is found if it has to: an answer of likes_seat_look, but never LIKES_BETWEEN or
- * LIKES_WAITS, and LIKES_NO_ROOM only where looks with tags of the host's fill the seat. Any thread may call it, also
- * while another takes found looks of its own at the seat. */
+/* Looks, and waits until the look is found if it has to: an answer of likes_seat_look, but never LIKES_BETWEEN,
+ * LIKES_WAITS or LIKES_NO_ROOM. Any thread may call it, also while another takes found looks of its own at the seat. */
 uint32_t likes_service_look(likes_service *service, uint32_t user, uint32_t page, likes_answer *answer);
 
 /* The same with a time limit, in microseconds, which it hardly exceeds: then it answers LIKES_LATE. A look that was
@@ -160,6 +164,18 @@ uint32_t likes_service_counts(likes_service *service, uint64_t *counts, size_t p
  * a seat, that thread has held it for a tenth of a second, in no call of the service. Then some numbers, or all, are not
  * written. */
 uint32_t likes_service_snapshot(likes_service *service, uint64_t *counts, size_t pages, uint32_t *lasts, size_t users);
+
+/* Saves what likes_service_snapshot writes to a file: LIKES_OK. After a crash there is the file as it was, or the new one.
+ * Meanwhile there is one of that name with ".new" behind it. Or nothing is changed: an answer of likes_service_snapshot,
+ * LIKES_NO_MEMORY or LIKES_FILE_FAULT. */
+uint32_t likes_service_save(likes_service *service, const char *path);
+
+/* Opens a service that goes on from such a file: LIKES_OK. The options have no counts and no last likes. Where their
+ * pages or users are 0, there are as many as in the file; so a service grows if there are more: counts of new pages are 0,
+ * and new users have no last like. Else nothing is opened: the first that applies of LIKES_NULL, WRONG_COUNT, WRONG_LASTS,
+ * FILE_FAULT, NOT_SAVED, OTHER_VERSION, WRONG_SIZE, WRONG_LENGTH, where there are fewer pages or users than in the file,
+ * WRONG_PAGES, NO_MEMORY, WRONG_SUM, and an answer of likes_service_open. */
+uint32_t likes_service_load(const char *path, const likes_options *options, likes_service **service);
 
 /* The phase that the driver has last released, or 0 where likes_service_fault isn't LIKES_OK. Any thread may call it,
  * and it doesn't wait for the driver. */

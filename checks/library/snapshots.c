@@ -222,7 +222,9 @@ static void held_seat(void) {
     start_thread(&thread, hold_seat, &held);
     while (!is_set(&is_held))
         sleep_for(MS);
-    sleep_for(50 * MS); /* until a phase is ending, which waits for the seat */
+    /* Until a phase is ending, which waits for the seat. */
+    while (likes_service_look_within(service, 0, 2, 1000, &answer) != LIKES_LATE)
+        sleep_for(MS);
     be_late(1, 2);
     be_late(0, 0);
     be_late(0, 2);

@@ -131,7 +131,7 @@ static void await_phase(void) {
 
 static void stir(void) {
     inner_member *member = begin(USERS);
-    pthread_mutex_lock(&explored->turning);
+    explore_mutex_lock(&explored->turning);
     inner_stir(member);
 }
 
@@ -179,8 +179,15 @@ static void like_1_twice(void) {
 }
 
 static void like_soon(void) {
-    begin(0);
+    begin(USERS);
     nap(US);
+    like(0, 1, 0);
+}
+
+/* A like in the next phase. */
+static void like_0_later(void) {
+    begin(USERS);
+    nap(2 * PERIOD);
     like(0, 1, 0);
 }
 
@@ -217,7 +224,7 @@ static void last_1(void) {
 }
 
 static void tick(void) {
-    begin(1);
+    begin(USERS);
     likes_service_tick(explored);
 }
 
@@ -343,6 +350,14 @@ static void hold_long(void) {
     likes_service_unlock(explored, 0);
 }
 
+/* A seat that is held until the driver's thread has waited for it for longer than a period. */
+static void hold_past_due(void) {
+    begin(USERS);
+    likes_service_lock(explored, 1);
+    nap(PERIOD + PERIOD / 10);
+    likes_service_unlock(explored, 1);
+}
+
 static void hold_soon(void) {
     begin(1);
     nap(99 * MS + 850 * US);
@@ -352,7 +367,7 @@ static void hold_soon(void) {
 }
 
 static void hold_tick(void) {
-    begin(1);
+    begin(USERS);
     likes_service_lock(explored, 1);
     likes_service_tick(explored);
     likes_service_unlock(explored, 1);
@@ -370,6 +385,7 @@ static void writer_through_rest(void) {
     likes_writer *writer = NULL;
     begin(0);
     likes_writer_open(explored, &writer);
+    nap(US);
     likes_writer_like(writer, 0, 1);
     uint64_t before = handed_over();
     nap(10 * PERIOD);
@@ -410,7 +426,7 @@ const explore_case explore_cases[] = {
     {"work-two", rest, {leave_work, leave_work}, -1, true, NULL},
     {"wish", rest, {turn, turn}, -1, true, NULL},
     {"wish-three", rest, {turn, turn, turn}, 3, true, NULL},
-    {"phase", split, {await_phase, stir}, -1, true, NULL},
+    {"phase", split, {await_phase, stir}, 3, true, NULL},
     {"rest", quiet, {like_soon}, -1, false, NULL},
     {"misses", full, {look_after_misses}, 2, false, NULL},
 
@@ -430,6 +446,7 @@ const explore_case explore_cases[] = {
     {"long", roomy, {look_long, like_1}, 2, false, NULL},
     {"last-split", last_split, {look_long, like_1}, 2, false, NULL},
     {"due", due, {tick, like_1}, 2, false, NULL},
+    {"due-held", due, {hold_past_due, like_0_later}, 1, false, NULL},
     {"due-row", due, {tick, row}, 2, false, NULL},
     {"counts", roomy, {take_counts, like_1}, 2, false, NULL},
     {"counts-two", roomy, {take_counts, take_counts}, 2, false, NULL},

@@ -253,7 +253,6 @@ int explore_mutex_trylock(pthread_mutex_t *mutex) {
     return is_free ? 0 : EBUSY;
 }
 
-int explore_mutex_lock(pthread_mutex_t *mutex);
 int explore_mutex_lock(pthread_mutex_t *mutex) {
     block(MUTEX, mutex, INNER_NEVER);
     drain();
@@ -536,6 +535,8 @@ static void check_driver(void) {
         return;
     if (it->until == INNER_NEVER && !explored->is_resting)
         note("the driver's thread sleeps without end", 0);
+    if (it->until == INNER_NEVER && explored->is_used)
+        note("the service rests, and a call was made", 0);
     if (it->until == INNER_NEVER && (stub_phase(&explored->shared) % 2 == 1 || stub_is_ending(&explored->shared)))
         note("the service rests in a phase that should end", 0);
     if (it->until != INNER_NEVER && !stub_is_ending(&explored->shared) && is_due && *word_of(&explored->turning) == 0)
@@ -546,6 +547,9 @@ static void check_driver(void) {
 static void check_still(void) {
     for (uint32_t i = 0; i < explored->seats; i++)
         check_place(&explored->places[i]);
+    for (uint32_t i = 0; i < state.threads; i++)
+        if (state.all[i].call != NULL && state.now - state.lost - state.all[i].began > state.all[i].most)
+            note(state.all[i].call, state.now - state.lost - state.all[i].began);
     for (uint32_t i = 0; i < state.threads; i++)
         if (sleeps_at(i, &explored->released) && state.all[i].until == INNER_NEVER && explored->is_resting)
             note("a thread waits for a phase while the service rests", 0);

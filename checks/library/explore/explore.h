@@ -22,6 +22,9 @@ extern likes_service *explored;
 
 void ready(void);
 
+/* pthread_mutex_lock, for a case. */
+int explore_mutex_lock(pthread_mutex_t *mutex);
+
 /* A call that has to return in a time, in nanoseconds. Time passes only while no thread can go on. */
 void begin_call(const char *name, uint64_t most);
 void end_call(void);
