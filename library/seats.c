@@ -43,7 +43,7 @@ INNER_SELDOM static uint32_t held_like(const likes_seat *seat, uint32_t user, ui
     if (place == NULL)
         return LIKES_NOT_LOCKED;
     uint32_t status = likes_client_like(&member->client, place->number, user, page);
-    inner_add(&member->told.likes, status == LIKES_LIKED);
+    inner_add(&member->likes, status == LIKES_LIKED);
     return end(member, place, status);
 }
 

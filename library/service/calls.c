@@ -9,7 +9,7 @@ uint32_t likes_service_like(likes_service *service, uint32_t user, uint32_t page
     while (inner_again(&it, &status))
         status = likes_client_like(&it.member->client, it.place->number, user, page);
     if (status == LIKES_LIKED)
-        inner_add(&it.member->told.likes, 1);
+        inner_add(&it.member->likes, 1);
     return status;
 }
 
@@ -34,7 +34,7 @@ uint32_t likes_service_last(likes_service *service, uint32_t user, uint32_t *pag
 static inner_wait *wait_of(inner_member *member) {
     inner_wait *wait = member->waits;
     int error = errno;
-    while (wait != NULL && __atomic_load_n(&wait->state, __ATOMIC_SEQ_CST) != INNER_UNUSED)
+    while (wait != NULL && wait->state != INNER_UNUSED)
         wait = wait->next;
     if (wait == NULL && (wait = (inner_wait *)malloc(sizeof *wait)) != NULL) {
         *wait = (inner_wait){.next = member->waits};
@@ -48,16 +48,16 @@ static inner_wait *wait_of(inner_member *member) {
 static uint32_t await_found(inner_member *member, inner_wait *wait, uint64_t until, likes_answer *answer) {
     uint64_t began = inner_clock(), took;
     inner_turns(member);
-    while (__atomic_load_n(&wait->state, __ATOMIC_SEQ_CST) == INNER_ASKED && !inner_is_over(until))
+    while (wait->state == INNER_ASKED && !inner_is_over(until))
         inner_futex_wait(&wait->state, INNER_ASKED, until);
-    if (__atomic_exchange_n(&wait->state, INNER_THROWN, __ATOMIC_SEQ_CST) == INNER_ASKED)
+    if (atomic_exchange(&wait->state, INNER_THROWN) == INNER_ASKED)
         return LIKES_LATE;
     *answer = (likes_answer){wait->count, wait->last, LIKES_SEEN};
-    __atomic_store_n(&wait->state, INNER_UNUSED, __ATOMIC_SEQ_CST);
+    wait->state = INNER_UNUSED;
     took = inner_clock() - began;
-    inner_add(&member->told.waits, 1);
-    inner_add(&member->told.wait_time, took);
-    inner_add(&member->told.longest_wait, took > member->told.longest_wait ? took - member->told.longest_wait : 0);
+    inner_add(&member->waited, 1);
+    inner_add(&member->wait_time, took);
+    inner_add(&member->longest_wait, took > member->longest_wait ? took - member->longest_wait : 0);
     return LIKES_SEEN;
 }
 
@@ -76,8 +76,8 @@ static uint32_t look_until(likes_service *service, uint32_t user, uint32_t page,
         status = await_found(it.member, wait, until, answer);
     else
         wait->state = INNER_UNUSED;
-    inner_add(&it.member->told.looks, status == LIKES_SEEN);
-    inner_add(&it.member->told.late, status == LIKES_LATE);
+    inner_add(&it.member->looks, status == LIKES_SEEN);
+    inner_add(&it.member->late, status == LIKES_LATE);
     return status == LIKES_LATE ? inner_refuse(answer, status) : status;
 }
 

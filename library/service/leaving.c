@@ -6,7 +6,7 @@ static bool change(inner_member *member, inner_place *place, bool is_leaving) {
     inner_hold(member, place, INNER_NEVER);
     uint32_t status = is_leaving ? likes_client_retire(&member->client, place->number)
                                  : likes_client_come_back(&member->client, place->number);
-    __atomic_store_n(&place->is_leaving, is_leaving && status != LIKES_GONE, __ATOMIC_SEQ_CST);
+    place->is_leaving = is_leaving && status != LIKES_GONE;
     inner_unlock(member, place);
     return status == (is_leaving ? LIKES_GONE : LIKES_RUNS);
 }
@@ -20,12 +20,12 @@ static uint32_t change_for_sure(likes_service *service, uint32_t number, bool is
         fault = inner_enter(service, false, &member);
     if (fault != LIKES_OK)
         return fault;
-    uint64_t phase = inner_get(&service->released);
+    uint64_t phase = service->released;
     while (!change(member, &service->places[number], is_leaving)) {
         pthread_mutex_lock(&service->turning);
         inner_stir(member);
         inner_await_phase(member, phase, inner_clock() + INNER_CHOICE_TIME);
-        phase = inner_get(&service->released);
+        phase = service->released;
     }
     return LIKES_OK;
 }
@@ -36,7 +36,7 @@ uint32_t likes_service_retire_seat(likes_service *service, uint32_t number) {
 
 uint32_t likes_service_bring_back_seat(likes_service *service, uint32_t number) {
     uint32_t fault = likes_service_seat_fault(service, number);
-    if (fault == LIKES_OK && __atomic_load_n(&service->is_stopping, __ATOMIC_SEQ_CST))
+    if (fault == LIKES_OK && service->is_stopping)
         return LIKES_GONE;
     return change_for_sure(service, number, false);
 }

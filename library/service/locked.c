@@ -27,8 +27,8 @@ likes_seat *likes_service_lock(likes_service *service, uint32_t number) {
     if (likes_service_seat_fault(service, number) != LIKES_OK || inner_enter(service, false, &member) != LIKES_OK)
         return NULL;
     inner_place *place = &service->places[number];
-    uint64_t until = __atomic_load_n(&place->waiting, __ATOMIC_SEQ_CST) > 0 ? inner_clock() + WAY : 0;
-    while (__atomic_load_n(&place->waiting, __ATOMIC_SEQ_CST) > 0 && !inner_is_over(until))
+    uint64_t until = place->waiting > 0 ? inner_clock() + WAY : 0;
+    while (place->waiting > 0 && !inner_is_over(until))
         sched_yield();
     inner_hold(member, place, INNER_NEVER);
     member->held = place;
@@ -75,7 +75,7 @@ static size_t run_part(inner_trial *it, const likes_request *requests, size_t le
         done = likes_client_run(&it->member->client, it->place->number, requests, part, answers, part);
     for (size_t i = 0; i < done; i++)
         likes += answers[i].status == LIKES_LIKED;
-    inner_add(&it->member->told.likes, likes);
+    inner_add(&it->member->likes, likes);
     if (part > 0)
         *status = done < part ? answers[done].status : (uint32_t)LIKES_OK;
     else if (*status == LIKES_NO_ROOM && it->place->hosts == it->member->service->room)

@@ -111,15 +111,13 @@ void inner_members_close(const likes_service *service) {
 }
 
 /* Adds what a member did. */
-static void add_told(const inner_member *member, likes_statistics *to) {
-    const likes_statistics *told = &member->told;
-    uint64_t longest = __atomic_load_n(&told->longest_wait, __ATOMIC_RELAXED);
-    to->likes += __atomic_load_n(&told->likes, __ATOMIC_RELAXED);
-    to->looks += __atomic_load_n(&told->looks, __ATOMIC_RELAXED);
-    to->waits += __atomic_load_n(&told->waits, __ATOMIC_RELAXED);
-    to->wait_time += __atomic_load_n(&told->wait_time, __ATOMIC_RELAXED);
-    to->late += __atomic_load_n(&told->late, __ATOMIC_RELAXED);
-    to->longest_wait = longest > to->longest_wait ? longest : to->longest_wait;
+static void add(const inner_member *member, likes_statistics *to) {
+    to->likes += member->likes;
+    to->looks += member->looks;
+    to->waits += member->waited;
+    to->wait_time += member->wait_time;
+    to->late += member->late;
+    to->longest_wait = member->longest_wait > to->longest_wait ? member->longest_wait : to->longest_wait;
 }
 
 uint32_t likes_service_statistics(likes_service *service, likes_statistics *statistics) {
@@ -132,8 +130,8 @@ uint32_t likes_service_statistics(likes_service *service, likes_statistics *stat
     pthread_mutex_lock(&lock);
     for (const inner_member *member = members; member != NULL; member = member->next)
         if (member->service == service)
-            add_told(member, statistics);
+            add(member, statistics);
     pthread_mutex_unlock(&lock);
-    statistics->phases = inner_get(&service->released);
+    statistics->phases = service->released;
     return LIKES_OK;
 }

@@ -43,7 +43,7 @@ static bool end_for_all(inner_member *member) {
 static uint32_t turn_to_moment(inner_member *member) {
     likes_service *service = member->service;
     bool is_split = service->released % 2 == 1;
-    bool starves = !service->is_ending && __atomic_load_n(&service->starving, __ATOMIC_SEQ_CST) > 0;
+    bool starves = !service->is_ending && service->starving > 0;
     return (is_split ? starves : service->is_ending) ? (uint32_t)LIKES_NOT_ALL_IN : inner_turn(member, LIKES_END);
 }
 
@@ -58,7 +58,7 @@ static bool is_held_long(const likes_service *service, sighting *seen) {
     uint64_t now = inner_clock();
     bool is_long = false;
     for (uint32_t i = 0; i < service->seats; i++) {
-        uint32_t holds = __atomic_load_n(&service->places[i].holds, __ATOMIC_RELAXED);
+        uint32_t holds = service->places[i].holds;
         if (holds != seen[i].holds || seen[i].since == 0)
             seen[i] = (sighting){now, holds};
         is_long |= holds % 2 == 1 && now - seen[i].since >= MOMENT;

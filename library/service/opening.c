@@ -87,7 +87,7 @@ uint32_t likes_service_open(const likes_options *options, likes_service **servic
 static uint32_t leave(inner_member *member) {
     likes_service *service = member->service;
     for (uint32_t i = 0; i < service->seats; i++)
-        __atomic_store_n(&service->places[i].is_leaving, true, __ATOMIC_SEQ_CST);
+        service->places[i].is_leaving = true;
     inner_seats_work(member);
     pthread_mutex_lock(&service->turning);
     uint32_t status = inner_turn(member, LIKES_END_IF_IT_SERVES);
@@ -99,7 +99,7 @@ static uint32_t leave(inner_member *member) {
 /* Why a service can't be ended, or LIKES_OK. */
 static uint32_t end_fault(const likes_service *service) {
     uint32_t fault = likes_service_seat_fault(service, 0);
-    if (fault == LIKES_OK && __atomic_load_n(&service->writers, __ATOMIC_SEQ_CST) > 0)
+    if (fault == LIKES_OK && service->writers > 0)
         return LIKES_OPEN_WRITER;
     return fault;
 }
@@ -109,7 +109,7 @@ uint32_t likes_service_retire(likes_service *service) {
     uint32_t fault = end_fault(service);
     if (fault != LIKES_OK)
         return fault;
-    __atomic_store_n(&service->is_stopping, true, __ATOMIC_SEQ_CST);
+    service->is_stopping = true;
     inner_call(service);
     if (service->has_thread)
         pthread_join(service->thread, NULL);

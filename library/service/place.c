@@ -10,13 +10,13 @@ uint32_t inner_lock(inner_member *member, inner_place *place) {
     uint32_t status = likes_client_lock(&member->client, place->number);
     if (status == LIKES_OK) {
         member->locked |= UINT64_C(1) << place->number;
-        __atomic_load_n(&place->holds, __ATOMIC_ACQUIRE);
+        (void)place->holds;
     }
     return status;
 }
 
 static void unlock(inner_member *member, inner_place *place) {
-    __atomic_store_n(&place->holds, place->holds, __ATOMIC_RELEASE);
+    atomic_store_explicit(&place->holds, place->holds, memory_order_release);
     member->locked &= ~(UINT64_C(1) << place->number);
     likes_client_unlock(&member->client, place->number);
 }
@@ -31,8 +31,8 @@ static void end_wait(const likes_found *found) {
     inner_wait *wait = (inner_wait *)(uintptr_t)(found->tag & ~INNER_TAGS);
     wait->count = found->count;
     wait->last = found->last;
-    if (__atomic_exchange_n(&wait->state, INNER_FOUND, __ATOMIC_SEQ_CST) == INNER_THROWN)
-        __atomic_store_n(&wait->state, INNER_UNUSED, __ATOMIC_SEQ_CST);
+    if (atomic_exchange(&wait->state, INNER_FOUND) == INNER_THROWN)
+        wait->state = INNER_UNUSED;
     else
         inner_futex_wake(&wait->state, 1);
 }
@@ -67,22 +67,22 @@ static bool is_hosts(const inner_member *member, const inner_place *place) {
 
 /* Does the phase work of a seat, with the seat locked. It retires if it is to leave. */
 static void work(inner_member *member, inner_place *place) {
-    bool is_leaving = __atomic_load_n(&place->is_leaving, __ATOMIC_SEQ_CST);
+    bool is_leaving = place->is_leaving;
     uint32_t status = is_leaving ? likes_client_retire(&member->client, place->number)
                                  : likes_client_turn(&member->client, place->number);
     if (is_leaving && status == LIKES_GONE)
-        __atomic_store_n(&place->is_leaving, false, __ATOMIC_SEQ_CST);
+        place->is_leaving = false;
 }
 
 /* Does the phase work that was left, if this client has the seat locked, or can lock it. Whether there was some. If not,
  * the thread that has the seat sees what was left after it has given it back. */
 static bool work_left(inner_member *member, inner_place *place) {
     bool is_mine = has_locked(member, place), is_own = is_hosts(member, place);
-    if (!(__atomic_load_n(&place->left, __ATOMIC_SEQ_CST) & INNER_WORK))
+    if (!(place->left & INNER_WORK))
         return false;
     if (!is_mine && inner_lock(member, place) != LIKES_OK)
         return false;
-    __atomic_fetch_and(&place->left, ~(uint32_t)INNER_WORK, __ATOMIC_SEQ_CST);
+    place->left &= ~(uint32_t)INNER_WORK;
     if (!is_own)
         work(member, place);
     hand_out(member, place);
@@ -97,8 +97,8 @@ static bool serve(inner_member *member, inner_place *place) {
     bool has_worked = false;
     while (work_left(member, place))
         has_worked = true;
-    if (!has_locked(member, place) && (__atomic_load_n(&place->left, __ATOMIC_SEQ_CST) & INNER_ASLEEP)) {
-        __atomic_fetch_and(&place->left, ~(uint32_t)INNER_ASLEEP, __ATOMIC_SEQ_CST);
+    if (!has_locked(member, place) && (place->left & INNER_ASLEEP)) {
+        place->left &= ~(uint32_t)INNER_ASLEEP;
         inner_futex_wake(&place->left, 1);
     }
     return has_worked;
@@ -107,20 +107,20 @@ static bool serve(inner_member *member, inner_place *place) {
 /* Where the thread holds the seat, the call that was made may have done the phase work. If not, it stays for the next
  * one. */
 INNER_SELDOM void inner_attend(inner_member *member, inner_place *place) {
-    if (__atomic_load_n(&member->service->is_resting, __ATOMIC_SEQ_CST))
+    if (member->service->is_resting)
         inner_call(member->service);
     if (serve(member, place) && inner_turns(member) == LIKES_NOT_ALL_IN && is_hosts(member, place))
-        __atomic_fetch_or(&place->left, INNER_WORK, __ATOMIC_SEQ_CST);
+        place->left |= INNER_WORK;
 }
 
 void inner_seats_work(inner_member *member) {
     likes_service *service = member->service;
-    uint64_t steps = inner_get(&service->steps);
+    uint64_t steps = service->steps;
     for (uint32_t i = 0; i < service->seats; i++) {
         inner_place *place = &service->places[i];
-        __atomic_fetch_or(&place->left, INNER_WORK, __ATOMIC_SEQ_CST);
+        place->left |= INNER_WORK;
         if (!is_hosts(member, place))
             serve(member, place);
     }
-    inner_set(&service->served, steps);
+    service->served = steps;
 }

@@ -15,6 +15,7 @@
 #define INNER_SERVICE_H
 
 #include <pthread.h>
+#include <stdatomic.h>
 #include <string.h>
 
 #include "../client.h"
@@ -41,11 +42,11 @@ enum { INNER_WISHED = 1, INNER_WATCHED = 2 };
 #define INNER_TAGS (UINT64_C(1) << 63)
 
 typedef struct inner_place {
-    INNER_APART uint32_t left; /* a futex */
-    uint32_t number;           /* of the seat */
-    uint32_t waiting;          /* how many threads wait until it is free; atomic */
-    uint32_t holds;            /* odd while a thread holds it and is in no call; goes up with each such call; atomic */
-    bool is_leaving;           /* who does the seat's phase work retires it, if it can; atomic */
+    INNER_APART _Atomic uint32_t left; /* a futex */
+    uint32_t number;                   /* of the seat */
+    _Atomic uint32_t waiting;          /* how many threads wait until it is free */
+    _Atomic uint32_t holds;            /* odd while a thread holds it and is in no call; goes up with each such call */
+    _Atomic bool is_leaving;           /* who does the seat's phase work retires it, if it can */
     likes_service *service;
     likes_seat seat; /* of the thread that holds it: the address of this place, and 1 */
     /* Of who has the seat locked: how many looks of the host's were asked and not taken, and a ring of found ones. */
@@ -58,8 +59,10 @@ typedef struct inner_wait {
     struct inner_wait *next;
     uint64_t count;
     uint32_t last;
-    enum { INNER_UNUSED, INNER_ASKED, INNER_FOUND, INNER_THROWN } state; /* a futex */
+    _Atomic uint32_t state; /* a futex */
 } inner_wait;
+
+enum { INNER_UNUSED, INNER_ASKED, INNER_FOUND, INNER_THROWN };
 
 /* A thread's part in a service. */
 typedef struct inner_member {
@@ -68,12 +71,12 @@ typedef struct inner_member {
     inner_place *held; /* the seat that likes_service_lock gave to the thread */
     uint64_t locked;   /* the seats that the client has locked. A bit for each */
     inner_wait *waits;
-    likes_statistics told;     /* what the thread did; atomic numbers */
+    /* What the thread did, as in likes_statistics. */
+    _Atomic uint64_t likes, looks, waited, wait_time, longest_wait, late;
     uint64_t thread;           /* whose it is: a number, or 0. Under the lock of member.c, as */
     struct inner_member *next; /* of all members */
 } inner_member;
 
-/* Numbers are atomic, but for those that never change, and the last ones. */
 struct likes_service {
     INNER_APART bool is_open;
     uint32_t seats, users, room;
@@ -81,21 +84,22 @@ struct likes_service {
     uint64_t inverse; /* of `seats`, for inner_remainder */
     inner_place *places;
     size_t pages;
-    uint64_t period; /* in nanoseconds */
-    INNER_APART uint64_t pulse; /* for writers: goes up once in a period, and when the service begins to rest */
-    bool is_used;               /* a call was made since the last round */
-    uint64_t released;          /* the phase that was last released; a futex, by its lower half */
-    uint64_t steps;    /* how often seats had work to do: when a phase was about to end, and when looks were found */
-    uint64_t served;   /* the step at which all seats had theirs, or it was left to who has the seat */
-    uint64_t due;      /* when the phase may end */
-    uint64_t wakes_at; /* until when the driver's thread sleeps. 0: it is awake, or rests */
-    uint32_t sleepers; /* 1: threads sleep until `released` is another */
-    uint32_t starving; /* how many threads have missed phases, and wait for the next one to make a call */
-    uint32_t call;     /* goes up when the driver's thread is called; a futex */
-    uint32_t writers;  /* how many are open */
-    bool is_resting;   /* the driver's thread sleeps until it is called */
-    bool is_stopping, is_ending; /* the end of the present phase was announced */
-    INNER_APART uint32_t wished; /* a futex */
+    uint64_t period;                    /* in nanoseconds */
+    INNER_APART _Atomic uint64_t pulse; /* for writers: goes up once in a period, and when the service begins to rest */
+    _Atomic bool is_used;               /* a call was made since the last round */
+    _Atomic uint64_t released;          /* the phase that was last released; a futex, by its lower half */
+    _Atomic uint64_t
+        steps; /* how often seats had work to do: when a phase was about to end, and when looks were found */
+    _Atomic uint64_t served;   /* the step at which all seats had theirs, or it was left to who has the seat */
+    _Atomic uint64_t due;      /* when the phase may end */
+    _Atomic uint64_t wakes_at; /* until when the driver's thread sleeps. 0: it is awake, or rests */
+    _Atomic uint32_t sleepers; /* 1: threads sleep until `released` is another */
+    _Atomic uint32_t starving; /* how many threads have missed phases, and wait for the next one to make a call */
+    _Atomic uint32_t call;     /* goes up when the driver's thread is called; a futex */
+    _Atomic uint32_t writers;  /* how many are open */
+    _Atomic bool is_resting;   /* the driver's thread sleeps until it is called */
+    _Atomic bool is_stopping, is_ending; /* the end of the present phase was announced */
+    INNER_APART _Atomic uint32_t wished; /* a futex */
     pthread_mutex_t turning;
     /* Of the thread that has `turning`: whether the last turn left nothing to do until a call comes, and how many rounds
      * had no call, one after the other. */
@@ -103,7 +107,7 @@ struct likes_service {
     uint32_t quiet;
     likes_shared shared;
     inner_member *own;      /* the driver's thread's */
-    likes_statistics ended;      /* once it is stopped */
+    likes_statistics ended; /* once it is stopped */
     pthread_t thread;
     bool has_thread;
 };
@@ -116,8 +120,8 @@ static inline size_t inner_remainder(uint32_t number, uint64_t inverse, uint64_t
 }
 
 /* Adds to a number that one thread writes, and others read. */
-static inline void inner_add(uint64_t *at, uint64_t by) {
-    __atomic_store_n(at, __atomic_load_n(at, __ATOMIC_RELAXED) + by, __ATOMIC_RELAXED);
+static inline void inner_add(_Atomic uint64_t *at, uint64_t by) {
+    atomic_store_explicit(at, atomic_load_explicit(at, memory_order_relaxed) + by, memory_order_relaxed);
 }
 
 /* Writes an answer that shows nothing, where there is one, and gives its status. */
@@ -129,8 +133,8 @@ static inline uint32_t inner_refuse(likes_answer *answer, uint32_t status) {
 
 /* Notes a call, before it is made: a driver's thread that begins to rest sees it, or the call sees that it rests. */
 static inline void inner_note_use(likes_service *service) {
-    if (!__atomic_load_n(&service->is_used, __ATOMIC_SEQ_CST))
-        __atomic_store_n(&service->is_used, true, __ATOMIC_SEQ_CST);
+    if (!service->is_used)
+        service->is_used = true;
 }
 
 /* member.c: how many seats a thread holds, and those of its members that it looked for last. It is reached without a
@@ -180,8 +184,8 @@ void inner_attend(inner_member *member, inner_place *place);
 
 /* After each call of a client at a seat. */
 static inline void inner_after(inner_member *member, inner_place *place) {
-    bool is_resting = __atomic_load_n(&member->service->is_resting, __ATOMIC_SEQ_CST);
-    if (__builtin_expect(__atomic_load_n(&place->left, __ATOMIC_SEQ_CST) != 0 || is_resting, false))
+    bool is_resting = member->service->is_resting;
+    if (__builtin_expect(place->left != 0 || is_resting, false))
         inner_attend(member, place);
 }
 
@@ -266,7 +270,7 @@ size_t inner_run(inner_member *member, inner_place *place, const likes_request *
 
 /* Notes that a thread calls a seat that it holds. */
 static inline void inner_note_call(inner_place *place, uint32_t steps) {
-    __atomic_store_n(&place->holds, __atomic_load_n(&place->holds, __ATOMIC_RELAXED) + steps, __ATOMIC_RELAXED);
+    atomic_store_explicit(&place->holds, place->holds + steps, memory_order_relaxed);
 }
 
 #endif

@@ -33,17 +33,8 @@ static inline void inner_pause(void) {
 #endif
 }
 
-/* A number that other threads read and write, by sequentially consistent steps. */
-static inline uint64_t inner_get(const uint64_t *at) {
-    return __atomic_load_n(at, __ATOMIC_SEQ_CST);
-}
-
-static inline void inner_set(uint64_t *at, uint64_t number) {
-    __atomic_store_n(at, number, __ATOMIC_SEQ_CST);
-}
-
 /* Sleeps while a number is this one, until a time at most, or until it is woken. It may wake early. */
-static inline void inner_futex_wait(uint32_t *at, uint32_t number, uint64_t until) {
+static inline void inner_futex_wait(_Atomic uint32_t *at, uint32_t number, uint64_t until) {
     struct timespec time = {(time_t)(until / 1000000000), (long)(until % 1000000000)};
     int error = errno;
     syscall(SYS_futex, at, FUTEX_WAIT_BITSET_PRIVATE, number, until == INNER_NEVER ? NULL : &time, NULL,
@@ -52,7 +43,7 @@ static inline void inner_futex_wait(uint32_t *at, uint32_t number, uint64_t unti
 }
 
 /* Wakes this many threads that sleep so. */
-static inline void inner_futex_wake(uint32_t *at, int most) {
+static inline void inner_futex_wake(_Atomic uint32_t *at, int most) {
     int error = errno;
     syscall(SYS_futex, at, FUTEX_WAKE_PRIVATE, most, NULL, NULL, 0);
     errno = error;

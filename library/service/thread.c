@@ -2,13 +2,13 @@
 #include "service.h"
 
 static void set_resting(likes_service *service, bool is_resting) {
-    __atomic_store_n(&service->is_resting, is_resting, __ATOMIC_SEQ_CST);
+    service->is_resting = is_resting;
 }
 
 /* The rest is over for all calls before the thread is woken: it may begin another one at once. */
 void inner_call(likes_service *service) {
     set_resting(service, false);
-    __atomic_fetch_add(&service->call, 1, __ATOMIC_SEQ_CST);
+    service->call += 1;
     inner_futex_wake(&service->call, 1);
 }
 
@@ -18,7 +18,7 @@ static bool rests(likes_service *service) {
     if (!service->may_rest)
         return false;
     set_resting(service, true);
-    bool is_used = __atomic_load_n(&service->is_used, __ATOMIC_SEQ_CST);
+    bool is_used = service->is_used;
     if (is_used)
         set_resting(service, false);
     return !is_used;
@@ -27,11 +27,11 @@ static bool rests(likes_service *service) {
 /* Until when the thread sleeps: until the phase is due, or where that is ending, or another thread has yet to end it, for
  * a period, and for a millisecond at least. Where writers are open, until the next pulse at most. */
 static uint64_t wake_time(const likes_service *service, bool is_busy, uint64_t beat) {
-    bool is_ending = __atomic_load_n(&service->is_ending, __ATOMIC_SEQ_CST);
-    uint64_t now = inner_clock(), least = now + INNER_SPIN_TIME, time = inner_get(&service->due);
+    bool is_ending = service->is_ending;
+    uint64_t now = inner_clock(), least = now + INNER_SPIN_TIME, time = service->due;
     if (is_ending || (is_busy && time <= now))
         time = now + (service->period > INNER_CHOICE_TIME ? service->period : INNER_CHOICE_TIME);
-    if (__atomic_load_n(&service->writers, __ATOMIC_SEQ_CST) > 0 && beat < time)
+    if (service->writers > 0 && beat < time)
         time = beat;
     return time < least ? least : time;
 }
@@ -41,7 +41,7 @@ static uint64_t pulse(likes_service *service, bool is_resting, uint64_t beat) {
     uint64_t now = inner_clock();
     if (now < beat && !is_resting)
         return beat;
-    inner_set(&service->pulse, service->pulse + 1);
+    service->pulse = service->pulse + 1;
     return now + service->period;
 }
 
@@ -49,8 +49,8 @@ static uint64_t pulse(likes_service *service, bool is_resting, uint64_t beat) {
 void *inner_driver(void *at) {
     likes_service *service = (likes_service *)at;
     uint64_t beat = inner_clock() + service->period;
-    while (!__atomic_load_n(&service->is_stopping, __ATOMIC_SEQ_CST)) {
-        uint32_t call = __atomic_load_n(&service->call, __ATOMIC_SEQ_CST);
+    while (!service->is_stopping) {
+        uint32_t call = service->call;
         uint64_t until = INNER_NEVER;
         set_resting(service, false);
         inner_turns(service->own);
@@ -59,11 +59,11 @@ void *inner_driver(void *at) {
             pthread_mutex_unlock(&service->turning);
         inner_turns(service->own);
         beat = pulse(service, is_resting, beat);
-        inner_set(&service->wakes_at, is_resting ? 0 : INNER_NEVER);
+        service->wakes_at = is_resting ? 0 : INNER_NEVER;
         if (!is_resting)
-            inner_set(&service->wakes_at, until = wake_time(service, is_busy, beat));
+            service->wakes_at = until = wake_time(service, is_busy, beat);
         inner_futex_wait(&service->call, call, until);
-        inner_set(&service->wakes_at, 0);
+        service->wakes_at = 0;
     }
     return NULL;
 }

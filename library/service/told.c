@@ -12,7 +12,7 @@ uint32_t likes_service_seats(const likes_service *service) {
 }
 
 uint64_t likes_service_phase(likes_service *service) {
-    return likes_service_fault(service) == LIKES_OK ? inner_get(&service->released) : 0;
+    return likes_service_fault(service) == LIKES_OK ? service->released : 0;
 }
 
 uint32_t likes_service_propose(likes_service *service, const uint32_t *pages, size_t pages_len) {

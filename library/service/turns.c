@@ -7,40 +7,40 @@
 #define QUIET_ROUNDS 2u
 
 static bool is_wished(const likes_service *service) {
-    return __atomic_load_n(&service->wished, __ATOMIC_SEQ_CST) == INNER_WISHED;
+    return service->wished == INNER_WISHED;
 }
 
 /* Wishes for a turn. Whether this thread may make it. */
 static bool wish(likes_service *service) {
-    if (!is_wished(service) && __atomic_exchange_n(&service->wished, INNER_WISHED, __ATOMIC_SEQ_CST) == INNER_WATCHED)
+    if (!is_wished(service) && atomic_exchange(&service->wished, INNER_WISHED) == INNER_WATCHED)
         inner_futex_wake(&service->wished, 1);
     return pthread_mutex_trylock(&service->turning) == 0;
 }
 
 static void take_wish(likes_service *service) {
-    __atomic_store_n(&service->wished, 0, __ATOMIC_SEQ_CST);
+    service->wished = 0;
 }
 
 void inner_await_wish(likes_service *service, uint64_t until) {
     uint32_t none = 0;
-    if (__atomic_compare_exchange_n(&service->wished, &none, INNER_WATCHED, false, __ATOMIC_SEQ_CST, __ATOMIC_SEQ_CST))
+    if (atomic_compare_exchange_strong(&service->wished, &none, INNER_WATCHED))
         inner_futex_wait(&service->wished, INNER_WATCHED, until);
     take_wish(service);
 }
 
 static void end_round(likes_service *service) {
-    service->quiet = __atomic_exchange_n(&service->is_used, false, __ATOMIC_SEQ_CST) ? 0 : service->quiet + 1;
+    service->quiet = atomic_exchange(&service->is_used, false) ? 0 : service->quiet + 1;
 }
 
 uint32_t inner_turn(inner_member *member, uint32_t end) {
     likes_service *service = member->service;
     uint32_t status = likes_client_drive(&member->client, end);
     if (status == LIKES_RELEASED)
-        inner_set(&service->released, service->released + 1);
+        service->released = service->released + 1;
     if (status == LIKES_ANNOUNCED || status == LIKES_RELEASED)
-        __atomic_store_n(&service->is_ending, status == LIKES_ANNOUNCED, __ATOMIC_SEQ_CST);
+        service->is_ending = status == LIKES_ANNOUNCED;
     if (status == LIKES_ANNOUNCED || (status == LIKES_RELEASED && service->released % 2 == 0))
-        inner_set(&service->steps, service->steps + 1);
+        service->steps = service->steps + 1;
     return status;
 }
 
@@ -49,11 +49,11 @@ uint32_t inner_turn(inner_member *member, uint32_t end) {
  * their calls. */
 static uint32_t split_turn(inner_member *member, uint64_t now) {
     likes_service *service = member->service;
-    if (!service->is_ending && __atomic_load_n(&service->starving, __ATOMIC_SEQ_CST) > 0)
+    if (!service->is_ending && service->starving > 0)
         return LIKES_GOES_ON;
     uint32_t status = inner_turn(member, service->due <= now ? LIKES_END_IF_IT_SERVES : LIKES_NO_END);
     if (status == LIKES_ANNOUNCED) {
-        inner_set(&service->due, now + service->period);
+        service->due = now + service->period;
         end_round(service);
     }
     return status;
@@ -72,9 +72,9 @@ static uint32_t joined_turn(inner_member *member, uint64_t now, bool is_new) {
     uint32_t status = inner_turn(member, may_end ? LIKES_END_IF_IT_SERVES : LIKES_NO_END);
     bool goes_on = status == LIKES_GOES_ON || status == LIKES_ENDED;
     if (status == LIKES_RELEASED && service->due < now + service->period / 2)
-        inner_set(&service->due, now + service->period / 2);
+        service->due = now + service->period / 2;
     if (goes_on && (is_new || is_due))
-        inner_set(&service->due, now + (service->period < INNER_CHOICE_TIME ? service->period : INNER_CHOICE_TIME));
+        service->due = now + (service->period < INNER_CHOICE_TIME ? service->period : INNER_CHOICE_TIME);
     service->may_rest = goes_on && service->quiet >= QUIET_ROUNDS;
     return status;
 }
@@ -91,9 +91,9 @@ static uint32_t driver_turn(inner_member *member) {
     if (phase % 2 == 1 && status == LIKES_RELEASED)
         status = joined_turn(member, now, true);
     bool has_news = service->released != phase && status != LIKES_ANNOUNCED;
-    if (has_news && __atomic_exchange_n(&service->sleepers, 0, __ATOMIC_SEQ_CST))
-        inner_futex_wake((uint32_t *)&service->released, INT_MAX);
-    if (!service->is_ending && service->due + INNER_SPIN_TIME < inner_get(&service->wakes_at))
+    if (has_news && atomic_exchange(&service->sleepers, 0))
+        inner_futex_wake((_Atomic uint32_t *)&service->released, INT_MAX);
+    if (!service->is_ending && service->due + INNER_SPIN_TIME < service->wakes_at)
         inner_call(service);
     return status;
 }
@@ -115,7 +115,7 @@ static uint32_t make_turns(inner_member *member) {
 uint32_t inner_turns(inner_member *member) {
     likes_service *service = member->service;
     uint32_t status = wish(service) ? make_turns(member) : (uint32_t)LIKES_NOT_ALL_IN;
-    while (inner_get(&service->served) != inner_get(&service->steps)) {
+    while (service->served != service->steps) {
         inner_seats_work(member);
         if (wish(service))
             make_turns(member);
@@ -127,7 +127,7 @@ void inner_stir(inner_member *member) {
     likes_service *service = member->service;
     service->quiet = 0;
     inner_note_use(service);
-    inner_set(&service->due, 0);
+    service->due = 0;
     pthread_mutex_unlock(&service->turning);
     inner_turns(member);
 }
@@ -141,7 +141,7 @@ uint32_t likes_service_drive(likes_service *service) {
 }
 
 void likes_service_tick(likes_service *service) {
-    if (likes_service_fault(service) == LIKES_OK && inner_get(&service->due) <= inner_clock())
+    if (likes_service_fault(service) == LIKES_OK && service->due <= inner_clock())
         likes_service_drive(service);
 }
 

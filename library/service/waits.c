@@ -16,10 +16,10 @@ bool inner_await_phase(inner_member *member, uint64_t phase, uint64_t until) {
     likes_service *service = member->service;
     inner_turns(member);
     for (;;) {
-        __atomic_store_n(&service->sleepers, 1, __ATOMIC_SEQ_CST);
-        if (inner_get(&service->released) != phase || inner_is_over(until))
-            return inner_get(&service->released) != phase;
-        inner_futex_wait((uint32_t *)&service->released, (uint32_t)phase, until);
+        service->sleepers = 1;
+        if (service->released != phase || inner_is_over(until))
+            return service->released != phase;
+        inner_futex_wait((_Atomic uint32_t *)&service->released, (uint32_t)phase, until);
     }
 }
 
@@ -29,11 +29,11 @@ static bool await_phase(inner_trial *it) {
     likes_service *service = it->member->service;
     if (it->spins_until == 0)
         it->spins_until = inner_clock() + INNER_SPIN_TIME;
-    while (inner_get(&service->released) == it->phase && !inner_is_over(it->spins_until) && !inner_is_over(it->until)) {
+    while (service->released == it->phase && !inner_is_over(it->spins_until) && !inner_is_over(it->until)) {
         inner_turns(it->member);
         sched_yield();
     }
-    if (inner_get(&service->released) != it->phase)
+    if (service->released != it->phase)
         return true;
     bool lends = (it->member->locked >> it->place->number & 1) != 0;
     if (lends)
@@ -46,10 +46,10 @@ static bool await_phase(inner_trial *it) {
 
 /* Notes in how many phases a call came too late. Once that were several, no split phase ends before it is made. */
 static void note_miss(inner_trial *it, bool has_missed) {
-    uint32_t *starving = &it->member->service->starving;
+    likes_service *service = it->member->service;
     if (has_missed && it->misses + 1 == MISSES)
-        __atomic_fetch_add(starving, 1, __ATOMIC_SEQ_CST);
-    if (!has_missed && it->misses >= MISSES && __atomic_fetch_sub(starving, 1, __ATOMIC_SEQ_CST) == 1)
+        service->starving++;
+    if (!has_missed && it->misses >= MISSES && --service->starving == 0)
         inner_turns(it->member);
     it->misses = has_missed ? it->misses + 1 : 0;
 }
@@ -58,8 +58,8 @@ static void note_miss(inner_trial *it, bool has_missed) {
  * it again before its next try, so the next one is woken too. */
 static void note_waiting(inner_trial *it, bool waits) {
     if (waits != (it->left != 0))
-        __atomic_fetch_add(&it->place->waiting, waits ? 1 : UINT32_MAX, __ATOMIC_SEQ_CST);
-    it->left = waits ? __atomic_fetch_or(&it->place->left, INNER_ASLEEP, __ATOMIC_SEQ_CST) | INNER_ASLEEP : 0;
+        it->place->waiting += waits ? 1 : UINT32_MAX;
+    it->left = waits ? atomic_fetch_or(&it->place->left, INNER_ASLEEP) | INNER_ASLEEP : 0;
     it->tries = 0;
 }
 
@@ -94,7 +94,7 @@ INNER_SELDOM bool inner_wait_and_try(inner_trial *it, uint32_t *status) {
         has_time = await_phase(it);
     if (!is_busy) {
         it->has_phase = true;
-        it->phase = inner_get(&it->member->service->released);
+        it->phase = it->member->service->released;
     }
     if (!has_time) {
         note_miss(it, false);

@@ -44,10 +44,10 @@ static uint32_t hand_over(likes_writer *writer, size_t seat) {
         return LIKES_OK;
     uint32_t status = inner_begin(&trial, writer->service, it->likes[0].user, false);
     for (; inner_again(&trial, &status); done += counted)
-        status = likes_client_like_row(&trial.member->client, trial.place->number, it->likes + done,
-                                       it->length - done, &counted);
+        status = likes_client_like_row(&trial.member->client, trial.place->number, it->likes + done, it->length - done,
+                                       &counted);
     if (done > 0)
-        inner_add(&trial.member->told.likes, done);
+        inner_add(&trial.member->likes, done);
     take_off(writer, seat, done);
     return status == LIKES_LIKED ? (uint32_t)LIKES_OK : status;
 }
@@ -62,17 +62,13 @@ static uint32_t hand_over_all(likes_writer *writer, uint64_t seats) {
     return status;
 }
 
-static inline uint64_t pulse_of(const likes_writer *writer) {
-    return __atomic_load_n(&writer->service->pulse, __ATOMIC_ACQUIRE);
-}
-
 /* Hands over all rows, where there is another pulse. Where the service rests there would be no next one: this call ends
  * that, also if there are no rows. */
 static void notice(likes_writer *writer) {
-    writer->pulse = pulse_of(writer);
+    writer->pulse = writer->service->pulse;
     hand_over_all(writer, writer->begun);
     inner_note_use(writer->service);
-    if (__atomic_load_n(&writer->service->is_resting, __ATOMIC_SEQ_CST))
+    if (writer->service->is_resting)
         inner_call(writer->service);
 }
 
@@ -92,13 +88,13 @@ uint32_t likes_writer_open(likes_service *service, likes_writer **writer) {
     int error = errno;
     likes_writer *made = (likes_writer *)calloc(1, sizeof *made + service->seats * sizeof(row));
     /* clang takes calloc to leave errno, and would drop the line below. */
-    __atomic_signal_fence(__ATOMIC_SEQ_CST);
+    atomic_signal_fence(memory_order_seq_cst);
     errno = error;
     if (made == NULL)
         return LIKES_NO_MEMORY;
     made->service = service;
-    made->pulse = pulse_of(made);
-    __atomic_fetch_add(&service->writers, 1, __ATOMIC_SEQ_CST);
+    made->pulse = service->pulse;
+    service->writers += 1;
     /* From now on the driver's thread sleeps until the next pulse at most. */
     inner_note_use(service);
     inner_call(service);
@@ -122,7 +118,7 @@ uint32_t likes_writer_like(likes_writer *writer, uint32_t user, uint32_t page) {
     if (page >= writer->service->pages)
         return LIKES_UNKNOWN_PAGE;
     inner_note_use(writer->service);
-    if (pulse_of(writer) != writer->pulse)
+    if (writer->service->pulse != writer->pulse)
         notice(writer);
     size_t seat = seat_of(writer, user);
     row *it = &writer->rows[seat];
@@ -157,7 +153,7 @@ uint32_t likes_writer_look(likes_writer *writer, uint32_t user, uint32_t page, l
     uint32_t fault = answer == NULL ? (uint32_t)LIKES_NULL : fault_of(writer);
     if (fault != LIKES_OK)
         return inner_refuse(answer, fault);
-    if (pulse_of(writer) != writer->pulse)
+    if (writer->service->pulse != writer->pulse)
         notice(writer);
     if (user < writer->service->users)
         fault = hand_over_all(writer, seats_with(writer, user, page));
@@ -186,7 +182,7 @@ uint32_t likes_writer_close(likes_writer *writer) {
     uint32_t status = writer->begun != 0 ? likes_writer_flush(writer) : (uint32_t)LIKES_OK;
     if (status != LIKES_OK)
         return status;
-    __atomic_fetch_sub(&writer->service->writers, 1, __ATOMIC_SEQ_CST);
+    writer->service->writers -= 1;
     free(writer);
     return LIKES_OK;
 }

@@ -125,8 +125,8 @@ static void turn(void) {
 }
 
 static void await_phase(void) {
-    inner_member *member = begin(USERS);
-    inner_await_phase(member, explored->released, INNER_NEVER);
+    uint64_t phase = explored->released;
+    inner_await_phase(begin(USERS), phase, INNER_NEVER);
 }
 
 static void stir(void) {

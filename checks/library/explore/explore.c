@@ -120,8 +120,8 @@ static bool is_dull(const volatile void *at) {
     for (uint32_t i = 0; i < explored->seats; i++)
         is |= at == &explored->places[i].holds;
     const inner_member *member = inner_mine.members[explored->id % 8].member;
-    const char *begin = member == NULL ? NULL : (const char *)&member->told;
-    return is || (begin != NULL && byte >= begin && byte < begin + sizeof member->told);
+    const char *begin = member == NULL ? NULL : (const char *)&member->likes;
+    return is || (begin != NULL && byte >= begin && byte <= (const char *)&member->late);
 }
 
 static uint64_t load(const volatile void *at, uint64_t size, const void *from) {
@@ -517,7 +517,7 @@ static void check_place(const inner_place *place) {
     if (!stub_is_free(&explored->shared, seat))
         return;
     for (uint32_t i = 0; i < state.threads; i++)
-        if (sleeps_at(i, &place->left))
+        if (sleeps_at(i, (const void *)&place->left))
             note("a thread sleeps at a free seat", 0);
     if (place->left & INNER_WORK)
         note("work is left at a free seat", 0);
@@ -551,7 +551,7 @@ static void check_still(void) {
         if (state.all[i].call != NULL && state.now - state.lost - state.all[i].began > state.all[i].most)
             note(state.all[i].call, state.now - state.lost - state.all[i].began);
     for (uint32_t i = 0; i < state.threads; i++)
-        if (sleeps_at(i, &explored->released) && state.all[i].until == INNER_NEVER && explored->is_resting)
+        if (sleeps_at(i, (const void *)&explored->released) && state.all[i].until == INNER_NEVER && explored->is_resting)
             note("a thread waits for a phase while the service rests", 0);
     if (*word_of(&explored->turning) == 0 && explored->wished == INNER_WISHED)
         note("a wish is left", 0);
