@@ -41,8 +41,8 @@ static uint64_t pulse(likes_service *service, bool is_resting, uint64_t beat) {
     uint64_t now = inner_clock();
     if (now < beat && !is_resting)
         return beat;
-    service->pulse = service->pulse + 1;
-    return now + service->period;
+    service->pulse++;
+    return now < beat + service->period ? beat + service->period : now + service->period;
 }
 
 /* Whoever calls the thread after it has read `call` keeps it from its sleep. */
