@@ -36,7 +36,7 @@ extern "C" {
  *
  * Calls that take locks answer LIKES_HOLDS_SEAT to a thread that holds a seat of the service: they could wait for the
  * thread itself. These are all but likes_service_unlock, run, take_found, drive, tick, seat_turns, phase, seats,
- * statistics and fault, and likes_writer_open and likes_writer_drop. */
+ * pages, users, statistics and fault, and likes_writer_open and likes_writer_drop. */
 enum likes_service_status {
     LIKES_NO_THREAD = 1000,    /* the driver's thread can't be started */
     LIKES_WRONG_PERIOD = 1001, /* period_us is over LIKES_MAX_PERIOD_US */
@@ -83,6 +83,10 @@ uint32_t likes_service_open(const likes_options *options, likes_service **servic
 
 /* How many seats it has: 0 where likes_service_fault isn't LIKES_OK. User u belongs to seat u % seats. */
 uint32_t likes_service_seats(const likes_service *service);
+
+/* How many pages and users it has: 0 where likes_service_fault isn't LIKES_OK. */
+size_t likes_service_pages(const likes_service *service);
+uint32_t likes_service_users(const likes_service *service);
 
 /* Ends a service that isn't stopped yet, and gives its memory back: LIKES_OK, also for NULL. All threads are done with
  * it. Or nothing is done: LIKES_HOLDS_SEAT or LIKES_OPEN_WRITER. */

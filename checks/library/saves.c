@@ -48,6 +48,9 @@ static void save_and_load(void) {
     hold(access(beside, F_OK) == -1, "a file is left");
     IS(likes_service_close(service), LIKES_OK);
     IS(likes_service_load(path, &none, &same), LIKES_OK);
+    IS(likes_service_pages(same), PAGES);
+    IS(likes_service_users(same), USERS);
+    IS(likes_service_users(NULL) + likes_service_pages(NULL), 0);
     counts_are(same, right, PAGES);
     last_is(same, 0, 1);
     last_is(same, 5, 2);

@@ -11,6 +11,14 @@ uint32_t likes_service_seats(const likes_service *service) {
     return likes_service_fault(service) == LIKES_OK ? service->seats : 0;
 }
 
+size_t likes_service_pages(const likes_service *service) {
+    return likes_service_fault(service) == LIKES_OK ? service->pages : 0;
+}
+
+uint32_t likes_service_users(const likes_service *service) {
+    return likes_service_fault(service) == LIKES_OK ? service->users : 0;
+}
+
 uint64_t likes_service_phase(likes_service *service) {
     return likes_service_fault(service) == LIKES_OK ? service->released : 0;
 }
