@@ -15,22 +15,25 @@
  *     call gives a number. No other pointer of these calls is NULL.
  *   - likes_close gets the seats of that driver's service, each once. (It refuses any other seat: that is tested, and
  *     not proved. It is a call on the driver and on all these seats.)
- *   - One call at a time on each driver and each seat, from any thread. Two calls on the same object are ordered by a
- *     lock, by a thread's start or join, or by a sequentially consistent atomic. Only likes_phase_now may be called by
- *     several threads at once, until one of them frees the phase.
- *   - A handle, likes_driver, likes_seat or likes_phase, begins as {0}, which is empty. Only the call that fills it and
- *     the one that frees it or closes its service change it. After a copy, only one of the two is used.
+ *   - One call at a time on each driver, each seat, each client and each shared service, from any thread. Two calls on
+ *     the same object are ordered by a lock, by a thread's start or join, or by a sequentially consistent atomic. Only
+ *     likes_phase_now may be called by several threads at once, until one of them frees the phase. Clients need no
+ *     order among each other.
+ *   - A handle (likes_driver, likes_seat, likes_phase, likes_shared or likes_client) begins as {0}, which is empty.
+ *     Only the call that fills it and the one that frees or closes it, or closes its service, change it. After a copy,
+ *     only one of the two is used.
  *   - No call is made from a signal handler, or in the child of a fork.
- *   - Every seat that isn't gone is called at least once while a phase is ending, by likes_seat_turn if there is
- *     nothing else to do. A seat that isn't called holds up all others.
+ *   - Every seat that isn't gone is called at least once while a phase is ending, by likes_seat_turn or
+ *     likes_client_turn if there is nothing else to do. A seat that isn't called holds up all others.
  *
  * What the library does
  *   - It tests every number, but for the seats of likes_seat_of, and period_us, which is a service's. A wrong one is an
  *     error of its own, and what was asked for isn't done. Proposed numbers that are no pages do nothing. A like, a
  *     look, a glance or a turn of a seat does the phase work first: a seat that is between two phases answers
  *     LIKES_BETWEEN to a wrong user too.
- *   - No call waits, sleeps or takes a lock, beside what malloc and free do. Only likes_open takes memory, and beside
- *     it only likes_close and the calls that free give some back.
+ *   - No call waits or sleeps, beside what malloc and free do. A client tries a lock, and is told LIKES_BUSY if another
+ *     thread has it. Only likes_open, likes_shared_open, likes_client_open and likes_shared_close take memory. Beside
+ *     them, only likes_close, likes_client_close and the calls that free give some back.
  */
 #ifndef LIKES_H
 #define LIKES_H
@@ -65,6 +68,17 @@ typedef struct likes_seat {
 typedef struct likes_phase {
     void *at;
 } likes_phase;
+
+/* A service that threads share, each by a client of its own ("Clients", below). */
+typedef struct likes_shared {
+    void *at;
+    uint64_t seats; /* how many it has: likes_shared_seats */
+} likes_shared;
+
+/* One thread's right to call a shared service. */
+typedef struct likes_client {
+    void *at;
+} likes_client;
 
 #define LIKES_MAX_SEATS 64u
 #define LIKES_MAX_PAGES 16777216u
@@ -127,6 +141,10 @@ enum likes_status {
     LIKES_NOT_ENDED = 16,  /* nothing written: a seat isn't gone yet, or a split phase goes on */
     LIKES_ALL_TAKEN = 17,  /* all seats are taken; or the phase is */
 
+    /* outcomes of a client's calls */
+    LIKES_BUSY = 19, /* not run: another thread has the seat, the driver or the desk. Nothing was done. */
+    LIKES_NONE = 20, /* there is no found look */
+
     /* errors: what was asked for isn't done. A seat may have done its phase work. */
     LIKES_EMPTY = 100,  /* the handle is empty */
     LIKES_IN_USE = 101, /* the handle that was to be filled isn't empty */
@@ -147,9 +165,11 @@ enum likes_status {
     LIKES_WRONG_USERS = 114,
     LIKES_WRONG_ROOM = 115,
     LIKES_WRONG_HOT = 116,
-    LIKES_WRONG_LASTS = 117, /* there are last likes, but not one for each user, or one is of no page; or an array
-                                without its length, or a length without an array */
-    LIKES_NULL = 118         /* a pointer is NULL that may not be */
+    LIKES_WRONG_LASTS = 117,  /* there are last likes, but not one for each user, or one is of no page; or an array
+                                 without its length, or a length without an array */
+    LIKES_NULL = 118,         /* a pointer is NULL that may not be */
+    LIKES_OPEN_CLIENT = 119,  /* a client of the service is open */
+    LIKES_UNKNOWN_SEAT = 1003 /* the service has fewer seats */
 };
 
 #define LIKES_FIRST_ERROR 100u
@@ -340,6 +360,94 @@ void likes_seat_free(likes_seat *seat);
 void likes_driver_free(likes_driver *driver);
 void likes_phase_free(likes_phase *phase);
 
+/* Clients.
+ *
+ * Threads share a service without locks of their own: each has a client, and calls any seat and the driver by it. A
+ * call is made if no other thread has that seat or the driver then. Otherwise the answer is LIKES_BUSY, and nothing was
+ * done: try again, or do other work first. Once all clients are closed and all seats are gone, likes_shared_close ends
+ * the service. One thread could have done all that all clients did, one call after the other, and each page's last
+ * count is its first count and the likes of it that all clients were told.
+ *
+ * A call that names a seat answers the first that applies of LIKES_EMPTY, UNKNOWN_SEAT and BUSY, or else what the call
+ * of likes_seat_ with that name does. A user's seat is likes_seat_of, and at another one the user is refused, as
+ * LIKES_OTHER_SEAT. A call of the driver answers LIKES_EMPTY or BUSY, or else what the call of likes_driver_ does.
+ * Where a likes_driver_ call has an error of its own, that comes before BUSY. */
+
+/* Opens a service that threads share, as likes_open does. */
+uint32_t likes_shared_open(const likes_options *options, likes_shared *shared);
+
+/* How many seats it has, and 0 of an empty handle or NULL. */
+uint32_t likes_shared_seats(const likes_shared *shared);
+
+/* Hands out the phase, as likes_driver_take_phase does. */
+uint32_t likes_shared_take_phase(likes_shared *shared, likes_phase *phase);
+
+/* Makes a client, of which any thread may make the calls: LIKES_OK, or the first that applies of LIKES_IN_USE, EMPTY,
+ * BUSY, where another thread closes a client, and NO_MEMORY. */
+uint32_t likes_client_open(likes_shared *shared, likes_client *client);
+
+/* Ends a client: LIKES_OK, and its handle is empty; or LIKES_EMPTY, or BUSY where another thread opens or closes one.
+ * Seats that it has locked are unlocked. Every client has to be closed, or its service can't be. */
+uint32_t likes_client_close(likes_client *client);
+
+/* Ends a service whose clients are closed and whose seats are gone, and writes the final count of each page:
+ * LIKES_COUNTED. The handle is empty then. counts has one entry for each page. Else nothing is done: the first that
+ * applies of LIKES_NULL, EMPTY, WRONG_PAGES, OPEN_CLIENT, NO_MEMORY (it makes a client meanwhile) and NOT_ENDED. */
+uint32_t likes_shared_close(likes_shared *shared, uint64_t *counts, size_t counts_len);
+
+/* Gives back memory, and leaves the handle empty. What clients have of the service stays until they are closed. */
+void likes_shared_free(likes_shared *shared);
+
+uint32_t likes_client_like(likes_client *client, uint32_t seat, uint32_t user, uint32_t page);
+uint32_t likes_client_look(likes_client *client, uint32_t seat, uint32_t user, uint32_t page, uint64_t tag,
+                           likes_answer *answer);
+uint32_t likes_client_glance(likes_client *client, uint32_t seat, uint32_t user, uint32_t page, likes_answer *answer);
+uint32_t likes_client_last(likes_client *client, uint32_t seat, uint32_t user, uint32_t *page);
+uint32_t likes_client_lasts(likes_client *client, uint32_t seat, uint32_t from, uint32_t *pages, size_t pages_len);
+
+/* Takes the next found look: LIKES_OK, or LIKES_NONE, and nothing is written. */
+uint32_t likes_client_take_found(likes_client *client, uint32_t seat, likes_found *found);
+
+uint32_t likes_client_turn(likes_client *client, uint32_t seat);
+uint32_t likes_client_retire(likes_client *client, uint32_t seat);
+uint32_t likes_client_come_back(likes_client *client, uint32_t seat);
+
+/* Runs requests one by one, as likes_seat_run does. It also stops at the first whose answer is LIKES_BUSY, and does none
+ * if the first answer is LIKES_UNKNOWN_SEAT. At a seat that this client has locked, none is LIKES_BUSY, and each costs
+ * less. */
+size_t likes_client_run(likes_client *client, uint32_t seat, const likes_request *requests, size_t requests_len,
+                        likes_answer *answers, size_t answers_len);
+
+/* A like of a row. */
+typedef struct likes_pair {
+    uint32_t user;
+    uint32_t page;
+} likes_pair;
+
+/* Adds likes of the seat's users in their order, up to the first that isn't counted, with one look at the phase word
+ * for all: LIKES_LIKED, and all are counted; or what the first that isn't is told. counted, which may be NULL, is how
+ * many were. It answers BETWEEN and GONE of a row of no likes, too. */
+uint32_t likes_client_like_row(likes_client *client, uint32_t seat, const likes_pair *likes, size_t likes_len,
+                               size_t *counted);
+
+/* Locks a seat for this client, until it is unlocked or the client is closed: LIKES_OK. Meanwhile other clients are
+ * told LIKES_BUSY there, and this one's calls there take nothing. A seat that it has already stays so. */
+uint32_t likes_client_lock(likes_client *client, uint32_t seat);
+
+/* Unlocks a seat: LIKES_OK, also if this client doesn't have it. */
+uint32_t likes_client_unlock(likes_client *client, uint32_t seat);
+
+/* Tells the phase of a seat, as likes_seat_phase does: LIKES_OK. */
+uint32_t likes_client_phase(likes_client *client, uint32_t seat, uint64_t *phase);
+
+uint32_t likes_client_drive(likes_client *client, uint32_t end);
+uint32_t likes_client_snapshot(likes_client *client, uint32_t from, uint64_t *counts, size_t counts_len);
+uint32_t likes_client_last_counts(likes_client *client, uint32_t from, uint64_t *counts, size_t counts_len);
+uint32_t likes_client_propose(likes_client *client, const uint32_t *pages, size_t pages_len);
+
+/* Writes split pages, as likes_driver_split_pages does: LIKES_OK. written, which may be NULL, is how many were. */
+uint32_t likes_client_split_pages(likes_client *client, uint32_t *pages, size_t pages_len, size_t *written);
+
 /* The text of a status, for messages. It knows those of likes_service.h too. */
 const char *likes_status_text(uint32_t status);
 
@@ -352,6 +460,8 @@ const char *likes_status_text(uint32_t status);
 #endif
 LIKES_PIN(__BYTE_ORDER__ == __ORDER_LITTLE_ENDIAN__);
 LIKES_PIN(sizeof(likes_driver) == 16 && sizeof(likes_seat) == 8 && sizeof(likes_phase) == 8);
+LIKES_PIN(sizeof(likes_shared) == 16 && sizeof(likes_client) == 8);
+LIKES_PIN(sizeof(likes_pair) == 8 && offsetof(likes_pair, user) == 0 && offsetof(likes_pair, page) == 4);
 LIKES_PIN(sizeof(likes_options) == 112 && offsetof(likes_options, counts) == 0 && offsetof(likes_options, pages) == 8);
 LIKES_PIN(offsetof(likes_options, marks) == 16 && offsetof(likes_options, marks_len) == 24);
 LIKES_PIN(offsetof(likes_options, lasts) == 32 && offsetof(likes_options, lasts_len) == 40);

@@ -41,7 +41,6 @@ enum likes_service_status {
     LIKES_NO_THREAD = 1000,    /* the driver's thread can't be started */
     LIKES_WRONG_PERIOD = 1001, /* period_us is over LIKES_MAX_PERIOD_US */
     LIKES_NOT_STARTED = 1002,  /* the service or the writer is NULL */
-    LIKES_UNKNOWN_SEAT = 1003, /* the service has fewer seats */
     LIKES_LATE = 1004,         /* the look had no answer in time. If it was made, its answer is thrown away */
     LIKES_HOLDS_SEAT = 1005,   /* the calling thread holds a seat of the service */
     LIKES_NOT_LOCKED = 1006,   /* the calling thread doesn't hold the seat */

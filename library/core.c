@@ -1,8 +1,8 @@
 /* The calls of likes.h that have defaults or take NULL, over the proved ones, which don't. Those of a seat are in
- * seats.c, and all others are the proved ones themselves. */
-#include "client.h"
+ * seats.c, and those of a client in clients.c. All others are the proved ones themselves. */
 #include "defaults.h"
 #include "missing.h"
+#include "proved.h"
 
 #include <errno.h>
 #include <stdlib.h>
@@ -45,55 +45,62 @@ static page_list list_of(const uint32_t *pages, size_t length) {
     return list;
 }
 
-/* What is opened: a driver, or else a service that threads share. */
-typedef struct opening {
+/* What is opened: a driver or a shared service. The other is NULL. */
+typedef struct to_open {
     likes_driver *driver;
     likes_shared *shared;
-} opening;
+} to_open;
 
 /* Opens with counts of so many pages, which aren't NULL. */
-static uint32_t open_with(const likes_options *options, const uint64_t *counts, size_t pages, opening to) {
+static uint32_t open_with(const likes_options *options, const uint64_t *counts, size_t pages, to_open it) {
     likes_proved_options numbers = numbers_of(options);
     page_list marks = list_of(options->marks, options->marks_len), lasts = list_of(options->lasts, options->lasts_len);
-    uint64_t *seats = to.driver != NULL ? &to.driver->seats : &to.shared->seats;
-    uint32_t status = to.driver != NULL ? likes_proved_open(&numbers, counts, pages, marks.at, marks.length, lasts.at,
-                                                            lasts.length, to.driver)
-                                        : likes_proved_shared_open(&numbers, counts, pages, marks.at, marks.length,
-                                                                   lasts.at, lasts.length, to.shared);
+    uint32_t status;
+    if (it.shared != NULL)
+        status = likes_proved_shared_open(&numbers, counts, pages, marks.at, marks.length, lasts.at, lasts.length,
+                                          it.shared);
+    else
+        status = likes_proved_open(&numbers, counts, pages, marks.at, marks.length, lasts.at, lasts.length, it.driver);
     if (status == LIKES_OK)
-        *seats = numbers.seats;
+        *(it.shared != NULL ? &it.shared->seats : &it.driver->seats) = numbers.seats;
     return status;
 }
 
 /* Opens with counts of 0, for which it takes memory meanwhile, unless their number is wrong. */
-static uint32_t open_with_zeros(const likes_options *options, opening to) {
+static uint32_t open_with_zeros(const likes_options *options, to_open it) {
     size_t pages = options->pages;
     if (pages == 0 || pages > LIKES_MAX_PAGES)
-        return open_with(options, &no_count, 0, to);
+        return open_with(options, &no_count, 0, it);
     uint64_t *zeros = (uint64_t *)calloc(pages, sizeof *zeros);
     if (zeros == NULL)
         return LIKES_NO_MEMORY;
-    uint32_t status = open_with(options, zeros, pages, to);
+    uint32_t status = open_with(options, zeros, pages, it);
     free(zeros);
     return status;
 }
 
-static uint32_t open_any(const likes_options *options, opening to) {
+/* Opens, and leaves errno as it was. */
+static uint32_t open_it(const likes_options *options, to_open it) {
     int error = errno;
-    uint32_t status = options->counts == NULL ? open_with_zeros(options, to)
-                                              : open_with(options, options->counts, options->pages, to);
+    uint32_t status;
+    if (options->counts == NULL)
+        status = open_with_zeros(options, it);
+    else
+        status = open_with(options, options->counts, options->pages, it);
     errno = error;
     return status;
 }
 
 uint32_t likes_open(const likes_options *options, likes_driver *driver) {
-    opening to = {driver, NULL};
-    return options == NULL || driver == NULL ? (uint32_t)LIKES_NULL : open_any(options, to);
+    if (options == NULL || driver == NULL)
+        return LIKES_NULL;
+    return open_it(options, (to_open){.driver = driver});
 }
 
 uint32_t likes_shared_open(const likes_options *options, likes_shared *shared) {
-    opening to = {NULL, shared};
-    return open_any(options, to);
+    if (options == NULL || shared == NULL)
+        return LIKES_NULL;
+    return open_it(options, (to_open){.shared = shared});
 }
 
 uint32_t likes_driver_seats(const likes_driver *driver) {

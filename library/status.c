@@ -2,9 +2,9 @@
 #include "likes_service.h"
 
 static const char *const outcomes[] = {
-    "ok",      "liked",     "seen",       "waits",    "runs",  "between", "no room",   "like limit", "gone",
-    "goes on", "announced", "not all in", "released", "ended", "counted", "no moment", "not ended",  "all taken",
-    "glimpsed",
+    "ok",         "liked",     "seen",      "waits",     "runs",       "between",  "no room",
+    "like limit", "gone",      "goes on",   "announced", "not all in", "released", "ended",
+    "counted",    "no moment", "not ended", "all taken", "glimpsed",   "busy",     "none",
 };
 
 /* From LIKES_EMPTY on. */
@@ -28,6 +28,7 @@ static const char *const errors[] = {
     "hot is 1 to 1000000",
     "last likes are one for each user, of a page or none",
     "a pointer is NULL",
+    "a client is open",
 };
 
 /* From LIKES_NO_THREAD on. */

@@ -5,6 +5,8 @@
  *     the service is closed, all of it.
  *   - Each allocation of an opening is refused in turn, alone and with all that follow it, also where counts are NULL.
  *     Each such opening must answer that it is out of memory, leave the driver empty, and give back what it took.
+ *   - The same of a shared service, of a client, and of likes_shared_close, which takes memory meanwhile. Once the
+ *     clients are closed, and the service is closed or freed, in any order, all is given back.
  *
  * It replaces malloc and its kin, and calls those of the GNU C library by their other names. */
 #include "opening.h"
@@ -307,6 +309,130 @@ static void refuse(size_t allocations) {
     }
 }
 
+static likes_shared shared;
+
+/* Opens a shared service, where these allocations are refused. */
+static uint32_t share(size_t from, size_t to) {
+    static const uint32_t marks[] = {0};
+    likes_options options = {.counts = zeros, .pages = PAGES, .marks = marks, .marks_len = 1};
+    options.seats = SEATS;
+    options.users = USERS;
+    options.room = ROOM;
+    first = from;
+    last = to;
+    made = 0;
+    uint32_t status = likes_shared_open(&options, &shared);
+    first = last = 0;
+    return status;
+}
+
+/* Opens a client, where these allocations are refused. */
+static uint32_t open_client(likes_client *client, size_t from, size_t to) {
+    first = from;
+    last = to;
+    made = 0;
+    uint32_t status = likes_client_open(&shared, client);
+    first = last = 0;
+    return status;
+}
+
+/* Closes the shared service, where these allocations are refused. */
+static uint32_t close_shared(size_t from, size_t to) {
+    uint64_t counts[PAGES];
+    first = from;
+    last = to;
+    made = 0;
+    uint32_t status = likes_shared_close(&shared, counts, PAGES);
+    first = last = 0;
+    return status;
+}
+
+/* Each allocation of an opening of a shared service, and of a client, is refused. */
+static void refuse_sharing(void) {
+    likes_client client = {0};
+    blocks = 0;
+    if (share(1, SIZE_MAX) != LIKES_NO_MEMORY || blocks != 0)
+        fail(__LINE__, "likes_shared_open", "has the wrong answer, or leaves blocks behind");
+    share(0, 0);
+    size_t of_shared = made, held;
+    likes_shared_free(&shared);
+    for (size_t number = 1; number <= of_shared; number++)
+        if (share(number, number) != LIKES_NO_MEMORY || shared.at != NULL || blocks != 0)
+            fail(__LINE__, "likes_shared_open", "has the wrong answer, or leaves blocks behind");
+    share(0, 0);
+    held = blocks;
+    open_client(&client, 0, 0);
+    size_t of_client = made;
+    FREES(likes_client_close(&client));
+    for (size_t number = 1; number <= of_client; number++)
+        if (open_client(&client, number, number) != LIKES_NO_MEMORY || client.at != NULL || blocks != held)
+            fail(__LINE__, "likes_client_open", "has the wrong answer, or leaves blocks behind");
+    FREES(likes_shared_free(&shared));
+    if (blocks != 0)
+        fail(__LINE__, "likes_shared_free", "leaves blocks behind");
+}
+
+/* The calls of a client allocate nothing. */
+static void call_client(likes_client *client) {
+    likes_answer answers[ROW];
+    likes_request row[ROW];
+    likes_pair likes[ROW];
+    likes_found found;
+    uint64_t counts[PAGES], phase;
+    uint32_t page, pages[PAGES];
+    for (uint32_t i = 0; i < ROW; i++) {
+        row[i] = (likes_request){.tag = i, .user = SEATS * i, .page = i % 7, .op = i % 4};
+        likes[i] = (likes_pair){SEATS * i, i % PAGES};
+    }
+    IS(likes_client_lock(client, 0), LIKES_OK);
+    STILL(likes_client_run(client, 0, row, ROW, answers, ROW));
+    IS(likes_client_like_row(client, 0, likes, ROW, NULL), LIKES_LIKED);
+    IS(likes_client_like(client, 0, 0, 1), LIKES_LIKED);
+    IS(likes_client_unlock(client, 0), LIKES_OK);
+    IS(likes_client_like(client, 1, 1, 1), LIKES_LIKED);
+    STILL(likes_client_look(client, 1, 1, 1, 1, answers));
+    STILL(likes_client_glance(client, 1, 1, 1, answers));
+    IS(likes_client_last(client, 1, 1, &page), LIKES_OK);
+    IS(likes_client_lasts(client, 1, 0, pages, ROW), LIKES_OK);
+    IS(likes_client_take_found(client, 0, &found), LIKES_NONE);
+    IS(likes_client_turn(client, 2), LIKES_RUNS);
+    IS(likes_client_phase(client, 2, &phase), LIKES_OK);
+    IS(likes_client_drive(client, LIKES_NO_END), LIKES_GOES_ON);
+    IS(likes_client_snapshot(client, 0, counts, PAGES), LIKES_NO_MOMENT);
+    IS(likes_client_propose(client, pages, 0), LIKES_OK);
+    STILL(likes_client_split_pages(client, pages, PAGES, NULL));
+    IS(likes_client_last_counts(client, 0, counts, PAGES), LIKES_NOT_ENDED);
+}
+
+/* A shared service is used by two clients, and closed, or freed before its last client is closed. */
+static void use_shared(bool is_closed) {
+    likes_client one = {0}, two = {0};
+    if (share(0, 0) != LIKES_OK || open_client(&one, 0, 0) != LIKES_OK || open_client(&two, 0, 0) != LIKES_OK)
+        fail(__LINE__, "likes_shared_open", "has failed");
+    call_client(&one);
+    call_client(&two);
+    FREES(likes_client_close(&one));
+    if (is_closed) {
+        for (uint32_t seat = 0; seat < SEATS; seat++)
+            IS(likes_client_retire(&two, seat), LIKES_GONE);
+        IS(likes_client_drive(&two, LIKES_END_IF_IT_SERVES), LIKES_ENDED);
+        if (close_shared(0, 0) != LIKES_OPEN_CLIENT)
+            fail(__LINE__, "likes_shared_close", "has the wrong answer");
+    } else {
+        FREES(likes_shared_free(&shared));
+    }
+    FREES(likes_client_close(&two));
+    if (is_closed) {
+        size_t held = blocks;
+        if (close_shared(1, SIZE_MAX) != LIKES_NO_MEMORY || blocks != held)
+            fail(__LINE__, "likes_shared_close", "has the wrong answer, or leaves blocks behind");
+        if (close_shared(0, 0) != LIKES_COUNTED)
+            fail(__LINE__, "likes_shared_close", "has the wrong answer");
+    }
+    if (blocks != 0)
+        fail(__LINE__, "the end of a shared service", "leaves blocks behind");
+}
+
 int main(void) {
     for (int stage = OPENED; stage < STAGES; stage++)
         for (uint32_t driver_after = 0; driver_after <= SEATS; driver_after++)
@@ -322,6 +448,9 @@ int main(void) {
         fail(__LINE__, "likes_open", "without counts takes another number of blocks, or leaves some behind");
     likes_driver_free(&driver);
     refuse(allocations + 1);
+    refuse_sharing();
+    use_shared(false);
+    use_shared(true);
     printf("each of %zu allocations refused\n", allocations);
     return 0;
 }

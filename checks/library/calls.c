@@ -1292,6 +1292,8 @@ static const struct {
     {LIKES_NOT_ENDED, "not ended"},
     {LIKES_ALL_TAKEN, "all taken"},
     {LIKES_GLIMPSED, "glimpsed"},
+    {LIKES_BUSY, "busy"},
+    {LIKES_NONE, "none"},
     {LIKES_EMPTY, "empty"},
     {LIKES_IN_USE, "in use"},
     {LIKES_NO_MEMORY, "no memory"},
@@ -1311,6 +1313,7 @@ static const struct {
     {LIKES_WRONG_HOT, "hot is 1 to 1000000"},
     {LIKES_WRONG_LASTS, "last likes are one for each user, of a page or none"},
     {LIKES_NULL, "a pointer is NULL"},
+    {LIKES_OPEN_CLIENT, "a client is open"},
     {LIKES_NO_THREAD, "no thread"},
     {LIKES_WRONG_PERIOD, "period_us is 1 to 1000000000"},
     {LIKES_NOT_STARTED, "not started"},
@@ -1323,7 +1326,7 @@ static const struct {
     {LIKES_STOPPED, "the service was stopped"},
     {LIKES_WRONG_LENGTH, "an array has one entry for each page, or for each user"},
 };
-enum { TOLD = sizeof told / sizeof *told, OUTCOMES = 19, ERRORS = 19 };
+enum { TOLD = sizeof told / sizeof *told, OUTCOMES = 21, ERRORS = 20 };
 
 /* Each status has its number and its text. No other number has one. Those that say success are told apart. */
 static void statuses(void) {

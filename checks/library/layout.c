@@ -11,7 +11,7 @@ enum { USERS = 48, SEATS = 52, ROOM = 56, HOT = 60, PERIOD = 64, OPTIONS_RESERVE
 enum { TAG = 0, USER = 8, PAGE = 12, OP = 16, REQUEST_RESERVED = 20, REQUEST = 24 };
 enum { COUNT = 0, LAST = 8, STATUS = 12, ANSWER = 16 };
 enum { FOUND_TAG = 0, FOUND_COUNT = 8, ASKED = 16, RAN = 24, FOUND_USER = 32, FOUND_PAGE = 36, FOUND_LAST = 40 };
-enum { FOUND_RESERVED = 44, FOUND = 48, HANDLE = 8, DRIVER = 16 };
+enum { FOUND_RESERVED = 44, FOUND = 48, HANDLE = 8, DRIVER = 16, PAIR_USER = 0, PAIR_PAGE = 4, PAIR = 8 };
 
 /* Bytes of any structure. */
 typedef union {
@@ -82,6 +82,13 @@ static void header(void) {
     IS(offsetof(likes_driver, seats), 8);
     IS(sizeof(likes_seat), HANDLE);
     IS(sizeof(likes_phase), HANDLE);
+    IS(sizeof(likes_client), HANDLE);
+    IS(sizeof(likes_shared), DRIVER);
+    IS(offsetof(likes_shared, at), 0);
+    IS(offsetof(likes_shared, seats), 8);
+    IS(sizeof(likes_pair), PAIR);
+    IS(offsetof(likes_pair, user), PAIR_USER);
+    IS(offsetof(likes_pair, page), PAIR_PAGE);
 }
 
 /* A service with 3 seats, 30 users, room for 5 looks, and 7 pages, of which page 2 is marked and none gets hot. Of the
@@ -354,6 +361,27 @@ static bool gets_hot(uint32_t likes) {
     return turn != 9;
 }
 
+/* A client counts a row of likes, of user 4 and page 5. */
+static void pairs(void) {
+    void *shared[2] = {NULL, NULL}, *client = NULL;
+    row options = right_options(), like = {{0}};
+    uint32_t page = 9;
+    size_t counted = 9;
+    memset(lasts, 0xff, sizeof lasts);
+    IS(likes_shared_open((const likes_options *)&options, (likes_shared *)shared), 0);
+    IS(shared[0] != NULL && (uintptr_t)shared[1] == 3, true);
+    IS(likes_client_open((likes_shared *)shared, (likes_client *)&client), 0);
+    put32(&like, PAIR_USER, 4);
+    put32(&like, PAIR_PAGE, 5);
+    IS(likes_client_like_row((likes_client *)&client, 1, (const likes_pair *)&like, 1, &counted), 1); /* LIKES_LIKED */
+    IS(counted, 1);
+    IS(likes_client_last((likes_client *)&client, 1, 4, &page), 0);
+    IS(page, 5);
+    IS(likes_client_close((likes_client *)&client), 0);
+    likes_shared_free((likes_shared *)shared);
+    IS(client == NULL && shared[0] == NULL && shared[1] == NULL, true);
+}
+
 static void end(void) {
     for (int i = 0; i < 3; i++)
         likes_seat_free((likes_seat *)&seats[i]);
@@ -373,6 +401,7 @@ int main(void) {
     last_likes();
     split_pages();
     end();
+    pairs();
     IS(gets_hot(512), true);
     IS(gets_hot(1000000), false);
     IS(gets_hot(0), true);

@@ -67,8 +67,6 @@ def names(prefix):
     for kind, file in (("-D", "liblikes.so"), ("-g", "liblikes.a")):
         found = symbols(kind, "--defined-only", f"{prefix}/lib/{file}")
         hold(found == calls, f"{file} has {sorted(found ^ calls)}")
-    nonnull = [name for name in symbols(f"{prefix}/lib/liblikes.a") if "nonnull" in name]
-    hold(not nonnull, f"the library has still {nonnull}")
 
 
 def calls(prefix):

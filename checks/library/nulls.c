@@ -37,6 +37,14 @@ uint32_t likes_default_seats(void) {
     return default_seats;
 }
 
+#define HOLD(what)                                           \
+    do {                                                     \
+        if (!(what)) {                                       \
+            printf("line %d: not %s\n", __LINE__, #what);    \
+            exit(1);                                         \
+        }                                                    \
+    } while (0)
+
 /* What the last call was passed, and how many there were. */
 static struct {
     const void *first, *second, *third;
@@ -48,10 +56,9 @@ static struct {
     int calls;
 } seen;
 
-uint32_t likes_proved_open(const likes_proved_options *options, const uint64_t *counts, size_t pages,
-                           const uint32_t *marks, size_t marks_len, const uint32_t *lasts, size_t lasts_len,
-                           likes_driver *driver) {
-    seen.calls += driver != NULL && options != NULL;
+static void see_opening(const likes_proved_options *options, const uint64_t *counts, size_t pages,
+                        const uint32_t *marks, size_t marks_len, const uint32_t *lasts, size_t lasts_len) {
+    seen.calls += options != NULL;
     seen.first = counts;
     seen.first_len = pages;
     seen.second = marks;
@@ -64,7 +71,22 @@ uint32_t likes_proved_open(const likes_proved_options *options, const uint64_t *
     for (size_t page = 0; page < pages; page++)
         seen.sum += counts[page];
     seen.options = *options;
+}
+
+uint32_t likes_proved_open(const likes_proved_options *options, const uint64_t *counts, size_t pages,
+                           const uint32_t *marks, size_t marks_len, const uint32_t *lasts, size_t lasts_len,
+                           likes_driver *driver) {
+    HOLD(driver != NULL);
+    see_opening(options, counts, pages, marks, marks_len, lasts, lasts_len);
     return 41;
+}
+
+uint32_t likes_proved_shared_open(const likes_proved_options *options, const uint64_t *counts, size_t pages,
+                                  const uint32_t *marks, size_t marks_len, const uint32_t *lasts, size_t lasts_len,
+                                  likes_shared *shared) {
+    HOLD(shared != NULL);
+    see_opening(options, counts, pages, marks, marks_len, lasts, lasts_len);
+    return LIKES_OK;
 }
 
 uint32_t likes_proved_seat_lasts(likes_seat *seat, uint32_t from, uint32_t *pages, size_t pages_len) {
@@ -157,9 +179,6 @@ NOT_CALLED(uint32_t, inner_look, inner_member *member, inner_place *place, const
            likes_answer *answer)
 NOT_CALLED(size_t, inner_run, inner_member *member, inner_place *place, const likes_request *requests,
            size_t length, likes_answer *answers, bool waits)
-NOT_CALLED(uint32_t, likes_proved_shared_open, const likes_proved_options *options, const uint64_t *counts,
-           size_t pages, const uint32_t *marks, size_t marks_len, const uint32_t *lasts, size_t lasts_len,
-           likes_shared *shared)
 NOT_CALLED(uint32_t, likes_client_like, likes_client *client, uint32_t seat, uint32_t user, uint32_t page)
 NOT_CALLED(uint32_t, likes_client_glance, likes_client *client, uint32_t seat, uint32_t user, uint32_t page,
            likes_answer *answer)
@@ -181,14 +200,6 @@ NOT_CALLED(uint32_t, likes_proved_seat_come_back, likes_seat *seat)
 NOT_CALLED(uint64_t, likes_proved_seat_phase, likes_seat *seat)
 NOT_CALLED(bool, likes_proved_seat_take_found, likes_seat *seat, likes_found *found)
 #pragma GCC diagnostic pop
-
-#define HOLD(what)                                           \
-    do {                                                     \
-        if (!(what)) {                                       \
-            printf("line %d: not %s\n", __LINE__, #what);    \
-            exit(1);                                         \
-        }                                                    \
-    } while (0)
 
 /* Whether the arrays have come as they are, and those of no entries as something else than NULL. */
 static bool has_passed(const void *first, size_t first_len, const void *second, size_t second_len) {
@@ -216,6 +227,15 @@ static void has_defaults(void) {
     HOLD(likes_open(&options, &driver) == 41 && has_numbers(default_seats, 0, 64, 1));
     for (uint64_t i = 0; i < 6; i++)
         HOLD(seen.options.reserved[i] == i + 2);
+}
+
+/* A shared service is opened as any other, and its handle has the number of its seats. */
+static void opens_shared(void) {
+    likes_shared shared = {0};
+    likes_options options = {.pages = 2, .users = 3};
+    HOLD(likes_shared_open(&options, &shared) == LIKES_OK && has_numbers(default_seats, 3, 64, 512));
+    HOLD(seen.first_len == 2 && seen.sum == 0 && shared.seats == default_seats);
+    HOLD(likes_shared_open(NULL, &shared) == LIKES_NULL && likes_shared_open(&options, NULL) == LIKES_NULL);
 }
 
 /* Counts that are NULL are zeros, for which memory is zeroed unless there are no or too many pages. */
@@ -310,20 +330,21 @@ int main(void) {
     HOLD(seen.calls == 64);
     HOLD(driver.seats == 0); /* nothing was opened */
     has_defaults();
+    opens_shared();
     has_zeros();
     has_wrong_lists();
     refuses();
-    HOLD(seen.calls == 77);
+    HOLD(seen.calls == 78);
     likes_seat_free(NULL);
     likes_driver_free(NULL);
     likes_phase_free(NULL);
-    HOLD(seen.calls == 77);
+    HOLD(seen.calls == 78);
     likes_seat_free(&seat);
     HOLD(seen.first == &seat);
     likes_driver_free(&driver);
     HOLD(seen.first == &driver);
     likes_phase_free(&phase);
-    HOLD(seen.first == &phase && seen.calls == 80);
+    HOLD(seen.first == &phase && seen.calls == 81);
     HOLD(likes_seat_of(7, 3) == 1 && likes_seat_of(UINT32_MAX, 16) == 15);
     puts("all passed on as it should be");
     return 0;

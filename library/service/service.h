@@ -18,8 +18,10 @@
 #include <stdatomic.h>
 #include <string.h>
 
-#include "../client.h"
+#include "likes_service.h"
+
 #include "../missing.h"
+#include "../proved.h"
 #include "sleep.h"
 
 /* Of a function that is called seldom, by one that is called often: it stays apart. */

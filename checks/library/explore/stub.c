@@ -1,10 +1,10 @@
-/* The proved calls of a client (library/client.h), and those of a seat (library/proved.h), in plain C: for an explorer
- * of schedules, and to run the service without the proved archive. The same calls and statuses, the same steps that
+/* The proved calls of include/likes.h and of library/proved.h in plain C: for an explorer of schedules, and to run the
+ * service without the proved archive. The same calls and statuses, the same steps that
  * other threads can see: a seat and the driver stand each behind a word that is exchanged, and phases are one word,
  * which each call reads once.
  *
  * It finds no hot pages: marked and proposed ones are split. It takes memory by malloc alone. */
-#include "../../../library/client.h"
+#include "../../../library/proved.h"
 
 #include <stdlib.h>
 #include <string.h>
@@ -486,7 +486,8 @@ uint32_t likes_client_last(likes_client *client, uint32_t number, uint32_t user,
     AT_SEAT(last(seat, user, page));
 }
 
-uint32_t likes_client_lasts(likes_client *client, uint32_t number, uint32_t from, uint32_t *pages, size_t pages_len) {
+uint32_t likes_proved_client_lasts(likes_client *client, uint32_t number, uint32_t from, uint32_t *pages,
+                                   size_t pages_len) {
     AT_SEAT(lasts(seat, from, pages, pages_len));
 }
 
@@ -510,14 +511,14 @@ uint32_t likes_client_take_found(likes_client *client, uint32_t number, likes_fo
     AT_SEAT(take_found(seat, found));
 }
 
-uint32_t likes_client_like_row(likes_client *client, uint32_t number, const likes_pair *row, size_t row_len,
-                               size_t *counted) {
+uint32_t likes_proved_client_like_row(likes_client *client, uint32_t number, const likes_pair *row, size_t row_len,
+                                      size_t *counted) {
     *counted = 0;
     AT_SEAT(like_row(seat, row, row_len, counted));
 }
 
-size_t likes_client_run(likes_client *client, uint32_t number, const likes_request *requests, size_t requests_len,
-                        likes_answer *answers, size_t answers_len) {
+size_t likes_proved_client_run(likes_client *client, uint32_t number, const likes_request *requests,
+                               size_t requests_len, likes_answer *answers, size_t answers_len) {
     stub_seat *seat;
     uint32_t status = take(client, number, &seat);
     if (status != LIKES_OK) {
@@ -555,20 +556,20 @@ uint32_t likes_client_drive(likes_client *client, uint32_t end) {
     AT_DRIVER(drive(core, end));
 }
 
-uint32_t likes_client_snapshot(likes_client *client, uint32_t from, uint64_t *counts, size_t counts_len) {
+uint32_t likes_proved_client_snapshot(likes_client *client, uint32_t from, uint64_t *counts, size_t counts_len) {
     AT_DRIVER(snapshot(core, from, counts, counts_len));
 }
 
-uint32_t likes_client_last_counts(likes_client *client, uint32_t from, uint64_t *counts, size_t counts_len) {
+uint32_t likes_proved_client_last_counts(likes_client *client, uint32_t from, uint64_t *counts, size_t counts_len) {
     AT_DRIVER(last_counts(core, from, counts, counts_len));
 }
 
-uint32_t likes_client_split_pages(likes_client *client, uint32_t *pages, size_t pages_len, size_t *written) {
+uint32_t likes_proved_client_split_pages(likes_client *client, uint32_t *pages, size_t pages_len, size_t *written) {
     *written = 0;
     AT_DRIVER(split_pages(core, pages, pages_len, written));
 }
 
-uint32_t likes_client_propose(likes_client *client, const uint32_t *pages, size_t pages_len) {
+uint32_t likes_proved_client_propose(likes_client *client, const uint32_t *pages, size_t pages_len) {
     AT_DRIVER(propose(core, pages, pages_len));
 }
 
@@ -712,7 +713,7 @@ uint32_t likes_client_close(likes_client *client) {
     return LIKES_OK;
 }
 
-uint32_t likes_shared_close(likes_shared *shared, uint64_t *counts, size_t counts_len) {
+uint32_t likes_proved_shared_close(likes_shared *shared, uint64_t *counts, size_t counts_len) {
     stub_core *core = (stub_core *)shared->at;
     if (core == NULL)
         return LIKES_EMPTY;
@@ -723,11 +724,11 @@ uint32_t likes_shared_close(likes_shared *shared, uint64_t *counts, size_t count
     if (present_of(__atomic_load_n(&core->word, __ATOMIC_SEQ_CST)) > 0)
         return LIKES_NOT_ENDED;
     write_counts(core, 0, counts, counts_len);
-    likes_shared_free(shared);
+    likes_proved_shared_free(shared);
     return LIKES_COUNTED;
 }
 
-void likes_shared_free(likes_shared *shared) {
+void likes_proved_shared_free(likes_shared *shared) {
     if (shared->at != NULL)
         free_core((stub_core *)shared->at);
     shared->at = NULL;

@@ -1,4 +1,5 @@
 -- The functions of handles, for every type that they hold.
+pub mod Client
 pub mod Driver
 pub mod Get
 pub mod Kind
@@ -6,4 +7,5 @@ pub mod Phase
 pub mod Put
 pub mod Seat
 pub mod Sends
+pub mod Shared
 pub mod Take

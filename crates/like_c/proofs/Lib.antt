@@ -1,2 +1,5 @@
+mod Asking
 pub mod Handle
 pub mod Homes
+pub mod Owners
+pub mod Unwritten

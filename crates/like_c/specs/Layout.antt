@@ -5,6 +5,8 @@ use mathlib.Core.Option.{some, none}
 use prog.Memory.{field_of}
 use denote.Memory.{lone}
 use denote.RattleType.{RattleType}
+use Rattle.like_live.specs.contracts.like_pair.LikePair as Pair
+use Rattle.like_live.specs.declared.like_pair.LikePair.{LikePair}
 use Rattle.like_c.specs.contracts.rows.AnswerRow as Answer
 use Rattle.like_c.specs.contracts.rows.FoundRow as Found
 use Rattle.like_c.specs.contracts.rows.Options as Opening
@@ -35,3 +37,5 @@ pub record AreLaidOut : Type 0 where
   pub found : (f : FoundRow) → Found.struct.as_values f
       ≡ (f.tag, (f.count, (f.asked, (f.ran, (f.user, (f.page, (f.last, (f.reserved, tt))))))))
   pub found_at : HasPlaces Found.the_row 0 (0 ∷ 8 ∷ 16 ∷ 24 ∷ 32 ∷ 36 ∷ 40 ∷ 44 ∷ [])
+  pub pair : (p : LikePair) → Pair.struct.as_values p ≡ (p.user, (p.page, tt))
+  pub pair_at : HasPlaces Pair.the_row 0 (0 ∷ 4 ∷ [])

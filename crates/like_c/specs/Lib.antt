@@ -1,3 +1,6 @@
+pub mod Cards
+pub mod ClientRows
+pub mod Clients
 pub mod Closes
 pub mod Handle
 pub mod Held
@@ -5,4 +8,5 @@ pub mod Layout
 pub mod Lends
 pub mod Opened
 pub mod Rows
+pub mod Sharing
 pub mod Status

@@ -75,3 +75,8 @@ found_row found = record {
   last = page_or_none found.last;
   reserved = 0;
 }
+
+-- the row of an answer, or of the status that came in its place
+abbrev pub told_row : {A : Type 0} → (A → AnswerRow) → Result A ℕ → AnswerRow
+told_row row (Ok answer) = row answer
+told_row row (Err refused) = status_row refused

@@ -1,5 +1,5 @@
 -- The status of each answer. The numbers are those of likes.h.
-use Rattle.std.specs.Prelude.{ℕ, Bool, true, false, Option, Some, None}
+use Rattle.std.specs.Prelude.{ℕ, Bool, true, false, Option, Some, None, Result, Ok, Err}
 use Rattle.like_requests.specs.declared.verdict.Verdict.{Verdict}
 use Rattle.like_requests.specs.declared.verdict.Verdict.TheVariants.{Accepted, UnknownUser, OtherHome, UnknownPage}
 use Rattle.like_live.specs.declared.answer.LikeAnswer.{LikeAnswer}
@@ -72,6 +72,12 @@ all_taken = 17
 abbrev pub glimpsed : ℕ
 glimpsed = 18
 
+abbrev pub busy : ℕ
+busy = 19
+
+abbrev pub no_found : ℕ
+no_found = 20
+
 abbrev pub empty : ℕ
 empty = 100
 
@@ -126,6 +132,12 @@ wrong_hot = 116
 abbrev pub wrong_lasts : ℕ
 wrong_lasts = 117
 
+abbrev pub open_client : ℕ
+open_client = 119
+
+abbrev pub unknown_seat : ℕ
+unknown_seat = 1003
+
 abbrev pub verdict_status : Verdict → ℕ
 verdict_status Accepted = ok
 verdict_status UnknownUser = unknown_user
@@ -161,6 +173,11 @@ abbrev pub last_status : Bool → ℕ
 last_status true = counted
 last_status false = not_ended
 
+-- last likes were written, or there are not so many users
+abbrev pub lasts_status : Bool → ℕ
+lasts_status true = ok
+lasts_status false = wrong_range
+
 abbrev pub open_status : OpenError → ℕ
 open_status open_error.Memory = no_memory
 open_status open_error.Pages = wrong_pages
@@ -171,3 +188,8 @@ open_status open_error.Users = wrong_users
 open_status open_error.Lasts = wrong_lasts
 open_status open_error.Room = wrong_room
 open_status open_error.Hot = wrong_hot
+
+-- an answer by its status, or the status that came in its place
+abbrev pub told_status : {A : Type 0} → (A → ℕ) → Result A ℕ → ℕ
+told_status status (Ok answer) = status answer
+told_status status (Err refused) = refused

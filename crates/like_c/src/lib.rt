@@ -7,23 +7,33 @@ ghost use Rattle.like_c.specs.Closes.{ClosesAt, HoldItsSeats};
 ghost use Rattle.like_c.specs.Held.{ComesBackAt, DriverPhaseAt, DrivesAt, GlancesAt, HandsPhase, HandsSeat, LastAt, LastLikeAt, LastLikesAt, LikesAt, LooksAt, OpensAt, PhaseAt, PhaseNowAt, ProposesAt, RetiresAt, RunsAt, SnapshotAt, SplitPagesAt, TakesFoundAt, TurnsAt, end_of};
 ghost use Rattle.like_c.specs.Status.{version};
 
+mod boxed_client;
+mod boxed_shared;
+mod client_calls;
+mod client_handle;
+mod client_run;
 mod closing;
 mod driver_handle;
 mod opened;
 mod parts;
 mod phase_handle;
+mod phase_row;
 mod rows;
 mod seat_handle;
+mod shared_calls;
+mod shared_handle;
 mod status;
 
 use crate::closing::{check_seats, end};
 use crate::opened::Opened;
+pub use client_handle::ClientHandle;
 pub use driver_handle::DriverHandle;
 use like_live::End;
 pub use phase_handle::PhaseHandle;
 use rows::page_or_none;
 pub use rows::{AnswerRow, FoundRow, Options, RequestRow, rows_are_laid_out};
 pub use seat_handle::SeatHandle;
+pub use shared_handle::SharedHandle;
 use std::alloc::Global;
 
 /// 1,000 times the number of the ABI, plus a number within it.
@@ -39,7 +49,7 @@ pub extern "C" fn likes_version() -> u32
 
 /// Opens a service. The driver's handle has to be empty, and is full after `OK`.
 #[unsafe(no_mangle)]
-pub extern "C" fn likes_open_nonnull(
+pub extern "C" fn likes_proved_open(
     alloc: Global,
     options: &Options,
     counts: &[u64],
@@ -64,7 +74,7 @@ pub extern "C" fn likes_open_nonnull(
     }
 }
 
-/// Hands out the next seat. All boxes were made by `likes_open_nonnull`: this takes no memory.
+/// Hands out the next seat. All boxes were made by `likes_proved_open`: this takes no memory.
 #[unsafe(no_mangle)]
 pub extern "C" fn likes_driver_take_seat(driver: &mut DriverHandle, seat: &mut SeatHandle) -> u32
     ensures { HandsSeat driver.old.home seat.old.home result driver.new.home seat.new.home }
@@ -118,7 +128,7 @@ pub extern "C" fn likes_driver_turn(driver: &mut DriverHandle, end: u32) -> u32
 }
 
 // The end that this number names, if it names one.
-fn end_of(end: u32) -> Option<End>
+pub(crate) fn end_of(end: u32) -> Option<End>
     ensures { result ≡ end_of end }
 {
     match end {
@@ -130,7 +140,7 @@ fn end_of(end: u32) -> Option<End>
 }
 
 #[unsafe(no_mangle)]
-pub extern "C" fn likes_driver_snapshot_nonnull(
+pub extern "C" fn likes_proved_driver_snapshot(
     driver: &mut DriverHandle,
     from: u32,
     counts: &mut [u64],
@@ -162,7 +172,7 @@ pub extern "C" fn likes_driver_phase(driver: &mut DriverHandle) -> u64
 /// The pages that are split in the present or last split phase, as many as there is room for. The answer is how many were
 /// written.
 #[unsafe(no_mangle)]
-pub extern "C" fn likes_driver_split_pages_nonnull(
+pub extern "C" fn likes_proved_driver_split_pages(
     driver: &mut DriverHandle,
     pages: &mut [u32],
 ) -> usize
@@ -176,7 +186,7 @@ pub extern "C" fn likes_driver_split_pages_nonnull(
 
 /// Proposes these pages for slots from now on. If the list is empty, the service finds pages by sampling.
 #[unsafe(no_mangle)]
-pub extern "C" fn likes_driver_propose_nonnull(driver: &mut DriverHandle, pages: &[u32]) -> u32
+pub extern "C" fn likes_proved_driver_propose(driver: &mut DriverHandle, pages: &[u32]) -> u32
     ensures { ProposesAt pages.now driver.old.home result driver.new.home }
 {
     let Some(opened) = driver.get() else {
@@ -189,7 +199,7 @@ pub extern "C" fn likes_driver_propose_nonnull(driver: &mut DriverHandle, pages:
 /// The last counts of the pages from `from` on, once all seats are gone in a joined phase. No seats are given back, so
 /// no clause says whose likes they are.
 #[unsafe(no_mangle)]
-pub extern "C" fn likes_driver_last_counts_nonnull(
+pub extern "C" fn likes_proved_driver_last_counts(
     driver: &mut DriverHandle,
     from: u32,
     counts: &mut [u64],
@@ -212,7 +222,7 @@ pub extern "C" fn likes_driver_last_counts_nonnull(
 /// Ends a service, whose driver and seats its host hands back together, all gone and in order, and writes each page's
 /// last count. All handles are empty then. Otherwise nothing is done.
 #[unsafe(no_mangle)]
-pub extern "C" fn likes_close_nonnull(
+pub extern "C" fn likes_proved_close(
     alloc: Global,
     driver: &mut DriverHandle,
     seats: &mut [SeatHandle],
@@ -238,14 +248,14 @@ pub extern "C" fn likes_close_nonnull(
 }
 
 #[unsafe(no_mangle)]
-pub extern "C" fn likes_driver_free_nonnull(alloc: Global, driver: &mut DriverHandle)
+pub extern "C" fn likes_proved_driver_free(alloc: Global, driver: &mut DriverHandle)
     ensures { driver.new.home ≡ None }
 {
     drop(driver.take(alloc));
 }
 
 #[unsafe(no_mangle)]
-pub extern "C" fn likes_seat_like(seat: &mut SeatHandle, user: u32, page: u32) -> u32
+pub extern "C" fn likes_proved_seat_like(seat: &mut SeatHandle, user: u32, page: u32) -> u32
     ensures { LikesAt user page seat.old.home result seat.new.home }
 {
     let Some(boxed) = seat.get() else {
@@ -255,7 +265,7 @@ pub extern "C" fn likes_seat_like(seat: &mut SeatHandle, user: u32, page: u32) -
 }
 
 #[unsafe(no_mangle)]
-pub extern "C" fn likes_seat_look(
+pub extern "C" fn likes_proved_seat_look(
     seat: &mut SeatHandle,
     user: u32,
     page: u32,
@@ -274,7 +284,7 @@ pub extern "C" fn likes_seat_look(
 }
 
 #[unsafe(no_mangle)]
-pub extern "C" fn likes_seat_glance(
+pub extern "C" fn likes_proved_seat_glance(
     seat: &mut SeatHandle,
     user: u32,
     page: u32,
@@ -293,7 +303,7 @@ pub extern "C" fn likes_seat_glance(
 
 /// The page of a user's last like. A user who is refused leaves the number behind the pointer as it was.
 #[unsafe(no_mangle)]
-pub extern "C" fn likes_seat_last(seat: &mut SeatHandle, user: u32, page: &mut u32) -> u32
+pub extern "C" fn likes_proved_seat_last(seat: &mut SeatHandle, user: u32, page: &mut u32) -> u32
     ensures { LastLikeAt user seat.old.home page.old result page.new seat.new.home }
 {
     let Some(boxed) = seat.get() else {
@@ -310,7 +320,7 @@ pub extern "C" fn likes_seat_last(seat: &mut SeatHandle, user: u32, page: &mut u
 
 /// The last likes of a seat's users, from place `from` on.
 #[unsafe(no_mangle)]
-pub extern "C" fn likes_seat_lasts_nonnull(
+pub extern "C" fn likes_proved_seat_lasts(
     seat: &mut SeatHandle,
     from: u32,
     pages: &mut [u32],
@@ -328,7 +338,7 @@ pub extern "C" fn likes_seat_lasts_nonnull(
 }
 
 #[unsafe(no_mangle)]
-pub extern "C" fn likes_seat_take_found(seat: &mut SeatHandle, found: &mut FoundRow) -> bool
+pub extern "C" fn likes_proved_seat_take_found(seat: &mut SeatHandle, found: &mut FoundRow) -> bool
     ensures { TakesFoundAt seat.old.home found.old result found.new seat.new.home }
 {
     let Some(boxed) = seat.get() else {
@@ -346,7 +356,7 @@ pub extern "C" fn likes_seat_take_found(seat: &mut SeatHandle, found: &mut Found
 /// Runs requests one by one. It stops at the first that is `BETWEEN` or `NO_ROOM`, whose answer has that status, and at
 /// the end of the shorter array. Later answers are left as they were.
 #[unsafe(no_mangle)]
-pub extern "C" fn likes_seat_run_nonnull(
+pub extern "C" fn likes_proved_seat_run(
     seat: &mut SeatHandle,
     requests: &[RequestRow],
     answers: &mut [AnswerRow],
@@ -366,7 +376,7 @@ pub extern "C" fn likes_seat_run_nonnull(
 }
 
 #[unsafe(no_mangle)]
-pub extern "C" fn likes_seat_turn(seat: &mut SeatHandle) -> u32
+pub extern "C" fn likes_proved_seat_turn(seat: &mut SeatHandle) -> u32
     ensures { TurnsAt seat.old.home result seat.new.home }
 {
     let Some(boxed) = seat.get() else {
@@ -376,7 +386,7 @@ pub extern "C" fn likes_seat_turn(seat: &mut SeatHandle) -> u32
 }
 
 #[unsafe(no_mangle)]
-pub extern "C" fn likes_seat_retire(seat: &mut SeatHandle) -> u32
+pub extern "C" fn likes_proved_seat_retire(seat: &mut SeatHandle) -> u32
     ensures { RetiresAt seat.old.home result seat.new.home }
 {
     let Some(boxed) = seat.get() else {
@@ -386,7 +396,7 @@ pub extern "C" fn likes_seat_retire(seat: &mut SeatHandle) -> u32
 }
 
 #[unsafe(no_mangle)]
-pub extern "C" fn likes_seat_come_back(seat: &mut SeatHandle) -> u32
+pub extern "C" fn likes_proved_seat_come_back(seat: &mut SeatHandle) -> u32
     ensures { ComesBackAt seat.old.home result seat.new.home }
 {
     let Some(boxed) = seat.get() else {
@@ -396,7 +406,7 @@ pub extern "C" fn likes_seat_come_back(seat: &mut SeatHandle) -> u32
 }
 
 #[unsafe(no_mangle)]
-pub extern "C" fn likes_seat_phase(seat: &mut SeatHandle) -> u64
+pub extern "C" fn likes_proved_seat_phase(seat: &mut SeatHandle) -> u64
     ensures { PhaseAt seat.old.home result seat.new.home }
 {
     match seat.get() {
@@ -406,7 +416,7 @@ pub extern "C" fn likes_seat_phase(seat: &mut SeatHandle) -> u64
 }
 
 #[unsafe(no_mangle)]
-pub extern "C" fn likes_seat_free_nonnull(alloc: Global, seat: &mut SeatHandle)
+pub extern "C" fn likes_proved_seat_free(alloc: Global, seat: &mut SeatHandle)
     ensures { seat.new.home ≡ None }
 {
     drop(seat.take(alloc));
@@ -425,7 +435,7 @@ pub extern "C" fn likes_phase_now(phase: &mut PhaseHandle) -> u64
 }
 
 #[unsafe(no_mangle)]
-pub extern "C" fn likes_phase_free_nonnull(alloc: Global, phase: &mut PhaseHandle)
+pub extern "C" fn likes_proved_phase_free(alloc: Global, phase: &mut PhaseHandle)
     ensures { phase.new.home ≡ None }
 {
     drop(phase.take(alloc));

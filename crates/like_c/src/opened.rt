@@ -10,9 +10,9 @@ use like_live::{Driver, LiveSeat, OpenError, Opening, PhaseNow, Service};
 use std::alloc::{AllocError, Global};
 
 // Padding at the end of a box: 128 bytes, which prevent false sharing between two boxes.
-type Apart = [u64; 16];
+pub(crate) type Apart = [u64; 16];
 
-const APART: Apart = [0; 16];
+pub(crate) const APART: Apart = [0; 16];
 
 /// A seat, as a type without parameters, so that a handle can own it.
 #[derive(Drop)]
@@ -81,7 +81,7 @@ impl Opened {
             return Err(OpenError::Memory);
         };
         let seats = boxed(alloc, seats)?;
-        let Ok(phase) = boxed_phase(alloc, &driver) else {
+        let Ok(phase) = boxed_phase(alloc, driver.phase_now()) else {
             return Err(OpenError::Memory);
         };
         let opened = Opened {
@@ -102,8 +102,8 @@ pub(crate) fn live_of(seat: BoxedSeat) -> LiveSeat<SharedPost>
     seat.live
 }
 
-// A value in a box.
-fn in_box<T: Drop>(alloc: Global, value: T) -> Result<Box<T, Global>, OpenError>
+/// A value in a box.
+pub(crate) fn in_box<T: Drop>(alloc: Global, value: T) -> Result<Box<T, Global>, OpenError>
     ensures boxed { IfOk result (λ b. b.value ≡ value) }
     ensures refused { IfErr result (λ error. error ≡ OpenError.Memory) }
 {
@@ -131,11 +131,12 @@ fn boxed(
     Ok(boxed)
 }
 
-fn boxed_phase(
+/// A phase in a box, if there is one.
+pub(crate) fn boxed_phase(
     alloc: Global,
-    driver: &Driver<Guided>,
+    phase: Result<PhaseNow, AllocError>,
 ) -> Result<Box<BoxedPhase, Global>, AllocError> {
-    let phase = driver.phase_now()?;
+    let phase = phase?;
     Ok(Box::new(
         alloc,
         BoxedPhase {
@@ -145,8 +146,13 @@ fn boxed_phase(
     )?)
 }
 
-// Tests every number of what C asks for.
-fn check(options: &Options, counts: &[u64], marks: &[u32], lasts: &[u32]) -> Result<(), OpenError>
+/// Tests every number of what C asks for.
+pub(crate) fn check(
+    options: &Options,
+    counts: &[u64],
+    marks: &[u32],
+    lasts: &[u32],
+) -> Result<(), OpenError>
     ensures { let asked = asked_of options.now counts.now marks.now lasts.now in
         MatchResult result (λ _. AreWithinLimits asked) (IsFirstWrong asked) }
 {
@@ -162,8 +168,8 @@ fn check(options: &Options, counts: &[u64], marks: &[u32], lasts: &[u32]) -> Res
     )
 }
 
-// The opening that C asks for.
-fn opening_of(
+/// The opening that C asks for.
+pub(crate) fn opening_of(
     alloc: Global,
     options: &Options,
     counts: &[u64],

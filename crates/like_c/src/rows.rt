@@ -2,11 +2,11 @@
 ghost use Rattle.std.specs.Prelude.{◌≡◌, ◌↔◌, IsTrue};
 ghost use Rattle.like_c.specs.Held.{IsUnreserved};
 ghost use Rattle.like_c.specs.Layout.{AreLaidOut};
-ghost use Rattle.like_c.specs.Rows.{found_row, glance_row, look_row, shown_row, status_row};
+ghost use Rattle.like_c.specs.Rows.{found_row, glance_row, look_row, shown_row, status_row, told_row};
 ghost use Rattle.like_tables.specs.LastLike.{page_or_none};
 
 use crate::status;
-use like_live::{Answer, Call, Found, GlanceAnswer, LookAnswer, Row};
+use like_live::{Answer, Call, Found, GlanceAnswer, LikePair, LookAnswer, Row};
 use like_seat::Seen;
 use like_tables::NO_PAGE;
 
@@ -40,6 +40,8 @@ const _: () = prove!(size_of::<RequestRow>() == 24);
 const _: () = prove!(size_of::<AnswerRow>() == 16);
 
 const _: () = prove!(size_of::<FoundRow>() == 48);
+
+const _: () = prove!(size_of::<LikePair>() == 8);
 
 impl Options {
     /// Whether no reserved field is in use.
@@ -140,6 +142,26 @@ impl AnswerRow {
             GlanceAnswer::Between => AnswerRow::of(status::BETWEEN),
             GlanceAnswer::Refused(verdict) => AnswerRow::of(status::of_verdict(verdict)),
             GlanceAnswer::Gone => AnswerRow::of(status::GONE),
+        }
+    }
+
+    #[inline(always)]
+    pub(crate) fn of_told_look(told: Result<LookAnswer, u32>) -> AnswerRow
+        ensures { result ≡ told_row look_row told }
+    {
+        match told {
+            Ok(answer) => AnswerRow::of_look(answer),
+            Err(refused) => AnswerRow::of(refused),
+        }
+    }
+
+    #[inline(always)]
+    pub(crate) fn of_told_glance(told: Result<GlanceAnswer, u32>) -> AnswerRow
+        ensures { result ≡ told_row glance_row told }
+    {
+        match told {
+            Ok(answer) => AnswerRow::of_glance(answer),
+            Err(refused) => AnswerRow::of(refused),
         }
     }
 }

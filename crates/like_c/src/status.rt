@@ -1,6 +1,6 @@
 //! The statuses of likes.h, and which answer has which.
 ghost use Rattle.std.specs.Prelude.{◌≡◌};
-ghost use Rattle.like_c.specs.Status.{driver_status, like_status, open_status, turn_status, verdict_status};
+ghost use Rattle.like_c.specs.Status.{driver_status, last_status, lasts_status, like_status, ok, open_status, snapshot_status, told_status, turn_status, verdict_status};
 
 use like_live::{DriverAnswer, LikeAnswer, OpenError, TurnAnswer};
 use like_requests::Verdict;
@@ -43,6 +43,10 @@ pub(crate) const ALL_TAKEN: u32 = 17;
 
 pub(crate) const GLIMPSED: u32 = 18;
 
+pub(crate) const BUSY: u32 = 19;
+
+pub(crate) const NO_FOUND: u32 = 20;
+
 pub(crate) const EMPTY: u32 = 100;
 
 pub(crate) const IN_USE: u32 = 101;
@@ -78,6 +82,10 @@ pub(crate) const WRONG_ROOM: u32 = 115;
 pub(crate) const WRONG_HOT: u32 = 116;
 
 pub(crate) const WRONG_LASTS: u32 = 117;
+
+pub(crate) const OPEN_CLIENT: u32 = 119;
+
+pub(crate) const UNKNOWN_SEAT: u32 = 1003;
 
 #[inline(always)]
 pub(crate) fn of_verdict(verdict: Verdict) -> u32
@@ -139,5 +147,73 @@ pub(crate) fn of_open(error: OpenError) -> u32
         OpenError::Room => WRONG_ROOM,
         OpenError::Hot => WRONG_HOT,
         OpenError::Memory => NO_MEMORY,
+    }
+}
+
+#[inline(always)]
+pub(crate) fn of_told_like(told: Result<LikeAnswer, u32>) -> u32
+    ensures { result ≡ told_status like_status told }
+{
+    match told {
+        Ok(answer) => of_like(answer),
+        Err(refused) => refused,
+    }
+}
+
+pub(crate) fn of_told_turn(told: Result<TurnAnswer, u32>) -> u32
+    ensures { result ≡ told_status turn_status told }
+{
+    match told {
+        Ok(answer) => of_turn(answer),
+        Err(refused) => refused,
+    }
+}
+
+pub(crate) fn of_told_driver(told: Result<DriverAnswer, u32>) -> u32
+    ensures { result ≡ told_status driver_status told }
+{
+    match told {
+        Ok(answer) => of_driver(answer),
+        Err(refused) => refused,
+    }
+}
+
+pub(crate) fn of_told_snapshot(told: Result<Option<u64>, u32>) -> u32
+    ensures { result ≡ told_status snapshot_status told }
+{
+    match told {
+        Ok(Some(_)) => COUNTED,
+        Ok(None) => NO_MOMENT,
+        Err(refused) => refused,
+    }
+}
+
+pub(crate) fn of_told_last(told: Result<bool, u32>) -> u32
+    ensures { result ≡ told_status last_status told }
+{
+    match told {
+        Ok(true) => COUNTED,
+        Ok(false) => NOT_ENDED,
+        Err(refused) => refused,
+    }
+}
+
+pub(crate) fn of_told_lasts(told: Result<bool, u32>) -> u32
+    ensures { result ≡ told_status lasts_status told }
+{
+    match told {
+        Ok(true) => OK,
+        Ok(false) => WRONG_RANGE,
+        Err(refused) => refused,
+    }
+}
+
+/// What is done, or the status that came in its place.
+pub(crate) fn of_done(told: Result<(), u32>) -> u32
+    ensures { result ≡ told_status (λ _. ok) told }
+{
+    match told {
+        Ok(()) => OK,
+        Err(refused) => refused,
     }
 }

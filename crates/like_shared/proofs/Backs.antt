@@ -2,24 +2,25 @@
 use Rattle.std.proofs.Common.{◌≡◌, suc, ◌<◌, List, [], ◌∷◌, ◌++◌, get_or, length, map, set, refl, sym, ap, ◌∙◌, arith}
 use Rattle.std.proofs.lemmas.List.{length-map, map-set}
 use Rattle.told_lock.specs.Deeds.{Named, named}
-use Rattle.told_lock.specs.Rights.{log_of, name_of, told_of}
+use Rattle.told_lock.specs.Rights.{name_of, told_of}
 use Rattle.told_lock.specs.declared.keeper.Keeper.{Keeper}
-use Rattle.told_lock.specs.declared.pass.Pass.{Pass}
 use Rattle.like_live.specs.LiveView.{LiveView}
 use Rattle.like_shared.specs.declared.deed.SeatDeed.{SeatDeed}
+use Rattle.like_shared.specs.declared.seat_call.SeatPass.{SeatPass}
+use Rattle.like_shared.specs.Passes.{log_at}
 use Rattle.like_shared.specs.Shared.{with_logs}
 use Rattle.like_shared.proofs.Places.{map-read}
 
 -- a pass more
-logs-more : (old : List (Named SeatDeed)) (done : List (Pass LiveView SeatDeed)) (p : Pass LiveView SeatDeed)
+logs-more : (old : List (Named SeatDeed)) (done : List SeatPass) (p : SeatPass)
     (t : Named SeatDeed) → length done < length old → t ≡ get_or (with_logs old done) (length done) []
-    → set (with_logs old done) (length done) (t ++ named (name_of p) (log_of p)) ≡ with_logs old (done ++ p ∷ [])
+    → set (with_logs old done) (length done) (t ++ named (name_of p.pass) (log_at p)) ≡ with_logs old (done ++ p ∷ [])
 logs-more [] done p t less at = absurd (omega arith)
-logs-more (x ∷ old) [] p t less at = λ i. (at i ++ named (name_of p) (log_of p)) ∷ old
+logs-more (x ∷ old) [] p t less at = λ i. (at i ++ named (name_of p.pass) (log_at p)) ∷ old
 logs-more (x ∷ old) (q ∷ done) p t less at =
-    ap (λ (l : List (Named SeatDeed)). (x ++ named (name_of q) (log_of q)) ∷ l) (logs-more old done p t (omega arith) at)
+    ap (λ (l : List (Named SeatDeed)). (x ++ named (name_of q.pass) (log_at q)) ∷ l) (logs-more old done p t (omega arith) at)
 
-logs-long : (old : List (Named SeatDeed)) (done : List (Pass LiveView SeatDeed))
+logs-long : (old : List (Named SeatDeed)) (done : List SeatPass)
     → length (with_logs old done) ≡ length old
 logs-long old [] = refl
 logs-long [] (q ∷ done) = refl
@@ -27,9 +28,9 @@ logs-long (x ∷ old) (q ∷ done) = ap suc (logs-long old done)
 
 -- its keeper took it back
 pub told-more : (old : List (Named SeatDeed)) (keepers : List (Keeper LiveView SeatDeed))
-    (done : List (Pass LiveView SeatDeed)) (k l : Keeper LiveView SeatDeed) (p : Pass LiveView SeatDeed)
+    (done : List SeatPass) (k l : Keeper LiveView SeatDeed) (p : SeatPass)
     → map told_of keepers ≡ with_logs old done → length done < length keepers → k ≡ get_or keepers (length done) k
-    → told_of l ≡ told_of k ++ named (name_of p) (log_of p)
+    → told_of l ≡ told_of k ++ named (name_of p.pass) (log_at p)
     → map told_of (set keepers (length done) l) ≡ with_logs old (done ++ p ∷ [])
 told-more old keepers done k l p is less at told =
     let here : get_or (map told_of keepers) (length done) [] ≡ told_of k =

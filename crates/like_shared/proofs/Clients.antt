@@ -1,59 +1,78 @@
 -- A client after calls of a seat.
-use Rattle.std.proofs.Common.{◌≡◌, ℕ, ◌<◌, List, [], ◌++◌, get_or, length, map, set, Result, Ok, Err, refl, sym, ap, ◌∙◌, arith}
+use Rattle.std.proofs.Common.{◌≡◌, ℕ, ◌<◌, Bool, List, [], ◌++◌, get_or, length, map, set, Result, Ok, Err, refl, sym, ap, ◌∙◌, arith}
 use Rattle.std.specs.Prelude.{MatchResult}
 use Rattle.std.specs.Vec.{with_item}
 use Rattle.std.proofs.lemmas.List.{map-set}
 use Rattle.std.proofs.lemmas.Slice.Zip.{AllZip-long}
-use Rattle.told_lock.specs.Rights.{IsIdle, log_of}
 use Rattle.told_lock.specs.declared.lock.Lock.{Lock}
-use Rattle.told_lock.specs.declared.pass.Pass.{Pass}
 use Rattle.like_live.specs.LiveView.{LiveView}
 use Rattle.like_shared.specs.declared.client.Client.{Client}
 use Rattle.like_shared.specs.declared.deed.SeatDeed.{SeatDeed}
 use Rattle.like_shared.specs.declared.deed.SeatDeeds.{SeatDeeds}
 use Rattle.like_shared.specs.declared.seat_call.Busy.{Busy}
+use Rattle.like_shared.specs.declared.seat_call.SeatPass.{SeatPass}
 use Rattle.like_shared.specs.declared.service.SharedService.{SharedService}
-use Rattle.like_shared.specs.Shared.{AreLogged, IsClient, seats_of, with_deeds}
+use Rattle.like_shared.specs.Passes.{IsReady, log_at}
+use Rattle.like_shared.specs.Shared.{AreLogged, HasSameLogs, IsClient, held_by, seats_of, with_deeds}
 use Rattle.like_shared.proofs.Places.{map-alike, map-read, zip-read, zip-set}
 
 -- the log at the seat has the calls behind it; if the seat was busy, all logs are as before
-logs-after : {A : Type 0} (result : Result A Busy) (deeds : A → List SeatDeed) (passes : List (Pass LiveView SeatDeed))
-    (seat : ℕ) (p q : Pass LiveView SeatDeed) → seat < length passes → p ≡ get_or passes seat p
-    → MatchResult result (λ told. log_of q ≡ log_of p ++ deeds told) (λ busy. log_of q ≡ log_of p)
-    → MatchResult result (λ told. map log_of (set passes seat q) ≡ with_deeds (map log_of passes) seat (deeds told))
-    (λ busy. map log_of (set passes seat q) ≡ map log_of passes)
+logs-after : {A : Type 0} (result : Result A Busy) (deeds : A → List SeatDeed) (passes : List SeatPass) (seat : ℕ)
+    (p q : SeatPass) → seat < length passes → p ≡ get_or passes seat p
+    → MatchResult result (λ told. log_at q ≡ log_at p ++ deeds told) (λ busy. log_at q ≡ log_at p)
+    → MatchResult result (λ told. map log_at (set passes seat q) ≡ with_deeds (map log_at passes) seat (deeds told))
+    (λ busy. map log_at (set passes seat q) ≡ map log_at passes)
 logs-after (Ok told) deeds passes seat p q less at log =
-    map-set log_of passes seat q
-    ∙ ap (set (map log_of passes) seat)
-    (log ∙ ap (λ (l : List SeatDeed). l ++ deeds told) (sym (map-read log_of passes seat p [] less at)))
-logs-after (Err busy) deeds passes seat p q less at log = map-alike log_of passes seat p q less at log
+    map-set log_at passes seat q
+    ∙ ap (set (map log_at passes) seat)
+    (log ∙ ap (λ (l : List SeatDeed). l ++ deeds told) (sym (map-read log_at passes seat p [] less at)))
+logs-after (Err busy) deeds passes seat p q less at log = map-alike log_at passes seat p q less at log
 
 module _ (s : SharedService) (c : Client) (seat : ℕ) (is : IsClient s c) (less : seat < seats_of s) where
   -- a client has a pass of each seat
   pub pass-there : seat < length c.seats.items
   pass-there =
-      let long = AllZip-long IsIdle s.seats.items c.seats.items is.seats in
+      let long = AllZip-long IsReady s.seats.items c.seats.items is.seats in
       omega (arith, less, long)
 
   -- that of the lock
-  pub pass-idle : (lock : Lock LiveView SeatDeed SeatDeeds) (p : Pass LiveView SeatDeed)
-      → lock ≡ get_or s.seats.items seat lock → p ≡ get_or c.seats.items seat p → IsIdle lock p
-  pass-idle lock p here at = zip-read IsIdle s.seats.items c.seats.items seat lock p is.seats less here at
+  pub pass-ready : (lock : Lock LiveView SeatDeed SeatDeeds) (p : SeatPass) → lock ≡ get_or s.seats.items seat lock
+      → p ≡ get_or c.seats.items seat p → IsReady lock p
+  pass-ready lock p here at = zip-read IsReady s.seats.items c.seats.items seat lock p is.seats less here at
+
+  -- the client with another pass of the seat
+  abbrev pub with_pass : SeatPass → Client
+  with_pass q = record c { seats = with_item c.seats seat q }
 
   -- with another pass of this lock it is a client still
-  pub client-after : (lock : Lock LiveView SeatDeed SeatDeeds) (q : Pass LiveView SeatDeed)
-      → lock ≡ get_or s.seats.items seat lock → IsIdle lock q
-      → IsClient s (record c { seats = with_item c.seats seat q })
-  client-after lock q here idle = record {
+  pub client-after : (lock : Lock LiveView SeatDeed SeatDeeds) (q : SeatPass) → lock ≡ get_or s.seats.items seat lock
+      → IsReady lock q → IsClient s (with_pass q)
+  client-after lock q here ready = record {
     some = is.some;
-    seats = zip-set IsIdle s.seats.items c.seats.items seat lock q is.seats less here idle;
+    seats = zip-set IsReady s.seats.items c.seats.items seat lock q is.seats less here ready;
     driver = is.driver;
   }
 
-  -- and its log has what was done
-  pub logged-after : {A : Type 0} (result : Result A Busy) (deeds : A → List SeatDeed) (p q : Pass LiveView SeatDeed)
-      → p ≡ get_or c.seats.items seat p
-      → MatchResult result (λ told. log_of q ≡ log_of p ++ deeds told) (λ busy. log_of q ≡ log_of p)
-      → AreLogged c seat deeds result (record c { seats = with_item c.seats seat q })
-  logged-after result deeds p q at log =
-      record { seats = logs-after result deeds c.seats.items seat p q pass-there at log; driver = refl }
+  module _ (p q : SeatPass) (at : p ≡ get_or c.seats.items seat p) where
+    -- it holds the seats that it held
+    pub held-same : q.is_held ≡ p.is_held → held_by (with_pass q) ≡ held_by c
+    held-same same = map-alike (λ (x : SeatPass). x.is_held) c.seats.items seat p q pass-there at same
+
+    -- its log has what was done, and it holds what it held
+    pub logged-after : {A : Type 0} (result : Result A Busy) (deeds : A → List SeatDeed)
+        → MatchResult result (λ told. log_at q ≡ log_at p ++ deeds told) (λ busy. log_at q ≡ log_at p)
+        → q.is_held ≡ p.is_held → AreLogged c seat deeds result (with_pass q)
+    logged-after result deeds log same = record {
+      seats = logs-after result deeds c.seats.items seat p q pass-there at log;
+      driver = refl;
+      held = held-same same;
+    }
+
+    -- its logs are as before
+    pub logs-same : log_at q ≡ log_at p → HasSameLogs c (with_pass q)
+    logs-same log = record { seats = map-alike log_at c.seats.items seat p q pass-there at log; driver = refl }
+
+  -- it holds the seat or not, as the pass says
+  pub held-set : (q : SeatPass) (b : Bool) → q.is_held ≡ b → held_by (with_pass q) ≡ set (held_by c) seat b
+  held-set q b is-b =
+      map-set (λ (x : SeatPass). x.is_held) c.seats.items seat q ∙ ap (set (held_by c) seat) is-b

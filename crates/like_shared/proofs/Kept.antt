@@ -24,7 +24,7 @@ keepers-set : IsSet ServiceKeeper
 keepers-set = Coded-set the_row.coded
 
 -- what can be put into a type that is equal in one way, and read again, is equal in one way
-part-set : {A B : Type 0} → IsSet A → (put : B → A) (get : A → B) → ((b : B) → get (put b) ≡ b) → IsSet B
+pub part-set : {A B : Type 0} → IsSet A → (put : B → A) (get : A → B) → ((b : B) → get (put b) ≡ b) → IsSet B
 part-set set put get back =
     collapsible→set (λ x y p. sym (back x) ∙ ap get (ap put p) ∙ back y)
     (λ x y p q. ap (λ z. sym (back x) ∙ ap get z ∙ back y) (set (put x) (put y) (ap put p) (ap put q)))
@@ -50,7 +50,7 @@ driver-set k =
     part-set keepers-set (λ (x : Keeper DriverView DriverDeed). record k { driver = x })
     (λ (z : ServiceKeeper). z.driver) (λ x. refl)
 
-keeper-prop : {T C D : Type 0} → IsSet (Keeper T C) → (lock : Lock T C D) (k : Keeper T C) → IsProp (IsKeeper lock k)
+pub keeper-prop : {T C D : Type 0} → IsSet (Keeper T C) → (lock : Lock T C D) (k : Keeper T C) → IsProp (IsKeeper lock k)
 keeper-prop {T} {C} set lock k p q = λ i. record {
   here = part-set set (λ id. record k { seat = record k.seat { table_id = id } })
       (λ (l : Keeper T C). l.seat.table_id) (λ id. refl) _ _ p.here q.here i;
@@ -58,7 +58,7 @@ keeper-prop {T} {C} set lock k p q = λ i. record {
       (λ m. refl) _ _ p.keeping q.keeping i;
 }
 
-zip-prop : {A B : Type 0} (R : A → B → Type 0) → ((a : A) (b : B) → IsProp (R a b)) → (xs : List A) (ys : List B)
+pub zip-prop : {A B : Type 0} (R : A → B → Type 0) → ((a : A) (b : B) → IsProp (R a b)) → (xs : List A) (ys : List B)
     → IsProp (AllZip R xs ys)
 zip-prop R one [] [] = Unit-prop
 zip-prop R one [] (y ∷ ys) = λ p. absurd p

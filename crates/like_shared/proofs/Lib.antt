@@ -4,6 +4,8 @@ pub mod Clients
 pub mod Closing
 pub mod Desks
 pub mod Kept
+pub mod LikeRows
+pub mod OwnClients
 pub mod Places
 pub mod Rows
 pub mod Runs

@@ -50,7 +50,7 @@ works-same v after ending told (reports s split e a m is) =
     subst (IsSameSeat v) (sym (is ∙ ap (with_station v) end))
     (record { board = refl; worker = refl; marks = refl; share = refl })
 
-moves-same : (v after : LiveView) (told : TurnAnswer) → Moves v told after → IsSameSeat v after
+pub moves-same : (v after : LiveView) (told : TurnAnswer) → Moves v told after → IsSameSeat v after
 moves-same v after told (is_gone gone a is) = subst (IsSameSeat v) (sym is) (same-seat v)
 moves-same v after told (waits sight mask can w a is) =
     subst (IsSameSeat v) (sym is) (Leaves-looked v sight mask (number_of after.station.post)).same

@@ -34,12 +34,14 @@ use Rattle.like_shared.proofs.Runs.{driver-runs}
 calls-of : (v w : LiveView) (d : SeatDeed) → SeatMakes v d w → HasDone v (calls_of d) w
 calls-of v w (deed.Turn answer) made = (w, (made, refl))
 calls-of v w (deed.Like user page answer) made = (w, (made, refl))
+calls-of v w (deed.LikeOn user page) made = (w, (made, refl))
 calls-of v w (deed.Look user page tag answer) made = (w, (made, refl))
 calls-of v w (deed.Glance user page answer) made = (w, (made, refl))
 calls-of v w (deed.TakeFound taken) made = (w, (made, refl))
 calls-of v w (deed.Retire answer) made = (w, (made, refl))
 calls-of v w (deed.ComeBack answer) made = (w, (made, refl))
 calls-of v w (deed.Last user answer) made = made.1
+calls-of v w (deed.Lasts from pages is_done) made = made.1
 
 -- deeds, one after the other, are calls of a history
 pub done-of : (v w : LiveView) (ds : List SeatDeed) → HasRun SeatDoes v ds w → HasDone v (flat_map calls_of ds) w

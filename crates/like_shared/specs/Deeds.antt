@@ -1,37 +1,47 @@
 -- The calls that clients make, with their answers, and what they do.
-use Rattle.std.specs.Prelude.{◌≡◌, ℕ, ◌≤◌, List, [], ◌∷◌, length, take}
+use Rattle.std.specs.Prelude.{◌≡◌, ◌↔◌, ℕ, ◌+◌, ◌≤◌, Bool, IsTrue, List, [], ◌∷◌, length, take}
 use Rattle.like_choice.specs.Slots.{pages_in_use}
 use Rattle.like_limits.specs.Limits.{hot_pages}
+use Rattle.like_live.specs.declared.answer.LikeAnswer.TheVariants.{Liked}
 use Rattle.like_live.specs.Driver.{DriverTurns, DriverView, IsSameDriver, TakesLast, TakesSnapshot}
-use Rattle.like_live.specs.History.{Does, Told, come_back, glance, like, likes_told, look, retire, take_found, turn}
-use Rattle.like_live.specs.Lasts.{TellsLast}
+use Rattle.like_live.specs.History.{Does, Told, come_back, glance, like, like_on, likes_told, look, retire, take_found, turn}
+use Rattle.like_live.specs.Lasts.{AreLastsAt, TellsLast, users_of}
 use Rattle.like_live.specs.LiveView.{IsSameSeat, LiveView}
 use Rattle.like_shared.specs.declared.deed.DriverDeed.{DriverDeed}
 use Rattle.like_shared.specs.declared.deed.DriverDeed.TheVariants as driver
 use Rattle.like_shared.specs.declared.deed.SeatDeed.{SeatDeed}
 use Rattle.like_shared.specs.declared.deed.SeatDeed.TheVariants as deed
 
--- the call of a history that a deed is: one, or none if it only tells a last like
+-- the call of a history that a deed is: one, or none if it only tells last likes
 abbrev pub calls_of : SeatDeed → List Told
 calls_of (deed.Turn answer) = turn answer ∷ []
 calls_of (deed.Like user page answer) = like user page answer ∷ []
+calls_of (deed.LikeOn user page) = like_on user page Liked ∷ []
 calls_of (deed.Look user page tag answer) = look user page tag answer ∷ []
 calls_of (deed.Glance user page answer) = glance user page answer ∷ []
 calls_of (deed.TakeFound taken) = take_found taken ∷ []
 calls_of (deed.Retire answer) = retire answer ∷ []
 calls_of (deed.ComeBack answer) = come_back answer ∷ []
 calls_of (deed.Last user answer) = []
+calls_of (deed.Lasts from pages is_done) = []
+
+-- the last likes of a seat's users, from a place on, are told if it has so many users
+pub record TellsLasts (v : LiveView) (from : ℕ) (pages : List ℕ) (is_done : Bool) : Type 0 where
+  pub there : IsTrue is_done ↔ (from + length pages ≤ users_of v)
+  pub lasts : IsTrue is_done → AreLastsAt v from pages
 
 -- a call of a seat, with its answer
 abbrev pub SeatMakes : LiveView → SeatDeed → LiveView → Type 0
 SeatMakes v (deed.Turn answer) w = Does v (turn answer) w
 SeatMakes v (deed.Like user page answer) w = Does v (like user page answer) w
+SeatMakes v (deed.LikeOn user page) w = Does v (like_on user page Liked) w
 SeatMakes v (deed.Look user page tag answer) w = Does v (look user page tag answer) w
 SeatMakes v (deed.Glance user page answer) w = Does v (glance user page answer) w
 SeatMakes v (deed.TakeFound taken) w = Does v (take_found taken) w
 SeatMakes v (deed.Retire answer) w = Does v (retire answer) w
 SeatMakes v (deed.ComeBack answer) w = Does v (come_back answer) w
 SeatMakes v (deed.Last user answer) w = TellsLast v user answer × (w ≡ v)
+SeatMakes v (deed.Lasts from pages is_done) w = TellsLasts v from pages is_done × (w ≡ v)
 
 -- what a deed does to a seat, which stays the same one
 abbrev pub SeatDoes : LiveView → SeatDeed → LiveView → Type 0

@@ -1,7 +1,8 @@
 -- What a hub's calls do at its desk, and its end.
 use Rattle.std.specs.Prelude.{ℕ, List, [], ◌∷◌, Result, Err, ⊤}
 use Rattle.told_lock.specs.Deeds.{HasRun, Leads, Named}
-use Rattle.told_lock.specs.Rights.{first_of}
+use Rattle.told_lock.specs.Rights.{IsHolding, first_of}
+use Rattle.told_lock.specs.declared.pass.Pass.{Pass}
 use Rattle.like_shared.specs.declared.desk.DeskDeed.{DeskDeed}
 use Rattle.like_shared.specs.declared.desk.DeskDeed.TheVariants.{Made}
 use Rattle.like_shared.specs.declared.hub.Hub.{Hub}
@@ -13,6 +14,11 @@ use Rattle.like_shared.specs.declared.service.NotClosed.{NotClosed}
 use Rattle.like_shared.specs.declared.service.ServiceKeeper.{ServiceKeeper}
 use Rattle.like_shared.specs.Closed.{IsClosedShared, IsNotClosed}
 use Rattle.like_shared.specs.Desk.{DeskDoes}
+use Rattle.like_shared.specs.Shared.{IsServiceKeeper}
+
+-- a card is at the desk, and has the keeper
+abbrev pub IsAtDesk : Hub → Pass ServiceKeeper DeskDeed → Type 0
+IsAtDesk h card = (k : ServiceKeeper) × IsHolding h.desk card k k × IsServiceKeeper h.service k
 
 -- what a call for a client does at the desk: nothing, if another thread was there
 abbrev pub done_for : {A : Type 0} → Result A NoClient → List DeskDeed

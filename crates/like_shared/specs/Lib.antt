@@ -3,6 +3,7 @@ pub mod Closed
 pub mod Deeds
 pub mod Desk
 pub mod Hubs
+pub mod Passes
 pub mod Rows
 pub mod Shared
 pub mod Staying

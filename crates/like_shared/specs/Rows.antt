@@ -1,11 +1,16 @@
--- The deeds of rows of calls.
-use Rattle.std.specs.Prelude.{◌≡◌, ℕ, ◌+◌, ◌<◌, ◌≤◌, List, [], ◌∷◌, flat_map, length, slice_get, take, Some, ⊤}
+-- The deeds of rows of calls, and of rows of likes.
+use Rattle.std.specs.Prelude.{◌≡◌, ◌≢◌, ℕ, ◌+◌, ◌<◌, ◌≤◌, List, [], ◌∷◌, flat_map, length, map, slice_get, take, Some, ⊤}
 use Rattle.std.specs.List.{zip}
+use Rattle.like_live.specs.declared.answer.LikeAnswer.TheVariants.{Liked}
+use Rattle.like_live.specs.declared.answer.TurnAnswer.TheVariants.{Runs}
 use Rattle.like_live.specs.declared.call.Answer.{Answer}
 use Rattle.like_live.specs.declared.call.Answer.TheVariants as answer
 use Rattle.like_live.specs.declared.call.Call.{Call}
 use Rattle.like_live.specs.declared.call.Call.TheVariants as call
+use Rattle.like_live.specs.declared.like_pair.LikePair.{LikePair}
+use Rattle.like_live.specs.declared.like_pair.RowAnswer.{RowAnswer}
 use Rattle.like_live.specs.Batch.{IsPutOff}
+use Rattle.like_live.specs.LikeRow.{turn_of}
 use Rattle.like_shared.specs.declared.deed.SeatDeed.{SeatDeed}
 use Rattle.like_shared.specs.declared.deed.SeatDeed.TheVariants as deed
 
@@ -39,3 +44,15 @@ pub record AreAnswered (rows : List Call) (old answers : List Answer) (done : �
       → IsAnswerTo c a × IsPutOff a
   pub later : (i : ℕ) → done < i → slice_get answers i ≡ slice_get old i
   pub unasked : (i : ℕ) → length rows ≤ i → slice_get answers i ≡ slice_get old i
+
+-- the deeds of a row of likes: a turn, and then the likes that were counted
+abbrev pub deeds_of_likes : List LikePair → RowAnswer → List SeatDeed
+deeds_of_likes likes told =
+    deed.Turn (turn_of told.answer) ∷ map (λ p. deed.LikeOn p.user p.page) (take told.counted likes)
+
+-- what a row of likes is told: how many were counted, which are all if it says `Liked`, and none if the seat runs no
+-- phase
+pub record IsToldOf (likes : List LikePair) (told : RowAnswer) : Type 0 where
+  pub few : told.counted ≤ length likes
+  pub all : told.answer ≡ Liked → told.counted ≡ length likes
+  pub none : turn_of told.answer ≢ Runs → told.counted ≡ 0

@@ -1,10 +1,9 @@
 -- A shared service, its keeper and its clients.
-use Rattle.std.specs.Prelude.{◌≡◌, ℕ, ◌+◌, ◌^◌, ◌<◌, ◌≤◌, All, List, [], ◌∷◌, ◌++◌, length, map, MatchResult, Result, slice_index_or, slice_set, vec_capacity}
+use Rattle.std.specs.Prelude.{◌≡◌, ℕ, ◌+◌, ◌^◌, ◌<◌, ◌≤◌, All, Bool, List, [], ◌∷◌, ◌++◌, length, map, MatchResult, Result, slice_index_or, slice_set, vec_capacity}
 use Rattle.std.specs.List.{AllZip}
 use Rattle.told_lock.specs.Deeds.{Named, named}
 use Rattle.told_lock.specs.Rights.{IsIdle, IsKeeper, first_of, log_of, name_of, told_of}
 use Rattle.told_lock.specs.declared.keeper.Keeper.{Keeper}
-use Rattle.told_lock.specs.declared.pass.Pass.{Pass}
 use Rattle.like_live.specs.Driver.{DriverView}
 use Rattle.like_live.specs.LiveView.{LiveView}
 use Rattle.like_live.specs.Service.{AreItsSeats}
@@ -12,9 +11,11 @@ use Rattle.like_shared.specs.declared.client.Client.{Client}
 use Rattle.like_shared.specs.declared.deed.DriverDeed.{DriverDeed}
 use Rattle.like_shared.specs.declared.deed.SeatDeed.{SeatDeed}
 use Rattle.like_shared.specs.declared.seat_call.Busy.{Busy}
+use Rattle.like_shared.specs.declared.seat_call.SeatPass.{SeatPass}
 use Rattle.like_shared.specs.declared.service.ServiceKeeper.{ServiceKeeper}
 use Rattle.like_shared.specs.declared.service.SharedService.{SharedService}
 use Rattle.like_shared.specs.Deeds.{pages_at}
+use Rattle.like_shared.specs.Passes.{IsReady, log_at}
 
 -- the driver and the seats with which it was opened
 abbrev pub first_driver : SharedService → DriverView
@@ -47,29 +48,35 @@ seats_told k = map told_of k.seats.items
 abbrev pub driver_told : ServiceKeeper → Named DriverDeed
 driver_told k = told_of k.driver
 
--- a client of this service
+-- a client of this service, which may hold seats
 pub record IsClient (s : SharedService) (c : Client) : Type 0 where
   pub some : 1 ≤ seats_of s
-  pub seats : AllZip IsIdle s.seats.items c.seats.items
+  pub seats : AllZip IsReady s.seats.items c.seats.items
   pub driver : IsIdle s.driver c.driver
 
 -- its log: its deeds at each seat, and at the driver
 abbrev pub seat_logs : Client → List (List SeatDeed)
-seat_logs c = map log_of c.seats.items
+seat_logs c = map log_at c.seats.items
 
 abbrev pub driver_log : Client → List DriverDeed
 driver_log c = log_of c.driver
+
+-- which seats it holds
+abbrev pub held_by : Client → List Bool
+held_by c = map (λ p. p.is_held) c.seats.items
 
 -- the logs, with these deeds behind the one at this seat
 abbrev pub with_deeds : List (List SeatDeed) → ℕ → List SeatDeed → List (List SeatDeed)
 with_deeds logs seat ds = slice_set logs seat (slice_index_or logs seat [] ++ ds)
 
--- calls of a seat are in a client's log, with what they were told; or the seat was busy, and the log is as before
+-- calls of a seat are in a client's log, with what they were told; or the seat was busy, and the log is as before. It
+-- holds the seats that it held
 pub record AreLogged {A : Type 0} (before : Client) (seat : ℕ) (deeds : A → List SeatDeed) (result : Result A Busy)
     (after : Client) : Type 0 where
   pub seats : MatchResult result (λ told. seat_logs after ≡ with_deeds (seat_logs before) seat (deeds told))
       (λ busy. seat_logs after ≡ seat_logs before)
   pub driver : driver_log after ≡ driver_log before
+  pub held : held_by after ≡ held_by before
 
 -- so is one call
 abbrev pub IsLogged : {A : Type 0} → Client → ℕ → (A → SeatDeed) → Result A Busy → Client → Type 0
@@ -81,12 +88,18 @@ pub record IsDriverLogged {A : Type 0} (before : Client) (deed : A → DriverDee
   pub driver : MatchResult result (λ told. driver_log after ≡ driver_log before ++ deed told ∷ [])
       (λ busy. driver_log after ≡ driver_log before)
   pub seats : seat_logs after ≡ seat_logs before
+  pub held : held_by after ≡ held_by before
+
+-- a client does nothing, but may hold other seats
+pub record HasSameLogs (before after : Client) : Type 0 where
+  pub seats : seat_logs after ≡ seat_logs before
+  pub driver : driver_log after ≡ driver_log before
 
 -- what was told at each seat, and then these logs of a client
-abbrev pub with_logs : List (Named SeatDeed) → List (Pass LiveView SeatDeed) → List (Named SeatDeed)
+abbrev pub with_logs : List (Named SeatDeed) → List SeatPass → List (Named SeatDeed)
 with_logs told [] = told
 with_logs [] (p ∷ passes) = []
-with_logs (told ∷ rest) (p ∷ passes) = (told ++ named (name_of p) (log_of p)) ∷ with_logs rest passes
+with_logs (told ∷ rest) (p ∷ passes) = (told ++ named (name_of p.pass) (log_at p)) ∷ with_logs rest passes
 
 -- its keeper can make a pass
 abbrev pub HasRoom : Keeper LiveView SeatDeed → Type 0

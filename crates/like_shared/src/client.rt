@@ -1,12 +1,12 @@
 //! A thread's client of a shared service, and its calls.
-ghost use Rattle.std.specs.Prelude.{◌≡◌, ◌+◌, ◌<◌, ◌≤◌, IfNone, IsFalse, MatchResult, drop, length};
+ghost use Rattle.std.specs.Prelude.{◌≡◌, ◌+◌, ◌<◌, ◌≤◌, IfNone, IfOk, IsFalse, MatchResult, drop, false, length, slice_set, true};
 ghost use Rattle.like_requests.specs.Verdict.{home};
 ghost use Rattle.like_shared.specs.declared.deed.DriverDeed.TheVariants as driver_deed;
 ghost use Rattle.like_shared.specs.declared.deed.SeatDeed.TheVariants as deed;
-ghost use Rattle.like_shared.specs.Rows.{AreAnswered, deeds_of_rows};
-ghost use Rattle.like_shared.specs.Shared.{AreLogged, IsClient, IsDriverLogged, IsLogged, pages_of, seats_of};
+ghost use Rattle.like_shared.specs.Rows.{AreAnswered, IsToldOf, deeds_of_likes, deeds_of_rows};
+ghost use Rattle.like_shared.specs.Shared.{AreLogged, HasSameLogs, IsClient, IsDriverLogged, IsLogged, held_by, pages_of, seats_of};
 
-use crate::driver::{DriverPass, try_drive};
+use crate::driver::{DriverCall, DriverPass, try_drive};
 use crate::driver_calls::{
     DriverTurnCall, LastCountsCall, ProposeCall, SnapshotCall, SplitPagesCall,
 };
@@ -14,14 +14,18 @@ use crate::seat_call::{Busy, SeatCall, SeatPass, try_call};
 use crate::seat_calls::{
     ComeBackCall, GlanceCall, LastCall, LikeCall, LookCall, RetireCall, TakeFoundCall, TurnCall,
 };
-use crate::seat_rows::try_run;
+use crate::seat_lock::{try_lock, unlock};
+use crate::seat_row::{SeatRow, try_row};
+use crate::seat_rows::{CallRow, LastsRow, LikeRow};
 use crate::service::SharedService;
 use like_live::{
-    Answer, Call, DriverAnswer, End, Found, GlanceAnswer, LikeAnswer, LookAnswer, TurnAnswer,
+    Answer, Call, DriverAnswer, End, Found, GlanceAnswer, LikeAnswer, LikePair, LookAnswer,
+    RowAnswer, TurnAnswer,
 };
 use like_requests::Verdict;
 
-/// The right of one thread to call a shared service: a pass of each seat, and one of its driver.
+/// The right of one thread to call a shared service: a pass of each seat, and one of its driver. It may hold seats, which
+/// it then calls without taking them.
 #[derive(Drop)]
 pub struct Client {
     pub(crate) seats: Vec<SeatPass>,
@@ -153,7 +157,67 @@ impl Client {
         ensures answers { MatchResult result (AreAnswered rows.now answers.old answers.new)
             (λ _. answers.new ≡ answers.old) }
     {
-        try_run(&service.seats[seat], &mut self.seats[seat], rows, answers)
+        self.row(service, seat, &CallRow { calls: rows }, answers)
+    }
+
+    /// Counts likes of a seat's users in their order, up to the first that isn't counted. It makes one look at the phase
+    /// word for all of them, and writes no answer for each.
+    pub fn like_row(
+        &mut self,
+        service: &SharedService,
+        seat: usize,
+        likes: &[LikePair],
+    ) -> Result<RowAnswer, Busy>
+        requires client { IsClient service.now self.old }
+        requires seat { seat < seats_of service.now }
+        ensures client { IsClient service.now self.new }
+        ensures log { AreLogged self.old seat (deeds_of_likes likes.now) result self.new }
+        ensures told { IfOk result (IsToldOf likes.now) }
+    {
+        self.row(service, seat, &LikeRow { likes }, &mut [])
+    }
+
+    /// Writes the last likes of a seat's users, from place `from` on: each one's page, or `NO_PAGE`. At place `i` of seat
+    /// `s` is user `i * seats + s`. The answer says whether the seat has so many users. Otherwise nothing is written.
+    pub fn lasts(
+        &mut self,
+        service: &SharedService,
+        seat: usize,
+        from: u32,
+        pages: &mut [u32],
+    ) -> Result<bool, Busy>
+        requires client { IsClient service.now self.old }
+        requires seat { seat < seats_of service.now }
+        ensures client { IsClient service.now self.new }
+        ensures log { IsLogged self.old seat (deed.Lasts from pages.new) result self.new }
+        ensures pages { MatchResult result (λ is_done. IsFalse is_done → pages.new ≡ pages.old)
+            (λ _. pages.new ≡ pages.old) }
+    {
+        self.row(service, seat, &LastsRow { from }, pages)
+    }
+
+    /// Locks a seat: this client holds it until `unlock`, and its calls there take nothing. Other clients are told `Busy`
+    /// there.
+    pub fn lock(&mut self, service: &SharedService, seat: usize) -> Result<(), Busy>
+        requires client { IsClient service.now self.old }
+        requires seat { seat < seats_of service.now }
+        ensures client { IsClient service.now self.new }
+        ensures held { MatchResult result (λ _. held_by self.new ≡ slice_set (held_by self.old) seat true)
+            (λ _. held_by self.new ≡ held_by self.old) }
+        ensures logs { HasSameLogs self.old self.new }
+    {
+        try_lock(&service.seats[seat], &mut self.seats[seat])
+    }
+
+    /// Unlocks a seat. If this client doesn't hold it, nothing is done.
+    pub fn unlock(&mut self, service: &SharedService, seat: usize)
+        requires client { IsClient service.now self.old }
+        requires seat { seat < seats_of service.now }
+        ensures client { IsClient service.now self.new }
+        ensures held { held_by self.new ≡ slice_set (held_by self.old) seat false }
+        ensures logs { HasSameLogs self.old self.new }
+    {
+        unlock(&service.seats[seat], &mut self.seats[seat]);
     }
 
     // Makes a call of a user's seat.
@@ -171,9 +235,10 @@ impl Client {
         self.call(service, service.seat_of(user), call)
     }
 
-    // Makes a call of a seat.
+    /// Makes a call of a seat. If a call of a user names its seat, no user's seat has to be found: at any other seat the
+    /// user is refused, as `OtherHome`.
     #[inline(always)]
-    fn call<Q: SeatCall>(
+    pub fn call<Q: SeatCall>(
         &mut self,
         service: &SharedService,
         seat: usize,
@@ -187,18 +252,31 @@ impl Client {
         try_call(&service.seats[seat], &mut self.seats[seat], call)
     }
 
+    /// Makes the calls of a row at a seat, under one taking of its lock.
+    pub fn row<Q: SeatRow>(
+        &mut self,
+        service: &SharedService,
+        seat: usize,
+        row: &Q,
+        places: &mut [Q::Written],
+    ) -> Result<Q::Answer, Busy>
+        requires client { IsClient service.now self.old }
+        requires seat { seat < seats_of service.now }
+        ensures client { IsClient service.now self.new }
+        ensures log { AreLogged self.old seat (λ answer. Q.deeds row.now answer places.new) result self.new }
+        ensures places { MatchResult result (λ answer. Q.writes row.now answer places.old places.new)
+            (λ _. places.new ≡ places.old) }
+    {
+        try_row(&service.seats[seat], &mut self.seats[seat], row, places)
+    }
+
     /// Has the driver take a turn.
     pub fn turn_driver(&mut self, service: &SharedService, end: End) -> Result<DriverAnswer, Busy>
         requires { IsClient service.now self.old }
         ensures client { IsClient service.now self.new }
         ensures log { IsDriverLogged self.old (driver_deed.Turn end) result self.new }
     {
-        try_drive(
-            &service.driver,
-            &mut self.driver,
-            &DriverTurnCall { end },
-            &mut [],
-        )
+        self.drive(service, &DriverTurnCall { end }, &mut [])
     }
 
     /// Proposes these pages for slots.
@@ -207,12 +285,7 @@ impl Client {
         ensures client { IsClient service.now self.new }
         ensures log { IsDriverLogged self.old (λ _. driver_deed.Propose pages.now) result self.new }
     {
-        try_drive(
-            &service.driver,
-            &mut self.driver,
-            &ProposeCall { pages },
-            &mut [],
-        )
+        self.drive(service, &ProposeCall { pages }, &mut [])
     }
 
     /// Writes the counts of the pages from `from` on, if all seats are in at the end of a joined phase. The answer is that
@@ -230,12 +303,7 @@ impl Client {
         ensures counts { MatchResult result (λ phase. IfNone phase (counts.new ≡ counts.old))
             (λ _. counts.new ≡ counts.old) }
     {
-        try_drive(
-            &service.driver,
-            &mut self.driver,
-            &SnapshotCall { from },
-            counts,
-        )
+        self.drive(service, &SnapshotCall { from }, counts)
     }
 
     /// Writes the pages that are split in the present or the last split phase, as many as there is room for. The answer
@@ -247,7 +315,7 @@ impl Client {
         ensures rest { MatchResult result (λ many. drop many pages.new ≡ drop many pages.old)
             (λ _. pages.new ≡ pages.old) }
     {
-        try_drive(&service.driver, &mut self.driver, &SplitPagesCall, pages)
+        self.drive(service, &SplitPagesCall, pages)
     }
 
     /// Writes the last counts of the pages from `from` on, if all seats are gone, and says whether it did. Then the
@@ -265,11 +333,23 @@ impl Client {
         ensures counts { MatchResult result (λ is_done. IsFalse is_done → counts.new ≡ counts.old)
             (λ _. counts.new ≡ counts.old) }
     {
-        try_drive(
-            &service.driver,
-            &mut self.driver,
-            &LastCountsCall { from },
-            counts,
-        )
+        self.drive(service, &LastCountsCall { from }, counts)
+    }
+
+    /// Makes a call of the driver.
+    pub fn drive<Q: DriverCall>(
+        &mut self,
+        service: &SharedService,
+        call: &Q,
+        places: &mut [Q::Written],
+    ) -> Result<Q::Answer, Busy>
+        requires client { IsClient service.now self.old }
+        requires places { Q.reach call.now (length places.old) ≤ pages_of service.now }
+        ensures client { IsClient service.now self.new }
+        ensures log { IsDriverLogged self.old (λ answer. Q.deed call.now answer places.new) result self.new }
+        ensures places { MatchResult result (λ answer. Q.writes call.now answer places.old places.new)
+            (λ _. places.new ≡ places.old) }
+    {
+        try_drive(&service.driver, &mut self.driver, call, places)
     }
 }

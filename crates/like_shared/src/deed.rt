@@ -20,6 +20,11 @@ pub enum SeatDeed {
         page: u32,
         answer: LikeAnswer,
     },
+    /// A like of a row, which was counted.
+    LikeOn {
+        user: u32,
+        page: u32,
+    },
     Look {
         user: u32,
         page: u32,
@@ -43,6 +48,12 @@ pub enum SeatDeed {
     Last {
         user: u32,
         answer: Result<Option<u32>, Verdict>,
+    },
+    /// The places that were given for last likes of the seat's users, from this one on, and whether they were written.
+    Lasts {
+        from: u32,
+        pages: LinkedList<u32>,
+        is_done: bool,
     },
 }
 

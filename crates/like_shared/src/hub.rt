@@ -1,13 +1,13 @@
 //! A service that threads come to and leave. Each makes a client at its desk and parks it there, so nobody collects
 //! clients at the end.
-ghost use Rattle.std.specs.Prelude.{◌≡◌, ◌++◌, ◌+◌, ◌-◌, ◌<◌, ◌^◌, [], ◌∷◌, IfErr, IfOk, MatchResult, OnOk, length, replicate};
+ghost use Rattle.std.specs.Prelude.{◌≡◌, ◌++◌, ◌+◌, ◌-◌, ◌<◌, ◌≤◌, ◌^◌, ◌↔◌, [], ◌∷◌, IfErr, IfOk, IsTrue, MatchBool, MatchResult, OnOk, false, length, replicate};
 ghost use Rattle.told_lock.specs.Deeds.{named};
 ghost use Rattle.told_lock.specs.Rights.{IsHolding, IsIdle, IsKeeper, first_of, log_of, name_of, told_of};
 ghost use Rattle.like_live.specs.Opening.{IsRefused};
 ghost use Rattle.like_live.specs.Service.{AreOpened};
 ghost use Rattle.like_shared.specs.declared.desk.DeskDeed.TheVariants.{Made, Parked};
 ghost use Rattle.like_shared.specs.Desk.{DeskDoes, KeepsTold};
-ghost use Rattle.like_shared.specs.Shared.{IsClient, IsServiceKeeper, IsUnused, driver_log, first_driver, first_seats, pages_of, seat_logs, seats_of};
+ghost use Rattle.like_shared.specs.Shared.{IsClient, IsServiceKeeper, IsUnused, driver_log, first_driver, first_seats, held_by, pages_of, seat_logs, seats_of};
 
 use crate::client::Client;
 use crate::desk::{Card, Cards, Desk, DeskDeed};
@@ -46,7 +46,7 @@ pub enum HubNotClosed {
 }
 
 impl Hub {
-    ghost use Rattle.like_shared.specs.Hubs.{IsClosedHub, IsClosedWith, IsHubNotClosed, IsNotClosedWith, done_for};
+    ghost use Rattle.like_shared.specs.Hubs.{IsAtDesk, IsClosedHub, IsClosedWith, IsHubNotClosed, IsNotClosedWith, done_for};
 
     /// Opens a service in phase 0, with its desk. No client and no card is out yet.
     pub fn open(alloc: Global, opening: &Opening) -> Result<(Hub, Cards), OpenError>
@@ -86,6 +86,13 @@ impl Hub {
         self.pages
     }
 
+    /// Whether there are `many` pages from `from` on.
+    pub fn has_pages(&self, from: u32, many: usize) -> bool
+        ensures { IsTrue result ↔ (from + many ≤ pages_of self.now.service) }
+    {
+        from as usize <= self.pages && many <= self.pages - from as usize
+    }
+
     /// Another card. It has no bytes, and may be lost.
     pub fn new_card(&self, cards: &mut Cards) -> Card
         requires cards { IsKeeper self.now.desk cards.old }
@@ -108,6 +115,7 @@ impl Hub {
         ensures client { IfOk result (λ client. IsClient self.now.service client) }
         ensures logs { IfOk result (λ client. seat_logs client ≡ replicate (seats_of self.now.service) []) }
         ensures driver_log { IfOk result (λ client. driver_log client ≡ []) }
+        ensures held { IfOk result (λ client. held_by client ≡ replicate (seats_of self.now.service) false) }
     {
         if !self.desk.try_take(card) {
             return Err(NoClient::Busy);
@@ -120,7 +128,8 @@ impl Hub {
         }
     }
 
-    /// Parks a client, with its log. It comes back if another thread is at the desk.
+    /// Parks a client, with its log, and gives back the seats that it holds. It comes back as it was if another thread is
+    /// at the desk.
     pub fn park(&self, card: &mut Card, client: Client) -> Result<(), Client>
         requires card { IsIdle self.now.desk card.old }
         requires client { IsClient self.now.service client }
@@ -129,11 +138,32 @@ impl Hub {
         ensures log { MatchResult result (λ _. log_of card.new ≡ log_of card.old ++ Parked client ∷ [])
             (λ back. (back ≡ client) × (log_of card.new ≡ log_of card.old)) }
     {
-        if !self.desk.try_take(card) {
+        if !self.enter(card) {
             return Err(client);
         }
-        self.leave_after_parking::<Brand>(card, client);
+        self.park_there(card, client);
         Ok(())
+    }
+
+    /// Goes to the desk, if no other thread is there.
+    pub fn enter(&self, card: &mut Card) -> bool
+        requires { IsIdle self.now.desk card.old }
+        ensures name { name_of card.new ≡ name_of card.old }
+        ensures log { log_of card.new ≡ log_of card.old }
+        ensures entered { MatchBool result (IsAtDesk self.now card.new) (IsIdle self.now.desk card.new) }
+    {
+        self.desk.try_take(card)
+    }
+
+    /// Parks a client, with its log, by a card that is at the desk, and leaves it.
+    pub fn park_there(&self, card: &mut Card, client: Client)
+        requires card { IsAtDesk self.now card.old }
+        requires client { IsClient self.now.service client }
+        ensures card { IsIdle self.now.desk card.new }
+        ensures name { name_of card.new ≡ name_of card.old }
+        ensures log { log_of card.new ≡ log_of card.old ++ Parked client ∷ [] }
+    {
+        self.leave_after_parking::<Brand>(card, client);
     }
 
     /// Takes a card back.
@@ -189,7 +219,7 @@ impl Hub {
 
     // Another client, made by the keeper that the card holds.
     fn make_client(&self, alloc: Global, card: &mut Card) -> Result<Client, AllocError>
-        requires { (k : _) × IsHolding self.now.desk card.old k k × IsServiceKeeper self.now.service k }
+        requires { IsAtDesk self.now card.old }
         ensures name { name_of card.new ≡ name_of card.old }
         ensures log { log_of card.new ≡ log_of card.old }
         ensures made { (k : _) × (l : _) × IsHolding self.now.desk card.new k l × IsServiceKeeper self.now.service k
@@ -197,6 +227,7 @@ impl Hub {
         ensures client { IfOk result (λ client. IsClient self.now.service client) }
         ensures logs { IfOk result (λ client. seat_logs client ≡ replicate (seats_of self.now.service) []) }
         ensures driver_log { IfOk result (λ client. driver_log client ≡ []) }
+        ensures held { IfOk result (λ client. held_by client ≡ replicate (seats_of self.now.service) false) }
     {
         self.service.new_client(alloc, card.value_mut(&self.desk))
     }
@@ -215,7 +246,7 @@ impl Hub {
     // The card's keeper takes a client back, and the card gives the keeper back.
     fn leave_after_parking<J: Done<DeskDeed>>(&self, card: &mut Card, client: Client)
         requires deed { J.done ≡ Parked client ∷ [] }
-        requires keeper { (k : _) × IsHolding self.now.desk card.old k k × IsServiceKeeper self.now.service k }
+        requires card { IsAtDesk self.now card.old }
         requires client { IsClient self.now.service client }
         ensures card { IsIdle self.now.desk card.new }
         ensures name { name_of card.new ≡ name_of card.old }
@@ -227,7 +258,7 @@ impl Hub {
 
     // The keeper that the card holds takes a client back.
     fn take_client(&self, card: &mut Card, client: Client)
-        requires keeper { (k : _) × IsHolding self.now.desk card.old k k × IsServiceKeeper self.now.service k }
+        requires card { IsAtDesk self.now card.old }
         requires client { IsClient self.now.service client }
         ensures name { name_of card.new ≡ name_of card.old }
         ensures log { log_of card.new ≡ log_of card.old }

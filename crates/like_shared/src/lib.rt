@@ -11,6 +11,8 @@ mod hub;
 mod laws;
 mod seat_call;
 mod seat_calls;
+mod seat_lock;
+mod seat_row;
 mod seat_rows;
 mod service;
 
@@ -25,5 +27,7 @@ pub use seat_call::{Busy, SeatCall, SeatLock, SeatPass, try_call};
 pub use seat_calls::{
     ComeBackCall, GlanceCall, LastCall, LikeCall, LookCall, RetireCall, TakeFoundCall, TurnCall,
 };
-pub use seat_rows::try_run;
+pub use seat_lock::{try_lock, unlock};
+pub use seat_row::{SeatRow, try_row};
+pub use seat_rows::{CallRow, LastsRow, LikeRow};
 pub use service::{NotClosed, ServiceKeeper, SharedService};

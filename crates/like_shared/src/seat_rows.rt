@@ -1,76 +1,101 @@
-//! Rows of calls of a seat, made under one taking of its lock.
-ghost use Rattle.std.specs.Prelude.{◌≡◌, ◌++◌, MatchResult};
+//! Rows of calls, rows of likes, and last likes of a seat.
+ghost use Rattle.std.specs.Prelude.{◌≡◌, [], ◌∷◌, IsFalse};
 ghost use Rattle.told_lock.specs.Deeds.{HasRun};
-ghost use Rattle.told_lock.specs.Rights.{IsHolding, IsIdle, log_of, name_of};
+ghost use Rattle.like_shared.specs.declared.deed.SeatDeed.TheVariants.{Lasts};
 ghost use Rattle.like_shared.specs.Deeds.{SeatDoes};
-ghost use Rattle.like_shared.specs.Rows.{AreAnswered, deeds_of_rows};
+ghost use Rattle.like_shared.specs.Rows.{AreAnswered, IsToldOf, deeds_of_likes, deeds_of_rows};
 
-use crate::deed::SeatDeed;
-use crate::seat_call::{Busy, SeatLock, SeatPass};
+use crate::seat_row::SeatRow;
 use like_board::SharedPost;
-use like_live::{Answer, Call, LiveSeat};
-use std::marker::Brand;
-use told_lock::Done;
+use like_live::{Answer, Call, LikePair, LiveSeat, RowAnswer, rows_are_likes};
 
-/// Makes the calls of rows one by one, and writes their answers, if no other thread has the seat. The log has them then.
-/// The answer says how many were done (see `LiveSeat::run`).
-pub fn try_run(
-    lock: &SeatLock,
-    pass: &mut SeatPass,
-    rows: &[Call],
-    answers: &mut [Answer],
-) -> Result<usize, Busy>
-    requires { IsIdle lock.now pass.old }
-    ensures idle { IsIdle lock.now pass.new }
-    ensures name { name_of pass.new ≡ name_of pass.old }
-    ensures log { MatchResult result
-        (λ done. log_of pass.new ≡ log_of pass.old ++ deeds_of_rows rows.now answers.new done)
-        (λ _. log_of pass.new ≡ log_of pass.old) }
-    ensures answers { MatchResult result (AreAnswered rows.now answers.old answers.new)
-        (λ _. answers.new ≡ answers.old) }
-{
-    if !lock.try_take(pass) {
-        return Err(Busy);
+type Seat = LiveSeat<SharedPost>;
+
+/// Calls, which are made one by one, and whose answers are written (see `LiveSeat::run`).
+#[derive(Clone, Copy)]
+pub struct CallRow<'a> {
+    pub calls: &'a [Call],
+}
+
+impl<'a> SeatRow for CallRow<'a> {
+    type Answer = usize;
+
+    type Written = Answer;
+
+    ghost deeds = { λ row done answers. deeds_of_rows row.calls.now answers done };
+
+    ghost writes = { λ row done old new. AreAnswered row.calls.now old new done };
+
+    fn make(&self, seat: &mut Seat, answers: &mut [Answer]) -> usize {
+        run_calls(seat, self.calls, answers)
     }
-    let done = run_at(lock, pass, rows, answers);
-    tell::<Brand>(lock, pass, rows, answers, done);
-    Ok(done)
 }
 
-// Makes the calls at the seat that the pass has taken.
-fn run_at(lock: &SeatLock, pass: &mut SeatPass, rows: &[Call], answers: &mut [Answer]) -> usize
-    requires { (x : _) × IsHolding lock.now pass.old x x }
-    ensures name { name_of pass.new ≡ name_of pass.old }
-    ensures log { log_of pass.new ≡ log_of pass.old }
-    ensures made { (x : _) × (y : _) × IsHolding lock.now pass.new x y
-        × HasRun SeatDoes x (deeds_of_rows rows.now answers.new result) y }
-    ensures answers { AreAnswered rows.now answers.old answers.new result }
-{
-    run_rows(pass.value_mut(lock), rows, answers)
-}
-
-// Makes the calls at a seat.
-fn run_rows(seat: &mut LiveSeat<SharedPost>, rows: &[Call], answers: &mut [Answer]) -> usize
+// Makes the calls of a row at a seat.
+fn run_calls(seat: &mut Seat, rows: &[Call], answers: &mut [Answer]) -> usize
     ensures run { HasRun SeatDoes seat.old (deeds_of_rows rows.now answers.new result) seat.new }
     ensures answers { AreAnswered rows.now answers.old answers.new result }
 {
     seat.run(rows, answers)
 }
 
-// Gives the seat back, after these rows: the proof of a call of this picks their deeds as those of `J`.
-fn tell<J: Done<SeatDeed>>(
-    lock: &SeatLock,
-    pass: &mut SeatPass,
-    _rows: &[Call],
-    _answers: &[Answer],
-    _done: usize,
-)
-    requires deeds { J.done ≡ deeds_of_rows _rows.now _answers.now _done }
-    requires made { (x : _) × (y : _) × IsHolding lock.now pass.old x y
-        × HasRun SeatDoes x (deeds_of_rows _rows.now _answers.now _done) y }
-    ensures idle { IsIdle lock.now pass.new }
-    ensures name { name_of pass.new ≡ name_of pass.old }
-    ensures log { log_of pass.new ≡ log_of pass.old ++ deeds_of_rows _rows.now _answers.now _done }
+/// Likes, with one look at the phase word, up to the first that isn't counted (see `LiveSeat::like_row`).
+#[derive(Clone, Copy)]
+pub struct LikeRow<'a> {
+    pub likes: &'a [LikePair],
+}
+
+impl<'a> SeatRow for LikeRow<'a> {
+    type Answer = RowAnswer;
+
+    type Written = u64;
+
+    ghost deeds = { λ row told _. deeds_of_likes row.likes.now told };
+
+    ghost writes = { λ row told old new. IsToldOf row.likes.now told };
+
+    fn make(&self, seat: &mut Seat, _places: &mut [u64]) -> RowAnswer {
+        count_likes(seat, self.likes)
+    }
+}
+
+// Counts the likes of a row at a seat.
+fn count_likes(seat: &mut Seat, likes: &[LikePair]) -> RowAnswer
+    ensures run { HasRun SeatDoes seat.old (deeds_of_likes likes.now result) seat.new }
+    ensures told { IsToldOf likes.now result }
 {
-    lock.give_back_after::<J>(pass);
+    rows_are_likes();
+    seat.like_row(likes)
+}
+
+/// The last likes of a seat's users from place `from` on are told, if it has so many users.
+#[derive(Clone, Copy)]
+pub struct LastsRow {
+    pub from: u32,
+}
+
+impl SeatRow for LastsRow {
+    type Answer = bool;
+
+    type Written = u32;
+
+    ghost deeds = { λ row is_done pages. Lasts row.from pages is_done ∷ [] };
+
+    ghost writes = { λ _ is_done old new. IsFalse is_done → new ≡ old };
+
+    fn make(&self, seat: &mut Seat, pages: &mut [u32]) -> bool {
+        tell_lasts(seat, self.from, pages)
+    }
+}
+
+// Tells last likes of a seat, and leaves it as it is.
+fn tell_lasts(seat: &mut Seat, from: u32, pages: &mut [u32]) -> bool
+    ensures run { HasRun SeatDoes seat.old (Lasts from pages.new result ∷ []) seat.new }
+    ensures rest { IsFalse result → pages.new ≡ pages.old }
+{
+    if !seat.has_users(from, pages.len()) {
+        return false;
+    }
+    seat.lasts(from, pages);
+    true
 }

@@ -14,7 +14,7 @@ use crate::driver::DriverLock;
 use crate::seat_call::SeatLock;
 use like_board::SharedPost;
 use like_choice::Guided;
-use like_live::{Driver, LiveSeat, OpenError, Opening, Service};
+use like_live::{Driver, LiveSeat, OpenError, Opening, PhaseNow, Service};
 use std::alloc::{AllocError, Global};
 use told_lock::{Keeper, Lock};
 
@@ -26,6 +26,8 @@ pub(crate) type SeatKeeper = Keeper<LiveSeat<SharedPost>, SeatDeed>;
 pub struct SharedService {
     pub(crate) seats: Vec<SeatLock>,
     pub(crate) driver: DriverLock,
+    /// The phase, for threads that call nothing.
+    phase: PhaseNow,
 }
 
 /// The right to make clients of a service, to take them back, and to close it.
@@ -77,6 +79,11 @@ impl SharedService {
         self.seats.len()
     }
 
+    /// The phase that the driver released last, which any thread may read at any time.
+    pub fn phase_now(&self) -> &PhaseNow {
+        &self.phase
+    }
+
     /// The seat of a user.
     #[inline(always)]
     pub fn seat_of(&self, user: u32) -> usize
@@ -104,11 +111,13 @@ fn share(
     let back = Vec::with_capacity(alloc, seats.len())?;
     let mut keepers = Vec::new(alloc);
     let locks = lock_all(alloc, seats, &mut keepers)?;
+    let phase = driver.phase_now()?;
     let (driver, keeper) = Lock::new(alloc, driver)?;
     Ok((
         SharedService {
             seats: locks,
             driver,
+            phase,
         },
         ServiceKeeper {
             seats: keepers,

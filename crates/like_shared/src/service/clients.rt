@@ -1,13 +1,15 @@
 //! Clients of a shared service are made, and come back.
-ghost use Rattle.std.specs.Prelude.{◌≡◌, ◌++◌, ◌≤◌, [], All, IfOk, IsTrue, length, map, replicate, vec_capacity};
+ghost use Rattle.std.specs.Prelude.{◌≡◌, ◌++◌, ◌≤◌, [], All, IfOk, IsTrue, false, length, map, replicate, vec_capacity};
 ghost use Rattle.std.specs.List.{AllZip};
 ghost use Rattle.told_lock.specs.Deeds.{named};
-ghost use Rattle.told_lock.specs.Rights.{IsIdle, IsKeeper, log_of, name_of, told_of};
-ghost use Rattle.like_shared.specs.Shared.{HasRoom, IsClient, IsServiceKeeper, driver_log, driver_told, seat_logs, seats_of, seats_told, with_logs};
+ghost use Rattle.told_lock.specs.Rights.{IsKeeper, name_of, told_of};
+ghost use Rattle.like_shared.specs.Passes.{IsReady, log_at};
+ghost use Rattle.like_shared.specs.Shared.{HasRoom, IsClient, IsServiceKeeper, driver_log, driver_told, held_by, seat_logs, seats_of, seats_told, with_logs};
 
 use super::{SeatKeeper, ServiceKeeper, SharedService};
 use crate::client::Client;
 use crate::seat_call::{SeatLock, SeatPass};
+use crate::seat_lock::free;
 use std::alloc::{AllocError, Global};
 
 impl SharedService {
@@ -24,6 +26,7 @@ impl SharedService {
         ensures client { IfOk result (λ client. IsClient self.now client) }
         ensures logs { IfOk result (λ client. seat_logs client ≡ replicate (seats_of self.now) []) }
         ensures driver_log { IfOk result (λ client. driver_log client ≡ []) }
+        ensures held { IfOk result (λ client. held_by client ≡ replicate (seats_of self.now) false) }
     {
         if keeper.driver.out == u64::MAX || !have_room(&keeper.seats) {
             return Err(AllocError);
@@ -34,7 +37,7 @@ impl SharedService {
         Ok(Client { seats, driver })
     }
 
-    /// Takes a client back, any of those that are out.
+    /// Takes a client back, any of those that are out. Seats that it holds are given back.
     pub fn take_back(&self, keeper: &mut ServiceKeeper, client: Client)
         requires keeper { IsServiceKeeper self.now keeper.old }
         requires client { IsClient self.now client }
@@ -68,11 +71,15 @@ fn new_passes(
     requires places { length locks.now ≤ vec_capacity passes }
     ensures keepers { AllZip IsKeeper locks.now keepers.new }
     ensures told { map told_of keepers.new ≡ map told_of keepers.old }
-    ensures passes { AllZip IsIdle locks.now result.items }
-    ensures logs { map log_of result.items ≡ replicate (length locks.now) [] }
+    ensures passes { AllZip IsReady locks.now result.items }
+    ensures logs { map log_at result.items ≡ replicate (length locks.now) [] }
+    ensures held { map (λ p. p.is_held) result.items ≡ replicate (length locks.now) false }
 {
     for seat in 0..locks.len() {
-        passes.push_reserved(locks[seat].new_pass(&mut keepers[seat]));
+        passes.push_reserved(SeatPass {
+            pass: locks[seat].new_pass(&mut keepers[seat]),
+            is_held: false,
+        });
     }
     passes
 }
@@ -80,13 +87,23 @@ fn new_passes(
 // Takes a pass of each seat back, in order.
 fn take_passes(locks: &[SeatLock], keepers: &mut [SeatKeeper], passes: Vec<SeatPass>)
     requires keepers { AllZip IsKeeper locks.now keepers.old }
-    requires passes { AllZip IsIdle locks.now passes.items }
+    requires passes { AllZip IsReady locks.now passes.items }
     ensures keepers { AllZip IsKeeper locks.now keepers.new }
     ensures told { map told_of keepers.new ≡ with_logs (map told_of keepers.old) passes.items }
 {
     let mut seat = 0;
     for pass in passes {
-        locks[seat].take_back(&mut keepers[seat], pass);
+        take_pass(&locks[seat], &mut keepers[seat], pass);
         seat += 1;
     }
+}
+
+// Takes a pass of a seat back.
+fn take_pass(lock: &SeatLock, keeper: &mut SeatKeeper, pass: SeatPass)
+    requires keeper { IsKeeper lock.now keeper.old }
+    requires ready { IsReady lock.now pass }
+    ensures keeper { IsKeeper lock.now keeper.new }
+    ensures told { told_of keeper.new ≡ told_of keeper.old ++ named (name_of pass.pass) (log_at pass) }
+{
+    lock.take_back(keeper, free(lock, pass));
 }

@@ -28,7 +28,11 @@ impl SharedService {
         }
         calls_keep_seats();
         shared_services_are_strict();
-        let SharedService { seats, driver } = self;
+        let SharedService {
+            seats,
+            driver,
+            phase: _,
+        } = self;
         let ServiceKeeper {
             seats: keepers,
             driver: driver_keeper,

@@ -22,4 +22,6 @@ returns c = record {
   answer_at = (at refl, (at refl, (at refl, refl)));
   found = λ f. refl;
   found_at = (at refl, (at refl, (at refl, (at refl, (at refl, (at refl, (at refl, (at refl, refl))))))));
+  pair = λ p. refl;
+  pair_at = (at refl, (at refl, refl));
 }

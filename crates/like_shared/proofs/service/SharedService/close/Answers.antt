@@ -30,8 +30,8 @@ returns-in-Ok-clause-closed c =
     c.close_all.ensures)
     c.in-Ok.ensures.closed c.in-Ok.ensures.gone
 
-pub returns-in-Err-clause-not : goal.returns-in-Err-clause-not
-returns-in-Err-clause-not c =
+pub returns-clause-not : goal.returns-clause-not
+returns-clause-not c =
     let s = c.args.self in
     let k = c.args.keeper in
     let driver = c.close-driver.result in

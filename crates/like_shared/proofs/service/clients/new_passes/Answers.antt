@@ -1,9 +1,11 @@
-use Rattle.std.proofs.Common.{◌+◌, [], ◌∷◌, ◌++◌, length, map, take, sym, ap, ◌∙◌, subst, arith}
+use Rattle.std.proofs.Common.{◌+◌, false, [], ◌∷◌, ◌++◌, length, map, take, sym, ap, ◌∙◌, subst, arith}
 use Rattle.std.specs.List.{AllZip}
 use Rattle.std.proofs.lemmas.List.{get_or-set_other, length_push, map-append, replicate_more}
 use Rattle.std.proofs.lemmas.List.Elements.{All-get_or}
 use Rattle.std.proofs.lemmas.Slice.Zip.{AllZip-long}
-use Rattle.told_lock.specs.Rights.{IsIdle, IsKeeper, log_of, told_of}
+use Rattle.told_lock.specs.Rights.{IsKeeper, told_of}
+use Rattle.like_shared.specs.declared.seat_call.SeatPass.{SeatPass}
+use Rattle.like_shared.specs.Passes.{IsReady, log_at}
 use Rattle.like_shared.specs.Shared.{HasRoom}
 use Rattle.like_shared.proofs.Places.{map-alike, zip-more, zip-read, zip-set}
 use Rattle.like_shared.proofs.service.clients.new_passes.Goals as goal
@@ -35,7 +37,7 @@ loop-seat-preserved c =
     let lock = c.index-locks-seat in
     let keeper = c.index-keepers-seat in
     let after = c.new_pass.new.keeper in
-    let pass = c.new_pass.result in
+    let pass : SeatPass = record { pass = c.new_pass.result; is_held = false } in
     let did = c.new_pass.ensures in
     let less = c.loop-seat-test.true in
     let all = AllZip-long IsKeeper c.args.locks.now l.keepers l.invariant.keepers in
@@ -46,10 +48,13 @@ loop-seat-preserved c =
           (did.told ∙ ap told_of (sym keeper.is)) ∙ l.invariant.told;
       rest = λ i d past.
           get_or-set_other l.keepers l.seat i after d (λ same. omega (arith, past, same)) ∙ l.invariant.rest i d (omega (arith, past));
-      passes = subst (AllZip IsIdle (take (l.seat + 1) c.args.locks.now)) (sym c.push_reserved.ensures.items)
-          (zip-more IsIdle c.args.locks.now l.passes.items l.seat lock.result pass less lock.is l.invariant.passes did.idle);
-      logs = ap (map log_of) c.push_reserved.ensures.items ∙ map-append log_of l.passes.items (pass ∷ [])
+      passes = subst (AllZip IsReady (take (l.seat + 1) c.args.locks.now)) (sym c.push_reserved.ensures.items)
+          (zip-more IsReady c.args.locks.now l.passes.items l.seat lock.result pass less lock.is l.invariant.passes did.idle);
+      logs = ap (map log_at) c.push_reserved.ensures.items ∙ map-append log_at l.passes.items (pass ∷ [])
           ∙ (λ i. l.invariant.logs i ++ did.log i ∷ []) ∙ replicate_more l.seat [];
+      held = ap (map (λ (p : SeatPass). p.is_held)) c.push_reserved.ensures.items
+          ∙ map-append (λ (p : SeatPass). p.is_held) l.passes.items (pass ∷ [])
+          ∙ ap (λ bs. bs ++ false ∷ []) l.invariant.held ∙ replicate_more l.seat false;
       len = ap length c.push_reserved.ensures.items ∙ length_push l.passes.items pass ∙ ap (λ n. n + 1) l.invariant.len;
       room = c.push_reserved.ensures.capacity ∙ l.invariant.room;
     }

@@ -1,6 +1,7 @@
-use Rattle.std.proofs.Common.{◌≡◌, ℕ, ◌≤◌, [], get_or, length, map, replicate, take, vec_capacity}
+use Rattle.std.proofs.Common.{◌≡◌, ℕ, ◌≤◌, [], false, get_or, length, map, replicate, take, vec_capacity}
 use Rattle.std.specs.List.{AllZip}
-use Rattle.told_lock.specs.Rights.{IsIdle, IsKeeper, log_of, told_of}
+use Rattle.told_lock.specs.Rights.{IsKeeper, told_of}
+use Rattle.like_shared.specs.Passes.{IsReady, log_at}
 use Rattle.like_shared.proofs.service.clients.new_passes.Given as goal
 
 abbrev pub invariant-loop-seat : goal.invariant-loop-seat
@@ -8,8 +9,9 @@ invariant-loop-seat l = record {
   keepers : AllZip IsKeeper l.locks l.keepers;
   told : map told_of l.keepers ≡ map told_of l.initial.keepers;
   rest : (i : ℕ) (d : _) → l.seat ≤ i → get_or l.keepers i d ≡ get_or l.initial.keepers i d;
-  passes : AllZip IsIdle (take l.seat l.locks) l.passes.items;
-  logs : map log_of l.passes.items ≡ replicate l.seat [];
+  passes : AllZip IsReady (take l.seat l.locks) l.passes.items;
+  logs : map log_at l.passes.items ≡ replicate l.seat [];
+  held : map (λ p. p.is_held) l.passes.items ≡ replicate l.seat false;
   len : length l.passes.items ≡ l.seat;
   room : vec_capacity l.passes ≡ vec_capacity l.initial.passes;
 }

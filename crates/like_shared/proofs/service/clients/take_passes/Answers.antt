@@ -4,7 +4,8 @@ use Rattle.std.proofs.lemmas.Iterator.Consumers.{YieldsList-turn}
 use Rattle.std.proofs.lemmas.List.{length_push}
 use Rattle.std.proofs.lemmas.Slice.Zip.{AllZip-long}
 use Rattle.told_lock.specs.Deeds.{named}
-use Rattle.told_lock.specs.Rights.{IsIdle, IsKeeper, log_of, name_of, told_of}
+use Rattle.told_lock.specs.Rights.{IsKeeper, name_of, told_of}
+use Rattle.like_shared.specs.Passes.{IsReady, log_at}
 use Rattle.like_shared.proofs.Backs.{told-more}
 use Rattle.like_shared.proofs.Places.{zip-read, zip-set}
 use Rattle.like_shared.proofs.service.clients.take_passes.Goals as goal
@@ -17,7 +18,7 @@ bounds-locks-seat c =
     (from.1 ∙ c.args.passes.ok.0) in
     let turn = YieldsList-turn all l.yielded _ l.yielded_by _ c.next.new.self c.in-Some.pass c.in-Some.is
     c.next.ensures.steps in
-    let passes = AllZip-long IsIdle c.args.locks.now c.args.passes.items c.requires.passes in
+    let passes = AllZip-long IsReady c.args.locks.now c.args.passes.items c.requires.passes in
     omega (arith, turn.0, l.invariant.next, passes)
 
 pub offset_bounds-locks-seat : goal.offset_bounds-locks-seat
@@ -28,7 +29,7 @@ offset_bounds-locks-seat c =
     (from.1 ∙ c.args.passes.ok.0) in
     let turn = YieldsList-turn all l.yielded _ l.yielded_by _ c.next.new.self c.in-Some.pass c.in-Some.is
     c.next.ensures.steps in
-    let passes = AllZip-long IsIdle c.args.locks.now c.args.passes.items c.requires.passes in
+    let passes = AllZip-long IsReady c.args.locks.now c.args.passes.items c.requires.passes in
     let there : l.seat < length c.args.locks.now = omega (arith, turn.0, l.invariant.next, passes) in
     omega arith
 
@@ -40,7 +41,7 @@ bounds-keepers-seat c =
     (from.1 ∙ c.args.passes.ok.0) in
     let turn = YieldsList-turn all l.yielded _ l.yielded_by _ c.next.new.self c.in-Some.pass c.in-Some.is
     c.next.ensures.steps in
-    let passes = AllZip-long IsIdle c.args.locks.now c.args.passes.items c.requires.passes in
+    let passes = AllZip-long IsReady c.args.locks.now c.args.passes.items c.requires.passes in
     let keepers = AllZip-long IsKeeper c.args.locks.now l.keepers l.invariant.keepers in
     omega (arith, turn.0, l.invariant.next, passes, keepers)
 
@@ -52,35 +53,35 @@ offset_bounds-keepers-seat c =
     (from.1 ∙ c.args.passes.ok.0) in
     let turn = YieldsList-turn all l.yielded _ l.yielded_by _ c.next.new.self c.in-Some.pass c.in-Some.is
     c.next.ensures.steps in
-    let passes = AllZip-long IsIdle c.args.locks.now c.args.passes.items c.requires.passes in
+    let passes = AllZip-long IsReady c.args.locks.now c.args.passes.items c.requires.passes in
     let keepers = AllZip-long IsKeeper c.args.locks.now l.keepers l.invariant.keepers in
     let there : l.seat < length l.keepers = omega (arith, turn.0, l.invariant.next, passes, keepers) in
     omega arith
 
-pub take_back-requires-clause-keeper : goal.take_back-requires-clause-keeper
-take_back-requires-clause-keeper c =
+pub take_pass-requires-clause-keeper : goal.take_pass-requires-clause-keeper
+take_pass-requires-clause-keeper c =
     let l = c.loop-pass in
     let from = c.into_iter-pass-iterator.ensures.into_iter_gives in
     let all = YieldsList-from_vec {s = c.into_iter-pass-iterator.result} c.args.passes.items from.0
     (from.1 ∙ c.args.passes.ok.0) in
     let turn = YieldsList-turn all l.yielded _ l.yielded_by _ c.next.new.self c.in-Some.pass c.in-Some.is
     c.next.ensures.steps in
-    let passes = AllZip-long IsIdle c.args.locks.now c.args.passes.items c.requires.passes in
+    let passes = AllZip-long IsReady c.args.locks.now c.args.passes.items c.requires.passes in
     let keeper = c.index-keepers-seat in
     subst (IsKeeper c.index-locks-seat.result) keeper.is
     (zip-read IsKeeper c.args.locks.now l.keepers l.seat c.index-locks-seat.result keeper.result l.invariant.keepers
     (omega (arith, turn.0, l.invariant.next, passes)) c.index-locks-seat.is keeper.is)
 
-pub take_back-requires-clause-idle : goal.take_back-requires-clause-idle
-take_back-requires-clause-idle c =
+pub take_pass-requires-clause-ready : goal.take_pass-requires-clause-ready
+take_pass-requires-clause-ready c =
     let l = c.loop-pass in
     let from = c.into_iter-pass-iterator.ensures.into_iter_gives in
     let all = YieldsList-from_vec {s = c.into_iter-pass-iterator.result} c.args.passes.items from.0
     (from.1 ∙ c.args.passes.ok.0) in
     let turn = YieldsList-turn all l.yielded _ l.yielded_by _ c.next.new.self c.in-Some.pass c.in-Some.is
     c.next.ensures.steps in
-    let passes = AllZip-long IsIdle c.args.locks.now c.args.passes.items c.requires.passes in
-    zip-read IsIdle c.args.locks.now c.args.passes.items l.seat c.index-locks-seat.result c.in-Some.pass c.requires.passes
+    let passes = AllZip-long IsReady c.args.locks.now c.args.passes.items c.requires.passes in
+    zip-read IsReady c.args.locks.now c.args.passes.items l.seat c.index-locks-seat.result c.in-Some.pass c.requires.passes
     (omega (arith, turn.0, l.invariant.next, passes)) c.index-locks-seat.is
     (turn.1 ∙ ap (λ i. get_or c.args.passes.items i c.in-Some.pass) (sym l.invariant.next))
 
@@ -92,12 +93,12 @@ loop-pass-preserved c =
     (from.1 ∙ c.args.passes.ok.0) in
     let turn = YieldsList-turn all l.yielded _ l.yielded_by _ c.next.new.self c.in-Some.pass c.in-Some.is
     c.next.ensures.steps in
-    let passes = AllZip-long IsIdle c.args.locks.now c.args.passes.items c.requires.passes in
+    let passes = AllZip-long IsReady c.args.locks.now c.args.passes.items c.requires.passes in
     let keepers = AllZip-long IsKeeper c.args.locks.now l.keepers l.invariant.keepers in
     let lock = c.index-locks-seat in
     let keeper = c.index-keepers-seat in
-    let after = c.take_back.new.keeper in
-    let did = c.take_back.ensures in
+    let after = c.take_pass.new.keeper in
+    let did = c.take_pass.ensures in
     let pass = c.in-Some.pass in
     let next = l.invariant.next in
     record {
@@ -109,5 +110,5 @@ loop-pass-preserved c =
           ap (λ i. map told_of (set l.keepers i after)) next
           ∙ told-more (map told_of c.args.keepers.now) l.keepers l.yielded keeper.result after pass l.invariant.told
           (omega (arith, turn.0, passes, keepers)) (keeper.is ∙ ap (λ i. get_or l.keepers i keeper.result) next)
-          (did.told ∙ ap (λ k. told_of k ++ named (name_of pass) (log_of pass)) (sym keeper.is));
+          (did.told ∙ ap (λ k. told_of k ++ named (name_of pass.pass) (log_at pass)) (sym keeper.is));
     }

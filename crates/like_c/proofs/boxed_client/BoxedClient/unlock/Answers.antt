@@ -1,0 +1,12 @@
+use Rattle.std.proofs.Common.{ap, refl, ◌∙◌}
+use Rattle.like_shared.specs.declared.hub.Hub.{Hub}
+use Rattle.like_c.specs.Clients.{unlocks}
+use Rattle.like_c.proofs.Owners.{client-at}
+use Rattle.like_c.proofs.boxed_client.BoxedClient.unlock.Goals as goal
+
+pub unlock-requires-clause-client : goal.unlock-requires-clause-client
+unlock-requires-clause-client c =
+    client-at c.args.self.now _ (c.service-2.ensures ∙ ap (λ (h : Hub). h.service) c.deref-2.ensures)
+
+pub returns : goal.returns
+returns c = unlocks refl c.unlock.ensures.held c.unlock.ensures.logs (record { hub = refl; card = refl })

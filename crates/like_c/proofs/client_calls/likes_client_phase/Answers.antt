@@ -1,0 +1,11 @@
+use Rattle.std.proofs.Common.{Ok, Err, refl}
+use Rattle.like_c.specs.Held.{at_some}
+use Rattle.like_c.proofs.client_calls.likes_client_phase.Goals as goal
+
+pub returns-in-Ok : goal.returns-in-Ok
+returns-in-Ok c =
+    at_some _ _ c.in-Some.ensures.client (Ok c.in-Ok.told, c.in-Ok.ensures.calls, (refl, refl)) refl
+
+pub returns-in-Err : goal.returns-in-Err
+returns-in-Err c =
+    at_some _ _ c.in-Some.ensures.client (Err c.in-Err.refused, c.in-Err.ensures.calls, (refl, refl)) refl

@@ -1,0 +1,6 @@
+use Rattle.std.proofs.Common.{refl}
+use Rattle.like_c.specs.Held.{at_some}
+use Rattle.like_c.proofs.client_calls.likes_client_turn.Goals as goal
+
+pub returns : goal.returns
+returns c = at_some _ _ c.in-Some.ensures.client (c.call.result, c.call.ensures, c.of_told_turn.ensures) refl

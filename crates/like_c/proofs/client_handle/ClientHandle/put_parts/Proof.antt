@@ -1,0 +1,18 @@
+-- `put_parts` meets its contract, as that of every handle.
+use prog.Wp.{Tables}
+use contract.Running.{tables, tables_of}
+use denote.Triple.Spec.{triple_of}
+use denote.Triple.Table.{entered}
+use Rattle.like_c.specs.contracts.client_handle.ClientHandle.put_parts as F
+use Rattle.like_c.specs.contracts.client_handle.ClientHandle.put_parts.Key.{name as #self}
+use Rattle.like_c.proofs.client_handle.ClientHandle.put_parts.Statement as stated
+use Rattle.like_c.proofs.client_handle.ClientHandle.put_parts.Code as code
+use Rattle.like_c.proofs.Handle.Put.{meets}
+use Rattle.like_c.proofs.Handle.Client.{the_type}
+
+pub put_parts_spec : {M : Type 1} → stated.statement M
+unfolding tables_of
+put_parts_spec 𝓤 𝓛 𝓜 𝓡 wired =
+    let 𝓣 : Tables 𝓤 𝓛.H = tables_of 𝓤 𝓛.H 𝓜 (tables 𝓤 𝓛.H 𝓜 𝓡 𝓡.env) in
+    entered 𝓤 𝓛.H (triple_of 𝓛 F.signature (F.spec 𝓛 𝓜.mem 𝓡.returns)) 𝓣.C 𝓣.Λ #self code.function (code.unfolded 𝓤 𝓛.H 𝓜 𝓡 wired)
+    (meets the_type 𝓛 𝓣)

@@ -1,0 +1,18 @@
+-- `take_parts` meets its contract, as that of every handle.
+use prog.Wp.{Tables}
+use contract.Running.{tables, tables_of}
+use denote.Triple.Spec.{triple_of}
+use denote.Triple.Table.{entered}
+use Rattle.like_c.specs.contracts.client_handle.ClientHandle.take_parts as F
+use Rattle.like_c.specs.contracts.client_handle.ClientHandle.take_parts.Key.{name as #self}
+use Rattle.like_c.proofs.client_handle.ClientHandle.take_parts.Statement as stated
+use Rattle.like_c.proofs.client_handle.ClientHandle.take_parts.Code as code
+use Rattle.like_c.proofs.Handle.Take.{meets}
+use Rattle.like_c.proofs.Handle.Client.{the_type}
+
+pub take_parts_spec : {M : Type 1} → stated.statement M
+unfolding tables_of
+take_parts_spec 𝓤 𝓛 𝓜 𝓡 wired =
+    let 𝓣 : Tables 𝓤 𝓛.H = tables_of 𝓤 𝓛.H 𝓜 (tables 𝓤 𝓛.H 𝓜 𝓡 𝓡.env) in
+    entered 𝓤 𝓛.H (triple_of 𝓛 F.signature (F.spec 𝓛 𝓜.mem 𝓡.returns)) 𝓣.C 𝓣.Λ #self code.function (code.unfolded 𝓤 𝓛.H 𝓜 𝓡 wired)
+    (meets the_type 𝓛 𝓣)

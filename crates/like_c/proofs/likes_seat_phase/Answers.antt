@@ -1,6 +1,0 @@
-use Rattle.std.proofs.Common.{refl}
-use Rattle.like_c.specs.Held.{at_some}
-use Rattle.like_c.proofs.likes_seat_phase.Goals as goal
-
-pub returns-in-Some : goal.returns-in-Some
-returns-in-Some c = at_some _ _ c.in-Some.ensures.seat (c.phase.ensures, refl) refl

@@ -1,6 +1,0 @@
-use Rattle.std.proofs.Common.{refl}
-use Rattle.like_c.specs.Held.{at_some}
-use Rattle.like_c.proofs.likes_seat_run_nonnull.Goals as goal
-
-pub returns-clause-rows : goal.returns-clause-rows
-returns-clause-rows c = at_some _ _ c.in-Some.ensures.seat (c.run.ensures.case, c.run.ensures.unasked) refl

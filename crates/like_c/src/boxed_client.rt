@@ -1,0 +1,179 @@
+//! A thread's client of a shared service, as it lies behind a handle.
+ghost use Rattle.std.specs.Arc.{arc_value};
+ghost use Rattle.std.specs.Prelude.{◌≡◌, ◌++◌, ◌+◌, ◌≤◌, ◌↔◌, [], ◌∷◌, IfErr, IfOk, IsTrue, MatchOption, MatchResult, length, ⊤};
+ghost use Rattle.told_lock.specs.Rights.{IsIdle, log_of};
+ghost use Rattle.like_shared.specs.declared.desk.DeskDeed.TheVariants.{Parked};
+ghost use Rattle.like_shared.specs.Hubs.{IsAtDesk};
+ghost use Rattle.like_shared.specs.Shared.{IsClient, pages_of};
+ghost use Rattle.like_c.specs.Cards.{IsCard};
+
+use crate::opened::{APART, Apart};
+use crate::status;
+use like_shared::{Busy, Card, Client, DriverCall, Hub, SeatCall, SeatRow};
+use std::alloc::Global;
+use std::sync::Arc;
+
+/// A client, with the hub of its service, and its card for the hub's desk.
+#[derive(Drop)]
+#[repr(C)]
+pub struct BoxedClient {
+    pub(crate) hub: Arc<Hub, Global>,
+    pub(crate) client: Client,
+    pub(crate) card: Option<Card>,
+    apart: Apart,
+    pub ghost client_is: { ∥ IsClient (arc_value hub).service client ∥₁ },
+    pub ghost card_is: { ∥ IsCard (arc_value hub) card ∥₁ },
+}
+
+impl BoxedClient {
+    ghost use Rattle.like_c.specs.Clients.{Calls, CallsDriver, Locks, Unlocks, hub_of};
+    ghost use Rattle.like_c.specs.Sharing.{IsNoClient};
+
+    /// A client in a box. If there is no memory, it is parked, and a status says so.
+    pub(crate) fn new(
+        alloc: Global,
+        hub: Arc<Hub, Global>,
+        client: Client,
+        card: Card,
+    ) -> Result<Box<BoxedClient, Global>, u32>
+        requires client { IsClient (arc_value hub).service client }
+        requires card { IsIdle (arc_value hub).desk card }
+        ensures hub { IfOk result (λ b. hub_of b.value ≡ arc_value hub) }
+        ensures client { IfOk result (λ b. b.value.client ≡ client) }
+        ensures refused { IfErr result IsNoClient }
+    {
+        let it = BoxedClient {
+            hub,
+            client,
+            card: Some(card),
+            apart: APART,
+        };
+        match Box::new(alloc, it) {
+            Ok(boxed) => Ok(boxed),
+            Err(failed) => {
+                failed.value.try_park();
+                Err(status::NO_MEMORY)
+            }
+        }
+    }
+
+    /// Parks its client, if no other thread is at the desk.
+    pub(crate) fn try_park(self) {
+        let mut it = self;
+        if let Some(mut card) = it.enter() {
+            it.park(&mut card);
+        }
+    }
+
+    /// Makes a call of a seat. `Err`: a status says why not.
+    #[inline(always)]
+    pub(crate) fn call<Q: SeatCall>(&mut self, seat: u32, call: &Q) -> Result<Q::Answer, u32>
+        ensures { Calls seat (λ answer. Q.deed call.now answer ∷ []) result self.old self.new }
+    {
+        let seat = seat as usize;
+        if seat >= self.hub.service().seat_count() {
+            return Err(status::UNKNOWN_SEAT);
+        }
+        match self.client.call(self.hub.service(), seat, call) {
+            Ok(answer) => Ok(answer),
+            Err(Busy) => Err(status::BUSY),
+        }
+    }
+
+    /// Makes the calls of a row at a seat. `Err`: a status says why not.
+    pub(crate) fn row<Q: SeatRow>(
+        &mut self,
+        seat: u32,
+        row: &Q,
+        places: &mut [Q::Written],
+    ) -> Result<Q::Answer, u32>
+        ensures calls { Calls seat (λ answer. Q.deeds row.now answer places.new) result self.old self.new }
+        ensures places { MatchResult result (λ answer. Q.writes row.now answer places.old places.new)
+            (λ _. places.new ≡ places.old) }
+    {
+        let seat = seat as usize;
+        if seat >= self.hub.service().seat_count() {
+            return Err(status::UNKNOWN_SEAT);
+        }
+        match self.client.row(self.hub.service(), seat, row, places) {
+            Ok(answer) => Ok(answer),
+            Err(Busy) => Err(status::BUSY),
+        }
+    }
+
+    /// Makes a call of the driver. `Err`: another thread has it.
+    pub(crate) fn drive<Q: DriverCall>(
+        &mut self,
+        call: &Q,
+        places: &mut [Q::Written],
+    ) -> Result<Q::Answer, u32>
+        requires { Q.reach call.now (length places.old) ≤ pages_of (hub_of self.old).service }
+        ensures calls { CallsDriver (λ answer. Q.deed call.now answer places.new) result self.old self.new }
+        ensures places { MatchResult result (λ answer. Q.writes call.now answer places.old places.new)
+            (λ _. places.new ≡ places.old) }
+    {
+        match self.client.drive(self.hub.service(), call, places) {
+            Ok(answer) => Ok(answer),
+            Err(Busy) => Err(status::BUSY),
+        }
+    }
+
+    /// Locks a seat. `Err`: a status says why not.
+    pub(crate) fn lock(&mut self, seat: u32) -> Result<(), u32>
+        ensures { Locks seat result self.old self.new }
+    {
+        let seat = seat as usize;
+        if seat >= self.hub.service().seat_count() {
+            return Err(status::UNKNOWN_SEAT);
+        }
+        match self.client.lock(self.hub.service(), seat) {
+            Ok(()) => Ok(()),
+            Err(Busy) => Err(status::BUSY),
+        }
+    }
+
+    /// Unlocks a seat. `Err`: there is no such seat.
+    pub(crate) fn unlock(&mut self, seat: u32) -> Result<(), u32>
+        ensures { Unlocks seat result self.old self.new }
+    {
+        let seat = seat as usize;
+        if seat >= self.hub.service().seat_count() {
+            return Err(status::UNKNOWN_SEAT);
+        }
+        self.client.unlock(self.hub.service(), seat);
+        Ok(())
+    }
+
+    /// Whether there are `many` pages from `from` on.
+    pub(crate) fn has_pages(&self, from: u32, many: usize) -> bool
+        ensures { IsTrue result ↔ (from + many ≤ pages_of (hub_of self.now).service) }
+    {
+        self.hub.has_pages(from, many)
+    }
+
+    /// The card, at the desk. `None`: another thread is there.
+    pub(crate) fn enter(&mut self) -> Option<Card>
+        ensures card { MatchOption result ⊤ (λ card. IsAtDesk (hub_of self.old) card) }
+        ensures client { self.new.client ≡ self.old.client }
+        ensures hub { self.new.hub ≡ self.old.hub }
+    {
+        let Some(mut card) = self.card.take() else {
+            return None;
+        };
+        if self.hub.enter(&mut card) {
+            return Some(card);
+        }
+        self.card = Some(card);
+        None
+    }
+
+    /// Parks its client by this card, which is at the desk.
+    pub(crate) fn park(self, card: &mut Card)
+        requires { IsAtDesk (hub_of self) card.old }
+        ensures left { IsIdle (hub_of self).desk card.new }
+        ensures parked { log_of card.new ≡ log_of card.old ++ Parked self.client ∷ [] }
+    {
+        let BoxedClient { hub, client, .. } = self;
+        hub.park_there(card, client);
+    }
+}

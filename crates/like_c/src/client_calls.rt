@@ -1,0 +1,350 @@
+//! The calls of a client for C. Each makes the call of `like_shared` that it is named for, at the seat that is named, or
+//! tells that there is no such seat or that another thread has it.
+ghost use Rattle.std.specs.Prelude.{◌≡◌, ◌<◌, ◌≤◌, ℕ, length, slice_get};
+ghost use Rattle.like_shared.specs.declared.deed.SeatDeed.TheVariants.{ComeBack, Retire, Turn};
+ghost use Rattle.like_c.specs.ClientRows.{ClientRuns};
+ghost use Rattle.like_c.specs.Clients.{ClientDrives, ClientGlances, ClientLast, ClientLastCounts, ClientLasts, ClientLikes, ClientLikesRow, ClientLocks, ClientLooks, ClientPhase, ClientProposes, ClientSnapshots, ClientSplitPages, ClientTakesFound, ClientTurns, ClientUnlocks};
+ghost use Rattle.like_c.specs.Sharing.{ClosesClient};
+
+use crate::client_handle::ClientHandle;
+use crate::phase_row::PhaseRow;
+use crate::rows::{AnswerRow, FoundRow, RequestRow, page_or_none};
+use crate::{end_of, status};
+use like_live::LikePair;
+use like_shared::{
+    ComeBackCall, DriverTurnCall, GlanceCall, LastCall, LastCountsCall, LastsRow, LikeCall,
+    LikeRow, LookCall, ProposeCall, RetireCall, SnapshotCall, SplitPagesCall, TakeFoundCall,
+    TurnCall,
+};
+use std::alloc::Global;
+
+/// Parks a client, and empties its handle. Seats that it holds are given back.
+#[unsafe(no_mangle)]
+pub extern "C" fn likes_client_close(alloc: Global, client: &mut ClientHandle) -> u32
+    ensures { ClosesClient client.old.home result client.new.home }
+{
+    let Some(boxed) = client.get() else {
+        return status::EMPTY;
+    };
+    let Some(mut card) = boxed.enter() else {
+        return status::BUSY;
+    };
+    match client.take(alloc) {
+        Some(boxed) => Box::into_inner(boxed).park(&mut card),
+        None => unreachable!(),
+    }
+    status::OK
+}
+
+#[unsafe(no_mangle)]
+pub extern "C" fn likes_client_like(
+    client: &mut ClientHandle,
+    seat: u32,
+    user: u32,
+    page: u32,
+) -> u32
+    ensures { ClientLikes seat user page client.old.home result client.new.home }
+{
+    let Some(boxed) = client.get() else {
+        return status::EMPTY;
+    };
+    status::of_told_like(boxed.call(seat, &LikeCall { user, page }))
+}
+
+#[unsafe(no_mangle)]
+pub extern "C" fn likes_client_look(
+    client: &mut ClientHandle,
+    seat: u32,
+    user: u32,
+    page: u32,
+    tag: u64,
+    answer: &mut AnswerRow,
+) -> u32
+    ensures case { ClientLooks seat user page tag client.old.home answer.new client.new.home }
+    ensures status { result ≡ answer.new.status }
+{
+    let Some(boxed) = client.get() else {
+        *answer = AnswerRow::of(status::EMPTY);
+        return status::EMPTY;
+    };
+    *answer = AnswerRow::of_told_look(boxed.call(seat, &LookCall { user, page, tag }));
+    answer.status
+}
+
+#[unsafe(no_mangle)]
+pub extern "C" fn likes_client_glance(
+    client: &mut ClientHandle,
+    seat: u32,
+    user: u32,
+    page: u32,
+    answer: &mut AnswerRow,
+) -> u32
+    ensures case { ClientGlances seat user page client.old.home answer.new client.new.home }
+    ensures status { result ≡ answer.new.status }
+{
+    let Some(boxed) = client.get() else {
+        *answer = AnswerRow::of(status::EMPTY);
+        return status::EMPTY;
+    };
+    *answer = AnswerRow::of_told_glance(boxed.call(seat, &GlanceCall { user, page }));
+    answer.status
+}
+
+/// The page of a user's last like. If it isn't told, the number behind the pointer stays as it was.
+#[unsafe(no_mangle)]
+pub extern "C" fn likes_client_last(
+    client: &mut ClientHandle,
+    seat: u32,
+    user: u32,
+    page: &mut u32,
+) -> u32
+    ensures { ClientLast seat user client.old.home page.old result page.new client.new.home }
+{
+    let Some(boxed) = client.get() else {
+        return status::EMPTY;
+    };
+    match boxed.call(seat, &LastCall { user }) {
+        Ok(Ok(last)) => {
+            *page = page_or_none(last);
+            status::OK
+        }
+        Ok(Err(verdict)) => status::of_verdict(verdict),
+        Err(refused) => refused,
+    }
+}
+
+/// The last likes of a seat's users, from place `from` on.
+#[unsafe(no_mangle)]
+pub extern "C" fn likes_proved_client_lasts(
+    client: &mut ClientHandle,
+    seat: u32,
+    from: u32,
+    pages: &mut [u32],
+) -> u32
+    ensures { ClientLasts seat from client.old.home pages.old result pages.new client.new.home }
+{
+    let Some(boxed) = client.get() else {
+        return status::EMPTY;
+    };
+    status::of_told_lasts(boxed.row(seat, &LastsRow { from }, pages))
+}
+
+/// Runs requests one by one. It stops at the first that is `BETWEEN`, `NO_ROOM`, `BUSY` or `UNKNOWN_SEAT`, whose answer
+/// has that status, and at the end of the shorter array. Later answers are left as they were.
+#[unsafe(no_mangle)]
+pub extern "C" fn likes_proved_client_run(
+    client: &mut ClientHandle,
+    seat: u32,
+    requests: &[RequestRow],
+    answers: &mut [AnswerRow],
+) -> usize
+    ensures rows { ClientRuns seat client.old.home requests.now answers.old answers.new result client.new.home }
+    ensures requests { result ≤ length requests.now }
+    ensures answers { result ≤ length answers.old }
+    ensures rest { (i : ℕ) → result < i → slice_get answers.new i ≡ slice_get answers.old i }
+{
+    let Some(boxed) = client.get() else {
+        if let Some(first) = answers.first_mut() {
+            *first = AnswerRow::of(status::EMPTY);
+        }
+        return 0;
+    };
+    boxed.run(seat, requests, answers)
+}
+
+/// Counts likes in their order, up to the first that isn't counted, with one look at the phase word. `counted` is how
+/// many were, and the status is what the next one is told, or `LIKED`.
+#[unsafe(no_mangle)]
+pub extern "C" fn likes_proved_client_like_row(
+    client: &mut ClientHandle,
+    seat: u32,
+    likes: &[LikePair],
+    counted: &mut usize,
+) -> u32
+    ensures { ClientLikesRow seat likes.now client.old.home result counted.new client.new.home }
+{
+    *counted = 0;
+    let Some(boxed) = client.get() else {
+        return status::EMPTY;
+    };
+    match boxed.row(seat, &LikeRow { likes }, &mut []) {
+        Ok(told) => {
+            *counted = told.counted;
+            status::of_like(told.answer)
+        }
+        Err(refused) => refused,
+    }
+}
+
+#[unsafe(no_mangle)]
+pub extern "C" fn likes_client_take_found(
+    client: &mut ClientHandle,
+    seat: u32,
+    found: &mut FoundRow,
+) -> u32
+    ensures { ClientTakesFound seat client.old.home found.old result found.new client.new.home }
+{
+    let Some(boxed) = client.get() else {
+        return status::EMPTY;
+    };
+    match boxed.call(seat, &TakeFoundCall) {
+        Ok(Some(it)) => {
+            *found = FoundRow::of(it);
+            status::OK
+        }
+        Ok(None) => status::NO_FOUND,
+        Err(refused) => refused,
+    }
+}
+
+#[unsafe(no_mangle)]
+pub extern "C" fn likes_client_turn(client: &mut ClientHandle, seat: u32) -> u32
+    ensures { ClientTurns Turn seat client.old.home result client.new.home }
+{
+    let Some(boxed) = client.get() else {
+        return status::EMPTY;
+    };
+    status::of_told_turn(boxed.call(seat, &TurnCall))
+}
+
+#[unsafe(no_mangle)]
+pub extern "C" fn likes_client_retire(client: &mut ClientHandle, seat: u32) -> u32
+    ensures { ClientTurns Retire seat client.old.home result client.new.home }
+{
+    let Some(boxed) = client.get() else {
+        return status::EMPTY;
+    };
+    status::of_told_turn(boxed.call(seat, &RetireCall))
+}
+
+#[unsafe(no_mangle)]
+pub extern "C" fn likes_client_come_back(client: &mut ClientHandle, seat: u32) -> u32
+    ensures { ClientTurns ComeBack seat client.old.home result client.new.home }
+{
+    let Some(boxed) = client.get() else {
+        return status::EMPTY;
+    };
+    status::of_told_turn(boxed.call(seat, &ComeBackCall))
+}
+
+/// Tells the phase that a seat runs or has answered last, or 0 once it is gone. If it isn't told, the number behind the
+/// pointer stays as it was.
+#[unsafe(no_mangle)]
+pub extern "C" fn likes_client_phase(client: &mut ClientHandle, seat: u32, phase: &mut u64) -> u32
+    ensures { ClientPhase seat client.old.home phase.old result phase.new client.new.home }
+{
+    let Some(boxed) = client.get() else {
+        return status::EMPTY;
+    };
+    match boxed.row(seat, &PhaseRow, &mut []) {
+        Ok(told) => {
+            *phase = told;
+            status::OK
+        }
+        Err(refused) => refused,
+    }
+}
+
+/// Locks a seat for this client, until it is unlocked.
+#[unsafe(no_mangle)]
+pub extern "C" fn likes_client_lock(client: &mut ClientHandle, seat: u32) -> u32
+    ensures { ClientLocks seat client.old.home result client.new.home }
+{
+    let Some(boxed) = client.get() else {
+        return status::EMPTY;
+    };
+    status::of_done(boxed.lock(seat))
+}
+
+/// Unlocks a seat, if this client holds it.
+#[unsafe(no_mangle)]
+pub extern "C" fn likes_client_unlock(client: &mut ClientHandle, seat: u32) -> u32
+    ensures { ClientUnlocks seat client.old.home result client.new.home }
+{
+    let Some(boxed) = client.get() else {
+        return status::EMPTY;
+    };
+    status::of_done(boxed.unlock(seat))
+}
+
+/// Has the driver take a turn.
+#[unsafe(no_mangle)]
+pub extern "C" fn likes_client_drive(client: &mut ClientHandle, end: u32) -> u32
+    ensures { ClientDrives client.old.home end result client.new.home }
+{
+    let Some(boxed) = client.get() else {
+        return status::EMPTY;
+    };
+    match end_of(end) {
+        Some(end) => status::of_told_driver(boxed.drive(&DriverTurnCall { end }, &mut [])),
+        None => status::UNKNOWN_END,
+    }
+}
+
+#[unsafe(no_mangle)]
+pub extern "C" fn likes_proved_client_snapshot(
+    client: &mut ClientHandle,
+    from: u32,
+    counts: &mut [u64],
+) -> u32
+    ensures { ClientSnapshots client.old.home from counts.old result counts.new client.new.home }
+{
+    let Some(boxed) = client.get() else {
+        return status::EMPTY;
+    };
+    if !boxed.has_pages(from, counts.len()) {
+        return status::WRONG_RANGE;
+    }
+    status::of_told_snapshot(boxed.drive(&SnapshotCall { from }, counts))
+}
+
+#[unsafe(no_mangle)]
+pub extern "C" fn likes_proved_client_last_counts(
+    client: &mut ClientHandle,
+    from: u32,
+    counts: &mut [u64],
+) -> u32
+    ensures { ClientLastCounts client.old.home from counts.old result counts.new client.new.home }
+{
+    let Some(boxed) = client.get() else {
+        return status::EMPTY;
+    };
+    if !boxed.has_pages(from, counts.len()) {
+        return status::WRONG_RANGE;
+    }
+    status::of_told_last(boxed.drive(&LastCountsCall { from }, counts))
+}
+
+/// The pages that are split in the present or last split phase, as many as there is room for. `written` is how many were
+/// written.
+#[unsafe(no_mangle)]
+pub extern "C" fn likes_proved_client_split_pages(
+    client: &mut ClientHandle,
+    pages: &mut [u32],
+    written: &mut usize,
+) -> u32
+    ensures { ClientSplitPages client.old.home pages.old result pages.new written.new client.new.home }
+{
+    *written = 0;
+    let Some(boxed) = client.get() else {
+        return status::EMPTY;
+    };
+    match boxed.drive(&SplitPagesCall, pages) {
+        Ok(many) => {
+            *written = many;
+            status::OK
+        }
+        Err(refused) => refused,
+    }
+}
+
+/// Proposes these pages for slots from now on.
+#[unsafe(no_mangle)]
+pub extern "C" fn likes_proved_client_propose(client: &mut ClientHandle, pages: &[u32]) -> u32
+    ensures { ClientProposes pages.now client.old.home result client.new.home }
+{
+    let Some(boxed) = client.get() else {
+        return status::EMPTY;
+    };
+    status::of_done(boxed.drive(&ProposeCall { pages }, &mut []))
+}

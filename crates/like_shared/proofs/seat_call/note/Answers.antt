@@ -1,0 +1,12 @@
+use Rattle.std.proofs.Common.{refl, sym, subst}
+use Rattle.told_lock.specs.Deeds.{HasRun}
+use Rattle.like_shared.specs.Deeds.{SeatDoes}
+use Rattle.like_shared.proofs.seat_call.note.Goals as goal
+
+pub note_after-requires : goal.note_after-requires
+note_after-requires g c =
+    let it = c.requires.made in
+    (it.0, it.1, it.2, subst (λ ds. HasRun SeatDoes it.0 ds it.1) (sym c.requires.deed) (it.1, it.3, refl))
+
+pub returns-clause-holding : goal.returns-clause-holding
+returns-clause-holding g c = let it = c.note_after.ensures.holding in (it.1, it.3)

@@ -1,5 +1,0 @@
-use Rattle.std.proofs.Common.{[], ◌∷◌}
-use Rattle.like_shared.proofs.seat_call.try_call.Given as goal
-
-abbrev pub ghosts-tell : goal.ghosts-tell
-ghosts-tell g a = record { done = g.Q.SeatCall.deed a._call.now a._answer.now ∷ [] }

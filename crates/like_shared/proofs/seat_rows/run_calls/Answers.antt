@@ -1,0 +1,19 @@
+use Rattle.std.proofs.Common.{arith}
+use Rattle.like_shared.proofs.Rows.{batch-made, batch-run}
+use Rattle.like_shared.proofs.seat_rows.run_calls.Goals as goal
+
+pub returns-clause-run : goal.returns-clause-run
+returns-clause-run c = batch-run _ _ c.args.rows.now c.run.new.answers c.run.result c.run.ensures.case
+
+pub returns-clause-answers : goal.returns-clause-answers
+returns-clause-answers c =
+    let run = c.run.ensures in
+    let made = batch-made _ _ c.args.rows.now c.run.new.answers c.run.result run.case in
+    record {
+      rows_few = run.rows;
+      answers_few = omega (arith, run.answers, run.len);
+      made = made.0;
+      next = made.1;
+      later = run.rest;
+      unasked = run.unasked;
+    }
