@@ -68,7 +68,7 @@ static uint32_t last_of(uint32_t user, const uint64_t *counts) {
  * the snapshot is taken again. */
 static void take_snapshot(uint64_t *counts, uint32_t *lasts) {
     uint32_t status = LIKES_NO_MOMENT;
-    for (int tries = 0; status == LIKES_NO_MOMENT && tries < 4; tries++)
+    for (int tries = 0; status == LIKES_NO_MOMENT && tries < 50; tries++)
         status = likes_service_snapshot(service, counts, PAGES, lasts, USERS);
     IS(status, LIKES_COUNTED);
 }

@@ -346,7 +346,7 @@ static void held_calls(void) {
 static void hold_long(void) {
     begin(0);
     likes_service_lock(explored, 0);
-    nap(99 * MS + 900 * US);
+    nap(97 * MS);
     likes_service_unlock(explored, 0);
 }
 
@@ -360,9 +360,9 @@ static void hold_past_due(void) {
 
 static void hold_soon(void) {
     begin(1);
-    nap(99 * MS + 850 * US);
+    nap(95 * MS);
     likes_service_lock(explored, 1);
-    nap(300 * US);
+    nap(20 * MS);
     likes_service_unlock(explored, 1);
 }
 

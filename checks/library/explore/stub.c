@@ -163,15 +163,17 @@ static uint32_t come_back(stub_seat *seat) {
 
 /* Calls of a seat */
 
-static uint32_t fault_of(stub_seat *seat, uint32_t user, uint32_t page) {
-    uint32_t status = advance(seat);
-    if (status != LIKES_RUNS)
-        return status;
+static uint32_t numbers_fault(const stub_seat *seat, uint32_t user, uint32_t page) {
     if (user >= seat->core->users)
         return LIKES_UNKNOWN_USER;
     if (user % seat->core->seats != seat->number)
         return LIKES_OTHER_SEAT;
     return page < seat->core->pages ? LIKES_OK : LIKES_UNKNOWN_PAGE;
+}
+
+static uint32_t fault_of(stub_seat *seat, uint32_t user, uint32_t page) {
+    uint32_t status = advance(seat);
+    return status == LIKES_RUNS ? numbers_fault(seat, user, page) : status;
 }
 
 static uint32_t tell(likes_answer *answer, uint32_t status, uint64_t count, uint32_t last) {
@@ -251,8 +253,12 @@ static uint32_t lasts(const stub_seat *seat, uint32_t from, uint32_t *pages, siz
     return LIKES_OK;
 }
 
+static bool is_known(const likes_request *request) {
+    return request->op <= LIKES_GLANCE && request->reserved == 0;
+}
+
 static uint32_t run_one(stub_seat *seat, const likes_request *request, likes_answer *answer) {
-    if (request->op > LIKES_GLANCE || request->reserved != 0)
+    if (!is_known(request))
         return tell(answer, LIKES_UNKNOWN_OP, 0, 0);
     if (request->op == LIKES_LIKE)
         return tell(answer, like(seat, request->user, request->page), 0, 0);
@@ -271,17 +277,13 @@ static size_t run(stub_seat *seat, const likes_request *requests, size_t length,
 
 /* Likes of a row, with one look at the word. */
 static uint32_t like_row(stub_seat *seat, const likes_pair *row, size_t length, size_t *counted) {
-    uint32_t status = LIKES_OK;
+    uint32_t status = advance(seat);
+    if (status != LIKES_RUNS)
+        return status;
     for (*counted = 0; *counted < length; ++*counted) {
-        uint32_t user = row[*counted].user, page = row[*counted].page;
-        if (*counted == 0)
-            status = fault_of(seat, user, page);
-        else if (user >= seat->core->users || user % seat->core->seats != seat->number)
-            status = user >= seat->core->users ? LIKES_UNKNOWN_USER : LIKES_OTHER_SEAT;
-        else if (page >= seat->core->pages)
-            status = LIKES_UNKNOWN_PAGE;
-        if (status != LIKES_OK)
-            return status;
+        uint32_t user = row[*counted].user, page = row[*counted].page, fault = numbers_fault(seat, user, page);
+        if (fault != LIKES_OK)
+            return fault;
         count_like(seat, user, page);
     }
     return LIKES_LIKED;
@@ -521,12 +523,15 @@ size_t likes_proved_client_run(likes_client *client, uint32_t number, const like
                                size_t requests_len, likes_answer *answers, size_t answers_len) {
     stub_seat *seat;
     uint32_t status = take(client, number, &seat);
+    size_t done = 0;
     if (status != LIKES_OK) {
-        if (answers_len > 0)
-            tell(answers, status, 0, 0);
-        return 0;
+        while (status != LIKES_EMPTY && done < requests_len && done < answers_len && !is_known(&requests[done]))
+            tell(&answers[done++], LIKES_UNKNOWN_OP, 0, 0);
+        if (done < answers_len && (done < requests_len || status == LIKES_EMPTY))
+            tell(&answers[done], status, 0, 0);
+        return done;
     }
-    size_t done = run(seat, requests, requests_len, answers, answers_len);
+    done = run(seat, requests, requests_len, answers, answers_len);
     give(client, seat);
     return done;
 }
@@ -707,6 +712,8 @@ uint32_t likes_client_open(likes_shared *shared, likes_client *client) {
 uint32_t likes_client_close(likes_client *client) {
     if (client->at == NULL)
         return LIKES_EMPTY;
+    for (uint32_t number = 0; number < client_of(client)->core->seats; number++)
+        likes_client_unlock(client, number);
     __atomic_fetch_sub(&client_of(client)->core->clients, 1, __ATOMIC_SEQ_CST);
     free(client->at);
     client->at = NULL;
@@ -721,7 +728,8 @@ uint32_t likes_proved_shared_close(likes_shared *shared, uint64_t *counts, size_
         return LIKES_WRONG_PAGES;
     if (__atomic_load_n(&core->clients, __ATOMIC_SEQ_CST) > 0)
         return LIKES_OPEN_CLIENT;
-    if (present_of(__atomic_load_n(&core->word, __ATOMIC_SEQ_CST)) > 0)
+    uint64_t word = __atomic_load_n(&core->word, __ATOMIC_SEQ_CST);
+    if (present_of(word) > 0 || phase_of(word) % 2 == 1)
         return LIKES_NOT_ENDED;
     write_counts(core, 0, counts, counts_len);
     likes_proved_shared_free(shared);
