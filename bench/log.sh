@@ -1,23 +1,31 @@
 # Measures tools/log beside a script of thirty lines and one thread, checks/program/counter.py, on a drawn log of a web
-# server: the seconds of each, those of processors, and what the tool takes of the script's. The first time it proves
-# and builds the program. Both count the same, or it fails.
+# server or a spreadsheet: the seconds of each, those of processors, and what the tool takes of the script's. The first
+# time it proves and builds the program. Both count the same, or it fails.
 #
-# usage: bench/run log [LINES]
+# usage: bench/run log [LINES [FORM]]
 #   LINES   how many lines the log has (1000000)
+#   FORM    of what form it is: combined, syslog, json, or csv, of a spreadsheet (combined)
 #
 # Each is run three times, in turns, and the least counts. On other work's processors only the processors' seconds say
 # much. It needs GNU time. With the default it takes two minutes, and beside other work four.
 
 "$root/likes" >/dev/null || exit
 cd -- "$work" || exit 3
-python3 "$root/checks/program/weblog.py" "${1:-1000000}" >access.log || exit 3
-mkdir script
+form=${2:-combined}
 like='POST /like(/articles/[^? ]*)'
 look='GET (/articles/[^? ]*)'
+case $form in
+combined | syslog) kind=--combined ;;
+json) kind=--from-json ;;
+csv) kind=--columns=Aktion,Wer,Seite like='gefällt mir' look=angesehen ;;
+*) fail "there is no form $form: bench/run log -h lists them" ;;
+esac
+python3 "$root/checks/program/weblog.py" "${1:-1000000}" "$form" >access.log || exit 3
+mkdir script
 for _ in 1 2 3; do
     rm -rf answer
-    cost_of python3 "$root/checks/program/counter.py" combined access.log script | sed 's/^/script /'
-    cost_of "$root/tools/log" access.log --combined --like "$like" --look "$look" 2>/dev/null | sed 's/^/tool /'
+    cost_of python3 "$root/checks/program/counter.py" "$form" access.log script | sed 's/^/script /'
+    cost_of "$root/tools/log" access.log "$kind" --like "$like" --look "$look" 2>/dev/null | sed 's/^/tool /'
 done >costs
 cmp script/pages.csv answer/pages.csv || fail 'the tool and the script count otherwise'
 awk '

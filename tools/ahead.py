@@ -13,9 +13,19 @@ from command import SIGNALS, Fault
 # How many bytes the length of a batch has, and how many the pipe holds.
 LENGTH, ROOM = 8, 1 << 20
 
-# Requests as a log has them in a batch; op and page of each number that is new; the name of the log that they are in,
-# and how much of it was read, in words; and which process read them, whose numbers they have.
-Batch = collections.namedtuple("Batch", "lines numbers users times periods end least place new name read reader")
+# The fields of a batch.
+FIELDS = "lines numbers users times periods end least place new name read reader"
+
+
+class Batch(collections.namedtuple("Batch", FIELDS)):
+    """Requests as a log has them in a batch; op and page of each number that is new; the name of the log that they are
+    in, and how much of it was read, in words; and which process read them, whose numbers they have."""
+
+    __slots__ = ()
+
+    def line_of(self, number):
+        """The line of the first request with this number."""
+        return self.lines[self.numbers.index(number)]
 
 
 class Numbers(dict):

@@ -155,9 +155,9 @@ class Dealt:
     def takes_any_name(self):
         return self.has_parts or self.kept is not None
 
-    def add(self, name, line):
-        """The page of a new name."""
-        text = self.name_of(name, line)
+    def add(self, name, batch, number):
+        """The page of a new name, which has this number in a batch."""
+        text = self.name_of(name, batch, number)
         page = self.earlier.get(text)
         if not page and self.kept is not None and name not in self.kept:
             page = self.rest
@@ -169,7 +169,7 @@ class Dealt:
             if len(self.open.pages) == PAGES:
                 if not self.has_parts:
                     why = f"more than {PAGES} pages: use --parts, or one name for the less liked ones (--rest)"
-                    raise self.log.fault(line, why)
+                    raise self.log.fault(batch.line_of(number), why)
                 self.open = self.new_part()
             self.open.add(page)
         if text != name and page is not self.rest:
@@ -177,13 +177,13 @@ class Dealt:
         self.pages[name] = page
         return page
 
-    def name_of(self, name, line):
+    def name_of(self, name, batch, number):
         """The name that a page has in the files."""
         if is_name(name) and not (self.takes_any_name() and is_stand_in(name)):
             return name
         if not self.takes_any_name():
             why = f"page name is not 1 to {NAME} bytes of UTF-8 (--parts and --rest take any): {shown(name)}"
-            raise self.log.fault(line, why)
+            raise self.log.fault(batch.line_of(number), why)
         return stand_in(name)
 
     def deal(self):
@@ -238,8 +238,7 @@ class Dealt:
     def new_of(self, batch, first):
         """Op and page of what is new in a batch, whose numbers begin with the first."""
         for number, (op, name) in enumerate(batch.new, first):
-            page = self.pages.get(name) or self.add(name, batch.lines[batch.numbers.index(number)])
-            yield op, page
+            yield op, self.pages.get(name) or self.add(name, batch, number)
 
     def line_past(self, batch):
         """The line of the first user who is too many."""

@@ -46,6 +46,14 @@ def shown_of(line):
     return line[:100].decode(errors=ESCAPED)
 
 
+def places(values, value):
+    """Where a value is in a list."""
+    at = -1
+    for _ in range(values.count(value)):
+        at = values.index(value, at + 1)
+        yield at
+
+
 class Log:
     """A log, or several that are taken in the order of their times. It is read again each time."""
 

@@ -185,26 +185,35 @@ def share(file):
     return ""
 
 
-def records_of(lines, name, strict, delimiter=","):
-    """The records of CSV in lines, each with the line on which it begins, read as the program reads them.
+def reader_of(lines, delimiter):
+    """The records of CSV in lines. An unclosed quote, and text after a closing quote, are faults."""
+    csv.field_size_limit(LONGEST)
+    return csv.reader(lines, strict=True, delimiter=delimiter)
 
-    With `strict`, an unclosed quote, and text after a closing quote, are faults."""
-    csv.field_size_limit(LONGEST if strict else sys.maxsize)
+
+def fields_of(line, delimiter):
+    """The fields in a line of CSV, whatever quotes it has."""
+    csv.field_size_limit(sys.maxsize)
+    return next(csv.reader([line], delimiter=delimiter), [])
+
+
+def why(error):
+    """What is wrong with CSV, by the csv module's error."""
+    return BEHIND if "expected after" in str(error) else QUOTES.get(str(error), error)
+
+
+def records_in(file, name):
+    """The records of an open CSV file, each with the line on which it begins, read as the program reads them."""
+    csv.field_size_limit(sys.maxsize)
     line = 1
     try:
-        reader = csv.reader(lines, strict=strict, delimiter=delimiter)
+        reader = csv.reader(io.TextIOWrapper(file, newline="", encoding="utf-8-sig", errors="surrogateescape"))
         for record in reader:
             if record:
                 yield line, record
             line = reader.line_num + 1
     except csv.Error as error:
-        why = BEHIND if "expected after" in str(error) else QUOTES.get(str(error), error)
-        raise fault(name, line, why) from None
-
-
-def records_in(file, name):
-    """The records of an open CSV file, each with the line on which it begins."""
-    return records_of(io.TextIOWrapper(file, newline="", encoding="utf-8-sig", errors="surrogateescape"), name, False)
+        raise fault(name, line, why(error)) from None
 
 
 def plain_in(file, name):

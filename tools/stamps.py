@@ -5,6 +5,7 @@ import datetime
 import math
 import re
 
+from cache import Cache
 from command import shown
 
 # A web server's time, such as 27/Nov/2026:09:00:01 +0000, and one of ISO 8601, such as 2026-11-27T09:00:01.250Z.
@@ -19,9 +20,6 @@ MONTHS = "Jan Feb Mar Apr May Jun Jul Aug Sep Oct Nov Dec".split()
 # Seconds since 1970, and from when on they are thousandths, millionths or billionths: as seconds, past the year 5000.
 NUMBER = re.compile(r"\d{9,19}(?:\.\d+)?")
 PAST = 1e11
-
-# How many times are cached, before a batch adds its own.
-KEPT = 1 << 17
 
 EPOCH = datetime.datetime(1970, 1, 1)
 
@@ -59,17 +57,13 @@ def read(text):
     return None
 
 
-class Stamps(dict):
+class Stamps(Cache):
     """Times by their text: the seconds since 1970, those that the wall clock shows, and the day or hour. Of a text that
     is no time, these are before all others, and none."""
 
     def __init__(self, by):
         super().__init__()
         self.form = PERIODS.get(by, "")
-
-    def make_room(self):
-        if len(self) >= KEPT:
-            self.clear()
 
     def __missing__(self, text):
         at, wall = read(text) or (-math.inf, None)

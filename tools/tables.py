@@ -7,25 +7,24 @@ import itertools
 
 import reading
 import rows
+from cache import Cache
 from command import shown
 
 # What may separate fields, the likeliest first, and names for those that a shell can't write well.
 DELIMITERS = ",;\t|"
 NAMED = {"tab": "\t", "\\t": "\t"}
 
-# How many rows are a batch.
-BATCH = 4096
-
 # Why rows are left out.
 FEWER, MORE, SHORT = "fewer fields than the header", "more fields than the header", "fewer fields than --columns"
 
 
 class Header:
-    """Where the columns of a file are, and how its fields are separated."""
+    """Where the columns of a file are, how its fields are separated, and how many most rows have."""
 
-    def __init__(self, names, delimiter, places):
+    def __init__(self, names, delimiter, places, width):
         self.names, self.delimiter, self.places = names, delimiter, places
         self.least = max(places) + 1
+        self.width = max(width, self.least)
 
     def lacks(self, row):
         """Whether a row has fewer fields than are needed: those of the header, or without one the columns."""
@@ -33,6 +32,93 @@ class Header:
 
     def exceeds(self, row):
         return bool(self.names) and len(row) > len(self.names)
+
+
+class Lines:
+    """The lines of a file, a piece at a time. A record that goes on behind the piece makes it longer."""
+
+    def __init__(self, blocks):
+        self.blocks = blocks
+        self.piece, self.long = [], {}  # and by their places: the beginnings of lines that are too long
+        self.at = 0  # the place behind the last record
+
+    def begin(self, block):
+        """Begins a piece."""
+        self.piece, self.long, self.at = [], {}, 0
+        self.add(block)
+
+    def add(self, block):
+        """Adds a block. In place of a line that is too long there is an empty one."""
+        if isinstance(block, str):
+            self.long[len(self.piece)] = block
+            self.piece.append("\n")
+        else:
+            text = block.decode(errors=reading.ESCAPED).replace("\0", reading.NUL)
+            self.piece += io.StringIO(text, newline="")
+
+    def __iter__(self):
+        return self
+
+    def __next__(self):
+        """The next line of a record."""
+        if self.at == len(self.piece):
+            self.add(next(self.blocks)[1])
+        self.at += 1
+        return self.piece[self.at - 1]
+
+    def read(self, at, delimiter):
+        """The record that begins at a place. It leaves its lines empty."""
+        self.at = at
+        record = next(rows.reader_of(self, delimiter))
+        self.piece[at : self.at] = ["\n"] * (self.at - at)
+        return record
+
+
+class Rows:
+    """The rows of a piece: lines without quotes, empty ones where there is no such row, and records by their places."""
+
+    def __init__(self, header, lines, records):
+        self.header, self.lines, self.records = header, lines, records
+
+    def __getitem__(self, at):
+        """A row, as text."""
+        return self.header.delimiter.join(self.row(at))
+
+    def row(self, at):
+        """The fields of a row, or none."""
+        line = self.lines[at]
+        return line.split(self.header.delimiter) if line else self.records.get(at, [])
+
+    def columns(self):
+        """The columns that are needed. In rows with too few fields or too many they are empty."""
+        header, delimiter = self.header, self.header.delimiter
+        counts = map(str.count, self.lines, itertools.repeat(delimiter))
+        others = {at: self.row(at) for at, count in enumerate(counts) if count != header.width - 1}
+        others |= self.records
+        lines = self.lines.copy()
+        for at in others:
+            lines[at] = delimiter * (header.width - 1)
+        fields = delimiter.join(lines).split(delimiter)
+        columns = [fields[place :: header.width] for place in header.places]
+        for at, row in others.items():
+            if not header.lacks(row) and not header.exceeds(row):
+                for column, place in zip(columns, header.places):
+                    column[at] = row[place]
+        return columns
+
+
+class Meanings(Cache):
+    """What rows mean, by their op and page: the number of op and page, or 0."""
+
+    def __init__(self, log):
+        super().__init__()
+        self.ops, self.page_of, self.number_of = log.ops, log.page_of, log.number_of
+
+    def __missing__(self, what):
+        word, page = what
+        op = self.ops.get(word)
+        self[what] = self.number_of((op, self.page_of(page))) if op and page else 0
+        return self[what]
 
 
 class Table(reading.Log):
@@ -47,65 +133,78 @@ class Table(reading.Log):
         self.has_header = not all(name.isdigit() for name in self.columns)
         self.ops = {words.look or "look": "look", words.like or "like": "like"}
         self.wrong_op = f"{self.op} is not {words.like or 'like'} or {words.look or 'look'}"
-
-    def lines(self, file):
-        """The lines of a file, as text. In place of one that is too long there is an empty one."""
-        for line, piece in self.blocks(file):
-            if isinstance(piece, str):
-                self.leave_out(reading.LONG, line, piece)
-                yield "\n"
-            else:
-                yield from io.StringIO(piece.decode(errors=reading.ESCAPED).replace("\0", reading.NUL), newline="")
+        self.meanings = Meanings(self)
 
     def cut(self, block):
         """Cuts a block behind its last line, which CR may end."""
         return block.rpartition(b"\n" if b"\n" in block else b"\r")
 
     def pieces_in(self, file):
-        lines = self.lines(file)
-        front = next((line for line in lines if line.strip()), "")
+        blocks, header, first = self.blocks(file), None, 1
+        lines = Lines(blocks)
+        for _, block in blocks:
+            lines.begin(block)
+            if header is None and any(map(str.strip, lines.piece)):
+                header = self.header_of(lines, first)
+            if header is not None:
+                records = self.records_in(lines, first, header)
+                yield first, Rows(header, [line.rstrip("\r\n") for line in lines.piece], records)
+            yield from ((first + at, text) for at, text in lines.long.items())
+            first += len(lines.piece)
+        if header is None:
+            self.places_of([], ",", 1)
+
+    def header_of(self, lines, first):
+        """The header of a file, or without one the columns by their numbers."""
+        at, front = next((at, line) for at, line in enumerate(lines.piece) if line.strip())
+        lines.piece[:at] = ["\n"] * at
         delimiter = self.delimiter or max(DELIMITERS, key=lambda one: self.fit(front, one))
-        records = rows.records_of(itertools.chain([front], lines), self.name, True, delimiter)
-        header = self.header_of(records, delimiter)
-        while batch := list(itertools.islice(records, BATCH)):
-            yield batch[0][0], (header, batch)
+        names = self.record_in(lines, first, at, delimiter) if self.has_header else []
+        places = self.places_of(names, delimiter, first + at)
+        return Header(names, delimiter, places, len(names) or len(rows.fields_of(front, delimiter)))
+
+    def places_of(self, names, delimiter, line):
+        """The places of the columns, by the names in a header's line or their numbers."""
+        if not self.has_header:
+            return [int(name) - 1 for name in self.columns]
+        for column in self.columns:
+            if names.count(column) != 1:
+                many = "more than one" if column in names else "no"
+                raise self.fault(line, f"the header has {many} column {column}: {shown(delimiter.join(names))}")
+        return [names.index(column) for column in self.columns]
 
     def fit(self, front, delimiter):
         """How well a delimiter fits a file's first line: how many columns it finds, or whether an op, then how many
         fields."""
-        fields = next(csv.reader([front], delimiter=delimiter), [])
+        fields = rows.fields_of(front, delimiter)
         if self.has_header:
             return sum(map(fields.__contains__, self.columns)), len(fields)
         op = int(self.op)
         return any(map(self.ops.__contains__, fields[op - 1 : op])), len(fields)
 
-    def header_of(self, records, delimiter):
-        """The header of a file, or without one the columns by their numbers."""
-        if not self.has_header:
-            return Header([], delimiter, [int(name) - 1 for name in self.columns])
-        line, names = next(records, (1, []))
-        for column in self.columns:
-            if names.count(column) != 1:
-                many = "more than one" if column in names else "no"
-                raise self.fault(line, f"the header has {many} column {column}: {shown(delimiter.join(names))}")
-        return Header(names, delimiter, [names.index(column) for column in self.columns])
+    def record_in(self, lines, first, at, delimiter):
+        """The record that begins at a place in a piece."""
+        try:
+            return lines.read(at, delimiter)
+        except csv.Error as error:
+            raise self.fault(first + at, rows.why(error)) from None
+
+    def records_in(self, lines, first, header):
+        """The records that have quotes in a piece, by their places, or that may have a field that is too long."""
+        found = {}
+        for at, line in enumerate(lines.piece):  # and those that a record adds
+            if at >= lines.at and ('"' in line or len(line) > rows.LONGEST):
+                found[at] = self.record_in(lines, first, at, header.delimiter)
+        return found
 
     def requests_in(self, first, piece):
-        header, records = piece
-        numbers, users, times, texts = [], [], [], []
-        op_at, user_at, page_at, time_at = (*header.places, header.places[0])[:4]
-        for line, row in records:
-            number = 0
-            if not header.lacks(row) and not header.exceeds(row):
-                op, page = self.ops.get(row[op_at]), row[page_at]
-                number = self.number_of((op, self.page_of(page))) if op and page else 0
-            if not number:
-                self.leave_out_row(line, row, header)
-            numbers.append(number)
-            users.append(row[user_at] if number else "")
-            times.append(row[time_at] if number else "")
-            texts.append(row)
-        return [line for line, _ in records], numbers, users, times, [header.delimiter.join(row) for row in texts]
+        ops, users, pages, *times = piece.columns()
+        self.meanings.make_room()
+        numbers = list(map(self.meanings.__getitem__, zip(ops, pages)))
+        for at in reading.places(numbers, 0):
+            if row := piece.row(at):
+                self.leave_out_row(first + at, row, piece.header)
+        return range(first, first + len(numbers)), numbers, users, times[0] if times else [], piece
 
     def page_of(self, page):
         """A page, without its query if that is taken off."""
@@ -133,8 +232,9 @@ class Table(reading.Log):
         self.leave_out(why, line, text)
 
     def time_of(self, piece):
-        header, records = piece
-        return self.first_of(row[header.places[3]] for _, row in records if len(row) > header.places[3])
+        place = piece.header.places[3]
+        found = map(piece.row, range(len(piece.lines)))
+        return self.first_of(row[place] for row in found if len(row) > place)
 
 
 def delimiter(text):

@@ -10,6 +10,7 @@ import shlex
 from urllib.parse import unquote, unquote_plus
 
 import reading
+from cache import Cache
 from command import Fault, shown
 
 # What syslog puts before a line: a time, the host, and the program with a colon or what RFC 5424 has in its place, with
@@ -46,6 +47,9 @@ LIKE_ONE = re.compile(r'[^ \n]+ [^\n]*\[[^][\n]{0,99}\] "')
 ASKS = '] "'
 TWO = re.compile(r'^[^\n]*?\[{0}\] "[^\n]*?\[{0}\] "[^\n]*'.format(r"[0-9]{2,4}[/-][^][\n]{9,99}"), re.M)
 
+# Reads JSON, in which halves of characters may be escaped.
+DECODER, HALF = json.JSONDecoder(), re.compile(r"\\u[dD]")
+
 # How a server escapes characters.
 ESCAPE = re.compile(rb"\\(?:x([0-9a-fA-F]{2})|(.))", re.S)
 LETTERS = {b"b": b"\b", b"n": b"\n", b"r": b"\r", b"t": b"\t", b"v": b"\v"}
@@ -53,9 +57,6 @@ LETTERS = {b"b": b"\b", b"n": b"\n", b"r": b"\r", b"t": b"\t", b"v": b"\v"}
 # What servers and proxies write in place of a name, or of an address too, that they don't have.
 NAMELESS = ("-", "", '""')
 NOBODY = (*NAMELESS, "unix:", "unknown")
-
-# How many requests are cached with their meaning, before a batch adds its own.
-KEPT = 1 << 17
 
 # The names of fields in a JSON log of nginx, Caddy and Traefik, each in the objects that are before its dots.
 FIELDS = {
@@ -68,6 +69,8 @@ FIELDS = {
     "status": "status DownstreamStatus",
     "agent": "http_user_agent request.headers.User-Agent request_User-Agent",
 }
+
+BLANK, REQUEST = ("",) * len(FIELDS), list(FIELDS).index("request")
 
 # Why lines are left out.
 JUNK, TORN = "not of the combined format", "a log line that can't be read"
@@ -88,7 +91,7 @@ def without_escapes(text):
     return letters.decode(errors=reading.ESCAPED)
 
 
-class Meanings(dict):
+class Meanings(Cache):
     """What a web server's requests mean, by their text: the number of op and page, or 0; the users that they name; and
     the requests that match a pattern and have no page."""
 
@@ -102,9 +105,10 @@ class Meanings(dict):
 
     def make_room(self):
         """Empties a full cache, between batches: at its end a batch asks for the users that its requests name."""
-        if len(self) >= KEPT:
-            for kept in (self, self.users, self.empty):
-                kept.clear()
+        super().make_room()
+        if not self:
+            self.users.clear()
+            self.empty.clear()
 
     def __missing__(self, request):
         text = without_escapes(request) if self.has_escapes and "\\" in request else request
@@ -149,28 +153,16 @@ class Meanings(dict):
         return (path + unquote_plus(query, errors=reading.ESCAPED)).replace("\0", reading.NUL)
 
 
-class Agents(dict):
+class Agents(Cache):
     """Whether a pattern is in an agent, by its text."""
 
     def __init__(self, pattern):
         super().__init__()
         self.pattern = pattern
 
-    def make_room(self):
-        if len(self) >= KEPT:
-            self.clear()
-
     def __missing__(self, agent):
         self[agent] = bool(self.pattern.search(agent))
         return self[agent]
-
-
-def places(values, value):
-    """Where a value is in a list."""
-    at = -1
-    for _ in range(values.count(value)):
-        at = values.index(value, at + 1)
-        yield at
 
 
 class Web(reading.Log):
@@ -215,11 +207,11 @@ class Web(reading.Log):
         addresses, users, times, requests, statuses, agents, _ = columns = self.columns_of(
             block.decode(errors=reading.ESCAPED)
         )
-        for at in places(statuses, ""):
+        for at in reading.places(statuses, ""):
             self.read_apart(columns, at, first + at)
         meanings.make_room()
         numbers = list(map(meanings.__getitem__, requests))
-        for at in places(numbers, 0):
+        for at in reading.places(numbers, 0):
             if statuses[at]:
                 self.leave_out(meanings.why_none(requests[at]), first + at, requests[at])
         lines = range(first, first + len(numbers))
@@ -325,6 +317,23 @@ class Combined(Web):
         return self.first_of(found[1].decode(errors=reading.ESCAPED) for found in TIME.finditer(block))
 
 
+class Shapes(Cache):
+    """The name of a field for each column in objects that have fields of these names, or none if it has to be looked
+    for under several names or in objects, other than a request that is one."""
+
+    def __init__(self, columns):
+        super().__init__()
+        self.columns = columns
+
+    def __missing__(self, names):
+        paths = [[path for path in several if path[0] in names] for several in self.columns]
+        plain = [[path[0] for path in several if len(path) == 1] for several in paths]
+        objects = {path[0] for several in paths for path in several if len(path) > 1}
+        is_flat = all(len(several) < 2 for several in plain) and objects <= {*plain[REQUEST]}
+        self[names] = [several[0] if several else None for several in plain] if is_flat else None
+        return self[names]
+
+
 class Json(Web):
     """The requests of a web server's logs that have a JSON object in each line."""
 
@@ -333,38 +342,36 @@ class Json(Web):
         paths = {name: [path.split(".") for path in text.split()] for name, text in FIELDS.items()}
         # A dot may also be in a field's name.
         paths |= {name: [[path], path.split(".")] for name, path in (words.fields or {}).items()}
-        # The first part of each path, and the others.
-        self.fields = {name: [(path[0], path[1:]) for path in found] for name, found in paths.items()}
+        self.fields = list(paths.values())
+        self.shapes = Shapes(self.fields)
 
     def columns_of(self, text):
-        return list(map(list, zip(*map(self.row_of, text.split("\n")[:-1]))))
+        self.shapes.make_room()
+        lines = text.split("\n")[:-1]
+        columns = list(map(texts_of, zip(*map(self.row_of, lines))))
+        if HALF.search(text):
+            columns = [list(map(without_halves, column)) for column in columns]
+        times, addresses, users, requests, methods, uris, statuses, agents = columns
+        if "" in requests:
+            asked = zip(requests, methods, uris)
+            requests = [request or f"{method} {uri}" for request, method, uri in asked]
+        columns = addresses, users, times, requests, statuses, agents, [""] * len(lines)
+        for at in [at for at, status in enumerate(statuses) if len(status) != 3 or requests[at] == " "]:
+            for column in columns:
+                column[at] = ""
+            columns[-1][at] = lines[at]
+        return columns
 
     def row_of(self, line):
-        """What columns have of a line."""
+        """What a line has for each of the fields."""
         found = json_of(line)
-        if isinstance(found, dict):
-            field = self.field
-            request = field(found, "request") or f"{field(found, 'method')} {field(found, 'uri')}"
-            status = field(found, "status")
-            if len(status) == 3 and request != " ":
-                whose = field(found, "address"), field(found, "user")
-                return *whose, field(found, "time"), request, status, field(found, "agent"), ""
-        return "", "", "", "", "", "", line
-
-    def field(self, found, name):
-        """A field of an object, as text, by the first of its names that the object has."""
-        for first, rest in self.fields[name]:
-            value = found.get(first)
-            if value is None:
-                continue
-            for part in rest:
-                value = value.get(part) if isinstance(value, dict) else None
-            value = value[0] if isinstance(value, list) and value else value
-            if type(value) is str:
-                return value if value.isascii() else value.encode(errors="surrogatepass").decode(errors=reading.ESCAPED)
-            if type(value) in (int, float):
-                return str(value)
-        return ""
+        if type(found) is not dict:
+            return BLANK
+        if names := self.shapes[tuple(found)]:
+            row = list(map(found.get, names, BLANK))
+            if type(row[REQUEST]) is not dict:
+                return row
+        return [value_at(found, paths) for paths in self.fields]
 
     def read_apart(self, columns, at, line):
         text = columns[-1][at]
@@ -372,17 +379,55 @@ class Json(Web):
         self.leave_out(NO_FIELD if is_object else TORN if text.lstrip().startswith("{") else NO_OBJECT, line, text)
 
     def time_of(self, block):
-        lines = block[: reading.BLOCK >> 4].decode(errors=reading.ESCAPED).split("\n")
-        return self.first_of(self.row_of(line)[2] for line in lines)
+        lines, end, _ = block[: reading.BLOCK >> 4].rpartition(b"\n")
+        _, _, times, *_ = self.columns_of((lines + end).decode(errors=reading.ESCAPED))
+        return self.first_of(times)
 
 
 def json_of(line):
     """What a line of JSON says, with what syslog puts before it or without, or none if it is none."""
-    front = None if line.startswith("{") else PREFIX.match(line)
     try:
+        if line.startswith("{"):
+            found, end = DECODER.raw_decode(line)
+            return found if end == len(line) or not line[end:].strip(" \t\r") else None
+        front = PREFIX.match(line)
         return json.loads(line[front.end() :] if front else line)
     except (ValueError, RecursionError):
         return None
+
+
+def value_at(found, paths):
+    """What an object has at the first of these paths where it has a text or a number."""
+    for first, *rest in paths:
+        value = found.get(first)
+        for name in rest:
+            value = value.get(name) if isinstance(value, dict) else None
+        if type(value := plain(value)) in (str, int, float):
+            return value
+    return ""
+
+
+def plain(value):
+    """A value, of a list the first."""
+    return value[0] if isinstance(value, list) and value else value
+
+
+def text_of(value):
+    """A value as text. What is no text and no number is empty."""
+    value = plain(value)
+    return str(value) if type(value) in (str, int, float) else ""
+
+
+def texts_of(values):
+    """Values as texts."""
+    if set(map(type, values)) == {str}:
+        return list(values)
+    return [value if type(value) is str else text_of(value) for value in values]
+
+
+def without_halves(text):
+    """A text with what is no character as it is escaped in addresses."""
+    return text if text.isascii() else text.encode(errors="surrogatepass").decode(errors=reading.ESCAPED)
 
 
 def fits(status, forms):

@@ -6,10 +6,14 @@ import re
 
 import pages
 import runs
+import specs
 
 # A page's section, as another page names it, and a file of a crate.
 SECTION = re.compile(r"([A-Z]\w*\.md)`?,? \(?\"([^\"]+)\"")
 SOURCE = re.compile(r"(?<![\w./-])((?:specs|src)/[\w./-]+\.(?:antt|rt))")
+
+# How many names of definitions stand in several modules, at most.
+SHARED = 99
 
 # The endings of files with names that pages may use.
 ENDINGS = (".antt", ".rt", ".c", ".h", ".edit", ".edits", ".py", ".sh", ".toml")
@@ -75,3 +79,17 @@ def unknown(named):
             for part in re.split(r"::|\.", name):
                 if re.search(r"\w_\w|[a-z][A-Z]", part) and part not in known and part not in shown:
                     yield f"{page}: no source has {name}"
+
+
+def shared():
+    """The names of definitions that stand in several modules of specs/, if there are more of them than may be."""
+    modules = {}
+    for path in sorted(glob.glob("crates/*/specs/**/*.antt", root_dir=runs.ROOT, recursive=True)):
+        for name in specs.Module(path, pages.text_of(path)).defined:
+            if name != "mod":
+                modules.setdefault(name, []).append(path)
+    several = {name: where for name, where in modules.items() if len(where) > 1}
+    if len(several) > SHARED:
+        yield f"{len(several)} names of definitions stand in several modules, and not {SHARED} or fewer:"
+        for name, where in sorted(several.items()):
+            yield f"  {name}: {', '.join(where)}"

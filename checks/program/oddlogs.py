@@ -240,6 +240,37 @@ CASES = {
         {"ann": "/%FF", "b%FE": "/%FF"},
         [],
     ),
+    "empty lines before the header": (
+        {"a.csv": "\n \n\nop,user,page\nlike,ann,a\n\nlike,ann\n"},
+        "",
+        {"a": 1},
+        {"ann": "a"},
+        ["left out 1, fewer fields than the header: the first is line 7, 'like,ann'\n"],
+    ),
+    "a long row in one of two": (
+        {
+            "a.csv": "op,user,page,t\n" + "x" * 1100000 + "\nlike,ann,a,2026-11-27 09:00\n",
+            "b.csv": "op,user,page,t\nlike,ann,b,2026-11-27 10:00\n",
+        },
+        "--time t",
+        {"a": 1, "b": 1},
+        {"ann": "b"},
+        [f"left out 1, {LONG}: the first is line 2 of a.csv, "],
+    ),
+    "line ends of other systems": (
+        {"a.csv": 'op,user,page\r\nlike,"b\r\nc",x\r\nlike,ann\r\nlike,ann,a\rlike,bob,"b""\r"\rlook,ann\r'},
+        "",
+        {"x": 1, "a": 1, 'b"\r': 1},
+        {"b\r\nc": "x", "ann": "a", "bob": 'b"\r'},
+        ["left out 2, fewer fields than the header: the first is line 4, 'like,ann'\n"],
+    ),
+    "quotes that aren't at the front": (
+        {"a.csv": 'op,user,page\nlike,a"nn,b"\nlike,"a""b, c",x\n' + 'look,"' + "\n" * 100000 + '",x\n' * 9 + "like,bob\n"},
+        "",
+        {'b"': 1, "x": 1},
+        {'a"nn': 'b"', "a\"b, c": "x"},
+        [],
+    ),
     "bytes in CSV": ({"a.csv": "op,user,page\nlike,m\udcfcller,\udcff\n"}, "", {"%FF": 1}, {"m%FCller": "%FF"}, []),
     "NULs": (
         {"a.log": line("x - ann", "b%00") + line("x - b\\x00b") + line("x - b\0b", "b\\x00\0")},
@@ -307,6 +338,25 @@ CASES = {
             "no request or no status by these names of fields (--fields): the first is line 5",
             "left out 2, a log line that can't be read: the first is line 6",
             "not a JSON object: the first is line 7",
+        ],
+    ),
+    "JSON of several servers": (
+        {
+            "a.log": '{"request": {"method": "POST", "uri": "/like/a"}, "request_method": "GET", "user_id": "ann", "status": 200}\n'
+            '{"request": "POST /like/b", "request_method": "GET", "remote_user": null, "user_id": "bob", "status": 200}\n'
+            '{"status": 200, "request": ["POST /like/c", 7], "user_id": 7, "ClientUsername": "x"}\r\n'
+            ' {"status": 200, "request": "POST /like/d\\ud83d\\ude00\\udcff", "user_id": "eve"} \n'
+            '{"status": 200, "request": "POST /like/e", "user_id": true, "remote_addr": {"x": 1}}\n'
+            '{"status": 200, "request": "POST /like/f", "user_id": "g"}, {"status": 200}\n'
+            '{"status": 200, "request": "POST /like/f", "user_id": "g"}\v\n'
+        },
+        JSON,
+        {"/b": 1, "/c": 1, "/d😀%ED%B3%BF": 1},
+        {"bob": "/b", "7": "/c", "eve": "/d😀%ED%B3%BF"},
+        [
+            "left out 1, no pattern matches: the first is line 1, 'GET /like/a'\n",
+            "left out 1, no user and no address: the first is line 5, ",
+            "left out 2, a log line that can't be read: the first is line 6, ",
         ],
     ),
     "JSON behind syslog": (

@@ -1,6 +1,6 @@
 """Logs of web servers, and of a spreadsheet, drawn with a fixed seed, and the right counts of them.
 
-usage: weblog.py LINES writes one in the combined format to standard output
+usage: weblog.py LINES [FORM] writes one to standard output: combined (the default), syslog, json or csv
 """
 
 import collections
@@ -242,4 +242,5 @@ class Log:
 
 if __name__ == "__main__":
     sys.stdout.reconfigure(encoding="utf-8", errors="surrogateescape")
-    Log(random.Random(1), int(sys.argv[1])).write(sys.stdout)
+    FORMS = {form.name: form for form in (Combined, Syslog, Json, Csv)}
+    Log(random.Random(1), int(sys.argv[1]), form=FORMS[(sys.argv[2:] or ["combined"])[0]]).write(sys.stdout)

@@ -1,5 +1,5 @@
 /// One step of a worker or of the coordinator. Of a worker's step the first number is the worker, the second the page.
-#[derive(Clone, Copy, PartialEq, Eq)]
+#[derive(Clone, Copy)]
 pub enum Event {
     /// The worker looks at the phase word.
     Look(u32),

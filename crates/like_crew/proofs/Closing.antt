@@ -12,7 +12,7 @@ use Rattle.like_board.specs.Seats.{AreAll, board_id, board_numbers, coord_view, 
 use Rattle.like_board.proofs.InOrder.{all_in_order}
 use Rattle.like_board.proofs.BoardNumbers.{same_board}
 use Rattle.like_core.specs.declared.view.WorkerSeatView.{WorkerSeatView}
-use Rattle.like_promises.specs.WorkloadOf.{workload_of}
+use Rattle.like_promises.specs.Workload.{workload_of}
 use Rattle.like_promises.specs.declared.chosen.Chosen.{Chosen}
 use Rattle.like_promises.specs.declared.log.WorkerLog.{WorkerLog}
 use Rattle.like_crew.specs.declared.ended.Ended.{Ended}

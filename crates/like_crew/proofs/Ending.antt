@@ -7,10 +7,9 @@ use Rattle.std.proofs.lemmas.List.FromFn.{length-range_with_len}
 use Rattle.std.proofs.lemmas.Option.{slice_get-get_or, slice_get_within}
 use Rattle.like_board.specs.Seats.{board_id, board_numbers}
 use Rattle.like_tables.specs.Share.{Share, place_of}
-use Rattle.like_promises.specs.Workload.{Workload, submitters}
+use Rattle.like_promises.specs.Workload.{Workload, submitters, workload_of}
 use Rattle.like_crew.specs.declared.ended.Ended.{Ended}
 use Rattle.like_crew.specs.declared.site.Site.{Site}
-use Rattle.like_promises.specs.WorkloadOf.{workload_of}
 use Rattle.like_crew.specs.Crew.{CrewView, HasInbox, IsCrew}
 use Rattle.like_crew.specs.Ended.{HasEnded, IsEnded}
 use Rattle.like_requests.specs.declared.request.Request.{Request}

@@ -16,7 +16,7 @@ use Rattle.like_promises.specs.declared.log.WorkerLog.{WorkerLog}
 use Rattle.like_promises.specs.Collected.{entries_in}
 use Rattle.like_promises.specs.EndToEnd.{runs_of}
 use Rattle.like_promises.specs.Likes.{initial_count, likes_among}
-use Rattle.like_promises.specs.RunReport.{grew}
+use Rattle.like_promises.specs.Report.{grew}
 use Rattle.like_promises.specs.RunStore.{count_at}
 use Rattle.like_promises.proofs.LikesBelow.{likes_below}
 use Rattle.like_promises.proofs.LikedPages.{liked_pages-is}

@@ -14,10 +14,9 @@ use Rattle.like_queue.specs.Inbox.{InboxView}
 use Rattle.like_tables.specs.Share.{dealt, share_of}
 use Rattle.like_roles.specs.worker.Follows.{IsWorkloadOf}
 use Rattle.like_roles.specs.worker.New.{IsPostOf}
-use Rattle.like_promises.specs.Workload.{Workload}
+use Rattle.like_promises.specs.Workload.{Workload, lists_of, workload_of}
 use Rattle.like_crew.specs.Servers.{IsServer}
 use Rattle.like_crew.specs.Server.{AreInboxesFor, AreOwnPlans, AreUntouched, WorksFor, ServerView, plans_of, untouched}
-use Rattle.like_promises.specs.WorkloadOf.{lists_of, workload_of}
 use Rattle.like_tables.proofs.Dealt.{get-dealt, map-dealt, there-dealt}
 use Rattle.like_crew.proofs.servers.Shares.{plans-untouched}
 use Rattle.like_crew.proofs.lists.Pairs.{pairs-more}

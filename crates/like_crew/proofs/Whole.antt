@@ -32,7 +32,7 @@ use Rattle.like_promises.specs.declared.log.Ran.{Ran}
 use Rattle.like_promises.specs.declared.log.Took.{Took}
 use Rattle.like_promises.specs.declared.log.WorkerLog.{WorkerLog}
 use Rattle.like_promises.specs.Likes.{initial_count, likes, likes_among}
-use Rattle.like_promises.specs.RunReport.{grew, workload_by}
+use Rattle.like_promises.specs.Report.{grew, workload_by}
 use Rattle.like_promises.specs.RunStore.{store_after}
 use Rattle.like_promises.proofs.LikesBelow.{likes_below}
 use Rattle.like_roles.proofs.choice.Choosing.{chosen-more}
@@ -41,7 +41,7 @@ use Rattle.like_crew.proofs.additions.Earlier.{below-is}
 use Rattle.like_promises.specs.Serial.{run_of}
 use Rattle.like_roles.specs.coordinator.Choice.{AreTotals, likes_counted}
 use Rattle.like_promises.specs.HotPages.{chosen_below, hot_by}
-use Rattle.like_promises.specs.Workload.{Workload, submitters}
+use Rattle.like_promises.specs.Workload.{Workload, submitters, workload_of}
 use Rattle.like_collection.specs.Entries.{IsRequest}
 use Rattle.like_core.specs.declared.view.WorkerSeatView.{WorkerSeatView}
 use Rattle.like_promises.specs.Collected.{entries_in, entries_of}
@@ -51,7 +51,6 @@ use Rattle.like_crew.specs.Gathered.{AreTables}
 use Rattle.like_crew.proofs.Once.{RunsOnce}
 use Rattle.like_promises.specs.Log.{IsLog}
 use Rattle.like_crew.specs.Server.{NoneAbove, HasWorkedFor, IsLogOf, ReadMasksOf, ServerView}
-use Rattle.like_promises.specs.WorkloadOf.{workload_of}
 use Rattle.like_crew.specs.Outcome.{IsOutcome, IsSeatLike}
 use Rattle.like_crew.specs.Site.{opening_of}
 use Rattle.like_crew.specs.Servers.{IsServer}

@@ -8,7 +8,7 @@ use Rattle.like_core.specs.declared.view.CoordSeatView.{CoordSeatView}
 use Rattle.like_board.specs.Closed.{IsClosedBoard}
 use Rattle.like_board.specs.Seats.{seat_view}
 use Rattle.like_board.specs.declared.worker_seat.WorkerSeat.{WorkerSeat}
-use Rattle.like_promises.specs.WorkloadOf.{workload_of}
+use Rattle.like_promises.specs.Workload.{workload_of}
 use Rattle.like_roles.specs.coordinator.Choice.{AreTotals, ChoiceView, HasChosen}
 use Rattle.like_crew.specs.declared.outcome.Outcome.{Outcome}
 use Rattle.like_crew.specs.Server.{IsLogOf, ServerView}

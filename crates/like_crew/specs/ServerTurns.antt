@@ -1,5 +1,5 @@
 -- What a turn does to a server, and what it does to open the lists of its submitters.
-use Rattle.std.specs.Prelude.{◌≡◌, ◌≢◌, ℕ, ◌+◌, ◌<◌, ◌≤◌, min, slice_get, slice_index, slice_set, Some, None}
+use Rattle.std.specs.Prelude.{◌≡◌, ℕ, ◌+◌, ◌<◌, ◌≤◌, min, slice_get, slice_index, slice_set, Some, None}
 use Rattle.like_requests.specs.declared.request.Taken.{Taken}
 use Rattle.like_requests.specs.declared.request.Taken.TheVariants.{Nothing}
 use Rattle.like_queue.specs.Inbox.{HandsOver, InboxView, item_count}
@@ -51,14 +51,6 @@ pub record OpensOne (submitter : ℕ) (s t : ServerView) : Type 0 where
       t ≡ record s {
         opened = slice_set s.opened (place_at s submitter) (min (open_now + 1) (item_count inbox.plan));
       }
-
--- all items of the list at a place are open, and no more of any other list
-pub record OpensWhole (place : ℕ) (s t : ServerView) : Type 0 where
-  pub inbox : InboxView
-  pub here : slice_get s.inboxes place ≡ Some inbox
-  pub all : slice_get t.opened place ≡ Some (item_count inbox.plan)
-  pub others : (other : ℕ) → other ≢ place → slice_get t.opened other ≡ slice_get s.opened other
-  pub rest : t ≡ record s { opened = t.opened }
 
 -- all items of its lists are open
 pub record OpensAll (s t : ServerView) : Type 0 where

@@ -2,7 +2,7 @@ ghost use Rattle.std.specs.Prelude.{◌≡◌, IfOk, MatchResult, length, map};
 ghost use Rattle.like_requests.specs.Setup.{FitsRun};
 ghost use Rattle.like_board.specs.Closed.{IsClosedBoard};
 ghost use Rattle.like_board.specs.Seats.{board_id, coord_view};
-ghost use Rattle.like_promises.specs.WorkloadOf.{lists_of};
+ghost use Rattle.like_promises.specs.Workload.{lists_of};
 ghost use Rattle.like_collection.specs.CollectFaults.{IsCollectFault};
 ghost use Rattle.like_promises.specs.Collected.{IsCollected, entries_in, rows_of};
 ghost use Rattle.like_promises.specs.Report.{IsReportOf};

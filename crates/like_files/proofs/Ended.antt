@@ -9,8 +9,7 @@ use Rattle.like_promises.specs.declared.place.Place.{Place}
 use Rattle.like_promises.specs.declared.report.Report.{Report}
 use Rattle.like_promises.specs.declared.log.Ran.{Ran}
 use Rattle.like_promises.specs.places.Tiling.{ArePlacesTiled}
-use Rattle.like_promises.specs.RunReport.{workload_by}
-use Rattle.like_promises.specs.Report.{IsReportOf}
+use Rattle.like_promises.specs.Report.{IsReportOf, workload_by}
 use Rattle.like_limits.specs.Limits.{max_requests}
 use Rattle.like_requests.specs.Pages.{Page}
 use Rattle.like_requests.proofs.Planned.{fits-run}

@@ -11,7 +11,7 @@ use Rattle.like_promises.specs.declared.reply.Reply.TheVariants.{Liked, Seen, Re
 use Rattle.like_promises.specs.declared.chosen.Chosen.{Chosen}
 use Rattle.like_promises.specs.HotPages.{chosen_below, hot_by}
 use Rattle.like_promises.specs.Likes.{initial_count, likes, likes_within}
-use Rattle.like_promises.specs.RunReport.{grew}
+use Rattle.like_promises.specs.Report.{grew}
 use Rattle.like_promises.specs.RunStore.{Between, count_at, store_after}
 use Rattle.like_promises.specs.declared.log.Ran.{Ran}
 use Rattle.like_promises.specs.Replies.{IsRightAnswer}

@@ -26,7 +26,7 @@ use Rattle.like_collection.specs.Entries.{is_of}
 use Rattle.like_replies.specs.Reported.{reported}
 use Rattle.like_replies.specs.Rows.{IsShowable, IsWritable}
 use Rattle.like_promises.specs.RunStore.{start, store_after}
-use Rattle.like_promises.specs.RunReport.{IsRunOf}
+use Rattle.like_promises.specs.Report.{IsRunOf}
 use Rattle.like_serial.proofs.OneThread.{one_thread_is_serial}
 
 -- what holds of each element by its place holds of all

@@ -1,5 +1,5 @@
 ghost use Rattle.std.specs.Prelude.{◌≡◌, ◌≤◌, IfErr, IfOk, IsSomeAnd, List, MatchResult, OnErr, Option, is_some, length, option_map};
-ghost use Rattle.like_promises.specs.WorkloadOf.{lists_of};
+ghost use Rattle.like_promises.specs.Workload.{lists_of};
 ghost use Rattle.like_records.specs.Reading.{ReadFailed};
 ghost use Rattle.like_limits.specs.Limits.{max_entries};
 ghost use Rattle.like_files.specs.FailedReads.{TellsRead};

@@ -1,5 +1,5 @@
 ghost use Rattle.std.specs.Prelude.{◌≡◌, IfErr, None, OnErr, Option, length};
-ghost use Rattle.like_promises.specs.WorkloadOf.{lists_of};
+ghost use Rattle.like_promises.specs.Workload.{lists_of};
 ghost use Rattle.like_files.specs.FailedReads.{TellsRead};
 ghost use Rattle.like_files.specs.Inputs.{BeginsReport, BeginsReportOf, inputs_in, inputs_of};
 ghost use Rattle.like_files.specs.Outcome.{IsOutcome, LeavesFront, LeavesOutput};

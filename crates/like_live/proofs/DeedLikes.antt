@@ -3,7 +3,7 @@ use Rattle.std.proofs.Common.{◌≡◌, ℕ, ◌+◌, ◌==◌, Bool, true, fal
 use Rattle.std.specs.Prelude.{if◌then◌else◌, slice_index}
 use Rattle.std.specs.List.{cons_option, last_or}
 use Rattle.like_promises.specs.declared.reply.Reply.TheVariants.{Seen}
-use Rattle.like_promises.specs.Looks.{count_in}
+use Rattle.like_promises.specs.Likes.{count_in}
 use Rattle.like_promises.specs.Store.{Store}
 use Rattle.like_serial.proofs.Counts.{weigh-map}
 use Rattle.like_serial.proofs.Stores.{adds_by, page_by}

@@ -15,7 +15,7 @@ use Rattle.like_promises.specs.Collected.{IsCollected, rows_of, entries_in}
 use Rattle.like_promises.specs.Serial.{HasOneOrder, run_of}
 use Rattle.like_requests.specs.declared.request.Request.{Request}
 use Rattle.like_requests.specs.declared.setup.Setup.{Setup}
-use Rattle.like_promises.specs.RunReport.{workload_by}
+use Rattle.like_promises.specs.Report.{workload_by}
 use Rattle.like_promises.specs.RunStore.{store_after}
 use Rattle.like_promises.specs.Log.{IsLog}
 

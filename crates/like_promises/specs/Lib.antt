@@ -3,7 +3,6 @@ pub mod Store
 pub mod Asked
 pub mod Likes
 pub mod RunStore
-pub mod Looks
 pub mod Order
 pub mod Replies
 pub mod HotPages
@@ -11,9 +10,6 @@ pub mod Log
 pub mod Collected
 pub mod Serial
 pub mod EndToEnd
-pub mod WorkloadOf
 pub mod RunFault
-pub mod OneThread
-pub mod RunReport
 pub mod places
 pub mod Report

@@ -1,11 +1,13 @@
--- How many likes of a page there are.
-use Rattle.std.specs.Prelude.{ℕ, ◌-◌, ◌==◌, Bool, false, List, length, filter, count_by, slice_get, Option}
+-- Likes and looks among entries: how many likes of a page, and which count a look shows.
+use Rattle.std.specs.Prelude.{ℕ, ◌-◌, ◌==◌, Bool, false, List, length, filter, count_by, slice_get, Option, Some, None, option_and_then}
 use Rattle.std.specs.List.{sum_by}
 use Rattle.std.specs.Option.{option_map_or}
 use Rattle.like_requests.specs.Pages.{Page}
 use Rattle.like_promises.specs.declared.log.Ran.{Ran}
-use Rattle.like_promises.specs.Asked.{asks}
-use Rattle.like_promises.specs.Store.{Ask, like}
+use Rattle.like_promises.specs.declared.reply.Reply.{Reply}
+use Rattle.like_promises.specs.declared.reply.Reply.TheVariants.{Liked, Seen, Refused}
+use Rattle.like_promises.specs.Asked.{asked, asks}
+use Rattle.like_promises.specs.Store.{Ask, like, look, refuse}
 use Rattle.like_promises.specs.Workload.{Workload}
 
 -- whether what is asked is a like of the page
@@ -32,3 +34,19 @@ last_in xs = slice_get xs (length xs - 1)
 -- the initial count of a page
 abbrev pub initial_count : List Page → ℕ → ℕ
 initial_count pages page = option_map_or (λ p. p.count) (slice_get pages page) 0
+
+-- the page of a look that is asked
+abbrev pub page_asked : Ask → Option ℕ
+page_asked (like user page) = None
+page_asked (look user page) = Some page
+page_asked (refuse why) = None
+
+-- the page of the look that an entry ran, if it ran one
+abbrev pub look_ran : Workload → Ran → Option ℕ
+look_ran workload e = option_and_then page_asked (asked workload e.submitter e.number)
+
+-- the count in a reply, and 0 where it has none
+abbrev pub count_in : Reply → ℕ
+count_in Liked = 0
+count_in (Seen last count) = count
+count_in (Refused verdict) = 0

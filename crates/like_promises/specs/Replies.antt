@@ -4,8 +4,7 @@ use Rattle.like_promises.specs.declared.log.Ran.{Ran}
 use Rattle.like_promises.specs.declared.reply.Reply.{Reply}
 use Rattle.like_promises.specs.declared.reply.Reply.TheVariants.{Liked, Seen, Refused}
 use Rattle.like_promises.specs.Asked.{asked}
-use Rattle.like_promises.specs.Likes.{likes_within}
-use Rattle.like_promises.specs.Looks.{count_in, look_ran}
+use Rattle.like_promises.specs.Likes.{count_in, likes_within, look_ran}
 use Rattle.like_promises.specs.RunStore.{Between, store_after}
 use Rattle.like_promises.specs.Store.{reply}
 use Rattle.like_promises.specs.Workload.{Workload}

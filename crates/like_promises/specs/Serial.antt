@@ -3,8 +3,7 @@ use Rattle.std.specs.Prelude.{◌≡◌, ℕ, ◌+◌, ◌≤◌, ◌==◌, List
 use Rattle.like_tables.specs.Share.{worker_of}
 use Rattle.like_promises.specs.declared.log.Ran.{Ran}
 use Rattle.like_promises.specs.Asked.{asks}
-use Rattle.like_promises.specs.Likes.{initial_count, likes_among}
-use Rattle.like_promises.specs.Looks.{count_in, look_ran}
+use Rattle.like_promises.specs.Likes.{count_in, initial_count, likes_among, look_ran}
 use Rattle.like_promises.specs.RunStore.{start}
 use Rattle.like_promises.specs.Store.{replies}
 use Rattle.like_promises.specs.Workload.{Workload}

@@ -1,7 +1,9 @@
 -- What a run serves.
-use Rattle.std.specs.Prelude.{ℕ, zero, suc, Bool, List, [], length, slice_get, slice_index_or, Option, None}
+use Rattle.std.specs.Prelude.{ℕ, zero, suc, Bool, List, [], Vec, length, map, slice_get, slice_index_or, Option, None}
+use Rattle.std.specs.declared.alloc.Global.{Global}
 use Rattle.like_requests.specs.Pages.{Page, marks_of}
 use Rattle.like_requests.specs.declared.request.Request.{Request}
+use Rattle.like_requests.specs.declared.setup.Setup.{Setup}
 use Rattle.like_core.specs.Phase.{is_marked, split_by}
 use Rattle.like_limits.specs.Limits.{hot_pages}
 
@@ -30,3 +32,12 @@ request_at workload submitter number = nth (slice_index_or workload.plans submit
 abbrev pub is_split_in : Workload → ℕ → ℕ → Bool
 is_split_in workload phase page =
     split_by hot_pages (is_marked (marks_of workload.pages)) workload.hot phase page
+
+-- the run of these users, pages and stash, and of these lists of requests, in which no page is hot
+abbrev pub workload_of : Setup → List (List Request) → Workload
+workload_of setup plans =
+    record { users = setup.users; pages = setup.pages; stash = setup.stash; hot = λ _. 0; plans = plans }
+
+-- the requests of plans
+abbrev pub lists_of : List (Vec Request Global) → List (List Request)
+lists_of plans = map (λ plan. plan.items) plans

@@ -1,6 +1,6 @@
 ghost use Rattle.std.specs.Prelude.{◌≡◌, ◌+◌, ◌-◌, ◌≤◌, ◌^◌, min, false, true, [], All, IfErr, IfOk, OnOk, length, map, vec_capacity};
 ghost use Rattle.like_requests.specs.Setup.{FitsRun, IsWithinLimits};
-ghost use Rattle.like_promises.specs.WorkloadOf.{lists_of};
+ghost use Rattle.like_promises.specs.Workload.{lists_of};
 ghost use Rattle.like_crew.specs.Crew.{crew_of};
 ghost use Rattle.like_crew.specs.Ended.{IsEnded};
 ghost use Rattle.like_crew.specs.Site.{AreSeats, IsSite};

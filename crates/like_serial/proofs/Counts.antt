@@ -5,8 +5,7 @@ use Rattle.std.specs.Option.{option_map_or}
 use Rattle.std.proofs.lemmas.List.Elements.{filter_map-append}
 use Rattle.like_promises.specs.declared.log.Ran.{Ran}
 use Rattle.like_promises.specs.Asked.{asked, asks}
-use Rattle.like_promises.specs.Likes.{initial_count, likes_among}
-use Rattle.like_promises.specs.Looks.{count_in, look_ran, page_asked}
+use Rattle.like_promises.specs.Likes.{count_in, initial_count, likes_among, look_ran, page_asked}
 use Rattle.like_promises.specs.Store.{Ask, like, look, refuse}
 use Rattle.like_promises.specs.Workload.{Workload, is_split_in}
 use Rattle.like_core.specs.declared.page_step.PageCall.TheVariants.{Add, Read}

@@ -3,8 +3,7 @@ use Rattle.std.proofs.Common.{◌≡◌, ℕ, zero, suc, ◌≤◌, ◌==◌, Al
 use Rattle.std.proofs.lemmas.Bool.{cases_lt}
 use Rattle.like_promises.specs.declared.log.Ran.{Ran}
 use Rattle.like_promises.specs.declared.reply.Reply.TheVariants.{Liked, Seen}
-use Rattle.like_promises.specs.Likes.{likes_within}
-use Rattle.like_promises.specs.Looks.{count_in, look_ran}
+use Rattle.like_promises.specs.Likes.{count_in, likes_within, look_ran}
 use Rattle.like_promises.specs.Replies.{HasRightAnswers, HasRightCounts, IsRightAnswer}
 use Rattle.like_promises.specs.RunStore.{Between}
 use Rattle.like_promises.specs.Workload.{Workload}

@@ -2,8 +2,7 @@
 use Rattle.std.proofs.Common.{◌≡◌, ℕ, zero, suc, ◌+◌, ◌<◌, ◌≤◌, Bool, true, false, nat_lt, ◌==◌, List, [], ◌∷◌, ◌++◌, length, take, drop, map, filter, slice_get, Some, subst, ap, ap₂, sym, ◌∙◌, refl, arith, add-one}
 use Rattle.std.specs.List.{AllByRecursion}
 use Rattle.like_promises.specs.declared.log.Ran.{Ran}
-use Rattle.like_promises.specs.Likes.{initial_count, likes, likes_among, likes_within}
-use Rattle.like_promises.specs.Looks.{count_in, look_ran}
+use Rattle.like_promises.specs.Likes.{count_in, initial_count, likes, likes_among, likes_within, look_ran}
 use Rattle.like_promises.specs.RunStore.{Between, count_at}
 use Rattle.like_promises.specs.Workload.{Workload}
 use Rattle.like_serial.specs.Laws.{SerialIsBetween}

@@ -2,7 +2,7 @@
 use Rattle.std.proofs.Common.{◌≡◌, ℕ, ◌+◌, ◌-◌, nat_lt, List, filter, ap, sym, ◌∙◌, arith}
 use Rattle.like_promises.specs.declared.log.Ran.{Ran}
 use Rattle.like_promises.specs.Likes.{initial_count}
-use Rattle.like_promises.specs.RunReport.{grew}
+use Rattle.like_promises.specs.Report.{grew}
 use Rattle.like_promises.specs.RunStore.{Between, count_at}
 use Rattle.like_promises.specs.Workload.{Workload}
 use Rattle.like_serial.proofs.Counts.{likes-weigh, likes_by}

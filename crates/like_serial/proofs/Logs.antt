@@ -5,12 +5,12 @@ use Rattle.like_tables.specs.Share.{worker_of}
 use Rattle.like_promises.specs.declared.log.Ran.{Ran}
 use Rattle.like_promises.specs.declared.log.Took.{Took}
 use Rattle.like_promises.specs.declared.log.WorkerLog.{WorkerLog}
-use Rattle.like_promises.specs.EndToEnd.{runs_of}
+use Rattle.like_promises.specs.EndToEnd.{AreLogs, runs_of}
 use Rattle.like_promises.specs.Log.{IsLog}
 use Rattle.like_promises.specs.Order.{Entry, block, entry_in, entry_of, is_due, phases_of, waited}
 use Rattle.like_promises.specs.Replies.{HasRightAnswers}
 use Rattle.like_promises.specs.Workload.{Workload}
-use Rattle.like_serial.specs.Laws.{LogsAreRunLists}
+use Rattle.like_serial.specs.RunLists.{AreRunLists}
 use Rattle.like_promises.specs.Serial.{run_of}
 use Rattle.like_serial.proofs.Parts.{not_cons}
 use Rattle.like_serial.proofs.Phases.{Rises, all_append, all_then, pairs_of, rec_all, rises-append, rises-same}
@@ -168,7 +168,9 @@ run_at [] w P some none = none
 run_at (log ∷ logs) zero P some none = some log refl
 run_at (log ∷ logs) (suc w) P some none = run_at logs w P some none
 
-pub logs_are_run_lists : LogsAreRunLists
+pub logs_are_run_lists : (workload : Workload) (workers phases : ℕ) (logs : List WorkerLog)
+    → AreLogs workload workers phases logs
+    → AreRunLists workload workers (runs_of logs)
 logs_are_run_lists workload workers phases logs right = record {
   own = λ w. rec_all (λ e. server_of workers e ≡ w) (run_of (runs_of logs) w) (each w).own;
   rising = λ w. pairs_of phase_of (run_of (runs_of logs) w) (each w).rising;

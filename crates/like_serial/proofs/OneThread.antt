@@ -1,5 +1,5 @@
 -- The replies of a serial list are the store's, and the other way round.
-use Rattle.std.proofs.Common.{◌≡◌, ℕ, ◌+◌, List, take, Option, Some, None, option_and_then, ap, ap₂, sym, ◌∙◌, refl}
+use Rattle.std.proofs.Common.{◌≡◌, ℕ, ◌+◌, List, map, take, Option, Some, None, option_and_then, ap, ap₂, sym, ◌∙◌, refl}
 use Rattle.std.specs.Prelude.{option_map}
 use Rattle.like_promises.specs.declared.log.Ran.{Ran}
 use Rattle.like_promises.specs.declared.reply.Reply.{Reply}
@@ -7,15 +7,14 @@ use Rattle.like_promises.specs.declared.reply.Reply.TheVariants.{Liked, Seen, Re
 use Rattle.like_promises.specs.declared.report.Report.{Report}
 use Rattle.like_promises.specs.Asked.{asked, asks}
 use Rattle.like_promises.specs.EndToEnd.{runs_of}
-use Rattle.like_promises.specs.Likes.{initial_count, likes_among}
-use Rattle.like_promises.specs.Looks.{count_in, look_ran, page_asked}
-use Rattle.like_promises.specs.OneThread.{IsOneThread}
-use Rattle.like_promises.specs.Replies.{IsRightAnswer, uncounted}
+use Rattle.like_promises.specs.Likes.{count_in, initial_count, likes_among, look_ran, page_asked}
+use Rattle.like_promises.specs.Report.{IsOneThread}
+use Rattle.like_promises.specs.Replies.{HasRightAnswers, IsRightAnswer, uncounted}
 use Rattle.like_promises.specs.RunStore.{start, store_after}
-use Rattle.like_promises.specs.Serial.{IsSerial}
-use Rattle.like_promises.specs.Store.{Ask, Store, like, look, refuse, reply}
+use Rattle.like_promises.specs.Serial.{HasExactCounts, IsSerial}
+use Rattle.like_promises.specs.Store.{Ask, Store, like, look, refuse, replies, reply}
 use Rattle.like_promises.specs.Workload.{Workload}
-use Rattle.like_serial.specs.StoreLaws.{OneThreadIsSerial, SerialIsOneThread}
+use Rattle.like_serial.specs.Laws.{OneThreadIsSerial}
 use Rattle.like_serial.proofs.Seen.{not_some, some_is}
 use Rattle.like_serial.proofs.Stores.{adds_by, by_place, count_after, in_list}
 use Rattle.like_serial.proofs.Weigh.{sum-weigh}
@@ -83,7 +82,11 @@ module _ (workload : Workload) (before : List Ran) (e : Ran) where
         sym (ap count_in (some_is _ e.reply is)) ∙ ap s.count (some_is looked page seen)
     shows (Some (refuse why)) is page seen = absurd (not_some page seen)
 
-pub serial_is_one_thread : SerialIsOneThread
+-- where each answer is right after the entries before it, and counts are exact, the replies are the store's
+pub serial_is_one_thread : (workload : Workload) (serial : List Ran)
+    → HasRightAnswers workload serial
+    → HasExactCounts workload serial
+    → map (λ e. e.reply) serial ≡ replies (start workload) (asks workload serial)
 serial_is_one_thread workload serial right exact =
     in_list (λ e. asked workload e.submitter e.number) (start workload) serial
     (λ i e at. store_replies workload (take i serial) e (right i e at) (λ page seen. exact i page e at seen))

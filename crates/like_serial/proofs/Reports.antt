@@ -9,17 +9,15 @@ use Rattle.like_promises.specs.declared.report.Report.{Report}
 use Rattle.like_promises.specs.Collected.{answer_of, entries_in}
 use Rattle.like_promises.specs.EndToEnd.{IsEndToEnd, IsRightReport, runs_of}
 use Rattle.like_promises.specs.HotPages.{hot_by}
-use Rattle.like_promises.specs.Looks.{count_in}
+use Rattle.like_promises.specs.Likes.{count_in}
 use Rattle.like_promises.specs.Order.{Entry, entry_of}
 use Rattle.like_promises.specs.Replies.{HasRightAnswers, HasRightCounts}
-use Rattle.like_promises.specs.Report.{IsReportOf}
-use Rattle.like_promises.specs.RunReport.{IsRunOf, workload_by}
+use Rattle.like_promises.specs.Report.{IsReportOf, IsRunOf, workload_by}
 use Rattle.like_promises.specs.Serial.{IsSerial, entries_by, run_of}
-use Rattle.like_promises.specs.Workload.{Workload}
-use Rattle.like_promises.specs.WorkloadOf.{workload_of}
+use Rattle.like_promises.specs.Workload.{Workload, workload_of}
 use Rattle.like_promises.specs.places.Calls.{calls_of}
 use Rattle.like_promises.specs.places.Tiling.{ArePlacesTiled, HasNoPlaces}
-use Rattle.like_serial.specs.StoreLaws.{OneThreadIsRight, RightIsOneThread}
+use Rattle.like_serial.specs.Laws.{OneThreadIsRight, RightIsOneThread}
 use Rattle.like_serial.proofs.Answers.{own_answers}
 use Rattle.like_serial.proofs.Collected.{entries_same}
 use Rattle.like_serial.proofs.Ends.{end_is_store}
@@ -221,10 +219,9 @@ right_is_report setup plans notes r right places none =
     }
 
 pub one_thread_is_right : OneThreadIsRight
-one_thread_is_right setup plans r one =
+one_thread_is_right setup plans r serial run =
     let entries = entries_in r.logs.items in
-    let serial = one.0 in
     let workload = workload_by setup plans serial in
-    let is = serial_in workload setup.workers r serial one.1.one in
+    let is = serial_in workload setup.workers r serial run.one in
     let same = same_hot setup plans entries serial (entries_count workload setup.workers r.logs.items serial is) in
-    subst (λ w. IsEndToEnd w setup.workers r) same (is_right workload setup.workers r serial one.1)
+    subst (λ w. IsEndToEnd w setup.workers r) same (is_right workload setup.workers r serial run)

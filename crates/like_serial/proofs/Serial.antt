@@ -3,8 +3,7 @@ use Rattle.std.proofs.Common.{◌≡◌, ℕ, zero, suc, ◌+◌, ◌≤◌, ◌
 use Rattle.std.specs.List.{AllByRecursion}
 use Rattle.like_tables.specs.Share.{worker_of}
 use Rattle.like_promises.specs.declared.log.Ran.{Ran}
-use Rattle.like_promises.specs.Likes.{initial_count, likes_among}
-use Rattle.like_promises.specs.Looks.{count_in, look_ran}
+use Rattle.like_promises.specs.Likes.{count_in, initial_count, likes_among, look_ran}
 use Rattle.like_promises.specs.Serial.{AreRising, HasExactCounts, IsSerial, run_of}
 use Rattle.like_promises.specs.Workload.{Workload}
 use Rattle.like_serial.specs.Laws.{RunsAreSerial}

@@ -1,10 +1,16 @@
--- The laws of run lists.
-use Rattle.std.specs.Prelude.{ℕ, List}
+-- The laws of run lists, and of reports by a store.
+use Rattle.std.specs.Prelude.{◌≡◌, ℕ, List, map}
+use Rattle.like_requests.specs.declared.request.Request.{Request}
+use Rattle.like_requests.specs.declared.setup.Setup.{Setup}
 use Rattle.like_promises.specs.declared.log.Ran.{Ran}
-use Rattle.like_promises.specs.declared.log.WorkerLog.{WorkerLog}
-use Rattle.like_promises.specs.EndToEnd.{AreLogs, runs_of}
-use Rattle.like_promises.specs.Replies.{HasRightCounts}
-use Rattle.like_promises.specs.Serial.{HasOneOrder, IsSerial, run_of}
+use Rattle.like_promises.specs.declared.report.Report.{Report}
+use Rattle.like_promises.specs.Asked.{asks}
+use Rattle.like_promises.specs.EndToEnd.{IsRightReport}
+use Rattle.like_promises.specs.Replies.{HasRightAnswers, HasRightCounts}
+use Rattle.like_promises.specs.Report.{IsRunOf, workload_by}
+use Rattle.like_promises.specs.RunStore.{start}
+use Rattle.like_promises.specs.Serial.{HasExactCounts, HasOneOrder, IsSerial, run_of}
+use Rattle.like_promises.specs.Store.{replies}
 use Rattle.like_promises.specs.Workload.{Workload}
 use Rattle.like_core.specs.declared.page_step.PageStep.{PageStep}
 use Rattle.like_serial.specs.RunLists.{AreRunLists, FitsRuns}
@@ -16,14 +22,28 @@ RunsAreSerial =
     → AreRunLists workload workers runs → FitsRuns workload runs last steps
     → HasOneOrder workload workers runs
 
--- the run lists of logs that are right end to end are such
-abbrev pub LogsAreRunLists : Type 0
-LogsAreRunLists =
-    (workload : Workload) (workers phases : ℕ) (logs : List WorkerLog)
-    → AreLogs workload workers phases logs → AreRunLists workload workers (runs_of logs)
-
 -- each count in a serial run's lists has the bounds of Between
 abbrev pub SerialIsBetween : Type 0
 SerialIsBetween =
     (workload : Workload) (workers worker : ℕ) (runs : List (List Ran)) (serial : List Ran)
     → IsSerial workload workers runs serial → HasRightCounts workload serial (run_of runs worker)
+
+-- where the replies of a list are the store's, each answer is right after the entries before it, and counts are exact
+abbrev pub OneThreadIsSerial : Type 0
+OneThreadIsSerial =
+    (workload : Workload) (serial : List Ran)
+    → map (λ e. e.reply) serial ≡ replies (start workload) (asks workload serial)
+    → HasRightAnswers workload serial × HasExactCounts workload serial
+
+-- a report that is right end to end is that of one thread
+abbrev pub RightIsOneThread : Type 0
+RightIsOneThread =
+    (setup : Setup) (plans : List (List Request)) (r : Report)
+    → IsRightReport setup plans r
+    → (serial : List Ran) × IsRunOf (workload_by setup plans serial) setup.workers r serial
+
+-- and the other way round
+abbrev pub OneThreadIsRight : Type 0
+OneThreadIsRight =
+    (setup : Setup) (plans : List (List Request)) (r : Report) (serial : List Ran)
+    → IsRunOf (workload_by setup plans serial) setup.workers r serial → IsRightReport setup plans r

@@ -2,5 +2,4 @@ pub mod StepsTold
 pub mod RunLists
 pub mod OneSees
 pub mod Laws
-pub mod StoreLaws
 pub mod Example

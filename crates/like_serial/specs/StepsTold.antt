@@ -3,7 +3,7 @@ use Rattle.std.specs.Prelude.{ℕ, Bool, not, if◌then◌else◌, List, map, fi
 use Rattle.std.specs.List.{filter_map}
 use Rattle.like_promises.specs.declared.log.Ran.{Ran}
 use Rattle.like_promises.specs.Asked.{asked}
-use Rattle.like_promises.specs.Looks.{count_in}
+use Rattle.like_promises.specs.Likes.{count_in}
 use Rattle.like_promises.specs.Store.{Ask, like, look, refuse}
 use Rattle.like_promises.specs.Workload.{Workload, is_split_in}
 use Rattle.like_core.specs.declared.page_step.PageCall.{PageCall}

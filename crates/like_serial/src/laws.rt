@@ -1,8 +1,7 @@
 //! The laws of one order. Each is the contract of a function that does nothing.
 ghost use Rattle.like_serial.specs.Example.{CrossedLooksHaveNoOrder, OrderedLooksFit};
-ghost use Rattle.like_serial.specs.Laws.{LogsAreRunLists, RunsAreSerial, SerialIsBetween};
+ghost use Rattle.like_serial.specs.Laws.{OneThreadIsRight, OneThreadIsSerial, RightIsOneThread, RunsAreSerial, SerialIsBetween};
 ghost use Rattle.like_serial.specs.OneSees.{OneSeesTheOther};
-ghost use Rattle.like_serial.specs.StoreLaws.{EndIsStore, OneThreadIsRight, OneThreadIsSerial, RightIsOneThread, SerialIsOneThread};
 
 /// Of two workers that each add to a page and then read the other's page, one at least reads the other's likes.
 pub fn one_sees_the_other()
@@ -14,24 +13,9 @@ pub fn runs_are_serial()
     ensures { RunsAreSerial }
 {}
 
-/// What this asks of the run lists alone holds of logs that are right end to end.
-pub fn logs_are_run_lists()
-    ensures { LogsAreRunLists }
-{}
-
-/// Where each answer is right after the entries before it, and counts are exact, the replies are those of a store.
-pub fn serial_is_one_thread()
-    ensures { SerialIsOneThread }
-{}
-
-/// And the other way round.
+/// Where the replies of a list are the store's, each answer is right after the entries before it, and counts are exact.
 pub fn one_thread_is_serial()
     ensures { OneThreadIsSerial }
-{}
-
-/// Final counts and last likes are right if they are what the store has at the end, and only then.
-pub fn end_is_store()
-    ensures { EndIsStore }
 {}
 
 /// A report that is right end to end is that of one thread, which has a store.

@@ -2,21 +2,21 @@
 use Rattle.std.specs.Prelude.{◌≡◌, ◌↔◌, ℕ, ◌+◌, ◌≤◌, Bool, IsTrue, List, [], ◌∷◌, length, take}
 use Rattle.like_choice.specs.Slots.{pages_in_use}
 use Rattle.like_limits.specs.Limits.{hot_pages}
-use Rattle.like_live.specs.declared.answer.LikeAnswer.TheVariants.{Liked}
 use Rattle.like_live.specs.Driver.{DriverTurns, DriverView, IsSameDriver, TakesLast, TakesSnapshot}
-use Rattle.like_live.specs.History.{Does, Told, come_back, glance, like, like_on, likes_told, look, retire, take_found, turn}
+use Rattle.like_live.specs.History.{Does, Told, come_back, glance, like, likes_told, look, retire, take_found, turn}
 use Rattle.like_live.specs.Lasts.{AreLastsAt, TellsLast, users_of}
+use Rattle.like_live.specs.LikeRow.{RowCase, row_calls}
 use Rattle.like_live.specs.LiveView.{IsSameSeat, LiveView}
 use Rattle.like_shared.specs.declared.deed.DriverDeed.{DriverDeed}
 use Rattle.like_shared.specs.declared.deed.DriverDeed.TheVariants as driver
 use Rattle.like_shared.specs.declared.deed.SeatDeed.{SeatDeed}
 use Rattle.like_shared.specs.declared.deed.SeatDeed.TheVariants as deed
 
--- the call of a history that a deed is: one, or none if it only tells last likes
+-- the calls of a history that a deed is: one; those of a row; or none if it only tells last likes
 abbrev pub calls_of : SeatDeed → List Told
 calls_of (deed.Turn answer) = turn answer ∷ []
 calls_of (deed.Like user page answer) = like user page answer ∷ []
-calls_of (deed.LikeOn user page) = like_on user page Liked ∷ []
+calls_of (deed.LikeRow likes told) = row_calls likes told
 calls_of (deed.Look user page tag answer) = look user page tag answer ∷ []
 calls_of (deed.Glance user page answer) = glance user page answer ∷ []
 calls_of (deed.TakeFound taken) = take_found taken ∷ []
@@ -34,7 +34,7 @@ pub record TellsLasts (v : LiveView) (from : ℕ) (pages : List ℕ) (is_done : 
 abbrev pub SeatMakes : LiveView → SeatDeed → LiveView → Type 0
 SeatMakes v (deed.Turn answer) w = Does v (turn answer) w
 SeatMakes v (deed.Like user page answer) w = Does v (like user page answer) w
-SeatMakes v (deed.LikeOn user page) w = Does v (like_on user page Liked) w
+SeatMakes v (deed.LikeRow likes told) w = RowCase v likes told w
 SeatMakes v (deed.Look user page tag answer) w = Does v (look user page tag answer) w
 SeatMakes v (deed.Glance user page answer) w = Does v (glance user page answer) w
 SeatMakes v (deed.TakeFound taken) w = Does v (take_found taken) w
@@ -47,7 +47,7 @@ SeatMakes v (deed.Lasts from pages is_done) w = TellsLasts v from pages is_done 
 abbrev pub SeatDoes : LiveView → SeatDeed → LiveView → Type 0
 SeatDoes v d w = SeatMakes v d w × IsSameSeat v w
 
--- how many likes of a page a deed was told: one or none
+-- how many likes of a page a deed was told
 abbrev pub liked_by : ℕ → SeatDeed → ℕ
 liked_by page d = likes_told page (calls_of d)
 

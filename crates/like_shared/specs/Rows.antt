@@ -1,5 +1,5 @@
 -- The deeds of rows of calls, and of rows of likes.
-use Rattle.std.specs.Prelude.{◌≡◌, ◌≢◌, ℕ, ◌+◌, ◌<◌, ◌≤◌, List, [], ◌∷◌, flat_map, length, map, slice_get, take, Some, ⊤}
+use Rattle.std.specs.Prelude.{◌≡◌, ◌≢◌, ℕ, ◌+◌, ◌<◌, ◌≤◌, List, [], ◌∷◌, flat_map, length, slice_get, take, Some, ⊤}
 use Rattle.std.specs.List.{zip}
 use Rattle.like_live.specs.declared.answer.LikeAnswer.TheVariants.{Liked}
 use Rattle.like_live.specs.declared.answer.TurnAnswer.TheVariants.{Runs}
@@ -45,10 +45,9 @@ pub record AreAnswered (rows : List Call) (old answers : List Answer) (done : �
   pub later : (i : ℕ) → done < i → slice_get answers i ≡ slice_get old i
   pub unasked : (i : ℕ) → length rows ≤ i → slice_get answers i ≡ slice_get old i
 
--- the deeds of a row of likes: a turn, and then the likes that were counted
+-- the deed that a row of likes is, with what it was told
 abbrev pub deeds_of_likes : List LikePair → RowAnswer → List SeatDeed
-deeds_of_likes likes told =
-    deed.Turn (turn_of told.answer) ∷ map (λ p. deed.LikeOn p.user p.page) (take told.counted likes)
+deeds_of_likes likes told = deed.LikeRow likes told ∷ []
 
 -- what a row of likes is told: how many were counted, which are all if it says `Liked`, and none if the seat runs no
 -- phase

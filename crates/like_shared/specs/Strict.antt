@@ -1,10 +1,14 @@
 -- All that all clients did at a shared service, as the calls of one thread.
-use Rattle.std.specs.Prelude.{◌≡◌, ℕ, ◌+◌, ◌<◌, nat_lt, All, List, filter, flat_map, length, map, slice_index, sum_by, Some, true, ⊤}
-use Rattle.std.specs.List.{AllZip}
+use Rattle.std.specs.Prelude.{◌≡◌, ℕ, ◌+◌, ◌<◌, nat_lt, All, List, ◌∷◌, ◌++◌, filter, flat_map, length, map, slice_index, sum_by, Ok, Option, Some, true, ⊤}
+use Rattle.std.specs.List.{AllZip, last_or}
 use Rattle.told_lock.specs.Deeds.{Leads, Named, deeds_in}
+use Rattle.like_tables.specs.LastLike.{page_or_none}
+use Rattle.like_tables.specs.UserTable.{last_of}
 use Rattle.like_live.specs.declared.opening.Opening.{Opening}
 use Rattle.like_live.specs.Deeds.{Deed}
 use Rattle.like_live.specs.Driver.{DriverView}
+use Rattle.like_live.specs.History.{Told, pages_liked}
+use Rattle.like_live.specs.Lasts.{user_at}
 use Rattle.like_live.specs.LiveView.{LiveView}
 use Rattle.like_live.specs.Service.{AreGone, AreOpened, IsClosedService}
 use Rattle.like_live.specs.StrictService.{HasLastCounts, HasLastLikes, IsStrictService, SeatHistory, opened}
@@ -13,6 +17,7 @@ use Rattle.like_live.specs.DeedStore.{store_after}
 use Rattle.like_shared.specs.declared.deed.DriverDeed.{DriverDeed}
 use Rattle.like_shared.specs.declared.deed.DriverDeed.TheVariants.{LastCounts, Snapshot}
 use Rattle.like_shared.specs.declared.deed.SeatDeed.{SeatDeed}
+use Rattle.like_shared.specs.declared.deed.SeatDeed.TheVariants.{Last, Lasts}
 use Rattle.like_shared.specs.Deeds.{DriverDoes, SeatDoes, calls_of, liked_by}
 
 -- a seat of a shared service, from its opening to its end: what all clients told of it led from the one to the other
@@ -46,6 +51,25 @@ pub record IsHistoryOf (e : SeatEnd) (h : SeatHistory) : Type 0 where
 abbrev pub likes_at : ℕ → SeatEnd → ℕ
 likes_at page e = sum_by (liked_by page) (deeds_in e.told)
 
+-- a user's last like after these calls of a seat: the page of the last one that was told `Liked`, or that with which the
+-- seat began
+abbrev pub last_told : LiveView → List Told → ℕ → Option ℕ
+last_told first told user = last_or (last_of first.station.last user) (pages_liked user told)
+
+-- last likes that a client was told are those after the calls before
+abbrev pub ShowsLast : LiveView → List Told → SeatDeed → Type 0
+ShowsLast first before (Last user (Ok page)) = page ≡ last_told first before user
+ShowsLast first before (Lasts from pages true) =
+    (i : ℕ) → i < length pages
+    → slice_index pages i ≡ page_or_none (last_told first before (user_at first (from + i)))
+ShowsLast first before d = ⊤
+
+-- so are all that clients were told at a seat
+abbrev pub ShowsLasts : SeatEnd → Type 0
+ShowsLasts e =
+    (before after : List SeatDeed) (d : SeatDeed) → deeds_in e.leads.order ≡ before ++ d ∷ after
+    → ShowsLast e.first (flat_map calls_of before) d
+
 -- these are the store's counts at the end of the phase, of the pages from this one on
 abbrev pub AreCountsAt : Opening → List Deed → (phase from : ℕ) → List ℕ → Type 0
 AreCountsAt o serial phase from counts =
@@ -61,8 +85,9 @@ ShowsStore o serial (LastCounts from counts true) = (phase : ℕ) × AreCountsAt
 ShowsStore o serial d = ⊤
 
 -- one thread could have done all that all clients did: the seats have histories of all clients' calls, and all their
--- deeds have one strict list. Snapshots, last counts and last likes are its store's. Each page's last count is its first
--- count and the likes of it that all clients were told
+-- deeds have one strict list. Snapshots, last counts and last likes are its store's. Last likes that a client was told are
+-- those after the seat's calls before. Each page's last count is its first count and the likes of it that all clients
+-- were told
 pub record IsStrictlyShared (o : Opening) (driver : DriverEnd) (ends : List SeatEnd) (counts : List ℕ) : Type 0 where
   pub histories : List SeatHistory
   pub each : AllZip IsHistoryOf ends histories
@@ -71,6 +96,7 @@ pub record IsStrictlyShared (o : Opening) (driver : DriverEnd) (ends : List Seat
   pub snapshots : All (ShowsStore o serial) (deeds_in driver.leads.order)
   pub last_counts : HasLastCounts o counts serial
   pub last_likes : HasLastLikes o (lasts ends) serial
+  pub told_lasts : All ShowsLasts ends
   pub totals : (page : ℕ) → page < length counts
       → slice_index counts page ≡ slice_index o.counts.items page + sum_by (likes_at page) ends
 

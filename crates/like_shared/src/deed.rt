@@ -4,7 +4,8 @@ ghost use Rattle.like_shared.specs.Deeds.{DriverDoes, SeatDoes};
 use like_board::SharedPost;
 use like_choice::Guided;
 use like_live::{
-    Driver, DriverAnswer, End, Found, GlanceAnswer, LikeAnswer, LiveSeat, LookAnswer, TurnAnswer,
+    Driver, DriverAnswer, End, Found, GlanceAnswer, LikeAnswer, LikePair, LiveSeat, LookAnswer,
+    RowAnswer, TurnAnswer,
 };
 use like_requests::Verdict;
 use std::collections::LinkedList;
@@ -20,10 +21,10 @@ pub enum SeatDeed {
         page: u32,
         answer: LikeAnswer,
     },
-    /// A like of a row, which was counted.
-    LikeOn {
-        user: u32,
-        page: u32,
+    /// A row of likes, with what it was told.
+    LikeRow {
+        likes: LinkedList<LikePair>,
+        told: RowAnswer,
     },
     Look {
         user: u32,

@@ -7,7 +7,7 @@ ghost use Rattle.like_shared.specs.Rows.{AreAnswered, IsToldOf, deeds_of_likes, 
 
 use crate::seat_row::SeatRow;
 use like_board::SharedPost;
-use like_live::{Answer, Call, LikePair, LiveSeat, RowAnswer, rows_are_likes};
+use like_live::{Answer, Call, LikePair, LiveSeat, RowAnswer};
 
 type Seat = LiveSeat<SharedPost>;
 
@@ -64,7 +64,6 @@ fn count_likes(seat: &mut Seat, likes: &[LikePair]) -> RowAnswer
     ensures run { HasRun SeatDoes seat.old (deeds_of_likes likes.now result) seat.new }
     ensures told { IsToldOf likes.now result }
 {
-    rows_are_likes();
     seat.like_row(likes)
 }
 

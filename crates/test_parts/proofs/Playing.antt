@@ -16,7 +16,7 @@ use Rattle.like_core.specs.Post.{pages_of}
 use Rattle.like_core.specs.declared.view.WorkerSeatView.{WorkerSeatView}
 use Rattle.like_tables.specs.Share.{dealt}
 use Rattle.like_limits.specs.Limits.{max_requests}
-use Rattle.like_promises.specs.WorkloadOf.{lists_of}
+use Rattle.like_promises.specs.Workload.{lists_of}
 use Rattle.like_promises.specs.declared.log.Took.{Took}
 use Rattle.like_roles.specs.declared.turn.Turn.{Turn}
 use Rattle.like_roles.specs.declared.turn.Turn.TheVariants as turn

@@ -2,7 +2,7 @@
 ghost use Rattle.std.specs.Prelude.{◌≡◌, ◌≤◌, All, IfOk, length, map};
 ghost use Rattle.like_limits.specs.Limits.{max_requests};
 ghost use Rattle.like_requests.specs.Setup.{FitsRun};
-ghost use Rattle.like_promises.specs.WorkloadOf.{lists_of};
+ghost use Rattle.like_promises.specs.Workload.{lists_of};
 
 mod choice;
 mod gates;

@@ -6,7 +6,6 @@ use Rattle.std.proofs.lemmas.Nat.{mod_below}
 use Rattle.std.proofs.lemmas.List.{length-map}
 use Rattle.std.proofs.lemmas.List.Sums.{sum_by-append, sum_by-cons, sum_by-set}
 use Rattle.std.proofs.lemmas.Slice.Zip.{AllZip-long}
-use Rattle.told_lock.specs.Rights.{IsIdle, log_of}
 use Rattle.like_requests.specs.Verdict.{home}
 use Rattle.like_live.specs.declared.answer.LikeAnswer.{LikeAnswer}
 use Rattle.like_live.specs.declared.answer.LikeAnswer.TheVariants as like
@@ -18,6 +17,7 @@ use Rattle.like_shared.specs.declared.deed.SeatDeed.TheVariants as deed
 use Rattle.like_shared.specs.declared.seat_call.Busy.{Busy}
 use Rattle.like_shared.specs.declared.service.SharedService.{SharedService}
 use Rattle.like_shared.specs.Deeds.{liked_by}
+use Rattle.like_shared.specs.Passes.{IsReady, log_at}
 use Rattle.like_shared.specs.Shared.{AreLogged, IsClient, IsLogged, seat_logs, seats_of, with_deeds}
 use Rattle.test_shared.specs.Likes.{counted, likes_in, likes_of}
 
@@ -35,8 +35,8 @@ call-adds : {A : Type 0} (page : ℕ) (s : SharedService) (before after : Client
     → MatchResult result (λ told. likes_in page after ≡ likes_in page before + sum_by (liked_by page) (deeds told))
     (λ busy. likes_in page after ≡ likes_in page before)
 call-adds page s before after seat deeds (Ok told) client less logged =
-    let all = length-map before.seats.items log_of in
-    let long = AllZip-long IsIdle s.seats.items before.seats.items client.seats in
+    let all = length-map before.seats.items log_at in
+    let long = AllZip-long IsReady s.seats.items before.seats.items client.seats in
     ap (likes_of page) logged.seats ∙ deeds-more page (seat_logs before) seat (deeds told) (omega (arith, all, long, less))
 call-adds page s before after seat deeds (Err busy) client less logged = ap (likes_of page) logged.seats
 

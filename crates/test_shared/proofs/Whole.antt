@@ -6,19 +6,20 @@ use Rattle.std.proofs.lemmas.List.Elements.{All-head, All-tail}
 use Rattle.std.proofs.lemmas.List.Sums.{sum_by-append, sum_by-cons}
 use Rattle.std.proofs.lemmas.Slice.Zip.{AllZip-long}
 use Rattle.told_lock.specs.Deeds.{Named, deeds_in, named}
-use Rattle.told_lock.specs.Rights.{IsIdle, IsKeeper, log_of, name_of, told_of}
+use Rattle.told_lock.specs.Rights.{IsKeeper, name_of, told_of}
 use Rattle.told_lock.specs.declared.keeper.Keeper.{Keeper}
-use Rattle.told_lock.specs.declared.pass.Pass.{Pass}
 use Rattle.told_lock.proofs.Logs.{all-more}
 use Rattle.like_live.specs.declared.opening.Opening.{Opening}
 use Rattle.like_live.specs.LiveView.{LiveView}
 use Rattle.like_live.specs.Service.{AreOpened}
 use Rattle.like_shared.specs.declared.client.Client.{Client}
 use Rattle.like_shared.specs.declared.deed.SeatDeed.{SeatDeed}
+use Rattle.like_shared.specs.declared.seat_call.SeatPass.{SeatPass}
 use Rattle.like_shared.specs.declared.service.ServiceKeeper.{ServiceKeeper}
 use Rattle.like_shared.specs.declared.service.SharedService.{SharedService}
 use Rattle.like_shared.specs.Closed.{IsClosedShared, driver_end}
 use Rattle.like_shared.specs.Deeds.{liked_by}
+use Rattle.like_shared.specs.Passes.{IsReady, log_at}
 use Rattle.like_shared.specs.Shared.{IsClient, IsServiceKeeper, IsUnused, first_driver, first_seats, seats_told, with_logs}
 use Rattle.like_shared.specs.Strict.{SeatEnd, likes_at}
 use Rattle.test_shared.specs.Hosts.{HasGrown, IsHosted}
@@ -36,16 +37,16 @@ module _ (page : ℕ) where
   weigh_log log = sum_by (liked_by page) log
 
   -- the likes of a client are added
-  logs-add : (told : List (Named SeatDeed)) (passes : List (Pass LiveView SeatDeed)) → length passes ≡ length told
-      → told_likes page (with_logs told passes) ≡ told_likes page told + likes_of page (map log_of passes)
+  logs-add : (told : List (Named SeatDeed)) (passes : List SeatPass) → length passes ≡ length told
+      → told_likes page (with_logs told passes) ≡ told_likes page told + likes_of page (map log_at passes)
   logs-add told [] same = omega arith
   logs-add [] (p ∷ passes) same = absurd (omega (arith, same))
   logs-add (t ∷ told) (p ∷ passes) same =
-      let one = sum_by-cons weigh (t ++ named (name_of p) (log_of p)) (with_logs told passes) in
-      let log = ap weigh_log (all-more t (name_of p) (log_of p)) ∙ sum_by-append (liked_by page) (deeds_in t) (log_of p) in
+      let one = sum_by-cons weigh (t ++ named (name_of p.pass) (log_at p)) (with_logs told passes) in
+      let log = ap weigh_log (all-more t (name_of p.pass) (log_at p)) ∙ sum_by-append (liked_by page) (deeds_in t) (log_at p) in
       let rest = logs-add told passes (omega (arith, same)) in
       let before = sum_by-cons weigh t told in
-      let more = sum_by-cons weigh_log (log_of p) (map log_of passes) in
+      let more = sum_by-cons weigh_log (log_at p) (map log_at passes) in
       omega (arith, one, log, rest, before, more)
 
   -- a keeper takes a client back, and has its likes
@@ -53,7 +54,7 @@ module _ (page : ℕ) where
       → seats_told l ≡ with_logs (seats_told k) c.seats.items
       → told_likes page (seats_told l) ≡ told_likes page (seats_told k) + likes_in page c
   client-adds s k l c keeper client told =
-      let passes = AllZip-long IsIdle s.seats.items c.seats.items client.seats in
+      let passes = AllZip-long IsReady s.seats.items c.seats.items client.seats in
       let keepers = AllZip-long IsKeeper s.seats.items k.seats.items keeper.seats in
       let all = length-map k.seats.items told_of in
       ap (told_likes page) told ∙ logs-add (seats_told k) c.seats.items (omega (arith, passes, keepers, all))

@@ -30,9 +30,8 @@ use Rattle.like_roles.specs.worker.Follows.{AreNoted}
 use Rattle.like_promises.specs.Collected.{entries_in}
 use Rattle.like_promises.specs.Likes.{initial_count}
 use Rattle.like_promises.specs.RunStore.{count_at}
-use Rattle.like_promises.specs.Workload.{Workload}
+use Rattle.like_promises.specs.Workload.{Workload, workload_of}
 use Rattle.like_crew.specs.declared.outcome.Outcome.{Outcome}
-use Rattle.like_promises.specs.WorkloadOf.{workload_of}
 use Rattle.like_promises.specs.EndToEnd.{runs_of}
 use Rattle.like_crew.specs.Outcome.{IsOutcome, IsSeatLike}
 use Rattle.like_crew.specs.Server.{HasWorkedFor, IsLogOf, ServerView}

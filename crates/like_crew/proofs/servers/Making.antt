@@ -11,8 +11,7 @@ use Rattle.like_queue.specs.Inbox.{InboxView}
 use Rattle.like_tables.specs.Share.{dealt, share_of}
 use Rattle.like_tables.specs.UserTable.{UserTable}
 use Rattle.like_tables.proofs.Dealt.{map-dealt}
-use Rattle.like_promises.specs.Workload.{Workload}
-use Rattle.like_promises.specs.WorkloadOf.{workload_of}
+use Rattle.like_promises.specs.Workload.{Workload, workload_of}
 use Rattle.like_roles.specs.worker.Follows.{IsWorkloadOf}
 use Rattle.like_roles.specs.worker.New.{IsNew, IsPostOf}
 use Rattle.like_crew.specs.Servers.{IsNewServer, IsServer}

@@ -2,7 +2,7 @@ ghost use Rattle.std.specs.Prelude.{◌≡◌, All, IfOk, length, map};
 ghost use Rattle.like_requests.specs.Setup.{FitsRun};
 ghost use Rattle.like_board.specs.Seats.{board_id, board_numbers};
 ghost use Rattle.like_roles.specs.worker.New.{AreNewSeats};
-ghost use Rattle.like_promises.specs.WorkloadOf.{workload_of};
+ghost use Rattle.like_promises.specs.Workload.{workload_of};
 ghost use Rattle.like_crew.specs.Server.{AreUntouched, plans_of};
 ghost use Rattle.like_crew.specs.Servers.{AreNewServers, AreServers};
 

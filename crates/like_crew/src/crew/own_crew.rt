@@ -2,7 +2,7 @@ ghost use Rattle.std.specs.Prelude.{◌≡◌, ◌↔◌, ◌<◌, [], IfOk, Som
 ghost use Rattle.std.specs.List.{AllZip};
 ghost use Rattle.like_core.specs.declared.worker_state.WorkerState.TheVariants.{Gone};
 ghost use Rattle.like_requests.specs.Setup.{FitsRun};
-ghost use Rattle.like_promises.specs.WorkloadOf.{lists_of};
+ghost use Rattle.like_promises.specs.Workload.{lists_of};
 ghost use Rattle.like_roles.specs.coordinator.CoordTurns.{HasEndedJoined};
 ghost use Rattle.like_crew.specs.Crew.{AreGone, GoesOn, HasInbox, IsCrewAt, IsNewCrew};
 ghost use Rattle.like_crew.specs.OwnCrew.{HasOutcome};

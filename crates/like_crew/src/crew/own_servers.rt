@@ -6,7 +6,7 @@ ghost use Rattle.like_board.specs.declared.own_board.OwnBoard.{OwnBoard};
 ghost use Rattle.like_board.specs.NewViews.{new_views};
 ghost use Rattle.like_board.specs.Own.{AreNewOwn, own_opening};
 ghost use Rattle.like_board.specs.Rule.{opened_coord};
-ghost use Rattle.like_promises.specs.WorkloadOf.{workload_of};
+ghost use Rattle.like_promises.specs.Workload.{workload_of};
 ghost use Rattle.like_crew.specs.Crew.{AreGone};
 ghost use Rattle.like_crew.specs.OwnCrew.{AreSeated, IsOwnSeatOf, servers_of};
 ghost use Rattle.like_crew.specs.Server.{AreUntouched, IsLogOf, plans_of};

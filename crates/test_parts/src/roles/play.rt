@@ -4,7 +4,7 @@ ghost use Rattle.like_requests.specs.Setup.{FitsRun};
 ghost use Rattle.like_core.specs.OpeningLimits.{run_limits};
 ghost use Rattle.like_board.specs.Seats.{board_id, coord_board, coord_view};
 ghost use Rattle.like_requests.specs.Pages.{counts_of};
-ghost use Rattle.like_promises.specs.WorkloadOf.{lists_of};
+ghost use Rattle.like_promises.specs.Workload.{lists_of};
 ghost use Rattle.like_roles.specs.worker.New.{AreNewSeats};
 
 use super::gates::Expecting;

@@ -1,7 +1,7 @@
 ghost use Rattle.std.specs.Prelude.{◌≡◌, ◌<◌, ◌≤◌, [], IfOk, length, map, slice_index_or};
 ghost use Rattle.like_limits.specs.Limits.{max_requests};
 ghost use Rattle.like_requests.specs.Setup.{FitsRun, IsWithin};
-ghost use Rattle.like_promises.specs.WorkloadOf.{lists_of};
+ghost use Rattle.like_promises.specs.Workload.{lists_of};
 ghost use Rattle.like_roles.specs.worker.New.{IsNewAt, IsPostOf};
 ghost use Rattle.test_parts.specs.Playing.{IsNextGiven};
 

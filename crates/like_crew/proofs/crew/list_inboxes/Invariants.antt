@@ -1,6 +1,6 @@
 use Rattle.std.proofs.Common.{◌≡◌, All, map}
 use Rattle.like_queue.specs.Inbox.{view_of}
-use Rattle.like_promises.specs.WorkloadOf.{lists_of}
+use Rattle.like_promises.specs.Workload.{lists_of}
 use Rattle.like_crew.specs.Server.{untouched}
 use Rattle.like_crew.proofs.crew.list_inboxes.Given as goal
 

@@ -1,6 +1,6 @@
 use Rattle.std.proofs.Common.{◌∙◌, List, ℕ, ap, sym, length}
 use Rattle.like_core.specs.declared.opening.Opening.{Opening}
-use Rattle.like_promises.specs.WorkloadOf.{lists_of}
+use Rattle.like_promises.specs.Workload.{lists_of}
 use Rattle.like_crew.proofs.Closing.{left-of, outcome-of}
 use Rattle.like_crew.proofs.report.report_in_parallel.Goals as goal
 

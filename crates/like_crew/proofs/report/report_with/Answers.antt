@@ -9,8 +9,8 @@ use Rattle.like_promises.specs.places.Places.{ArePlaces, lists_in}
 use Rattle.like_promises.specs.declared.log.Added.{Added}
 use Rattle.like_promises.specs.declared.log.WorkerLog.{WorkerLog}
 use Rattle.like_tables.specs.Share.{worker_of}
-use Rattle.like_promises.specs.RunReport.{workload_by}
-use Rattle.like_promises.specs.WorkloadOf.{lists_of}
+use Rattle.like_promises.specs.Report.{workload_by}
+use Rattle.like_promises.specs.Workload.{lists_of}
 use Rattle.like_crew.specs.Gathered.{AreTables}
 use Rattle.like_crew.proofs.additions.Tiled.{all-there, of-likes, placed-are, stand-are, tiles-are}
 use Rattle.like_crew.proofs.Once.{collected-at, memory-alone}

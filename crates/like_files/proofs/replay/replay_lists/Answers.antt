@@ -1,8 +1,8 @@
 use Rattle.std.proofs.Common.{inr, refl}
 use Rattle.std.proofs.lemmas.Result.{err_from_is_err_and}
 use Rattle.like_requests.proofs.Planned.{fits-run, plans-within}
-use Rattle.like_promises.specs.WorkloadOf.{lists_of}
-use Rattle.like_promises.specs.RunReport.{workload_by}
+use Rattle.like_promises.specs.Workload.{lists_of}
+use Rattle.like_promises.specs.Report.{workload_by}
 use Rattle.like_files.proofs.Ended.{few_requests, not-before, one_list_a_page, replay-refused, replay-unwritten}
 use Rattle.like_files.proofs.Writable.{IsWritable-end_to_end}
 use Rattle.like_files.proofs.replay.replay_lists.Goals as goal

@@ -2,7 +2,7 @@ use Rattle.std.proofs.Common.{None, map, refl, Option, Result, Ok, Err, IfErr, I
 use Rattle.std.proofs.lemmas.Result.{err_from_is_err_and}
 use Rattle.like_requests.specs.Pages.{Page}
 use Rattle.like_requests.specs.declared.request.Request.{Request}
-use Rattle.like_promises.specs.WorkloadOf.{lists_of}
+use Rattle.like_promises.specs.Workload.{lists_of}
 use Rattle.like_replies.specs.declared.notice.Notice.{Notice}
 use Rattle.like_command.specs.declared.options.Options.{Options}
 use Rattle.like_files.specs.declared.fault.DriverFault.{DriverFault}

@@ -7,7 +7,7 @@ use Rattle.like_requests.specs.declared.request.Request.{Request}
 use Rattle.like_requests.specs.Script.{IsInRun}
 use Rattle.like_core.specs.declared.opening.Opening.{Opening}
 use Rattle.like_limits.specs.Limits.{max_requests}
-use Rattle.like_promises.specs.WorkloadOf.{lists_of, workload_of}
+use Rattle.like_promises.specs.Workload.{lists_of, workload_of}
 use Rattle.like_promises.specs.declared.chosen.Chosen.{Chosen}
 use Rattle.like_promises.specs.declared.log.WorkerLog.{WorkerLog}
 use Rattle.like_crew.specs.Outcome.{IsOutcome}

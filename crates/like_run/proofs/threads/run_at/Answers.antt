@@ -9,7 +9,7 @@ use Rattle.like_board.specs.Seats.{board_id, board_numbers}
 use Rattle.like_queue.specs.Line.{Sender, Taker, inbox_of}
 use Rattle.like_crew.specs.declared.ended.Ended.{Ended}
 use Rattle.like_crew.specs.declared.site.Site.{Site}
-use Rattle.like_promises.specs.WorkloadOf.{lists_of, workload_of}
+use Rattle.like_promises.specs.Workload.{lists_of, workload_of}
 use Rattle.like_crew.specs.Crew.{CrewView, IsCrew, crew_of}
 use Rattle.like_crew.specs.Ended.{IsEnded}
 use Rattle.like_crew.specs.Server.{plans_of}

@@ -1,7 +1,7 @@
 use Rattle.std.proofs.Common.{List, Vec, Global, sym, ap, subst}
 use Rattle.like_requests.specs.Setup.{FitsRun}
 use Rattle.like_requests.specs.declared.request.Request.{Request}
-use Rattle.like_promises.specs.WorkloadOf.{lists_of}
+use Rattle.like_promises.specs.Workload.{lists_of}
 use Rattle.like_crew.specs.Ended.{IsEnded}
 use Rattle.like_crew.specs.Site.{IsSite}
 use Rattle.like_run.proofs.Reported.{is-report}

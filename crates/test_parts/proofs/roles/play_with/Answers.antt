@@ -1,5 +1,5 @@
 use Rattle.like_requests.proofs.Planned.{fits-run}
-use Rattle.like_promises.specs.WorkloadOf.{lists_of}
+use Rattle.like_promises.specs.Workload.{lists_of}
 use Rattle.test_parts.proofs.roles.play_with.Goals as goal
 
 pub play_at_board-requires-clause-within : goal.play_at_board-requires-clause-within

@@ -6,7 +6,7 @@ use Rattle.like_requests.specs.Setup.{FitsRun}
 use Rattle.like_requests.specs.declared.request.Request.{Request}
 use Rattle.like_requests.specs.Script.{IsInRun}
 use Rattle.like_core.specs.declared.opening.Opening.{Opening}
-use Rattle.like_promises.specs.WorkloadOf.{lists_of, workload_of}
+use Rattle.like_promises.specs.Workload.{lists_of, workload_of}
 use Rattle.like_crew.specs.Crew.{IsCrewAt}
 use Rattle.like_crew.specs.Outcome.{IsOutcome}
 use Rattle.like_crew.proofs.Asked.{requests_of}

@@ -11,7 +11,7 @@ use Rattle.like_queue.specs.Inbox.{InboxView}
 use Rattle.like_tables.specs.Share.{dealt}
 use Rattle.like_roles.specs.worker.New.{IsNew, IsPostOf}
 use Rattle.like_crew.specs.Servers.{IsNewServer, IsServer}
-use Rattle.like_promises.specs.WorkloadOf.{workload_of}
+use Rattle.like_promises.specs.Workload.{workload_of}
 use Rattle.like_crew.specs.Server.{ServerView, plans_of}
 use Rattle.like_crew.proofs.Makings.{one-pushed}
 use Rattle.like_crew.proofs.servers.Making.{fits-worker, hand-closed, hand-is, hand-left, inboxes-at, new-server, none-made, others, server-at}

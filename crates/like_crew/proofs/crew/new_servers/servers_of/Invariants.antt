@@ -2,7 +2,7 @@ use Rattle.std.proofs.Common.{◌≡◌, drop, length, map}
 use Rattle.std.specs.List.{AllZip, range_with_len}
 use Rattle.like_board.specs.Seats.{board_id, board_numbers}
 use Rattle.like_crew.specs.Servers.{IsNewServer, IsServer}
-use Rattle.like_promises.specs.WorkloadOf.{workload_of}
+use Rattle.like_promises.specs.Workload.{workload_of}
 use Rattle.like_crew.specs.Server.{plans_of}
 use Rattle.like_crew.proofs.crew.new_servers.servers_of.Given as goal
 

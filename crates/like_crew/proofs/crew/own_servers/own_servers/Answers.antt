@@ -14,7 +14,7 @@ use Rattle.like_board.specs.Own.{own_view}
 use Rattle.like_board.specs.Rule.{opened_coord}
 use Rattle.like_queue.specs.Inbox.{InboxView}
 use Rattle.like_tables.specs.Share.{dealt}
-use Rattle.like_promises.specs.WorkloadOf.{workload_of}
+use Rattle.like_promises.specs.Workload.{workload_of}
 use Rattle.like_roles.specs.worker.New.{IsPostOf}
 use Rattle.like_crew.specs.OwnCrew.{servers_of}
 use Rattle.like_crew.specs.OwnServer.{OwnServerView}

@@ -12,7 +12,7 @@ use Rattle.like_board.specs.NewViews.{new_views}
 use Rattle.like_board.specs.Own.{own_opening}
 use Rattle.like_board.specs.Rule.{opened_coord}
 use Rattle.like_queue.specs.Inbox.{view_of}
-use Rattle.like_promises.specs.WorkloadOf.{lists_of, workload_of}
+use Rattle.like_promises.specs.Workload.{lists_of, workload_of}
 use Rattle.like_roles.specs.coordinator.CoordTurns.{CoordinatorView}
 use Rattle.like_crew.specs.Crew.{new_coordinator}
 use Rattle.like_crew.specs.OwnCrew.{AreSeated, servers_of}

@@ -1,5 +1,5 @@
 use Rattle.test_parts.proofs.Playing.{plays_new}
-use Rattle.like_promises.specs.WorkloadOf.{lists_of}
+use Rattle.like_promises.specs.Workload.{lists_of}
 use Rattle.test_parts.proofs.roles.player.Player.new.Goals as goal
 
 pub invariant_of-result : goal.invariant_of-result
