@@ -305,12 +305,12 @@ static void *like_on(void *at) {
     return at;
 }
 
-/* Whether phases go on while last likes are written: about one in a millisecond, where they stood still for the time that
- * a seat's took. */
+/* Whether phases go on while last likes are written: about one in a millisecond of the thread's processor time, where they
+ * stood still for the time that a seat's took. */
 static bool phases_go_on(uint32_t *lasts, size_t users) {
-    uint64_t began = clock_now(), phase = likes_service_phase(service);
+    uint64_t began = clock_of(CLOCK_THREAD_CPUTIME_ID), phase = likes_service_phase(service);
     IS(likes_service_lasts(service, lasts, users), LIKES_OK);
-    uint64_t phases = likes_service_phase(service) - phase, took = clock_now() - began;
+    uint64_t phases = likes_service_phase(service) - phase, took = clock_of(CLOCK_THREAD_CPUTIME_ID) - began;
     return phases >= 8 + took / MS / 8;
 }
 

@@ -142,7 +142,7 @@ static void look_after_misses(void) {
     __atomic_fetch_add(&explored->starving, 1, __ATOMIC_SEQ_CST);
     begin_call("a look after misses", 2 * PERIOD);
     while (inner_again(&it, &status))
-        status = likes_client_look(&it.member->client, 0, 0, 1, 3, &answers[0]);
+        status = likes_client_look(&it.member->client, 0, 0, 0, 3, &answers[0]);
     end_call();
 }
 
@@ -189,6 +189,13 @@ static void like_0_later(void) {
     begin(USERS);
     nap(2 * PERIOD);
     like(0, 1, 0);
+}
+
+/* A like that sleeps until the phase ends, which waits for a seat that is held past its time. */
+static void like_0_between(void) {
+    begin(0);
+    nap(PERIOD + PERIOD / 20);
+    like(0, 1, PERIOD / 20);
 }
 
 static void look_0(void) {
@@ -445,6 +452,7 @@ const explore_case explore_cases[] = {
     {"early-pages", split, {look_0, split_pages}, 2, false, NULL},
     {"long", roomy, {look_long, like_1}, 2, false, NULL},
     {"last-split", last_split, {look_long, like_1}, 2, false, NULL},
+    {"last-held", last_split, {hold_past_due, like_0_between}, 1, false, NULL},
     {"due", due, {tick, like_1}, 2, false, NULL},
     {"due-held", due, {hold_past_due, like_0_later}, 1, false, NULL},
     {"due-row", due, {tick, row}, 2, false, NULL},
