@@ -26,6 +26,7 @@ likes_seat *likes_service_lock(likes_service *service, uint32_t number) {
     inner_member *member;
     if (likes_service_seat_fault(service, number) != LIKES_OK || inner_enter(service, false, &member) != LIKES_OK)
         return NULL;
+    inner_note_use(service);
     inner_place *place = &service->places[number];
     uint64_t until = place->waiting > 0 ? inner_clock() + WAY : 0;
     while (place->waiting > 0 && !inner_is_over(until))
@@ -62,38 +63,37 @@ uint32_t inner_look(inner_member *member, inner_place *place, const likes_reques
     return status == LIKES_GLIMPSED ? inner_refuse(answer, LIKES_NO_ROOM) : status;
 }
 
-/* Answers a look, or runs what comes before the next one. The number of those done, and LIKES_OK, or why the next one
- * isn't: LIKES_GLIMPSED where the host's looks fill the seat, for which it doesn't wait. */
-static size_t run_part(inner_trial *it, const likes_request *requests, size_t length, likes_answer *answers,
+/* Answers a look, or runs what comes before the next one. The number of those done, and a status that tells if the next
+ * one is too early. */
+static size_t run_part(const inner_trial *it, const likes_request *requests, size_t length, likes_answer *answers,
                        uint32_t *status) {
-    size_t part = 0, done = 1, likes = 0;
+    size_t part = 0, likes = 0;
     while (part < length && (requests[part].op != LIKES_LOOK || requests[part].reserved != 0))
         part++;
-    if (part == 0)
+    if (part == 0) {
         *status = inner_look(it->member, it->place, requests, answers);
-    else
-        done = likes_client_run(&it->member->client, it->place->number, requests, part, answers, part);
+        return *status != LIKES_BETWEEN && *status != LIKES_NO_ROOM;
+    }
+    size_t done = likes_client_run(&it->member->client, it->place->number, requests, part, answers, part);
     for (size_t i = 0; i < done; i++)
         likes += answers[i].status == LIKES_LIKED;
     inner_add(&it->member->likes, likes);
-    if (part > 0)
-        *status = done < part ? answers[done].status : (uint32_t)LIKES_OK;
-    else if (*status == LIKES_NO_ROOM && it->place->hosts == it->member->service->room)
-        *status = LIKES_GLIMPSED;
-    else if (*status != LIKES_BETWEEN && *status != LIKES_NO_ROOM)
-        *status = LIKES_OK;
-    return part == 0 && *status != LIKES_OK ? 0 : done;
+    *status = done < part ? answers[done].status : (uint32_t)LIKES_OK;
+    return done;
 }
 
+/* It doesn't wait where the host's own looks fill the seat. */
 size_t inner_run(inner_member *member, inner_place *place, const likes_request *requests, size_t length,
                  likes_answer *answers, bool waits) {
-    size_t done = 0;
-    uint32_t status = LIKES_OK;
-    while (done < length && status == LIKES_OK) {
-        inner_trial it = {.member = member, .place = place, .until = INNER_NEVER};
-        do
-            done += run_part(&it, requests + done, length - done, answers + done, &status);
-        while (waits && inner_again(&it, &status));
+    size_t done = 0, part = 1;
+    uint32_t status;
+    while (done < length && part > 0) {
+        inner_trial it = inner_trial_of(member, place, INNER_NEVER);
+        do {
+            part = run_part(&it, requests + done, length - done, answers + done, &status);
+            done += part;
+            waits &= status != LIKES_NO_ROOM || place->hosts < member->service->room;
+        } while (waits && inner_again(&it, &status));
     }
     return done;
 }
@@ -104,10 +104,10 @@ size_t likes_service_run(likes_service *service, uint32_t number, const likes_re
     uint32_t fault = inner_held_fault(service, number, &member);
     if ((requests == NULL || answers == NULL) && length > 0)
         fault = LIKES_NULL;
-    if (fault != LIKES_OK)
+    if (fault != LIKES_OK) {
         inner_refuse(length > 0 ? answers : NULL, fault);
-    if (fault != LIKES_OK)
         return 0;
+    }
     inner_note_call(member->held, 1);
     inner_note_use(service);
     size_t done = inner_run(member, member->held, requests, length, answers, true);
@@ -117,10 +117,6 @@ size_t likes_service_run(likes_service *service, uint32_t number, const likes_re
 
 bool likes_service_take_found(likes_service *service, uint32_t number, likes_found *found) {
     inner_member *member;
-    if (found == NULL || inner_held_fault(service, number, &member) != LIKES_OK)
-        return false;
-    bool has = inner_take_found(member, member->held, found);
-    inner_note_call(member->held, 2);
-    inner_after(member, member->held);
-    return has;
+    return found != NULL && inner_held_fault(service, number, &member) == LIKES_OK &&
+           likes_seat_take_found(&member->held->seat, found);
 }

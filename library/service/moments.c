@@ -19,23 +19,22 @@ static void write_lasts(inner_member *member, inner_place *place, uint32_t *last
     }
 }
 
-/* Ends a joined phase that all seats have left: a seat comes back, and leaves again once the end is announced. Last
- * counts would end the service. Whether one did, or isn't gone any more. */
+/* Ends a joined phase that all seats have left: one that is free comes back, and leaves again once the end is announced.
+ * (Last counts would end the service.) Whether one was free; it may not be gone any more. */
 static bool end_for_all(inner_member *member) {
-    likes_service *service = member->service;
-    for (uint32_t number = 0; number < service->seats; number++) {
-        inner_place *place = &service->places[number];
-        if (!inner_hold(member, place, 0))
-            continue;
-        bool is_gone = likes_client_turn(&member->client, number) == LIKES_GONE;
-        if (is_gone && likes_client_come_back(&member->client, number) == LIKES_RUNS) {
-            inner_turn(member, LIKES_END);
-            likes_client_retire(&member->client, number);
-        }
-        inner_unlock(member, place);
-        return true;
+    inner_place *place = member->service->places;
+    uint32_t left = member->service->seats;
+    while (left > 0 && !inner_hold(member, place, 0))
+        place++, left--;
+    if (left == 0)
+        return false;
+    bool is_gone = likes_client_turn(&member->client, place->number) == LIKES_GONE;
+    if (is_gone && likes_client_come_back(&member->client, place->number) == LIKES_RUNS) {
+        inner_turn(member, LIKES_END);
+        likes_client_retire(&member->client, place->number);
     }
-    return false;
+    inner_unlock(member, place);
+    return true;
 }
 
 /* Makes a turn towards the end of a joined phase, unless the next phase would be released unseen, or a split one has to
@@ -108,7 +107,6 @@ static uint32_t write_moment(inner_member *member, uint64_t *counts, size_t page
     if (status == LIKES_COUNTED && lasts != NULL)
         status = write_all_lasts(member, lasts, seen);
     inner_stir(member);
-    inner_call(service);
     return status;
 }
 

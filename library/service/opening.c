@@ -9,7 +9,7 @@ static likes_service *made(const likes_shared *shared, const likes_options *opti
     uint32_t seats = (uint32_t)shared->seats, room = options->room > 0 ? options->room : LIKES_DEFAULT_ROOM;
     size_t size = sizeof(likes_service) + seats * sizeof(inner_place);
     likes_service *service = (likes_service *)aligned_alloc(_Alignof(likes_service), size);
-    likes_found *found = (likes_found *)calloc((size_t)seats * 2 * room, sizeof *found);
+    likes_found *found = (likes_found *)calloc((size_t)seats * room, sizeof *found);
     if (service == NULL || found == NULL) {
         free(service);
         free(found);
@@ -29,7 +29,7 @@ static likes_service *made(const likes_shared *shared, const likes_options *opti
         place->number = i;
         place->service = service;
         place->seat.at = (void *)((uintptr_t)place + 1);
-        place->found = found + (size_t)i * 2 * room;
+        place->found = found + (size_t)i * room;
     }
     pthread_mutex_init(&service->turning, NULL);
     return service;

@@ -60,44 +60,34 @@ bool inner_take_found(inner_member *member, inner_place *place, likes_found *fou
     return true;
 }
 
+/* Does the phase work of a seat, with the seat locked. It retires if it is to leave. */
+static void work(inner_member *member, inner_place *place) {
+    uint32_t status = place->is_leaving ? likes_client_retire(&member->client, place->number)
+                                        : likes_client_turn(&member->client, place->number);
+    if (status == LIKES_GONE)
+        place->is_leaving = false;
+}
+
 /* Whether the thread holds a seat, and has it locked: then its own calls do the phase work. */
 static bool is_hosts(const inner_member *member, const inner_place *place) {
     return member->held == place && has_locked(member, place);
 }
 
-/* Does the phase work of a seat, with the seat locked. It retires if it is to leave. */
-static void work(inner_member *member, inner_place *place) {
-    bool is_leaving = place->is_leaving;
-    uint32_t status = is_leaving ? likes_client_retire(&member->client, place->number)
-                                 : likes_client_turn(&member->client, place->number);
-    if (is_leaving && status == LIKES_GONE)
-        place->is_leaving = false;
-}
-
-/* Does the phase work that was left, if this client has the seat locked, or can lock it. Whether there was some. If not,
- * the thread that has the seat sees what was left after it has given it back. */
-static bool work_left(inner_member *member, inner_place *place) {
-    bool is_mine = has_locked(member, place), is_own = is_hosts(member, place);
-    if (!(place->left & INNER_WORK))
-        return false;
-    if (!is_mine && inner_lock(member, place) != LIKES_OK)
-        return false;
-    place->left &= ~(uint32_t)INNER_WORK;
-    if (!is_own)
-        work(member, place);
-    hand_out(member, place);
-    if (!is_mine)
-        unlock(member, place);
-    return true;
-}
-
-/* Does what was left at a place, if the seat is free, or this client's. Whether it did phase work. Who sleeps until the
- * seat is free sleeps on while this client has it locked. */
+/* Does what was left at a place, if the seat is this client's, or free: else the thread that has it sees what was left
+ * after it has given it back. Whether there was phase work. Who sleeps until the seat is free sleeps on while this client
+ * has it locked. */
 static bool serve(inner_member *member, inner_place *place) {
-    bool has_worked = false;
-    while (work_left(member, place))
+    bool is_mine = has_locked(member, place), is_own = is_hosts(member, place), has_worked = false;
+    while ((place->left & INNER_WORK) && (is_mine || inner_lock(member, place) == LIKES_OK)) {
+        place->left &= ~(uint32_t)INNER_WORK;
+        if (!is_own)
+            work(member, place);
+        hand_out(member, place);
+        if (!is_mine)
+            unlock(member, place);
         has_worked = true;
-    if (!has_locked(member, place) && (place->left & INNER_ASLEEP)) {
+    }
+    if (!is_mine && (place->left & INNER_ASLEEP)) {
         place->left &= ~(uint32_t)INNER_ASLEEP;
         inner_futex_wake(&place->left, 1);
     }

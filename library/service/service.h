@@ -95,7 +95,6 @@ struct likes_service {
     _Atomic uint64_t served;   /* the step at which all seats had theirs, or it was left to who has the seat */
     _Atomic uint64_t due;      /* when the phase may end */
     _Atomic uint64_t wakes_at; /* until when the driver's thread sleeps. 0: it is awake, or rests */
-    _Atomic uint32_t sleepers; /* 1: threads sleep until `released` is another */
     _Atomic uint32_t starving; /* how many threads have missed phases, and wait for the next one to make a call */
     _Atomic uint32_t call;     /* goes up when the driver's thread is called; a futex */
     _Atomic uint32_t writers;  /* how many are open */
@@ -175,10 +174,9 @@ static inline uint32_t inner_enter(likes_service *service, bool has_null, inner_
     if (has_null || service == NULL || !service->is_open)
         return has_null ? LIKES_NULL : service == NULL ? LIKES_NOT_STARTED : LIKES_STOPPED;
     *member = inner_member_of(service);
-    if (*member == NULL || (*member)->held != NULL)
-        return *member == NULL ? LIKES_NO_MEMORY : LIKES_HOLDS_SEAT;
-    inner_note_use(service);
-    return LIKES_OK;
+    if (*member == NULL)
+        return LIKES_NO_MEMORY;
+    return (*member)->held != NULL ? LIKES_HOLDS_SEAT : LIKES_OK;
 }
 
 /* place.c: does what others left at a place, and wakes the driver's thread where it rests. */
@@ -206,23 +204,31 @@ typedef struct inner_trial {
     inner_member *member;
     inner_place *place;
     uint64_t until; /* when it is too late, or INNER_NEVER */
+    uint64_t phase; /* one that was released before the call */
     /* From the first wait on: how often the seat was busy, and the call too late for a phase, one after the other; what
-     * the place's word was, where the thread waits for the seat; the phase, if it was read before the call. */
-    bool has_waited, has_phase;
+     * the place's word was, where the thread waits for the seat. */
+    bool has_waited;
     uint32_t tries, misses, left;
-    uint64_t phase, spins_until;
+    uint64_t spins_until;
 } inner_trial;
+
+static inline inner_trial inner_trial_of(inner_member *member, inner_place *place, uint64_t until) {
+    return (inner_trial){.member = member, .place = place, .until = until, .phase = member->service->released};
+}
 
 /* The status of a call that wasn't made yet. */
 #define INNER_UNTRIED UINT32_MAX
 
 /* Begins a call of a user, by a thread that may not hold a seat: INNER_UNTRIED, or what is wrong with it. */
 static inline uint32_t inner_begin(inner_trial *it, likes_service *service, uint32_t user, bool has_null) {
-    *it = (inner_trial){.until = INNER_NEVER};
-    uint32_t fault = inner_enter(service, has_null, &it->member);
+    inner_member *member;
+    uint32_t fault = inner_enter(service, has_null, &member);
+    it->place = NULL;
     if (fault != LIKES_OK)
         return fault;
-    it->place = &service->places[inner_remainder(user, service->inverse, service->seats)];
+    inner_note_use(service);
+    size_t seat = inner_remainder(user, service->inverse, service->seats);
+    *it = inner_trial_of(member, &service->places[seat], INNER_NEVER);
     return INNER_UNTRIED;
 }
 
@@ -250,7 +256,7 @@ bool inner_await_phase(inner_member *member, uint64_t phase, uint64_t until);
 uint32_t inner_turns(inner_member *member);
 
 /* With `turning` locked: makes one turn; sleeps until there is a wish, or until a time; makes a turn due at once, and
- * lets the next two rounds count as some with calls. The last unlocks it and makes turns. */
+ * lets the next two rounds count as some with calls. The last unlocks it, makes turns, and calls the driver's thread. */
 uint32_t inner_turn(inner_member *member, uint32_t end);
 void inner_await_wish(likes_service *service, uint64_t until);
 void inner_stir(inner_member *member);

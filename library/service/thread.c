@@ -1,13 +1,9 @@
 /* The driver's thread. */
 #include "service.h"
 
-static void set_resting(likes_service *service, bool is_resting) {
-    service->is_resting = is_resting;
-}
-
 /* The rest is over for all calls before the thread is woken: it may begin another one at once. */
 void inner_call(likes_service *service) {
-    set_resting(service, false);
+    service->is_resting = false;
     service->call += 1;
     inner_futex_wake(&service->call, 1);
 }
@@ -17,10 +13,10 @@ void inner_call(likes_service *service) {
 static bool rests(likes_service *service) {
     if (!service->may_rest)
         return false;
-    set_resting(service, true);
+    service->is_resting = true;
     bool is_used = service->is_used;
     if (is_used)
-        set_resting(service, false);
+        service->is_resting = false;
     return !is_used;
 }
 
@@ -52,7 +48,7 @@ void *inner_driver(void *at) {
     while (!service->is_stopping) {
         uint32_t call = service->call;
         uint64_t until = INNER_NEVER;
-        set_resting(service, false);
+        service->is_resting = false;
         inner_turns(service->own);
         bool is_busy = pthread_mutex_trylock(&service->turning) != 0, is_resting = !is_busy && rests(service);
         if (!is_busy)

@@ -24,26 +24,23 @@ uint64_t likes_service_phase(likes_service *service) {
 }
 
 uint32_t likes_service_propose(likes_service *service, const uint32_t *pages, size_t pages_len) {
-    static const uint32_t none;
     inner_member *member;
     uint32_t fault = inner_enter(service, likes_is_missing(pages, pages_len), &member);
     if (fault != LIKES_OK)
         return fault;
     pthread_mutex_lock(&service->turning);
-    uint32_t status = likes_client_propose(&member->client, pages_len == 0 ? &none : pages, pages_len);
+    uint32_t status = likes_client_propose(&member->client, pages, pages_len);
     inner_stir(member);
-    inner_call(service);
     return status;
 }
 
 size_t likes_service_split_pages(likes_service *service, uint32_t *pages, size_t pages_len) {
     inner_member *member;
-    uint32_t page;
     size_t written = 0;
     if (inner_enter(service, likes_is_missing(pages, pages_len), &member) != LIKES_OK)
         return 0;
     pthread_mutex_lock(&service->turning);
-    likes_client_split_pages(&member->client, pages_len == 0 ? &page : pages, pages_len, &written);
+    likes_client_split_pages(&member->client, pages, pages_len, &written);
     pthread_mutex_unlock(&service->turning);
     inner_turns(member);
     return written;

@@ -6,26 +6,18 @@
 /* After this many rounds without a call, phases stop changing. */
 #define QUIET_ROUNDS 2u
 
-static bool is_wished(const likes_service *service) {
-    return service->wished == INNER_WISHED;
-}
-
 /* Wishes for a turn. Whether this thread may make it. */
 static bool wish(likes_service *service) {
-    if (!is_wished(service) && atomic_exchange(&service->wished, INNER_WISHED) == INNER_WATCHED)
+    if (service->wished != INNER_WISHED && atomic_exchange(&service->wished, INNER_WISHED) == INNER_WATCHED)
         inner_futex_wake(&service->wished, 1);
     return pthread_mutex_trylock(&service->turning) == 0;
-}
-
-static void take_wish(likes_service *service) {
-    service->wished = 0;
 }
 
 void inner_await_wish(likes_service *service, uint64_t until) {
     uint32_t none = 0;
     if (atomic_compare_exchange_strong(&service->wished, &none, INNER_WATCHED))
         inner_futex_wait(&service->wished, INNER_WATCHED, until);
-    take_wish(service);
+    service->wished = 0;
 }
 
 static void end_round(likes_service *service) {
@@ -91,7 +83,7 @@ static uint32_t driver_turn(inner_member *member) {
     if (phase % 2 == 1 && status == LIKES_RELEASED)
         status = joined_turn(member, now, true);
     bool has_news = service->released != phase && status != LIKES_ANNOUNCED;
-    if (has_news && atomic_exchange(&service->sleepers, 0))
+    if (has_news)
         inner_futex_wake((_Atomic uint32_t *)&service->released, INT_MAX);
     if (!service->is_ending && service->due + INNER_SPIN_TIME < service->wakes_at)
         inner_call(service);
@@ -103,10 +95,10 @@ static uint32_t make_turns(inner_member *member) {
     likes_service *service = member->service;
     uint32_t status;
     do {
-        take_wish(service);
+        service->wished = 0;
         status = driver_turn(member);
         pthread_mutex_unlock(&service->turning);
-    } while (is_wished(service) && pthread_mutex_trylock(&service->turning) == 0);
+    } while (service->wished == INNER_WISHED && pthread_mutex_trylock(&service->turning) == 0);
     return status;
 }
 
@@ -130,14 +122,14 @@ void inner_stir(inner_member *member) {
     service->due = 0;
     pthread_mutex_unlock(&service->turning);
     inner_turns(member);
+    inner_call(service);
 }
 
+/* These two may be called by a thread that holds a seat. */
 uint32_t likes_service_drive(likes_service *service) {
-    uint32_t fault = likes_service_fault(service);
-    inner_member *member = fault == LIKES_OK ? inner_member_of(service) : NULL;
-    if (member == NULL)
-        return fault != LIKES_OK ? fault : (uint32_t)LIKES_NO_MEMORY;
-    return inner_turns(member);
+    inner_member *member;
+    uint32_t fault = inner_enter(service, false, &member);
+    return fault == LIKES_OK || fault == LIKES_HOLDS_SEAT ? inner_turns(member) : fault;
 }
 
 void likes_service_tick(likes_service *service) {
@@ -146,8 +138,9 @@ void likes_service_tick(likes_service *service) {
 }
 
 void likes_service_seat_turns(likes_service *service) {
-    inner_member *member = likes_service_fault(service) == LIKES_OK ? inner_member_of(service) : NULL;
-    if (member == NULL)
+    inner_member *member;
+    uint32_t fault = inner_enter(service, false, &member);
+    if (fault != LIKES_OK && fault != LIKES_HOLDS_SEAT)
         return;
     inner_seats_work(member);
     inner_turns(member);

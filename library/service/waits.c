@@ -10,17 +10,12 @@
 /* In how many phases a thread's call comes too late, before the driver waits for the thread. */
 #define MISSES 8u
 
-/* The flag comes before the last look at the number, and who releases a phase writes the number before it takes the
- * flag. */
 bool inner_await_phase(inner_member *member, uint64_t phase, uint64_t until) {
     likes_service *service = member->service;
     inner_turns(member);
-    for (;;) {
-        service->sleepers = 1;
-        if (service->released != phase || inner_is_over(until))
-            return service->released != phase;
+    while (service->released == phase && !inner_is_over(until))
         inner_futex_wait((_Atomic uint32_t *)&service->released, (uint32_t)phase, until);
-    }
+    return service->released != phase;
 }
 
 /* Waits for a phase: for a while without sleep, and with turns, since the call may have been the last that its phase
@@ -78,33 +73,29 @@ static bool wait_for_seat(inner_trial *it) {
     return !is_late;
 }
 
-/* A call that is too early waits for a phase: it is between two, or looks that wait fill the seat. The number of the
- * phase is read before the call that is told so. */
+/* A call that is too early waits for a phase: it is between two, or looks that wait fill the seat. */
 INNER_SELDOM bool inner_wait_and_try(inner_trial *it, uint32_t *status) {
-    bool is_busy = *status == LIKES_BUSY, is_between = *status == LIKES_BETWEEN, has_time = true;
-    bool is_early = is_between || *status == LIKES_NO_ROOM;
+    bool is_between = *status == LIKES_BETWEEN, is_early = is_between || *status == LIKES_NO_ROOM, has_time = true;
     it->has_waited = true;
-    if (!is_busy) {
+    if (*status == LIKES_BUSY) {
+        has_time = wait_for_seat(it);
+    } else {
         note_waiting(it, false);
         note_miss(it, is_between);
-    }
-    if (is_busy)
-        has_time = wait_for_seat(it);
-    else if (is_early && it->has_phase)
+        if (!is_early)
+            return false;
         has_time = await_phase(it);
-    if (!is_busy) {
-        it->has_phase = true;
         it->phase = it->member->service->released;
     }
     if (!has_time) {
         note_miss(it, false);
         *status = LIKES_LATE;
     }
-    return (is_busy || is_early) && has_time;
+    return has_time;
 }
 
 bool inner_hold(inner_member *member, inner_place *place, uint64_t until) {
-    inner_trial it = {.member = member, .place = place, .until = until};
+    inner_trial it = inner_trial_of(member, place, until);
     uint32_t status = INNER_UNTRIED;
     while (inner_again(&it, &status))
         status = inner_lock(member, place);

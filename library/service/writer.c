@@ -25,19 +25,9 @@ static inline size_t seat_of(const likes_writer *writer, uint32_t user) {
     return inner_remainder(user, writer->service->inverse, writer->service->seats);
 }
 
-/* Notes that so many likes of a row are counted, or dropped. */
-static void take_off(likes_writer *writer, size_t seat, size_t done) {
-    row *it = &writer->rows[seat];
-    it->length -= (uint32_t)done;
-    if (it->length > 0)
-        memmove(it->likes, it->likes + done, it->length * sizeof *it->likes);
-    else
-        writer->begun &= ~(UINT64_C(1) << seat);
-}
-
 /* Hands a row over: LIKES_OK, or why likes stay kept. */
 static uint32_t hand_over(likes_writer *writer, size_t seat) {
-    const row *it = &writer->rows[seat];
+    row *it = &writer->rows[seat];
     inner_trial trial;
     size_t done = 0, counted;
     if (it->length == 0)
@@ -48,7 +38,10 @@ static uint32_t hand_over(likes_writer *writer, size_t seat) {
                                        &counted);
     if (done > 0)
         inner_add(&trial.member->likes, done);
-    take_off(writer, seat, done);
+    it->length -= (uint32_t)done;
+    memmove(it->likes, it->likes + done, it->length * sizeof *it->likes);
+    if (it->length == 0)
+        writer->begun &= ~(UINT64_C(1) << seat);
     return status == LIKES_LIKED ? (uint32_t)LIKES_OK : status;
 }
 
@@ -171,7 +164,8 @@ size_t likes_writer_drop(likes_writer *writer) {
     size_t dropped = 0;
     for (size_t seat = 0; writer != NULL && seat < writer->service->seats; seat++) {
         dropped += writer->rows[seat].length;
-        take_off(writer, seat, writer->rows[seat].length);
+        writer->rows[seat].length = 0;
+        writer->begun = 0;
     }
     return dropped;
 }

@@ -470,6 +470,7 @@ const explore_case explore_cases[] = {
     {"quiet", quiet, {like_soon, tick}, 2, false, NULL},
     {"quiet-held", quiet, {hold_tick, like_soon}, 2, false, NULL},
     {"writer-rest", rest, {writer_through_rest}, 2, false, NULL},
+    {"writer-quiet", quiet, {writer_through_rest}, 1, false, NULL},
     {"writer-long", rest, {writer_for_long, like_1}, 1, false, NULL},
     {"retire", split, {retire_0, like_1}, 2, false, NULL},
     {"retire-two", split, {retire_0, look_long}, 1, false, NULL},
