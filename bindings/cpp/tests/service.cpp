@@ -240,7 +240,7 @@ static void late(likes::Service &service) {
     hold(thrown([&] { (void)service.hold(0); }) == LIKES_STOPPED, "a seat after the end");
     hold(thrown([&] { (void)service.writer(); }) == LIKES_STOPPED, "a writer after the end");
     hold(thrown([&] { service.snapshot(); }) == LIKES_STOPPED, "a snapshot after the end");
-    hold(service.statistics().phases > 0, "statistics after the end");
+    hold(service.statistics().likes == 1, "statistics after the end");
     hold(thrown([&] { service.save("likes.saved"); }) == LIKES_STOPPED, "a file after the end");
 }
 
