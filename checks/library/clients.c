@@ -190,7 +190,8 @@ static void *like(void *at) {
         uint32_t user = i % USERS, status;
         while ((status = likes_client_like(client, user % SEATS, user, i % PAGES)) != LIKES_LIKED) {
             hold(status == LIKES_BUSY || status == LIKES_BETWEEN, "a like is refused");
-            likes_client_turn(client, (user + 1) % SEATS);
+            for (uint32_t seat = 0; seat < SEATS; seat++)
+                likes_client_turn(client, seat);
             likes_client_drive(client, LIKES_END_IF_IT_SERVES);
             sched_yield();
         }

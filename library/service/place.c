@@ -26,9 +26,11 @@ void inner_unlock(inner_member *member, inner_place *place) {
     inner_after(member, place);
 }
 
-/* Ends the wait of a look of the service. After the exchange it is its thread's again. */
+/* Ends the wait of a look of the service. Its thread wrote `state` before it asked, and after the exchange it is that
+ * thread's again. */
 static void end_wait(const likes_found *found) {
     inner_wait *wait = (inner_wait *)(uintptr_t)(found->tag & ~INNER_TAGS);
+    (void)wait->state;
     wait->count = found->count;
     wait->last = found->last;
     if (atomic_exchange(&wait->state, INNER_FOUND) == INNER_THROWN)
