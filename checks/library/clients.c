@@ -25,7 +25,7 @@ static void end(likes_client *client) {
     for (uint32_t seat = 0; seat < SEATS; seat++) {
         uint32_t status;
         while ((status = likes_client_retire(client, seat)) != LIKES_GONE) {
-            IS(status, LIKES_BETWEEN);
+            IS(status == LIKES_BETWEEN || status == LIKES_RUNS, true);
             for (uint32_t other = 0; other < SEATS; other++)
                 likes_client_turn(client, other);
             likes_client_drive(client, LIKES_END);
