@@ -3,7 +3,8 @@
  * Most programs need five calls: likes_service_open, likes_service_like, likes_service_look, likes_service_stop, which
  * gives the final counts, and likes_service_close.
  *
- * The code is C, and not proved. It is part of liblikes, and tested, also under the address and thread sanitizers.
+ * What counts a like or touches a seat is proved. The code here, which waits, is C and is tested, also under the address
+ * and thread sanitizers.
  *
  * Calls keep time, as is tested: one that returned before another began comes first, on whatever threads. A writer's
  * likes come where they are handed over, and a glance may lack likes if it says so.
@@ -14,7 +15,8 @@
  * that are found there are answered at its next row, or once it unlocks the seat.
  *
  * A call whose seat is between two phases tries again for 50 microseconds, and then sleeps. A look that waits to be
- * found sleeps at once.
+ * found sleeps at once. A thread's first call of a service takes some memory for it: it answers LIKES_NO_MEMORY, or NULL,
+ * 0 or false where it gives no status, if there is none.
  */
 #ifndef LIKES_SERVICE_H
 #define LIKES_SERVICE_H
@@ -34,7 +36,7 @@ extern "C" {
  *
  * Calls that take locks answer LIKES_HOLDS_SEAT to a thread that holds a seat of the service: they could wait for the
  * thread itself. These are all but likes_service_unlock, run, take_found, drive, tick, seat_turns, phase, seats,
- * statistics and fault, and likes_writer_open and likes_writer_drop. */
+ * pages, users, statistics and fault, and likes_writer_open and likes_writer_drop. */
 enum likes_service_status {
     LIKES_NO_THREAD = 1000,    /* the driver's thread can't be started */
     LIKES_WRONG_PERIOD = 1001, /* period_us is over LIKES_MAX_PERIOD_US */
@@ -45,7 +47,12 @@ enum likes_service_status {
     LIKES_OPEN_WRITER = 1007,  /* a writer of the service is open */
     LIKES_WRONG_TAG = 1008,    /* the tag of a look in a row is 2^63 or more */
     LIKES_STOPPED = 1009,      /* the service was stopped */
-    LIKES_WRONG_LENGTH = 1010  /* an array hasn't one entry for each page, or for each user */
+    LIKES_WRONG_LENGTH = 1010, /* an array hasn't one entry for each page, or for each user */
+    LIKES_FILE_FAULT = 1011,   /* a file can't be read or written: errno has the reason */
+    LIKES_NOT_SAVED = 1012,    /* the file is none that likes_service_save has written */
+    LIKES_OTHER_VERSION = 1013, /* the file has a version that this library doesn't know */
+    LIKES_WRONG_SIZE = 1014,   /* the file is too short or too long: it is not whole */
+    LIKES_WRONG_SUM = 1015     /* the file was changed since it was written */
 };
 
 typedef struct likes_service likes_service;
@@ -56,7 +63,7 @@ typedef struct likes_writer likes_writer;
 /* What a service has done since it was started. */
 typedef struct likes_statistics {
     uint64_t phases;       /* how many phases have ended */
-    uint64_t likes;        /* how many likes were counted, but by likes_seat_like or likes_seat_run at a locked seat */
+    uint64_t likes;        /* how many likes were counted */
     uint64_t looks;        /* how many looks were answered by likes_service_look and likes_service_look_within */
     uint64_t waits;        /* how many of these looks had to wait until they were found */
     uint64_t wait_time;    /* how long they waited in all, in nanoseconds */
@@ -76,6 +83,10 @@ uint32_t likes_service_open(const likes_options *options, likes_service **servic
 /* How many seats it has: 0 where likes_service_fault isn't LIKES_OK. User u belongs to seat u % seats. */
 uint32_t likes_service_seats(const likes_service *service);
 
+/* How many pages and users it has: 0 where likes_service_fault isn't LIKES_OK. */
+size_t likes_service_pages(const likes_service *service);
+uint32_t likes_service_users(const likes_service *service);
+
 /* Ends a service that isn't stopped yet, and gives its memory back: LIKES_OK, also for NULL. All threads are done with
  * it. Or nothing is done: LIKES_HOLDS_SEAT or LIKES_OPEN_WRITER. */
 uint32_t likes_service_close(likes_service *service);
@@ -90,9 +101,8 @@ uint32_t likes_service_seat_fault(const likes_service *service, uint32_t number)
 /* Adds one like: an answer of likes_seat_like, but never LIKES_BETWEEN. Any thread may call it. */
 uint32_t likes_service_like(likes_service *service, uint32_t user, uint32_t page);
 
-/* Looks, and waits until the look is found if it has to: an answer of likes_seat_look, but never LIKES_BETWEEN or
- * LIKES_WAITS, and LIKES_NO_ROOM only where looks with tags of the host's fill the seat. Any thread may call it, also
- * while another takes found looks of its own at the seat. */
+/* Looks, and waits until the look is found if it has to: an answer of likes_seat_look, but never LIKES_BETWEEN,
+ * LIKES_WAITS or LIKES_NO_ROOM. Any thread may call it, also while another takes found looks of its own at the seat. */
 uint32_t likes_service_look(likes_service *service, uint32_t user, uint32_t page, likes_answer *answer);
 
 /* The same with a time limit, in microseconds, which it hardly exceeds: then it answers LIKES_LATE. A look that was
@@ -158,12 +168,24 @@ uint32_t likes_service_counts(likes_service *service, uint64_t *counts, size_t p
  * written. */
 uint32_t likes_service_snapshot(likes_service *service, uint64_t *counts, size_t pages, uint32_t *lasts, size_t users);
 
+/* Saves what likes_service_snapshot writes to a file: LIKES_OK. After a crash there is the file as it was, or the new one.
+ * Meanwhile there is one of that name with ".new" behind it. Or nothing is changed: an answer of likes_service_snapshot,
+ * LIKES_NO_MEMORY or LIKES_FILE_FAULT. */
+uint32_t likes_service_save(likes_service *service, const char *path);
+
+/* Opens a service that goes on from such a file: LIKES_OK. The options have no counts and no last likes. Where their
+ * pages or users are 0, there are as many as in the file; so a service grows if there are more: counts of new pages are 0,
+ * and new users have no last like. Else nothing is opened: the first that applies of LIKES_NULL, WRONG_COUNT, WRONG_LASTS,
+ * FILE_FAULT, NOT_SAVED, OTHER_VERSION, WRONG_SIZE, WRONG_LENGTH, where there are fewer pages or users than in the file,
+ * WRONG_PAGES, NO_MEMORY, WRONG_SUM, and an answer of likes_service_open. */
+uint32_t likes_service_load(const char *path, const likes_options *options, likes_service **service);
+
 /* The phase that the driver has last released, or 0 where likes_service_fault isn't LIKES_OK. Any thread may call it,
  * and it doesn't wait for the driver. */
 uint64_t likes_service_phase(likes_service *service);
 
-/* Writes what the service has done so far: LIKES_OK. The numbers are those of nearly the same moment. Any thread may
- * call it, and it waits for nobody. */
+/* Writes what the service has done so far, also once it is stopped: LIKES_OK. The numbers are those of nearly the same
+ * moment. Any thread may call it, and it waits for nobody. */
 uint32_t likes_service_statistics(likes_service *service, likes_statistics *statistics);
 
 /* Proposes pages to be split, as likes_driver_propose does: LIKES_OK. The driver takes them at its next turn where no
@@ -175,18 +197,20 @@ uint32_t likes_service_propose(likes_service *service, const uint32_t *pages, si
  * likes_service_fault isn't LIKES_OK. Any thread may call it. It waits as likes_service_propose does. */
 size_t likes_service_split_pages(likes_service *service, uint32_t *pages, size_t pages_len);
 
-/* Takes a seat's lock. Until likes_service_unlock, the seat is this thread's, which may make any call on it. NULL, and
- * nothing is done, where likes_service_seat_fault isn't LIKES_OK: a thread holds one seat of a service at a time. */
+/* Takes a seat's lock. Until likes_service_unlock, the seat is this thread's, which may make any call of likes_seat_* on
+ * it: in another thread they answer LIKES_NOT_LOCKED. NULL, and nothing is done, where likes_service_seat_fault isn't
+ * LIKES_OK: a thread holds one seat of a service at a time. */
 likes_seat *likes_service_lock(likes_service *service, uint32_t number);
 
 /* Gives the lock back. The thread that took it does so, before it waits for anything. Of a seat that it doesn't hold it
  * does nothing. */
 void likes_service_unlock(likes_service *service, uint32_t number);
 
-/* Runs requests at a seat that the thread has locked, through changes of phases, and gives the number of those done. It
- * stops early only at a look that has no room: take found looks, and go on with that request. At a seat that the thread
- * doesn't hold no request is done, and the first answer is LIKES_NOT_STARTED, STOPPED, UNKNOWN_SEAT or NOT_LOCKED. Tags
- * of looks are below 2^63: another is answered LIKES_WRONG_TAG, and is none of those that wait. */
+/* Runs requests at a seat that the thread has locked, through changes of phases, and gives the number of those done.
+ * While it sleeps until a phase begins, other threads may call the seat. It stops early only at a look that has no room:
+ * take found looks, and go on with that request. At a seat that the thread doesn't hold no request is done, and the first
+ * answer is LIKES_NOT_STARTED, STOPPED, UNKNOWN_SEAT or NOT_LOCKED. Tags of looks are below 2^63: another is answered
+ * LIKES_WRONG_TAG, and is none of those that wait. */
 size_t likes_service_run(likes_service *service, uint32_t number, const likes_request *requests, size_t length,
                          likes_answer *answers);
 

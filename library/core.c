@@ -1,5 +1,5 @@
-/* The calls of likes.h that have defaults or take NULL, over the proved ones, which don't. All other calls of likes.h
- * are the proved ones themselves. */
+/* The calls of likes.h that have defaults or take NULL, over the proved ones, which don't. Those of a seat are in
+ * seats.c, and those of a client in clients.c. All others are the proved ones themselves. */
 #include "defaults.h"
 #include "missing.h"
 #include "proved.h"
@@ -9,7 +9,6 @@
 
 static const uint64_t no_count;
 static const uint32_t no_page, wrong_page = LIKES_NO_PAGE - 1;
-static const likes_request no_request;
 
 /* The numbers for the proved call, with defaults. There `hot` 0 means that no page gets hot by itself. */
 static likes_proved_options numbers_of(const likes_options *options) {
@@ -110,36 +109,6 @@ uint32_t likes_driver_seats(const likes_driver *driver) {
 
 uint32_t likes_seat_of(uint32_t user, uint32_t seats) {
     return user % seats;
-}
-
-uint32_t likes_seat_lasts(likes_seat *seat, uint32_t from, uint32_t *pages, size_t pages_len) {
-    uint32_t page;
-    if (likes_is_missing(pages, pages_len))
-        return LIKES_NULL;
-    return likes_proved_seat_lasts(seat, from, pages_len == 0 ? &page : pages, pages_len);
-}
-
-/* Runs requests where an array is NULL: none, if that has a length. */
-__attribute__((noinline, cold)) static size_t run_without(likes_seat *seat, const likes_request *requests,
-                                                          size_t requests_len, likes_answer *answers,
-                                                          size_t answers_len) {
-    likes_answer answer;
-    if (likes_is_missing(answers, answers_len))
-        return 0;
-    if (likes_is_missing(requests, requests_len)) {
-        if (answers_len > 0)
-            answers[0] = (likes_answer){.status = LIKES_NULL};
-        return 0;
-    }
-    return likes_proved_seat_run(seat, requests_len == 0 ? &no_request : requests, requests_len,
-                                 answers_len == 0 ? &answer : answers, answers_len);
-}
-
-size_t likes_seat_run(likes_seat *seat, const likes_request *requests, size_t requests_len, likes_answer *answers,
-                      size_t answers_len) {
-    if (requests == NULL || answers == NULL)
-        return run_without(seat, requests, requests_len, answers, answers_len);
-    return likes_proved_seat_run(seat, requests, requests_len, answers, answers_len);
 }
 
 uint32_t likes_driver_snapshot(likes_driver *driver, uint32_t from, uint64_t *counts, size_t counts_len) {

@@ -45,6 +45,11 @@ static const char *const of_services[] = {
     "a tag is below 9223372036854775808",
     "the service was stopped",
     "an array has one entry for each page, or for each user",
+    "the file can't be read or written",
+    "the file was not written by likes_service_save",
+    "the file has another version",
+    "the file is too short or too long",
+    "the file was changed since it was written",
 };
 
 /* The text of a status among some, of which the first has a number. NULL: it is none of them. */

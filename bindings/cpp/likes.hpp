@@ -8,6 +8,7 @@
 #include <likes_service.h>
 
 #include <algorithm>
+#include <string>
 
 #include "likes_core.hpp"
 
@@ -134,6 +135,18 @@ public:
         expect(likes_service_open(Opening(options, counts).numbers(), &service_), LIKES_OK);
         seats_ = likes_service_seats(service_);
     }
+    // One that goes on from a file that save() has written, with as many users and pages or more: 0 is as many. Options
+    // have no last likes. What is wrong with the file is thrown, and what the system says is in errno.
+    Service(const std::string &path, const Options &options, std::size_t pages = 0) {
+        const Opening opening(options, {});
+        likes_options numbers = *opening.numbers();
+        numbers.counts = nullptr;
+        numbers.pages = pages;
+        expect(likes_service_load(path.c_str(), &numbers, &service_), LIKES_OK);
+        pages_ = likes_service_pages(service_);
+        users_ = likes_service_users(service_);
+        seats_ = likes_service_seats(service_);
+    }
     ~Service() { likes_service_close(service_); }
     Service(const Service &) = delete;
     Service &operator=(const Service &) = delete;
@@ -199,6 +212,9 @@ public:
                LIKES_COUNTED);
         return {std::move(counts), lasts_of(lasts)};
     }
+
+    // Saves such a moment to a file. After a crash there is the old file or the new one.
+    void save(const std::string &path) { expect(likes_service_save(service_, path.c_str()), LIKES_OK); }
 
     Statistics statistics() {
         likes_statistics told;

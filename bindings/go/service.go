@@ -10,12 +10,19 @@ package likes
 /*
 #cgo pkg-config: likes
 #include <likes_service.h>
+#include <stdlib.h>
 #include "opening.h"
 
 static uint32_t open_service(const likes_options *numbers, const uint64_t *counts, size_t pages, const uint32_t *marks,
                              size_t marks_len, const uint32_t *lasts, size_t lasts_len, likes_service **service) {
 	likes_options options = with_arrays(numbers, counts, pages, marks, marks_len, lasts, lasts_len);
 	return likes_service_open(&options, service);
+}
+
+static uint32_t load_service(const char *path, const likes_options *numbers, size_t pages, const uint32_t *marks,
+                             size_t marks_len, const uint32_t *lasts, size_t lasts_len, likes_service **service) {
+	likes_options options = with_arrays(numbers, NULL, pages, marks, marks_len, lasts, lasts_len);
+	return likes_service_load(path, &options, service);
 }
 */
 import "C"
@@ -24,6 +31,7 @@ import (
 	"sync"
 	"sync/atomic"
 	"time"
+	"unsafe"
 )
 
 // How many looks of a service wait in C at a time: each takes a thread of the system. Others wait as goroutines.
@@ -58,18 +66,59 @@ type Statistics struct {
 
 // Open opens a service with these initial counts.
 func Open(options Options, counts []uint64) (*Service, error) {
-	s := &Service{pages: len(counts), users: int(options.Users), looks: make(chan struct{}, looksInC)}
-	numbers := options.numbers()
+	s, numbers := &Service{}, options.numbers()
 	told := C.open_service(&numbers, countsAt(counts), C.size_t(len(counts)), pagesAt(options.Marks),
 		C.size_t(len(options.Marks)), pagesAt(options.Lasts), C.size_t(len(options.Lasts)), &s.c)
-	if err := wanted(told, OK); err != nil {
+	return s.begin(options, wanted(told, OK))
+}
+
+// Load opens a service that goes on from a file of Save, with as many users and pages or more: 0 is as many. The options
+// have no last likes. Of a wrong file it gives ErrFile, ErrNotSaved, ErrOtherVersion, ErrWrongSize or ErrWrongSum, and
+// ErrWrongLength where there would be fewer users or pages.
+func Load(path string, options Options, pages int) (*Service, error) {
+	s, numbers, name := &Service{}, options.numbers(), C.CString(path)
+	defer C.free(unsafe.Pointer(name))
+	told, reason := C.load_service(name, &numbers, C.size_t(pages), pagesAt(options.Marks), C.size_t(len(options.Marks)),
+		pagesAt(options.Lasts), C.size_t(len(options.Lasts)), &s.c)
+	return s.begin(options, fileError(told, reason))
+}
+
+// begin is what comes after C has opened a service, unless that went wrong.
+func (s *Service) begin(options Options, err error) (*Service, error) {
+	if err != nil {
 		return nil, err
 	}
-	s.seats = uint32(C.likes_service_seats(s.c))
+	s.pages, s.users = int(C.likes_service_pages(s.c)), int(C.likes_service_users(s.c))
+	s.seats, s.looks = uint32(C.likes_service_seats(s.c)), make(chan struct{}, looksInC)
 	if s.period = options.Period; s.period == 0 {
 		s.period = time.Millisecond
 	}
 	return s, nil
+}
+
+// FileError is ErrFile with the system's reason.
+type FileError struct{ Reason error }
+
+func (e *FileError) Error() string {
+	return ErrFile.Error() + ": " + e.Reason.Error()
+}
+
+// Is makes it ErrFile, for errors.Is.
+func (e *FileError) Is(err error) bool {
+	return err == ErrFile
+}
+
+func (e *FileError) Unwrap() error {
+	return e.Reason
+}
+
+// fileError is the error of a call that reads or writes a file.
+func fileError(told C.uint32_t, reason error) error {
+	err := wanted(told, OK)
+	if err == ErrFile && reason != nil {
+		return &FileError{reason}
+	}
+	return err
 }
 
 // call makes a call of C while the service is open. The number, such as a user's, says where it is counted.
@@ -216,6 +265,16 @@ func (s *Service) ReadSnapshot(m *Moment) error {
 	return s.call(0, func() error {
 		return wanted(C.likes_service_snapshot(s.c, countsAt(m.Counts), C.size_t(len(m.Counts)), pagesAt(m.Lasts),
 			C.size_t(len(m.Lasts))), Counted)
+	})
+}
+
+// Save saves such a moment to a file. After a crash there is the old file or the new one.
+func (s *Service) Save(path string) error {
+	name := C.CString(path)
+	defer C.free(unsafe.Pointer(name))
+	return s.call(0, func() error {
+		told, reason := C.likes_service_save(s.c, name)
+		return fileError(told, reason)
 	})
 }
 

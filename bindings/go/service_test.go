@@ -3,6 +3,8 @@ package likes
 import (
 	"errors"
 	"fmt"
+	"os"
+	"path/filepath"
 	"reflect"
 	"sync"
 	"testing"
@@ -104,6 +106,40 @@ func isMoment(m *Moment) bool {
 		}
 	}
 	return m.Counts[0] == 0 && m.Counts[1] == m.Counts[2]+ones
+}
+
+func TestFiles(t *testing.T) {
+	path := filepath.Join(t.TempDir(), "likes.saved")
+	first := start(t, Options{Seats: 2, Users: 3, Room: 4}, 5, 7)
+	if err := first.Like(2, 1); err != nil {
+		t.Error(err)
+	}
+	if err := first.Save(path); err != nil {
+		t.Fatal(err)
+	}
+	stop(t, first)
+	for _, grown := range []int{0, 1} {
+		users, counts, lasts := 0, []uint64{5, 8}, []uint32{NoPage, NoPage, 1}
+		if grown == 1 {
+			users, counts, lasts = 4, []uint64{5, 8, 0}, []uint32{NoPage, NoPage, 1, NoPage}
+		}
+		service, err := Load(path, Options{Users: uint32(users)}, 3*grown)
+		if err != nil {
+			t.Fatal(err)
+		}
+		if end := stop(t, service); !reflect.DeepEqual(end, &Moment{counts, lasts}) {
+			t.Errorf("%v", end)
+		}
+	}
+	if _, err := Load(path, Options{Users: 2}, 0); !errors.Is(err, ErrWrongLength) {
+		t.Error(err)
+	}
+	if _, err := Load(path+"?", Options{}, 0); !errors.Is(err, ErrFile) || !errors.Is(err, os.ErrNotExist) {
+		t.Error(err)
+	}
+	if err := first.Save(path); !errors.Is(err, ErrClosed) {
+		t.Error(err)
+	}
 }
 
 func TestSnapshots(t *testing.T) {

@@ -59,6 +59,13 @@ const (
 	ErrWrongTag    Error = C.LIKES_WRONG_TAG
 	ErrClosed      Error = C.LIKES_NOT_STARTED // what was called is closed
 
+	// Of Save and Load.
+	ErrFile         Error = C.LIKES_FILE_FAULT    // the file can't be read or written: a FileError
+	ErrNotSaved     Error = C.LIKES_NOT_SAVED     // no service has written the file
+	ErrOtherVersion Error = C.LIKES_OTHER_VERSION // the file has a version that the library doesn't know
+	ErrWrongSize    Error = C.LIKES_WRONG_SIZE    // the file is not whole
+	ErrWrongSum     Error = C.LIKES_WRONG_SUM     // the file was changed since it was written
+
 	// Of a service, these outcomes of its seats are errors.
 	ErrNoRoom    Error = C.LIKES_NO_ROOM    // looks of rows fill the seat
 	ErrLikeLimit Error = C.LIKES_LIKE_LIMIT // the seat has had 2^56 likes

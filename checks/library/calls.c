@@ -1325,6 +1325,11 @@ static const struct {
     {LIKES_WRONG_TAG, "a tag is below 9223372036854775808"},
     {LIKES_STOPPED, "the service was stopped"},
     {LIKES_WRONG_LENGTH, "an array has one entry for each page, or for each user"},
+    {LIKES_FILE_FAULT, "the file can't be read or written"},
+    {LIKES_NOT_SAVED, "the file was not written by likes_service_save"},
+    {LIKES_OTHER_VERSION, "the file has another version"},
+    {LIKES_WRONG_SIZE, "the file is too short or too long"},
+    {LIKES_WRONG_SUM, "the file was changed since it was written"},
 };
 enum { TOLD = sizeof told / sizeof *told, OUTCOMES = 21, ERRORS = 20 };
 

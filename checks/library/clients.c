@@ -25,7 +25,7 @@ static void end(likes_client *client) {
     for (uint32_t seat = 0; seat < SEATS; seat++) {
         uint32_t status;
         while ((status = likes_client_retire(client, seat)) != LIKES_GONE) {
-            IS(status, LIKES_BETWEEN);
+            IS(status == LIKES_BETWEEN || status == LIKES_RUNS, true);
             for (uint32_t other = 0; other < SEATS; other++)
                 likes_client_turn(client, other);
             likes_client_drive(client, LIKES_END);
@@ -190,7 +190,8 @@ static void *like(void *at) {
         uint32_t user = i % USERS, status;
         while ((status = likes_client_like(client, user % SEATS, user, i % PAGES)) != LIKES_LIKED) {
             hold(status == LIKES_BUSY || status == LIKES_BETWEEN, "a like is refused");
-            likes_client_turn(client, (user + 1) % SEATS);
+            for (uint32_t seat = 0; seat < SEATS; seat++)
+                likes_client_turn(client, seat);
             likes_client_drive(client, LIKES_END_IF_IT_SERVES);
             sched_yield();
         }

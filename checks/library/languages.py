@@ -1,6 +1,7 @@
 """The bindings and the examples in languages other than C: what checks/library/live runs of them."""
 
 import contextlib
+import glob
 import itertools
 import os
 import re
@@ -23,6 +24,19 @@ ANSWERS = [
     *["room is 1 to 4096", "hot is 1 to 1000000", "last likes are one for each user", "unknown seat"],
     *["a writer is open"],
 ]
+
+# The files of each binding, with what names a call there.
+SOURCES = {
+    "C++": ("cpp/*.hpp", r"\blikes_(\w+)\("),
+    "Go": ("go/*.go", r"\bC\.likes_(\w+)\(|\breturn likes_(\w+)\("),
+    "Python": ("python/likes/*.py", r"\blikes_(\w+)\b"),
+    "Rust": ("rust/src/**/*.rs", r"\bffi::likes_(\w+)\b"),
+}
+
+# Calls that no binding needs: those of clients, since each has services; and what a language does by itself, or what
+# other calls do.
+NEEDLESS = r"(shared|client)_\w+|close|version|is_success|seat_of|driver_seats|service_fault|service_seat_turns"
+NEEDLESS += r"|seat_take_all_found"
 
 # The folder of the bindings in a package, which their pages name.
 PACKAGED = "/usr/share/liblikes-dev/"
@@ -193,8 +207,26 @@ def of_same(live):
             live.wrong.append(f"no drawn call is answered {answer}")
 
 
+def of_calls(live):
+    """The calls of the headers that a binding lacks."""
+    calls = set()
+    for name in ("likes.h", "likes_service.h"):
+        with open(f"{live.prefix}/include/{name}", encoding="ascii") as file:
+            calls.update(re.findall(r"^(?!typedef)\w[\w *]*?\blikes_(\w+)\(", file.read(), re.M))
+    for language, (files, pattern) in SOURCES.items():
+        made = set()
+        for name in glob.glob(f"{BINDINGS}/{files}", recursive=True):
+            with open(name, encoding="utf-8") as file:
+                made.update(*zip(*re.findall(f"{pattern}()", file.read())))
+        lacks = sorted(call for call in calls - made if not re.fullmatch(NEEDLESS, call))
+        live.said = f"lacks {', '.join(lacks)}" if lacks else "has all calls"
+        live.wrong += [f"{language} {live.said}"] if lacks else []
+        live.tell("calls of the headers", language)
+
+
 def of_all(live):
     """All languages that are there."""
+    of_calls(live)
     os.environ["GOCACHE"], os.environ["GOPROXY"] = f"{live.folder}/go-cache", "off"
     os.environ["LIKES_LIBRARY"] = f"{live.prefix}/lib/liblikes.so"
     os.environ["CARGO_TARGET_DIR"], os.environ["LIKES_PREFIX"] = f"{live.folder}/cargo", live.prefix

@@ -1,15 +1,15 @@
-/* The calls of library/core.c, without the library: the proved calls below them are defined here, and see what they are
- * passed. An array of no entries must come as a pointer that isn't NULL, and everything else as it was. Any other array
- * that is NULL is refused, and no proved call is made.
+/* The calls of library/core.c and seats.c, without the library: the proved calls below them are defined here, and see
+ * what they are passed. An array of no entries must come as a pointer that isn't NULL, and everything else as it was.
+ * Any other array that is NULL is refused, and no proved call is made.
  *
  * If something else is passed, it prints a line and exits with status 1. */
 #include <stdlib.h>
 
 /* In place of calloc in core.c, which gives this back: while `has_no_memory`, nothing is given. */
-static int has_no_memory, taken, given_back;
+static int has_no_memory, zeroed, given_back;
 
 static void *take_zeros(size_t number, size_t size) {
-    taken += !has_no_memory;
+    zeroed += !has_no_memory;
     return has_no_memory ? NULL : calloc(number, size);
 }
 
@@ -23,6 +23,8 @@ static void give_back(void *block) {
 #include "../../library/core.c"
 #undef calloc
 #undef free
+
+#include "../../library/seats.c"
 
 #include "opening.h"
 
@@ -162,6 +164,43 @@ void likes_proved_phase_free(likes_phase *phase) {
     seen.first = phase;
 }
 
+/* What nobody calls here: no thread holds a seat, and no other call of a seat is made. */
+#pragma GCC diagnostic push
+#pragma GCC diagnostic ignored "-Wunused-parameter"
+#define NOT_CALLED(type, name, ...) \
+    type name(__VA_ARGS__) {        \
+        abort();                    \
+    }
+_Thread_local inner_thread inner_mine;
+NOT_CALLED(inner_member *, inner_member_find, likes_service *service)
+NOT_CALLED(void, inner_attend, inner_member *member, inner_place *place)
+NOT_CALLED(bool, inner_take_found, inner_member *member, inner_place *place, likes_found *found)
+NOT_CALLED(uint32_t, inner_look, inner_member *member, inner_place *place, const likes_request *request,
+           likes_answer *answer)
+NOT_CALLED(size_t, inner_run, inner_member *member, inner_place *place, const likes_request *requests,
+           size_t length, likes_answer *answers, bool waits)
+NOT_CALLED(uint32_t, likes_client_like, likes_client *client, uint32_t seat, uint32_t user, uint32_t page)
+NOT_CALLED(uint32_t, likes_client_glance, likes_client *client, uint32_t seat, uint32_t user, uint32_t page,
+           likes_answer *answer)
+NOT_CALLED(uint32_t, likes_client_last, likes_client *client, uint32_t seat, uint32_t user, uint32_t *page)
+NOT_CALLED(uint32_t, likes_client_lasts, likes_client *client, uint32_t seat, uint32_t from, uint32_t *pages,
+           size_t pages_len)
+NOT_CALLED(uint32_t, likes_client_turn, likes_client *client, uint32_t seat)
+NOT_CALLED(uint32_t, likes_client_retire, likes_client *client, uint32_t seat)
+NOT_CALLED(uint32_t, likes_client_come_back, likes_client *client, uint32_t seat)
+NOT_CALLED(uint32_t, likes_client_phase, likes_client *client, uint32_t seat, uint64_t *phase)
+NOT_CALLED(uint32_t, likes_proved_seat_like, likes_seat *seat, uint32_t user, uint32_t page)
+NOT_CALLED(uint32_t, likes_proved_seat_look, likes_seat *seat, uint32_t user, uint32_t page, uint64_t tag,
+           likes_answer *answer)
+NOT_CALLED(uint32_t, likes_proved_seat_glance, likes_seat *seat, uint32_t user, uint32_t page, likes_answer *answer)
+NOT_CALLED(uint32_t, likes_proved_seat_last, likes_seat *seat, uint32_t user, uint32_t *page)
+NOT_CALLED(uint32_t, likes_proved_seat_turn, likes_seat *seat)
+NOT_CALLED(uint32_t, likes_proved_seat_retire, likes_seat *seat)
+NOT_CALLED(uint32_t, likes_proved_seat_come_back, likes_seat *seat)
+NOT_CALLED(uint64_t, likes_proved_seat_phase, likes_seat *seat)
+NOT_CALLED(bool, likes_proved_seat_take_found, likes_seat *seat, likes_found *found)
+#pragma GCC diagnostic pop
+
 /* Whether the arrays have come as they are, and those of no entries as something else than NULL. */
 static bool has_passed(const void *first, size_t first_len, const void *second, size_t second_len) {
     bool is_first = first_len == 0 ? seen.first != NULL : seen.first == first;
@@ -199,20 +238,20 @@ static void opens_shared(void) {
     HOLD(likes_shared_open(NULL, &shared) == LIKES_NULL && likes_shared_open(&options, NULL) == LIKES_NULL);
 }
 
-/* Counts that are NULL are zeros, for which memory is taken unless there are no or too many pages. */
+/* Counts that are NULL are zeros, for which memory is zeroed unless there are no or too many pages. */
 static void has_zeros(void) {
     likes_driver driver = {0};
     likes_options options = {.pages = 1000, .users = 1};
-    taken = given_back = 0;
+    zeroed = given_back = 0;
     HOLD(likes_open(&options, &driver) == 41 && seen.first_len == 1000 && seen.sum == 0);
     options.pages = LIKES_MAX_PAGES;
     HOLD(likes_open(&options, &driver) == 41 && seen.first_len == LIKES_MAX_PAGES && seen.sum == 0);
-    HOLD(taken == 2 && given_back == 2);
+    HOLD(zeroed == 2 && given_back == 2);
     for (int n = 0; n < 3; n++) {
         options.pages = n == 0 ? 0 : n == 1 ? LIKES_MAX_PAGES + 1 : SIZE_MAX;
         HOLD(likes_open(&options, &driver) == 41 && seen.first != NULL && seen.first_len == 0);
     }
-    HOLD(taken == 2 && given_back == 2);
+    HOLD(zeroed == 2 && given_back == 2);
     int calls = seen.calls;
     options.pages = 1;
     has_no_memory = 1;

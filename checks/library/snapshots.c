@@ -68,7 +68,7 @@ static uint32_t last_of(uint32_t user, const uint64_t *counts) {
  * the snapshot is taken again. */
 static void take_snapshot(uint64_t *counts, uint32_t *lasts) {
     uint32_t status = LIKES_NO_MOMENT;
-    for (int tries = 0; status == LIKES_NO_MOMENT && tries < 4; tries++)
+    for (int tries = 0; status == LIKES_NO_MOMENT && tries < 50; tries++)
         status = likes_service_snapshot(service, counts, PAGES, lasts, USERS);
     IS(status, LIKES_COUNTED);
 }
@@ -136,8 +136,13 @@ static void be_late(uint32_t user, uint32_t page) {
     IS(took >= 2 * MS && took < 400 * MS, true);
 }
 
-static void *be_late_at(void *at) {
-    be_late(*(uint32_t *)at, 1);
+/* A look that is late, or was made while the thread that holds its seat waited for a phase. */
+static void *look_at_lent(void *at) {
+    likes_answer answer;
+    uint64_t began = clock_now();
+    uint32_t status = likes_service_look_within(service, *(uint32_t *)at, 1, 2000, &answer);
+    IS(status == LIKES_LATE || status == LIKES_SEEN, true);
+    IS(clock_now() - began < 400 * MS, true);
     return NULL;
 }
 
@@ -170,7 +175,7 @@ static void late_looks(void) {
     IS(totals[0], 1);
 }
 
-/* Found looks of rows that nobody takes fill the room. A look is refused then as a seat refuses it. */
+/* Found looks of rows that nobody takes fill the room for others of rows, and for no look of the service. */
 static void full_room(void) {
     likes_request row[3];
     likes_answer answers[3];
@@ -178,11 +183,14 @@ static void full_room(void) {
     start(4, 1000, 512);
     for (uint64_t tag = 0; tag < 3; tag++)
         row[tag] = (likes_request){.tag = tag, .op = LIKES_LOOK};
-    do {
+    size_t done = 3;
+    while (done == 3) {
         IS(likes_service_lock(service, 0) != NULL, true);
-        IS(likes_service_run(service, 0, row, 3, answers) <= 3, true);
+        done = likes_service_run(service, 0, row, 3, answers);
         likes_service_unlock(service, 0);
-    } while (likes_service_look(service, 0, 0, answers) != LIKES_NO_ROOM);
+    }
+    IS(answers[done].status, LIKES_NO_ROOM);
+    IS(likes_service_look(service, 0, 0, answers), LIKES_SEEN);
     IS(likes_service_look(service, USERS, 0, answers), LIKES_UNKNOWN_USER);
     IS(likes_service_look(service, 0, PAGES, answers), LIKES_UNKNOWN_PAGE);
     IS(likes_service_retire_seat(service, 0), LIKES_OK);
@@ -214,7 +222,9 @@ static void held_seat(void) {
     start_thread(&thread, hold_seat, &held);
     while (!is_set(&is_held))
         sleep_for(MS);
-    sleep_for(50 * MS); /* until a phase is ending, which waits for the seat */
+    /* Until a phase is ending, which waits for the seat. */
+    while (likes_service_look_within(service, 0, 2, 1000, &answer) != LIKES_LATE)
+        sleep_for(MS);
     be_late(1, 2);
     be_late(0, 0);
     be_late(0, 2);
@@ -295,12 +305,12 @@ static void *like_on(void *at) {
     return at;
 }
 
-/* Whether phases go on while last likes are written: about one in a millisecond, where they stood still for the time that
- * a seat's took. */
+/* Whether phases go on while last likes are written: about one in a millisecond of the thread's processor time, where they
+ * stood still for the time that a seat's took. */
 static bool phases_go_on(uint32_t *lasts, size_t users) {
-    uint64_t began = clock_now(), phase = likes_service_phase(service);
+    uint64_t began = clock_of(CLOCK_THREAD_CPUTIME_ID), phase = likes_service_phase(service);
     IS(likes_service_lasts(service, lasts, users), LIKES_OK);
-    uint64_t phases = likes_service_phase(service) - phase, took = clock_now() - began;
+    uint64_t phases = likes_service_phase(service) - phase, took = clock_of(CLOCK_THREAD_CPUTIME_ID) - began;
     return phases >= 8 + took / MS / 8;
 }
 
@@ -357,7 +367,7 @@ static void lent_seat(void) {
     while (!is_set(&is_held))
         sleep_for(MS);
     sleep_for(50 * MS); /* until a phase is ending, which waits for this thread's seat */
-    start_thread(&holder, be_late_at, &lent);
+    start_thread(&holder, look_at_lent, &lent);
     sleep_for(MS / 2);
     likes_service_unlock(service, held);
     pthread_join(holder, NULL);

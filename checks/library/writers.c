@@ -347,7 +347,7 @@ static void no_memory(void) {
     do
         refused = ++tries;
     while (open_service(SEATS, 1000) == LIKES_NO_MEMORY && service == NULL);
-    IS(service != NULL && tries == 2 + 2 * SEATS, true);
+    IS(service != NULL && tries == 4, true);
     refused = 1;
     IS(likes_writer_open(service, &writer), LIKES_NO_MEMORY);
     IS(writer == NULL && refused == 0, true);

@@ -1,53 +1,91 @@
-/* Single calls, each with a seat's lock. */
-#include "locked.h"
+/* Single calls. */
+#include "service.h"
 
-/* Likes at a seat that is between two phases. */
-LIKES_SELDOM static uint32_t like_later(likes_service *service, likes_place *place, uint32_t user, uint32_t page) {
-    likes_request request = likes_request_of(LIKES_LIKE, user, page, 0);
-    likes_answer answer;
-    likes_place_retry(service, place, &request, UINT64_MAX, &answer);
-    return answer.status;
-}
+#include <stdlib.h>
 
 uint32_t likes_service_like(likes_service *service, uint32_t user, uint32_t page) {
-    uint32_t fault = likes_call_fault(service);
-    if (fault != LIKES_OK)
-        return fault;
-    likes_place *place = likes_place_of(service, user);
-    likes_place_take(place, UINT64_MAX);
-    uint32_t status = likes_seat_like(&place->seat, user, page);
-    if (status == LIKES_BETWEEN)
-        status = like_later(service, place, user, page);
-    likes_add(&place->tally.likes, status == LIKES_LIKED);
-    likes_place_give(service, place);
+    inner_trial it;
+    uint32_t status = inner_begin(&it, service, user, false);
+    while (inner_again(&it, &status))
+        status = likes_client_like(&it.member->client, it.place->number, user, page);
+    if (status == LIKES_LIKED)
+        inner_add(&it.member->likes, 1);
     return status;
 }
 
 uint32_t likes_service_glance(likes_service *service, uint32_t user, uint32_t page, likes_answer *answer) {
-    uint32_t fault = likes_call_fault(service);
-    if (answer == NULL)
-        return LIKES_NULL;
-    if (fault != LIKES_OK)
-        return likes_refuse(answer, fault);
-    likes_place *place = likes_place_of(service, user);
-    likes_place_take(place, UINT64_MAX);
-    if (likes_seat_glance(&place->seat, user, page, answer) == LIKES_BETWEEN) {
-        likes_request request = likes_request_of(LIKES_GLANCE, user, page, 0);
-        likes_place_retry(service, place, &request, UINT64_MAX, answer);
-    }
-    likes_place_give(service, place);
-    return answer->status;
+    inner_trial it;
+    uint32_t status = inner_begin(&it, service, user, answer == NULL);
+    while (inner_again(&it, &status))
+        status = likes_client_glance(&it.member->client, it.place->number, user, page, answer);
+    return it.place == NULL ? inner_refuse(answer, status) : status;
 }
 
 uint32_t likes_service_last(likes_service *service, uint32_t user, uint32_t *page) {
-    uint32_t fault = likes_call_fault(service);
-    if (page == NULL)
-        return LIKES_NULL;
-    if (fault != LIKES_OK)
-        return fault;
-    likes_place *place = likes_place_of(service, user);
-    likes_lock_take(&place->lock, UINT64_MAX);
-    uint32_t status = likes_seat_last(&place->seat, user, page);
-    likes_place_give(service, place);
+    inner_trial it;
+    uint32_t status = inner_begin(&it, service, user, page == NULL);
+    while (inner_again(&it, &status))
+        status = likes_client_last(&it.member->client, it.place->number, user, page);
     return status;
+}
+
+/* For a look that waits. Mostly it is the thread's only one: that of a look which was late is in use until it is found.
+ */
+static inner_wait *wait_of(inner_member *member) {
+    inner_wait *wait = member->waits;
+    int error = errno;
+    while (wait != NULL && wait->state != INNER_UNUSED)
+        wait = wait->next;
+    if (wait == NULL && (wait = (inner_wait *)malloc(sizeof *wait)) != NULL) {
+        *wait = (inner_wait){.next = member->waits};
+        member->waits = wait;
+    }
+    errno = error;
+    return wait;
+}
+
+/* Waits until a look is found, or until it is too late, and then throws its answer away. */
+static uint32_t await_found(inner_member *member, inner_wait *wait, uint64_t until, likes_answer *answer) {
+    uint64_t began = inner_clock(), took;
+    inner_turns(member);
+    while (wait->state == INNER_ASKED && !inner_is_over(until))
+        inner_futex_wait(&wait->state, INNER_ASKED, until);
+    if (atomic_exchange(&wait->state, INNER_THROWN) == INNER_ASKED)
+        return LIKES_LATE;
+    *answer = (likes_answer){wait->count, wait->last, LIKES_SEEN};
+    wait->state = INNER_UNUSED;
+    took = inner_clock() - began;
+    inner_add(&member->waited, 1);
+    inner_add(&member->wait_time, took);
+    inner_add(&member->longest_wait, took > member->longest_wait ? took - member->longest_wait : 0);
+    return LIKES_SEEN;
+}
+
+static uint32_t look_until(likes_service *service, uint32_t user, uint32_t page, uint64_t until, likes_answer *answer) {
+    inner_trial it;
+    uint32_t status = inner_begin(&it, service, user, answer == NULL);
+    inner_wait *wait = it.place != NULL ? wait_of(it.member) : NULL;
+    if (wait == NULL)
+        return inner_refuse(answer, it.place == NULL ? status : (uint32_t)LIKES_NO_MEMORY);
+    it.until = until;
+    wait->state = INNER_ASKED;
+    while (inner_again(&it, &status))
+        status = likes_client_look(&it.member->client, it.place->number, user, page,
+                                   INNER_TAGS | (uint64_t)(uintptr_t)wait, answer);
+    if (status == LIKES_WAITS)
+        status = await_found(it.member, wait, until, answer);
+    else
+        wait->state = INNER_UNUSED;
+    inner_add(&it.member->looks, status == LIKES_SEEN);
+    inner_add(&it.member->late, status == LIKES_LATE);
+    return status == LIKES_LATE ? inner_refuse(answer, status) : status;
+}
+
+uint32_t likes_service_look(likes_service *service, uint32_t user, uint32_t page, likes_answer *answer) {
+    return look_until(service, user, page, INNER_NEVER, answer);
+}
+
+uint32_t likes_service_look_within(likes_service *service, uint32_t user, uint32_t page, uint32_t microseconds,
+                                   likes_answer *answer) {
+    return look_until(service, user, page, inner_clock() + UINT64_C(1000) * microseconds, answer);
 }

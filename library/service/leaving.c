@@ -1,45 +1,42 @@
 /* Seats that leave a service, and come back. */
-#include "locked.h"
+#include "service.h"
 
-/* Makes a try at a place, with its lock taken, and gives its answer. */
-typedef uint32_t try(likes_place *place);
-
-static uint32_t retire(likes_place *place) {
-    place->is_leaving = true;
-    return likes_place_work(place);
+/* Has a seat leave, or come back. Whoever does the phase work of a seat has it locked, as this thread has here. */
+static bool change(inner_member *member, inner_place *place, bool is_leaving) {
+    inner_hold(member, place, INNER_NEVER);
+    uint32_t status = is_leaving ? likes_client_retire(&member->client, place->number)
+                                 : likes_client_come_back(&member->client, place->number);
+    place->is_leaving = is_leaving && status != LIKES_GONE;
+    inner_unlock(member, place);
+    return status == (is_leaving ? LIKES_GONE : LIKES_RUNS);
 }
 
-static uint32_t come_back(likes_place *place) {
-    place->is_leaving = false;
-    return likes_seat_come_back(&place->seat);
-}
-
-/* Tries again until the answer is the right one. Meanwhile others do the seat's phase work. */
-static uint32_t try_until(likes_service *service, uint32_t number, try *attempt, uint32_t right) {
-    uint32_t fault = likes_service_seat_fault(service, number), status = LIKES_BETWEEN;
-    uint64_t began = likes_clock();
+/* Tries again in each phase, which ends at once. A seat may also fail to come back since others change the phase, which
+ * then goes on, so it tries again after a while too. */
+static uint32_t change_for_sure(likes_service *service, uint32_t number, bool is_leaving) {
+    inner_member *member;
+    uint32_t fault = likes_service_seat_fault(service, number);
+    if (fault == LIKES_OK)
+        fault = inner_enter(service, false, &member);
     if (fault != LIKES_OK)
         return fault;
-    while (status != right) {
-        likes_place *place = &service->places[number];
-        likes_place_take(place, UINT64_MAX);
-        status = attempt(place);
-        likes_place_give(service, place);
-        if (status != right) {
-            likes_service_advance(service);
-            likes_pass(began);
-        }
+    uint64_t phase = service->released;
+    while (!change(member, &service->places[number], is_leaving)) {
+        pthread_mutex_lock(&service->turning);
+        inner_stir(member);
+        inner_await_phase(member, phase, inner_clock() + INNER_CHOICE_TIME);
+        phase = service->released;
     }
     return LIKES_OK;
 }
 
 uint32_t likes_service_retire_seat(likes_service *service, uint32_t number) {
-    return try_until(service, number, retire, LIKES_GONE);
+    return change_for_sure(service, number, true);
 }
 
 uint32_t likes_service_bring_back_seat(likes_service *service, uint32_t number) {
     uint32_t fault = likes_service_seat_fault(service, number);
-    if (fault == LIKES_OK && __atomic_load_n(&service->is_stopping, __ATOMIC_SEQ_CST))
+    if (fault == LIKES_OK && service->is_stopping)
         return LIKES_GONE;
-    return try_until(service, number, come_back, LIKES_RUNS);
+    return change_for_sure(service, number, false);
 }

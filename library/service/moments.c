@@ -1,166 +1,134 @@
 /* Counts and last likes, of one moment or as they are. */
-#include "locked.h"
+#include "service.h"
 
-/* Does what others left to the thread that has a place's lock, which keeps it. */
-static void work_meanwhile(likes_service *service, likes_place *place) {
-    if (!likes_lock_take_mark(&place->lock))
-        return;
-    likes_place_work(place);
-    likes_place_wake_now(place);
-    likes_service_advance(service);
-}
+/* How long a snapshot waits for a seat that a thread holds, and sleeps before it looks again who does, in nanoseconds. */
+#define MOMENT UINT64_C(100000000)
+#define NAP UINT64_C(10000000)
 
-/* Writes the last likes of a seat's users into an array by user number, with the place's lock taken. That takes long
- * where there are many, and phases go on meanwhile. */
-static void write_lasts(likes_service *service, uint32_t number, uint32_t *lasts) {
-    uint32_t row[256], seats = service->seats;
-    uint32_t users = service->users / seats + (number < service->users % seats);
+/* Writes the last likes of a seat's users into an array by user number, with the seat locked. That takes long where
+ * there are many, and phases go on meanwhile. */
+static void write_lasts(inner_member *member, inner_place *place, uint32_t *lasts) {
+    uint32_t row[256], seats = member->service->seats, all = member->service->users;
+    uint32_t users = all / seats + (place->number < all % seats);
     for (uint32_t from = 0, length; from < users; from += length) {
         length = users - from < 256 ? users - from : 256;
-        likes_seat_lasts(&service->places[number].seat, from, row, length);
+        likes_client_lasts(&member->client, place->number, from, row, length);
+        inner_after(member, place);
         for (uint32_t i = 0; i < length; i++)
-            lasts[(size_t)(from + i) * seats + number] = row[i];
-        work_meanwhile(service, &service->places[number]);
+            lasts[(size_t)(from + i) * seats + place->number] = row[i];
     }
 }
 
-uint32_t likes_service_lasts(likes_service *service, uint32_t *lasts, size_t users) {
-    uint32_t fault = likes_call_fault(service);
-    if (likes_is_missing(lasts, users))
-        return LIKES_NULL;
-    if (fault != LIKES_OK)
-        return fault;
-    if (users != service->users)
-        return LIKES_WRONG_LENGTH;
-    for (uint32_t number = 0; number < service->seats; number++) {
-        likes_lock_give_way(&service->places[number].lock);
-        likes_lock_take(&service->places[number].lock, UINT64_MAX);
-        write_lasts(service, number, lasts);
-        likes_place_give(service, &service->places[number]);
+/* Ends a joined phase that all seats have left: one that is free comes back, and leaves again once the end is announced.
+ * (Last counts would end the service.) Whether one was free; it may not be gone any more. */
+static bool end_for_all(inner_member *member) {
+    inner_place *place = member->service->places;
+    uint32_t left = member->service->seats;
+    while (left > 0 && !inner_hold(member, place, 0))
+        place++, left--;
+    if (left == 0)
+        return false;
+    bool is_gone = likes_client_turn(&member->client, place->number) == LIKES_GONE;
+    if (is_gone && likes_client_come_back(&member->client, place->number) == LIKES_RUNS) {
+        inner_turn(member, LIKES_END);
+        likes_client_retire(&member->client, place->number);
     }
-    return LIKES_OK;
+    inner_unlock(member, place);
+    return true;
 }
 
-/* Ends a joined phase that all seats have left, with `driving` locked: a seat comes back, and leaves again once the
- * end is announced. Last counts would end the service. Where a seat isn't gone any more, nothing is left to do. */
-static void end_for_all(likes_service *service) {
-    for (uint32_t number = 0; number < service->seats; number++) {
-        likes_place *place = &service->places[number];
-        if (!likes_lock_take_free(&place->lock))
-            continue;
-        bool is_gone = likes_seat_turn(&place->seat) == LIKES_GONE;
-        if (is_gone && likes_seat_come_back(&place->seat) == LIKES_RUNS) {
-            likes_service_turn(service, LIKES_END);
-            likes_seat_retire(&place->seat);
-        }
-        likes_place_give(service, place);
-        return;
-    }
-}
-
-/* Makes a turn towards the end of a joined phase, with `driving` locked, unless the next phase would be released
- * unseen, or a split one has to go on for a thread: LIKES_NOT_ALL_IN. */
-static uint32_t turn_to_moment(likes_service *service) {
-    bool is_split = likes_driver_phase(&service->driver) % 2 == 1;
-    if (is_split ? likes_service_starves(service) : service->is_ending)
-        return LIKES_NOT_ALL_IN;
-    return likes_service_turn(service, LIKES_END);
+/* Makes a turn towards the end of a joined phase, unless the next phase would be released unseen, or a split one has to
+ * go on for a thread: LIKES_NOT_ALL_IN. */
+static uint32_t turn_to_moment(inner_member *member) {
+    likes_service *service = member->service;
+    bool is_split = service->released % 2 == 1;
+    bool starves = !service->is_ending && service->starving > 0;
+    return (is_split ? starves : service->is_ending) ? (uint32_t)LIKES_NOT_ALL_IN : inner_turn(member, LIKES_END);
 }
 
 /* A seat as a call that waits for it last found it, and since when it has been so. */
 typedef struct sighting {
     uint64_t since;
-    uint32_t locks;
+    uint32_t holds;
 } sighting;
 
-/* Whether a thread has locked a seat for LIKES_MOMENT, in no call of the service, since it was first found so. */
-static bool is_locked_long(const likes_place *place, sighting *seen) {
-    uint64_t now = likes_clock();
-    uint32_t locks = __atomic_load_n(&place->locks, __ATOMIC_RELAXED);
-    if (locks != seen->locks) {
-        seen->locks = locks;
-        seen->since = now;
+/* Whether a thread has held a seat for MOMENT, without a call, since it was first found so. */
+static bool is_held_long(const likes_service *service, sighting *seen) {
+    uint64_t now = inner_clock();
+    bool is_long = false;
+    for (uint32_t i = 0; i < service->seats; i++) {
+        uint32_t holds = service->places[i].holds;
+        if (holds != seen[i].holds || seen[i].since == 0)
+            seen[i] = (sighting){now, holds};
+        is_long |= holds % 2 == 1 && now - seen[i].since >= MOMENT;
     }
-    return locks % 2 == 1 && now - seen->since >= LIKES_MOMENT;
+    return is_long;
 }
 
-static bool is_any_locked_long(const likes_service *service, sighting *seen) {
-    bool is_any = false;
-    for (uint32_t number = 0; number < service->seats; number++)
-        is_any |= is_locked_long(&service->places[number], &seen[number]);
-    return is_any;
-}
-
-/* Goes on to a moment at which no count changes, with `driving` locked, and writes the counts. A service's last phase
- * goes on: there is none in it. With `seen`, it gives up once a seat is locked for long. */
-static uint32_t go_to_moment(likes_service *service, uint64_t *counts, size_t pages, sighting *seen) {
-    uint32_t status, turn = LIKES_RELEASED;
-    uint64_t began = likes_clock();
-    bool is_late = false;
-    while ((status = likes_driver_snapshot(&service->driver, 0, counts, pages)) == LIKES_NO_MOMENT &&
-           turn != LIKES_GOES_ON && !is_late) {
-        turn = turn_to_moment(service);
-        if (turn == LIKES_ENDED)
-            end_for_all(service);
-        likes_service_seats_work(service);
-        if (turn == LIKES_NOT_ALL_IN || turn == LIKES_ENDED) {
-            is_late = seen != NULL && is_any_locked_long(service, seen);
-            likes_pass(began);
-        }
+/* Goes on to a moment at which no count changes, and writes the counts. A service's last phase goes on: there is none
+ * in it. With `seen`, it gives up once a seat is held for long. */
+static uint32_t go_to_moment(inner_member *member, uint64_t *counts, size_t pages, sighting *seen) {
+    for (;;) {
+        inner_seats_work(member);
+        uint32_t status = likes_client_snapshot(&member->client, 0, counts, pages);
+        if (status != LIKES_NO_MOMENT || (seen != NULL && is_held_long(member->service, seen)))
+            return status;
+        uint32_t turn = turn_to_moment(member);
+        if (turn == LIKES_GOES_ON)
+            return status;
+        if (turn == LIKES_NOT_ALL_IN || (turn == LIKES_ENDED && !end_for_all(member)))
+            inner_await_wish(member->service, seen != NULL ? inner_clock() + NAP : INNER_NEVER);
     }
-    return status;
 }
 
-/* Writes all last likes at such a moment. A thread that has locked its seat lends it soon, if it waits for a phase in
- * a call of the service. Who has the lock otherwise gives it back. */
-static uint32_t write_moment_lasts(likes_service *service, uint32_t *lasts, sighting *seen) {
+/* Writes all last likes. With `seen`, it gives up once a seat is held for long. A thread that holds its seat lets others
+ * have it soon, if it waits for a phase in a call of the service. */
+static uint32_t write_all_lasts(inner_member *member, uint32_t *lasts, sighting *seen) {
+    likes_service *service = member->service;
     for (uint32_t number = 0; number < service->seats; number++) {
-        likes_place *place = &service->places[number];
-        bool is_taken = false;
-        while (!is_taken && !is_locked_long(place, &seen[number]))
-            is_taken = likes_lock_take(&place->lock, likes_clock() + LIKES_PHASE_NAP);
-        if (!is_taken) {
-            likes_place_turn(place); /* somebody may have left its work to this thread, which waited for the lock */
-            return LIKES_NO_MOMENT;
-        }
-        write_lasts(service, number, lasts);
-        likes_place_give(service, place);
+        inner_place *place = &service->places[number];
+        while (!inner_hold(member, place, seen != NULL ? inner_clock() + NAP : INNER_NEVER))
+            if (is_held_long(service, seen))
+                return LIKES_NO_MOMENT;
+        write_lasts(member, place, lasts);
+        inner_unlock(member, place);
     }
     return LIKES_COUNTED;
 }
 
 /* Writes counts, and last likes too where an array is given. */
-static uint32_t write_moment(likes_service *service, uint64_t *counts, size_t pages, uint32_t *lasts) {
+static uint32_t write_moment(inner_member *member, uint64_t *counts, size_t pages, uint32_t *lasts) {
+    likes_service *service = member->service;
     sighting seen[LIKES_MAX_SEATS] = {{0, 0}};
-    likes_lock_take(&service->driving, UINT64_MAX);
-    uint32_t status = go_to_moment(service, counts, pages, lasts != NULL ? seen : NULL);
+    if (pages != service->pages)
+        return LIKES_WRONG_LENGTH;
+    pthread_mutex_lock(&service->turning);
+    uint32_t status = go_to_moment(member, counts, pages, lasts != NULL ? seen : NULL);
     if (status == LIKES_COUNTED && lasts != NULL)
-        status = write_moment_lasts(service, lasts, seen);
-    likes_service_stir(service);
-    likes_service_hurry(service);
-    likes_lock_give(&service->driving);
-    pthread_cond_broadcast(&service->changed);
-    likes_service_advance(service);
-    likes_service_call(service);
+        status = write_all_lasts(member, lasts, seen);
+    inner_stir(member);
     return status;
 }
 
+uint32_t likes_service_lasts(likes_service *service, uint32_t *lasts, size_t users) {
+    inner_member *member;
+    uint32_t fault = inner_enter(service, likes_is_missing(lasts, users), &member);
+    if (fault == LIKES_OK && users == service->users)
+        write_all_lasts(member, lasts, NULL);
+    return fault == LIKES_OK && users != service->users ? (uint32_t)LIKES_WRONG_LENGTH : fault;
+}
+
 uint32_t likes_service_counts(likes_service *service, uint64_t *counts, size_t pages) {
-    uint32_t fault = likes_call_fault(service);
-    if (likes_is_missing(counts, pages))
-        return LIKES_NULL;
-    if (fault != LIKES_OK)
-        return fault;
-    return pages == service->pages ? write_moment(service, counts, pages, NULL) : (uint32_t)LIKES_WRONG_LENGTH;
+    inner_member *member;
+    uint32_t fault = inner_enter(service, likes_is_missing(counts, pages), &member);
+    return fault == LIKES_OK ? write_moment(member, counts, pages, NULL) : fault;
 }
 
 uint32_t likes_service_snapshot(likes_service *service, uint64_t *counts, size_t pages, uint32_t *lasts, size_t users) {
-    uint32_t fault = likes_call_fault(service);
-    if (likes_is_missing(counts, pages) || likes_is_missing(lasts, users))
-        return LIKES_NULL;
-    if (fault != LIKES_OK)
-        return fault;
-    if (pages != service->pages || users != service->users)
+    inner_member *member;
+    bool is_missing = likes_is_missing(counts, pages) || likes_is_missing(lasts, users);
+    uint32_t fault = inner_enter(service, is_missing, &member);
+    if (fault == LIKES_OK && users != service->users)
         return LIKES_WRONG_LENGTH;
-    return write_moment(service, counts, pages, lasts);
+    return fault == LIKES_OK ? write_moment(member, counts, pages, lasts) : fault;
 }

@@ -1,160 +1,284 @@
-/* A service that threads share. Who does what:
- *   - Phases. Whoever makes a turn of the driver that begins or ends a phase goes on with what comes of it
- *     (likes_service_advance): the driver's thread when a phase is due, a thread that ticks, the last seat to answer,
- *     or a look by which those that wait take half of the room.
- *   - A seat that nobody has locked. Whoever ends a phase does the seat's phase work, if the seat's lock is free.
- *     Otherwise it leaves that to the thread that has the lock, which does the work when it gives the lock back
- *     (likes_lock), and then makes the driver's turn. Those turns are passed on in the same way.
- *   - A thread whose seat is between two phases tries again for LIKES_SPIN_TIME. Then it sleeps until the next phase
- *     is released, and lends the seat meanwhile: others may do its phase work and read its last likes, and whoever
- *     else wants the seat sleeps too. If its call comes too late LIKES_MISSES times, no split phase ends before the
- *     call is made (`starving`).
- *   - A service without calls. After LIKES_QUIET_ROUNDS rounds without a call and without a seat that is locked, a
- *     joined phase goes on, and the driver's thread sleeps until the next call wakes it (`is_resting`). No other
- *     thread begins such a rest. */
-#ifndef LIKES_SERVICE_INTERNAL_H
-#define LIKES_SERVICE_INTERNAL_H
+/* A service that threads share. What touches a seat, the driver or a like is a call of a proved client, which is told
+ * at once that another thread has the seat, or that the seat is between two phases. The code here only waits.
+ *
+ * There is one rule for what is left to others: set a flag, then try; who has what was tried gives it back, then looks
+ * at the flag. So either the try succeeds, or the flag is seen.
+ *
+ *   - A seat: the flags are in its place's word `left`. Each call of a client gives the seat back by a sequentially
+ *     consistent store, and the word is loaded after it (place.c).
+ *   - The driver: the flag is `wished`, and the right to make turns is a mutex (turns.c).
+ *   - The driver's thread sleeps while a number, `call`, is the same. Only this thread rests (thread.c).
+ *   - Who waits for a phase sleeps while its number, `released`, is the same as before its call (waits.c).
+ *
+ * Each thread has a client of each service that it calls: its member (member.c). */
+#ifndef INNER_SERVICE_H
+#define INNER_SERVICE_H
 
-#include "place.h"
+#include <pthread.h>
+#include <stdatomic.h>
+#include <string.h>
 
-/* How often a thread looks for the next phase, before it looks for other work. */
-#define LIKES_SPINS 64u
+#include "likes_service.h"
 
-/* How long a call tries again before it sleeps, in nanoseconds. */
-#define LIKES_SPIN_TIME UINT64_C(50000)
+#include "../missing.h"
+#include "../proved.h"
+#include "sleep.h"
 
-/* How long a thread sleeps at most if nobody wakes it, in nanoseconds: one that waits for a phase; the driver's thread
- * in a split phase where threads hold their seats; and else while a phase goes on. */
-#define LIKES_PHASE_NAP UINT64_C(10000000)
-#define LIKES_DRIVER_NAP UINT64_C(1000000)
-#define LIKES_LONG_NAP UINT64_C(1000000000)
+/* Of a function that is called seldom, by one that is called often: it stays apart. */
+#define INNER_SELDOM __attribute__((noinline, cold))
 
-/* In how many phases a thread's call comes too late, before the driver waits for the thread. */
-#define LIKES_MISSES 8u
+/* How long a call tries again before it sleeps, and the longest time between two looks for hot pages, in nanoseconds. */
+#define INNER_SPIN_TIME UINT64_C(50000)
+#define INNER_CHOICE_TIME UINT64_C(1000000)
 
-/* After this many rounds without a call, phases stop changing. */
-#define LIKES_QUIET_ROUNDS 2u
+/* What each call uses lies in two lines of a cache, apart from what each call at another seat uses. */
+#define INNER_APART _Alignas(128)
 
-/* How many pulses a period has while writers are open. A row is kept for two of them. */
-#define LIKES_PULSES 3u
+/* Of a place's `left`: phase work is wanted; a thread sleeps until the seat is free. */
+enum { INNER_WORK = 1, INNER_ASLEEP = 2 };
 
-/* How long likes_service_snapshot waits for a seat that a thread has locked, in nanoseconds. */
-#define LIKES_MOMENT UINT64_C(100000000)
+/* A service's `wished`, or 0: a turn is wanted; the thread that makes turns sleeps until one is. */
+enum { INNER_WISHED = 1, INNER_WATCHED = 2 };
+
+/* Tags of a host's looks are below these, which are the service's own. */
+#define INNER_TAGS (UINT64_C(1) << 63)
+
+typedef struct inner_place {
+    INNER_APART _Atomic uint32_t left; /* a futex */
+    uint32_t number;                   /* of the seat */
+    _Atomic uint32_t waiting;          /* how many threads wait until it is free */
+    _Atomic uint32_t holds;            /* odd while a thread holds it and is in no call; goes up with each such call */
+    _Atomic bool is_leaving;           /* who does the seat's phase work retires it, if it can */
+    likes_service *service;
+    likes_seat seat; /* of the thread that holds it: the address of this place, and 1 */
+    /* Of who has the seat locked: how many looks of the host's were asked and not taken, and a ring of found ones. */
+    uint32_t hosts, first, length;
+    likes_found *found;
+} inner_place;
+
+/* A look of the service that waits. Its tag is its address, with the bit of such tags. */
+typedef struct inner_wait {
+    struct inner_wait *next;
+    uint64_t count;
+    uint32_t last;
+    _Atomic uint32_t state; /* a futex */
+} inner_wait;
+
+enum { INNER_UNUSED, INNER_ASKED, INNER_FOUND, INNER_THROWN };
+
+/* A thread's part in a service. */
+typedef struct inner_member {
+    INNER_APART likes_client client;
+    likes_service *service;
+    inner_place *held; /* the seat that likes_service_lock gave to the thread */
+    uint64_t locked;   /* the seats that the client has locked. A bit for each */
+    inner_wait *waits;
+    /* What the thread did, as in likes_statistics. */
+    _Atomic uint64_t likes, looks, waited, wait_time, longest_wait, late;
+    uint64_t thread;           /* whose it is: a number, or 0. Under the lock of member.c, as */
+    struct inner_member *next; /* of all members */
+} inner_member;
 
 struct likes_service {
-    _Alignas(LIKES_LINES) bool is_open;
-    uint32_t seats, users;
+    INNER_APART bool is_open;
+    uint32_t seats, users, room;
+    uint64_t id;      /* no other service has the same */
+    uint64_t inverse; /* of `seats`, for inner_remainder */
+    inner_place *places;
     size_t pages;
-    uint64_t period;     /* in nanoseconds */
-    uint64_t inverse;    /* of `seats`, for likes_remainder */
-    likes_place *places; /* one for each seat, behind the service */
-    bool may_find;       /* pages get hot by themselves */
-    char apart[LIKES_LINES];
-    bool is_resting;   /* the driver's thread sleeps until a call comes; atomic */
-    uint64_t pulse;    /* for writers: goes up LIKES_PULSES times in a period. 0: the service rests; atomic */
-    uint64_t due;      /* when the phase may end, by likes_clock; atomic */
-    uint64_t wakes_at; /* until when the driver's thread sleeps. 0: it is awake, or sleeps until it is called; atomic */
-    uint64_t next;     /* when the driver's next turn is worth making, by likes_clock; atomic */
-    uint64_t beat;     /* when the next pulse is due, by likes_clock; atomic */
-    uint64_t released; /* the phase that was last released; atomic, written under `changing` */
-    char apart_too[LIKES_LINES];
-    uint32_t writers;  /* how many are open; atomic */
-    uint32_t starving; /* how many threads have missed phases, and wait for the next one to make a call; atomic */
-    bool was_locked;     /* a seat's lock was taken when somebody tried it, in this round; atomic */
-    bool has_lockers;  /* a thread has locked a seat; atomic */
-    likes_lock driving;
-    likes_driver driver;      /* used under `driving` */
-    uint64_t pulses;          /* under `driving`: how many pulses there were */
-    bool is_ending;           /* under `driving`: the end of the present phase was announced */
-    uint32_t quiet;           /* under `driving`: how many rounds had no call, one after the other */
-    uint64_t calls;           /* under `driving`: how many calls there had been when the last round ended */
-    bool may_rest;            /* under `driving`: the last turn left nothing to do until a call comes */
-    bool has_left;            /* under `driving`: at the last turn, all seats had left */
-    pthread_mutex_t changing; /* for those that wait for a phase */
-    pthread_cond_t changed;
-    likes_phase phase;
-    pthread_mutex_t napping; /* for the driver's thread */
-    pthread_cond_t woken;
-    bool is_called; /* used under `napping` */
+    uint64_t period;                    /* in nanoseconds */
+    INNER_APART _Atomic uint64_t pulse; /* for writers: goes up once in a period, and when the service begins to rest */
+    _Atomic bool is_used;               /* a call was made since the last round */
+    _Atomic uint64_t released;          /* the phase that was last released; a futex, by its lower half */
+    _Atomic uint64_t
+        steps; /* how often seats had work to do: when a phase was about to end, and when looks were found */
+    _Atomic uint64_t served;   /* the step at which all seats had theirs, or it was left to who has the seat */
+    _Atomic uint64_t due;      /* when the phase may end */
+    _Atomic uint64_t wakes_at; /* until when the driver's thread sleeps. 0: it is awake, or rests */
+    _Atomic uint32_t starving; /* how many threads have missed phases, and wait for the next one to make a call */
+    _Atomic uint32_t call;     /* goes up when the driver's thread is called; a futex */
+    _Atomic uint32_t writers;  /* how many are open */
+    _Atomic bool is_resting;   /* the driver's thread sleeps until it is called */
+    _Atomic bool is_stopping, is_ending; /* the end of the present phase was announced */
+    INNER_APART _Atomic uint32_t wished; /* a futex */
+    pthread_mutex_t turning;
+    /* Of the thread that has `turning`: whether the last turn left nothing to do until a call comes, and how many rounds
+     * had no call, one after the other. */
+    bool may_rest;
+    uint32_t quiet;
+    likes_shared shared;
+    inner_member *own;      /* the driver's thread's */
+    likes_statistics ended; /* once it is stopped */
     pthread_t thread;
-    bool has_thread, is_stopping;
+    bool has_thread;
 };
 
 /* The remainder of a division by a divisor whose inverse is UINT64_MAX / divisor + 1, without the division
  * (D. Lemire, O. Kaser, N. Kurz, "Faster Remainder by Direct Computation", 2019). */
-static inline size_t likes_remainder(uint32_t number, uint64_t inverse, uint64_t divisor) {
+static inline size_t inner_remainder(uint32_t number, uint64_t inverse, uint64_t divisor) {
     __extension__ typedef unsigned __int128 wide;
     return (size_t)(((wide)(inverse * number) * divisor) >> 64);
 }
 
-static inline likes_place *likes_place_of(likes_service *service, uint32_t user) {
-    return &service->places[likes_remainder(user, service->inverse, service->seats)];
+/* Adds to a number that one thread writes, and others read. */
+static inline void inner_add(_Atomic uint64_t *at, uint64_t by) {
+    atomic_store_explicit(at, atomic_load_explicit(at, memory_order_relaxed) + by, memory_order_relaxed);
 }
 
-/* turns.c: the driver's turns, and the phase work of seats. */
-
-/* Makes a turn of the driver with `driving` locked. */
-uint32_t likes_service_turn(likes_service *service, uint32_t end);
-
-/* Whether the present phase, which is split, has to go on for threads that missed others. With `driving` locked. */
-bool likes_service_starves(const likes_service *service);
-
-/* Does the phase work of the seats that nobody has locked. */
-void likes_service_seats_work(likes_service *service);
-
-/* How many calls were made at all seats. */
-uint64_t likes_service_calls(const likes_service *service);
-
-/* Makes turns of the driver and of the seats that nobody has locked, until nothing is left that can be done now. It
- * gives the last answer of the driver. */
-uint32_t likes_service_advance(likes_service *service);
-
-/* Gives `driving` back, and makes the turn that others left. */
-void likes_service_give_driving(likes_service *service);
-
-/* Makes the next round count as one with a call, with `driving` locked. So the next two split phases come. */
-void likes_service_stir(likes_service *service);
-
-/* Makes a turn of the driver due at once. */
-void likes_service_hurry(likes_service *service);
-
-/* thread.c: the driver's thread. */
-void *likes_service_thread(void *service);
-
-/* Wakes the driver's thread. */
-void likes_service_call(likes_service *service);
-
-/* waits.c: calls that wait for a phase. */
-
-/* Makes a request again until the seat isn't between two phases, with the place's lock taken, or until a time. */
-void likes_place_retry(likes_service *service, likes_place *place, const likes_request *request, uint64_t until,
-                       likes_answer *answer);
-
-/* Runs requests with the place's lock taken, through changes of phases, up to a look that has no room, and gives the
- * number of those done. */
-size_t likes_place_run(likes_service *service, likes_place *place, const likes_request *requests, size_t length,
-                       likes_answer *answers);
-
-/* Passes a moment, for a thread that has waited since a time: it soon sleeps, the longer the longer it has waited. */
-void likes_pass(uint64_t since);
-
-static inline likes_request likes_request_of(uint32_t op, uint32_t user, uint32_t page, uint64_t tag) {
-    likes_request made = {.tag = tag, .user = user, .page = page, .op = op};
-    return made;
+/* Writes an answer that shows nothing, where there is one, and gives its status. */
+static inline uint32_t inner_refuse(likes_answer *answer, uint32_t status) {
+    if (answer != NULL)
+        *answer = (likes_answer){.status = status};
+    return status;
 }
 
-/* Gives a place's lock back, and does what others left to this thread. */
-void likes_place_give_missed(likes_service *service, likes_place *place);
-
-static inline void likes_place_give(likes_service *service, likes_place *place) {
-    likes_place_deliver(place);
-    if (likes_place_unlock(place))
-        likes_place_give_missed(service, place);
-    if (__atomic_load_n(&service->is_resting, __ATOMIC_SEQ_CST))
-        likes_service_call(service);
+/* Notes a call, before it is made: a driver's thread that begins to rest sees it, or the call sees that it rests. */
+static inline void inner_note_use(likes_service *service) {
+    if (!service->is_used)
+        service->is_used = true;
 }
 
-/* opening.c: frees the seats and the driver, the rings and the locks. */
-void likes_service_end(likes_service *service);
+/* member.c: how many seats a thread holds, and those of its members that it looked for last. It is reached without a
+ * call, also in a shared library. */
+typedef struct inner_thread {
+    uint64_t number; /* no other has the same. 0: it has called no service yet */
+    uint32_t held;
+    struct {
+        uint64_t id; /* of a service, or 0 */
+        inner_member *member;
+    } members[8];
+} inner_thread;
+
+extern _Thread_local inner_thread inner_mine __attribute__((tls_model("initial-exec")));
+
+/* The thread's member of a service, which is made if need be. NULL: no memory. */
+inner_member *inner_member_find(likes_service *service);
+
+static inline inner_member *inner_member_of(likes_service *service) {
+    bool is_first = inner_mine.members[service->id % 8].id == service->id;
+    return is_first ? inner_mine.members[service->id % 8].member : inner_member_find(service);
+}
+
+/* Whether the thread holds a seat of a service. */
+static inline bool inner_holds(likes_service *service) {
+    const inner_member *member = inner_mine.held > 0 ? inner_member_of(service) : NULL;
+    return member != NULL && member->held != NULL;
+}
+
+/* Opens a member for the driver's thread. Closes all, which no thread calls any more. */
+bool inner_members_open(likes_service *service);
+void inner_members_close(const likes_service *service);
+
+/* What is wrong with a call of a thread that may not hold a seat, or LIKES_OK, and then its member. */
+static inline uint32_t inner_enter(likes_service *service, bool has_null, inner_member **member) {
+    if (has_null || service == NULL || !service->is_open)
+        return has_null ? LIKES_NULL : service == NULL ? LIKES_NOT_STARTED : LIKES_STOPPED;
+    *member = inner_member_of(service);
+    if (*member == NULL)
+        return LIKES_NO_MEMORY;
+    return (*member)->held != NULL ? LIKES_HOLDS_SEAT : LIKES_OK;
+}
+
+/* place.c: does what others left at a place, and wakes the driver's thread where it rests. */
+void inner_attend(inner_member *member, inner_place *place);
+
+/* After each call of a client at a seat. */
+static inline void inner_after(inner_member *member, inner_place *place) {
+    bool is_resting = member->service->is_resting;
+    if (__builtin_expect(place->left != 0 || is_resting, false))
+        inner_attend(member, place);
+}
+
+/* Does the phase work of all seats, or leaves it to who has the seat. */
+void inner_seats_work(inner_member *member);
+
+/* Locks a seat for this client, if it is free: LIKES_OK or LIKES_BUSY. Unlocks it, and does what was left. */
+uint32_t inner_lock(inner_member *member, inner_place *place);
+void inner_unlock(inner_member *member, inner_place *place);
+
+/* Takes the next found look of the host's, at a seat that the thread has locked. */
+bool inner_take_found(inner_member *member, inner_place *place, likes_found *found);
+
+/* waits.c: a call of a client at a seat, which is made again until it is answered. */
+typedef struct inner_trial {
+    inner_member *member;
+    inner_place *place;
+    uint64_t until; /* when it is too late, or INNER_NEVER */
+    uint64_t phase; /* one that was released before the call */
+    /* From the first wait on: how often the seat was busy, and the call too late for a phase, one after the other; what
+     * the place's word was, where the thread waits for the seat. */
+    bool has_waited;
+    uint32_t tries, misses, left;
+    uint64_t spins_until;
+} inner_trial;
+
+static inline inner_trial inner_trial_of(inner_member *member, inner_place *place, uint64_t until) {
+    return (inner_trial){.member = member, .place = place, .until = until, .phase = member->service->released};
+}
+
+/* The status of a call that wasn't made yet. */
+#define INNER_UNTRIED UINT32_MAX
+
+/* Begins a call of a user, by a thread that may not hold a seat: INNER_UNTRIED, or what is wrong with it. */
+static inline uint32_t inner_begin(inner_trial *it, likes_service *service, uint32_t user, bool has_null) {
+    inner_member *member;
+    uint32_t fault = inner_enter(service, has_null, &member);
+    it->place = NULL;
+    if (fault != LIKES_OK)
+        return fault;
+    inner_note_use(service);
+    size_t seat = inner_remainder(user, service->inverse, service->seats);
+    *it = inner_trial_of(member, &service->places[seat], INNER_NEVER);
+    return INNER_UNTRIED;
+}
+
+/* Waits, where a call wasn't answered. Whether it has to be made again. Or it is too late: LIKES_LATE. */
+bool inner_wait_and_try(inner_trial *it, uint32_t *status);
+
+/* Whether a call has to be made, the first time or again. */
+static inline bool inner_again(inner_trial *it, uint32_t *status) {
+    if (*status == INNER_UNTRIED || it->place == NULL)
+        return it->place != NULL;
+    if (*status != LIKES_BUSY)
+        inner_after(it->member, it->place);
+    bool is_early = *status == LIKES_BUSY || *status == LIKES_BETWEEN || *status == LIKES_NO_ROOM;
+    return __builtin_expect(is_early || it->has_waited, false) && inner_wait_and_try(it, status);
+}
+
+/* Locks a seat for this client, until a time. Whether it could. */
+bool inner_hold(inner_member *member, inner_place *place, uint64_t until);
+
+/* Waits until a phase after this one is released, or until a time: whether one is. */
+bool inner_await_phase(inner_member *member, uint64_t phase, uint64_t until);
+
+/* turns.c: makes turns of the driver, and the phase work that comes of them, until nothing is left that can be done now,
+ * and gives the first answer. Where another thread makes turns, it leaves a wish: LIKES_NOT_ALL_IN. */
+uint32_t inner_turns(inner_member *member);
+
+/* With `turning` locked: makes one turn; sleeps until there is a wish, or until a time; makes a turn due at once, and
+ * lets the next two rounds count as some with calls. The last unlocks it, makes turns, and calls the driver's thread. */
+uint32_t inner_turn(inner_member *member, uint32_t end);
+void inner_await_wish(likes_service *service, uint64_t until);
+void inner_stir(inner_member *member);
+
+/* thread.c: the driver's thread, and how it is woken. */
+void *inner_driver(void *service);
+void inner_call(likes_service *service);
+
+/* locked.c: what is wrong with a call at a seat that the thread has to hold, or LIKES_OK, and then its member. */
+uint32_t inner_held_fault(likes_service *service, uint32_t number, inner_member **member);
+
+/* Makes a look at a seat that the thread holds: an answer of likes_seat_look, or LIKES_WRONG_TAG. */
+uint32_t inner_look(inner_member *member, inner_place *place, const likes_request *request, likes_answer *answer);
+
+/* Runs requests at a seat that the thread holds, up to one that has no room, through changes of phases if it waits. It
+ * gives the number of those done. */
+size_t inner_run(inner_member *member, inner_place *place, const likes_request *requests, size_t length,
+                 likes_answer *answers, bool waits);
+
+/* Notes that a thread calls a seat that it holds. */
+static inline void inner_note_call(inner_place *place, uint32_t steps) {
+    atomic_store_explicit(&place->holds, place->holds + steps, memory_order_relaxed);
+}
 
 #endif

@@ -1,104 +1,65 @@
 /* The driver's thread. */
 #include "service.h"
 
-void likes_service_call(likes_service *service) {
-    __atomic_store_n(&service->is_resting, false, __ATOMIC_SEQ_CST);
-    pthread_mutex_lock(&service->napping);
-    service->is_called = true;
-    pthread_mutex_unlock(&service->napping);
-    pthread_cond_signal(&service->woken);
+/* The rest is over for all calls before the thread is woken: it may begin another one at once. */
+void inner_call(likes_service *service) {
+    service->is_resting = false;
+    service->call += 1;
+    inner_futex_wake(&service->call, 1);
 }
 
-/* Whether no call was made since the last turn, with `driving` locked. The service rests already: so who brings a seat
- * back sees that, or is seen by this turn. Other calls are made under a seat's lock: one was made before this thread
- * has had that lock, and is seen here, or it sees that the service rests. */
-static bool is_still_quiet(likes_service *service) {
-    if (likes_service_turn(service, LIKES_NO_END) == LIKES_ENDED)
-        return true;
-    for (uint32_t i = 0; i < service->seats; i++) {
-        if (!likes_lock_take_free(&service->places[i].lock))
-            return false;
-        if (likes_place_unlock(&service->places[i])) {
-            likes_place_turn(&service->places[i]);
-            return false;
-        }
-    }
-    return likes_service_calls(service) == service->calls;
+/* Begins a rest where no calls are made. Whether it did. Only this thread does. A call notes itself before it loads
+ * `is_resting`: so it is seen here, once that is stored, or it sees that, and calls this thread. */
+static bool rests(likes_service *service) {
+    if (!service->may_rest)
+        return false;
+    service->is_resting = true;
+    bool is_used = service->is_used;
+    if (is_used)
+        service->is_resting = false;
+    return !is_used;
 }
 
-/* Lets the service rest where no calls are made, or where all seats have left. Only this thread does. */
-static void rest_if_quiet(likes_service *service) {
-    likes_lock_take(&service->driving, UINT64_MAX);
-    if (service->may_rest) {
-        __atomic_store_n(&service->is_resting, true, __ATOMIC_SEQ_CST);
-        __atomic_store_n(&service->pulse, 0, __ATOMIC_SEQ_CST);
-        if (!is_still_quiet(service)) {
-            __atomic_store_n(&service->is_resting, false, __ATOMIC_SEQ_CST);
-            likes_service_hurry(service);
-            likes_service_stir(service);
-        }
-    }
-    likes_service_give_driving(service);
+/* Until when the thread sleeps: until the phase is due, or where that is ending, or another thread has yet to end it, for
+ * a period, and for a millisecond at least. Where writers are open, until the next pulse at most. */
+static uint64_t wake_time(const likes_service *service, bool is_busy, uint64_t beat) {
+    bool is_ending = service->is_ending;
+    uint64_t now = inner_clock(), least = now + INNER_SPIN_TIME, time = service->due;
+    if (is_ending || (is_busy && time <= now))
+        time = now + (service->period > INNER_CHOICE_TIME ? service->period : INNER_CHOICE_TIME);
+    if (service->writers > 0 && beat < time)
+        time = beat;
+    return time < least ? least : time;
 }
 
-/* Sleeps until a time, or until the thread is called. */
-static void sleep_until(likes_service *service, uint64_t until) {
-    pthread_mutex_lock(&service->napping);
-    while (!service->is_called && !likes_is_over(until))
-        likes_wait_until(&service->woken, &service->napping, until);
-    service->is_called = false;
-    pthread_mutex_unlock(&service->napping);
+/* Goes on to the next pulse, if it is due, or the service begins to rest. When the one after it is due. */
+static uint64_t pulse(likes_service *service, bool is_resting, uint64_t beat) {
+    uint64_t now = inner_clock();
+    if (now < beat && !is_resting)
+        return beat;
+    service->pulse++;
+    return now < beat + service->period ? beat + service->period : now + service->period;
 }
 
-/* How long the thread sleeps in a phase that runs: until the phase is due. In a split phase where threads hold their
- * seats, that is a millisecond at most: those that call their seats directly don't tell when looks take half of the
- * room. Where writers are open, it is until the next pulse at most. */
-static uint64_t nap_of(likes_service *service, uint64_t now) {
-    uint64_t left = likes_time_left(&service->due, now), most = LIKES_LONG_NAP;
-    bool is_split = __atomic_load_n(&service->released, __ATOMIC_SEQ_CST) % 2 == 1;
-    if (is_split && __atomic_load_n(&service->has_lockers, __ATOMIC_SEQ_CST))
-        most = LIKES_DRIVER_NAP;
-    if (__atomic_load_n(&service->writers, __ATOMIC_SEQ_CST) > 0 && most > likes_time_left(&service->beat, now))
-        most = likes_time_left(&service->beat, now);
-    uint64_t nap = left < most ? left : most;
-    return nap < LIKES_SPIN_TIME ? LIKES_SPIN_TIME : nap;
-}
-
-/* Sleeps while a phase runs. From the first line on, a turn of another thread by which the phase is due sooner wakes
- * this one. While the service rests, only calls do. */
-static void sleep_in_phase(likes_service *service) {
-    likes_set_time(&service->wakes_at, UINT64_MAX);
-    uint64_t now = likes_clock(), until = now + nap_of(service, now);
-    bool is_resting = __atomic_load_n(&service->is_resting, __ATOMIC_SEQ_CST);
-    likes_set_time(&service->wakes_at, is_resting ? 0 : until);
-    sleep_until(service, is_resting ? UINT64_MAX : until);
-    likes_set_time(&service->wakes_at, 0);
-}
-
-/* Makes turns, and gives the answer of the last one. */
-static uint32_t make_turns(likes_service *service) {
-    uint32_t status = likes_service_advance(service);
-    if (status == LIKES_NOT_ALL_IN) {
-        likes_service_seats_work(service);
-        status = likes_service_advance(service);
-    }
-    return status;
-}
-
-/* Until the thread is told to stop. While a seat has yet to answer, it looks again after 50 microseconds, 100, 200 and
- * so on. */
-void *likes_service_thread(void *at) {
+/* Whoever calls the thread after it has read `call` keeps it from its sleep. */
+void *inner_driver(void *at) {
     likes_service *service = (likes_service *)at;
-    uint64_t nap = LIKES_SPIN_TIME;
-    while (!__atomic_load_n(&service->is_stopping, __ATOMIC_SEQ_CST)) {
-        if (make_turns(service) == LIKES_NOT_ALL_IN) {
-            sleep_until(service, likes_clock() + nap);
-            nap = nap * 2 < LIKES_DRIVER_NAP ? nap * 2 : LIKES_DRIVER_NAP;
-        } else {
-            rest_if_quiet(service);
-            sleep_in_phase(service);
-            nap = LIKES_SPIN_TIME;
-        }
+    uint64_t beat = inner_clock() + service->period;
+    while (!service->is_stopping) {
+        uint32_t call = service->call;
+        uint64_t until = INNER_NEVER;
+        service->is_resting = false;
+        inner_turns(service->own);
+        bool is_busy = pthread_mutex_trylock(&service->turning) != 0, is_resting = !is_busy && rests(service);
+        if (!is_busy)
+            pthread_mutex_unlock(&service->turning);
+        inner_turns(service->own);
+        beat = pulse(service, is_resting, beat);
+        service->wakes_at = is_resting ? 0 : INNER_NEVER;
+        if (!is_resting)
+            service->wakes_at = until = wake_time(service, is_busy, beat);
+        inner_futex_wait(&service->call, call, until);
+        service->wakes_at = 0;
     }
     return NULL;
 }

@@ -1,77 +1,53 @@
-/* The driver's turns, and the phase work of the seats that nobody has locked. */
+/* The driver's turns, by one thread at a time: the one that has `turning`. Another thread that wants a turn leaves a
+ * wish. The thread takes the wish before its turn, and looks for another one after it has given `turning` back: so the
+ * turn after a wish sees all that came before it. */
 #include "service.h"
 
-void likes_service_seats_work(likes_service *service) {
-    for (uint32_t i = 0; i < service->seats; i++)
-        if (!likes_place_turn(&service->places[i]))
-            __atomic_store_n(&service->was_locked, true, __ATOMIC_SEQ_CST);
+/* After this many rounds without a call, phases stop changing. */
+#define QUIET_ROUNDS 2u
+
+/* Wishes for a turn. Whether this thread may make it. */
+static bool wish(likes_service *service) {
+    if (service->wished != INNER_WISHED && atomic_exchange(&service->wished, INNER_WISHED) == INNER_WATCHED)
+        inner_futex_wake(&service->wished, 1);
+    return pthread_mutex_trylock(&service->turning) == 0;
 }
 
-uint64_t likes_service_calls(const likes_service *service) {
-    uint64_t calls = 0;
-    for (uint32_t i = 0; i < service->seats; i++)
-        calls += __atomic_load_n(&service->places[i].tally.calls, __ATOMIC_RELAXED);
-    return calls;
+void inner_await_wish(likes_service *service, uint64_t until) {
+    uint32_t none = 0;
+    if (atomic_compare_exchange_strong(&service->wished, &none, INNER_WATCHED))
+        inner_futex_wait(&service->wished, INNER_WATCHED, until);
+    service->wished = 0;
 }
 
-static bool is_quiet(const likes_service *service) {
-    return service->quiet >= LIKES_QUIET_ROUNDS;
-}
-
-/* Ends a round, with `driving` locked. */
 static void end_round(likes_service *service) {
-    uint64_t calls = likes_service_calls(service);
-    bool was_locked = __atomic_exchange_n(&service->was_locked, false, __ATOMIC_SEQ_CST);
-    service->quiet = calls != service->calls || was_locked ? 0 : service->quiet + 1;
-    service->calls = calls;
+    service->quiet = atomic_exchange(&service->is_used, false) ? 0 : service->quiet + 1;
 }
 
-void likes_service_stir(likes_service *service) {
-    service->quiet = 0;
-    service->calls = UINT64_MAX;
-    service->may_rest = false;
-}
-
-void likes_service_hurry(likes_service *service) {
-    likes_set_time(&service->due, 0);
-    likes_set_time(&service->next, 0);
-}
-
-uint32_t likes_service_turn(likes_service *service, uint32_t end) {
-    uint32_t status = likes_driver_turn(&service->driver, end);
-    if (status == LIKES_ANNOUNCED)
-        service->is_ending = true;
-    if (status == LIKES_RELEASED) {
-        uint64_t phase = likes_driver_phase(&service->driver);
-        service->is_ending = false;
-        pthread_mutex_lock(&service->changing);
-        likes_set_time(&service->released, phase);
-        pthread_mutex_unlock(&service->changing);
-    }
+uint32_t inner_turn(inner_member *member, uint32_t end) {
+    likes_service *service = member->service;
+    uint32_t status = likes_client_drive(&member->client, end);
+    if (status == LIKES_RELEASED)
+        service->released = service->released + 1;
+    if (status == LIKES_ANNOUNCED || status == LIKES_RELEASED)
+        service->is_ending = status == LIKES_ANNOUNCED;
+    if (status == LIKES_ANNOUNCED || (status == LIKES_RELEASED && service->released % 2 == 0))
+        service->steps = service->steps + 1;
     return status;
 }
 
-bool likes_service_starves(const likes_service *service) {
-    return !service->is_ending && __atomic_load_n(&service->starving, __ATOMIC_SEQ_CST) > 0;
-}
-
 /* The turn in a split phase, or at its end. From the end of one split phase to that of the next is a period, or less
- * where the looks that wait at a seat take half of its room: a busy thread that ticks finds that within an eighth of a
- * period. */
-static uint32_t split_turn(likes_service *service, uint64_t now) {
-    uint64_t left = likes_time_left(&service->due, now);
-    uint32_t status = LIKES_GOES_ON;
-    if (!likes_service_starves(service))
-        status = likes_service_turn(service, left > 0 ? LIKES_NO_END : LIKES_END_IF_IT_SERVES);
-    if (status == LIKES_ENDED) /* all seats have left, but the phase goes on */
-        status = likes_service_turn(service, LIKES_END_IF_IT_SERVES);
+ * where the looks that wait at a seat take half of its room. A phase that threads missed goes on until they have made
+ * their calls. */
+static uint32_t split_turn(inner_member *member, uint64_t now) {
+    likes_service *service = member->service;
+    if (!service->is_ending && service->starving > 0)
+        return LIKES_GOES_ON;
+    uint32_t status = inner_turn(member, service->due <= now ? LIKES_END_IF_IT_SERVES : LIKES_NO_END);
     if (status == LIKES_ANNOUNCED) {
-        likes_set_time(&service->due, now + service->period);
+        service->due = now + service->period;
         end_round(service);
     }
-    if (status == LIKES_GOES_ON && left > service->period / 8)
-        left = service->period / 8;
-    likes_set_time(&service->next, now + (status == LIKES_GOES_ON ? left : 0));
     return status;
 }
 
@@ -79,127 +55,93 @@ static uint32_t split_turn(likes_service *service, uint64_t now) {
  * it goes on, and the driver looks for hot pages once in a period, and at least once in a millisecond. Each choice
  * forgets a part of what it knows, so with more of them a page would need more likes to get hot. Where no call is made
  * it goes on too. */
-static uint32_t joined_turn(likes_service *service, uint64_t now, bool is_new) {
-    uint64_t left = likes_time_left(&service->due, now), nap = LIKES_LONG_NAP;
-    bool was_quiet = is_quiet(service);
-    if (was_quiet || (left == 0 && !is_new && !service->is_ending))
+static uint32_t joined_turn(inner_member *member, uint64_t now, bool is_new) {
+    likes_service *service = member->service;
+    bool is_due = !is_new && !service->is_ending && service->due <= now;
+    if (is_due)
         end_round(service);
-    bool may_end = (is_new || was_quiet || left == 0) && !is_quiet(service);
-    uint32_t status = likes_service_turn(service, may_end ? LIKES_END_IF_IT_SERVES : LIKES_NO_END);
-    if (status == LIKES_ANNOUNCED && !is_new)
-        likes_set_time(&service->due, now);
-    if (status == LIKES_RELEASED && left < service->period / 2)
-        likes_set_time(&service->due, now + service->period / 2);
-    if (status == LIKES_GOES_ON && service->may_find)
-        nap = service->period < LIKES_DRIVER_NAP ? service->period : LIKES_DRIVER_NAP;
-    if (status == LIKES_GOES_ON && (may_end || is_quiet(service)))
-        likes_set_time(&service->due, now + nap);
-    likes_set_time(&service->next, now + (status == LIKES_GOES_ON ? likes_time_left(&service->due, now) : 0));
-    service->may_rest = status == LIKES_ENDED || (status == LIKES_GOES_ON && is_quiet(service));
+    bool may_end = (is_new || is_due) && service->quiet < QUIET_ROUNDS;
+    uint32_t status = inner_turn(member, may_end ? LIKES_END_IF_IT_SERVES : LIKES_NO_END);
+    bool goes_on = status == LIKES_GOES_ON || status == LIKES_ENDED;
+    if (status == LIKES_RELEASED && service->due < now + service->period / 2)
+        service->due = now + service->period / 2;
+    if (goes_on && (is_new || is_due))
+        service->due = now + (service->period < INNER_CHOICE_TIME ? service->period : INNER_CHOICE_TIME);
+    service->may_rest = goes_on && service->quiet >= QUIET_ROUNDS;
     return status;
 }
 
-/* Goes on to the next pulse, if that is due, with `driving` locked. After a rest it goes on by two: what writers have
- * kept since before it is due. */
-static void pulse(likes_service *service, uint64_t now) {
-    bool has_rested = __atomic_load_n(&service->pulse, __ATOMIC_RELAXED) == 0;
-    bool is_due = has_rested || likes_time_left(&service->beat, now) == 0;
-    if (!is_due || __atomic_load_n(&service->is_resting, __ATOMIC_SEQ_CST))
-        return;
-    likes_set_time(&service->beat, now + service->period / LIKES_PULSES);
-    service->pulses += has_rested ? 2 : 1;
-    __atomic_store_n(&service->pulse, service->pulses, __ATOMIC_SEQ_CST);
-}
-
-/* What comes of turns of the driver, for the thread that made them. */
-typedef struct outcome {
-    bool has_work; /* seats have phase work to do */
-    bool has_news; /* the threads have to be told that sleep until a phase is released */
-    bool has_call; /* the driver's thread has to wake: it would sleep past the time at which the phase may end now, or a
-                      seat is back where all had left */
-} outcome;
-
-/* The driver's turn, with `driving` locked. Threads that wait for a phase sleep on in a joined phase that ends at
- * once, and their seats are lent meanwhile. */
-static uint32_t driver_turn(likes_service *service, outcome *of) {
-    uint64_t now = likes_clock(), due = likes_time(&service->due);
-    bool had_left = service->has_left;
-    uint32_t status;
+/* The driver's turn. It wakes threads that sleep until a phase is released, but for a joined one that ends at once, and
+ * the driver's thread, if it would sleep past the time at which the phase may end now: that is written before `wakes_at`
+ * is read here, and it writes that before it reads the time. A phase that is ending needs it not: the last seat to
+ * answer makes the turn. */
+static uint32_t driver_turn(inner_member *member) {
+    likes_service *service = member->service;
+    uint64_t now = inner_clock(), phase = service->released;
     service->may_rest = false;
-    pulse(service, now);
-    if (likes_driver_phase(&service->driver) % 2 == 0) {
-        status = joined_turn(service, now, false);
-        of->has_work |= status == LIKES_ANNOUNCED;
-        of->has_news |= status == LIKES_RELEASED;
-    } else {
-        status = split_turn(service, now);
-        of->has_work |= status == LIKES_ANNOUNCED || status == LIKES_RELEASED;
-        if (status == LIKES_RELEASED) {
-            status = joined_turn(service, now, true);
-            of->has_news |= status != LIKES_ANNOUNCED;
-        }
-    }
-    service->has_left = status == LIKES_ENDED;
-    uint64_t next_due = likes_time(&service->due);
-    of->has_call |= next_due != due && next_due < likes_time(&service->wakes_at);
-    of->has_call |= had_left && !service->has_left;
+    uint32_t status = phase % 2 == 0 ? joined_turn(member, now, false) : split_turn(member, now);
+    if (phase % 2 == 1 && status == LIKES_RELEASED)
+        status = joined_turn(member, now, true);
+    bool has_news = service->released != phase && status != LIKES_ANNOUNCED;
+    if (has_news)
+        inner_futex_wake((_Atomic uint32_t *)&service->released, INT_MAX);
+    if (!service->is_ending && service->due + INNER_SPIN_TIME < service->wakes_at)
+        inner_call(service);
     return status;
 }
 
-/* Makes a turn, or leaves it to the thread that is making one, and says whether seats have work to do then. */
-static uint32_t try_turn(likes_service *service, bool *has_work) {
-    uint32_t status = LIKES_NOT_ALL_IN;
-    outcome of = {false, false, false};
-    bool is_missed = true;
-    while (is_missed && likes_lock_try(&service->driving)) {
-        status = driver_turn(service, &of);
-        is_missed = likes_lock_give(&service->driving);
-    }
-    if (of.has_news)
-        pthread_cond_broadcast(&service->changed);
-    if (of.has_call || (of.has_work && __atomic_load_n(&service->is_resting, __ATOMIC_SEQ_CST)))
-        likes_service_call(service);
-    *has_work = of.has_work;
-    return status;
-}
-
-void likes_service_give_driving(likes_service *service) {
-    if (likes_lock_give(&service->driving))
-        likes_service_advance(service);
-}
-
-uint32_t likes_service_advance(likes_service *service) {
+/* Makes turns while there are wishes, and unlocks `turning`. */
+static uint32_t make_turns(inner_member *member) {
+    likes_service *service = member->service;
     uint32_t status;
-    bool has_work;
     do {
-        status = try_turn(service, &has_work);
-        if (has_work)
-            likes_service_seats_work(service);
-    } while (has_work);
+        service->wished = 0;
+        status = driver_turn(member);
+        pthread_mutex_unlock(&service->turning);
+    } while (service->wished == INNER_WISHED && pthread_mutex_trylock(&service->turning) == 0);
     return status;
 }
 
-uint32_t likes_service_drive(likes_service *service) {
-    uint32_t fault = likes_service_fault(service);
-    bool has_work;
-    if (fault != LIKES_OK)
-        return fault;
-    uint32_t status = try_turn(service, &has_work);
-    if (has_work) {
-        likes_service_seats_work(service);
-        likes_service_advance(service);
+/* Others may make turns while this thread does the seats' work, also what others have begun: they may have no processor.
+ * After that it makes another turn. */
+uint32_t inner_turns(inner_member *member) {
+    likes_service *service = member->service;
+    uint32_t status = wish(service) ? make_turns(member) : (uint32_t)LIKES_NOT_ALL_IN;
+    while (service->served != service->steps) {
+        inner_seats_work(member);
+        if (wish(service))
+            make_turns(member);
     }
     return status;
+}
+
+void inner_stir(inner_member *member) {
+    likes_service *service = member->service;
+    service->quiet = 0;
+    inner_note_use(service);
+    service->due = 0;
+    pthread_mutex_unlock(&service->turning);
+    inner_turns(member);
+    inner_call(service);
+}
+
+/* These two may be called by a thread that holds a seat. */
+uint32_t likes_service_drive(likes_service *service) {
+    inner_member *member;
+    uint32_t fault = inner_enter(service, false, &member);
+    return fault == LIKES_OK || fault == LIKES_HOLDS_SEAT ? inner_turns(member) : fault;
 }
 
 void likes_service_tick(likes_service *service) {
-    if (likes_service_fault(service) == LIKES_OK && likes_time_left(&service->next, likes_clock()) == 0)
+    if (likes_service_fault(service) == LIKES_OK && service->due <= inner_clock())
         likes_service_drive(service);
 }
 
 void likes_service_seat_turns(likes_service *service) {
-    if (likes_service_fault(service) != LIKES_OK)
+    inner_member *member;
+    uint32_t fault = inner_enter(service, false, &member);
+    if (fault != LIKES_OK && fault != LIKES_HOLDS_SEAT)
         return;
-    likes_service_seats_work(service);
-    likes_service_advance(service);
+    inner_seats_work(member);
+    inner_turns(member);
 }

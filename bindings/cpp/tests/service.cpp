@@ -2,6 +2,7 @@
 // with its status, or to do nothing.
 //
 // It ends with status 1 and a line where something else happens.
+#include <cstdio>
 #include "likes.hpp"
 #include "tests.hpp"
 
@@ -239,7 +240,22 @@ static void late(likes::Service &service) {
     hold(thrown([&] { (void)service.hold(0); }) == LIKES_STOPPED, "a seat after the end");
     hold(thrown([&] { (void)service.writer(); }) == LIKES_STOPPED, "a writer after the end");
     hold(thrown([&] { service.snapshot(); }) == LIKES_STOPPED, "a snapshot after the end");
-    hold(thrown([&] { service.statistics(); }) == LIKES_STOPPED, "statistics after the end");
+    hold(service.statistics().likes == 1, "statistics after the end");
+    hold(thrown([&] { service.save("likes.saved"); }) == LIKES_STOPPED, "a file after the end");
+}
+
+// A file of a service, from which another goes on, also with more pages and users.
+static void files() {
+    const std::string path = "likes.saved";
+    likes::Service first(two_seats(3), {5, 7});
+    first.like(2, 1);
+    first.save(path);
+    likes::Service same(path, two_seats(0)), grown(path, two_seats(4), 3);
+    hold(same.counts() == std::vector<std::uint64_t>({5, 8}) && same.last(2) == 1u, "a service from a file");
+    hold(grown.counts() == std::vector<std::uint64_t>({5, 8, 0}) && !grown.last(3), "a larger service from a file");
+    hold(thrown([&] { likes::Service less(path, two_seats(1)); }) == LIKES_WRONG_LENGTH, "fewer users than in a file");
+    std::remove(path.c_str());
+    hold(thrown([&] { likes::Service none(path, two_seats(0)); }) == LIKES_FILE_FAULT, "no file");
 }
 
 int main() {
@@ -247,6 +263,7 @@ int main() {
     openings();
     defaults();
     again();
+    files();
     proposals();
     marks();
     deadlines();

@@ -1,5 +1,7 @@
 """What is raised."""
 
+import os
+from ctypes import get_errno
 from typing import Tuple, Type
 
 from ._statuses import FIRST_ERROR, STATUSES, Status
@@ -41,3 +43,10 @@ def check(number: int, wanted: Status) -> None:
     if number in (Status.NOT_STARTED, Status.STOPPED):
         raise Closed
     raise Refused(number)
+
+
+def check_file(number: int, path: str) -> None:
+    """The same of a call that reads or writes a file."""
+    if number == Status.FILE_FAULT:
+        raise OSError(get_errno(), os.strerror(get_errno()), path)
+    check(number, Status.OK)

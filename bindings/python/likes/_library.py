@@ -93,7 +93,11 @@ CALLS: Any = {
     "phase_now": ([HANDLE], c_uint64),
     "phase_free": ([HANDLE], None),
     "service_open": ([POINTER(Options), POINTER(HANDLE)], c_uint32),
+    "service_load": ([c_char_p, POINTER(Options), POINTER(HANDLE)], c_uint32),
+    "service_save": ([HANDLE, c_char_p], c_uint32),
     "service_seats": ([HANDLE], c_uint32),
+    "service_pages": ([HANDLE], c_size_t),
+    "service_users": ([HANDLE], c_uint32),
     "service_close": ([HANDLE], c_uint32),
     "service_fault": ([HANDLE], c_uint32),
     "service_seat_fault": ([HANDLE, c_uint32], c_uint32),
@@ -132,14 +136,17 @@ CALLS: Any = {
 # Calls that never wait. They keep the lock of the interpreter, so that a thread with a seat gives it back at once.
 QUICK = ("service_unlock", "service_take_found")
 
+# Calls after which errno says why.
+FILES = ("service_load", "service_save")
+
 
 @lru_cache(maxsize=None)
 def load() -> Any:
     """The library: the file that LIKES_LIBRARY names, or the one of this version."""
     path = os.environ.get("LIKES_LIBRARY", SHARED)
-    library, quick = ctypes.CDLL(path), ctypes.PyDLL(path)
+    library, quick, files = ctypes.CDLL(path), ctypes.PyDLL(path), ctypes.CDLL(path, use_errno=True)
     for name, (takes, gives) in CALLS.items():
-        call = getattr(quick if name in QUICK else library, f"likes_{name}")
+        call = getattr(quick if name in QUICK else files if name in FILES else library, f"likes_{name}")
         call.argtypes, call.restype = takes, gives
         setattr(library, f"likes_{name}", call)
     if library.likes_version() != VERSION:

@@ -4,6 +4,7 @@ A call from Python takes about a microsecond by itself. Other threads run meanwh
 """
 
 import itertools
+import os
 import threading
 import time
 import weakref
@@ -11,7 +12,7 @@ from ctypes import byref, c_uint32, c_uint64, c_void_p
 from types import TracebackType
 from typing import Any, List, NamedTuple, Optional, Sequence, Set, Type
 
-from ._errors import Closed, Refused, check
+from ._errors import Closed, Refused, check, check_file
 from ._library import MOST, Answer, FoundLook, Opening, last_of, load, microseconds, row_of, whole
 from ._library import Statistics as StatisticsOfC
 from ._rows import Asked, Row, Seen, Shown, Told, seen, shown
@@ -98,14 +99,46 @@ class Likes:
         period: Optional[float] = None,
         lasts: Sequence[Optional[int]] = (),
     ) -> None:
+        self._prepare()
+        opening = Opening(counts, users, seats, room, hot, marks, lasts, period)
+        check(self._library.likes_service_open(opening.options, byref(self._at)), Status.OK)
+        self._begin()
+
+    @classmethod
+    def load(
+        cls,
+        path: str,
+        users: int = 0,
+        pages: int = 0,
+        seats: Optional[int] = None,
+        room: Optional[int] = None,
+        hot: Optional[int] = None,
+        marks: Sequence[int] = (),
+        period: Optional[float] = None,
+    ) -> "Likes":
+        """Opens a service that goes on from a file of `save`, with as many users and pages or more: 0 is as many. A file
+        that can't be read is an OSError. Another or a changed one is refused: NOT_SAVED, OTHER_VERSION, WRONG_SIZE,
+        WRONG_SUM, and WRONG_LENGTH where there would be fewer users or pages."""
+        service = cls.__new__(cls)
+        service._prepare()
+        opening = Opening((), users, seats, room, hot, marks, (), period)
+        opening.options.counts, opening.options.pages = None, whole("pages", pages)
+        check_file(service._library.likes_service_load(os.fsencode(path), opening.options, byref(service._at)), path)
+        service._begin()
+        return service
+
+    def _prepare(self) -> None:
+        """What it has before it is opened."""
         self._library, self._at, self._end = load(), c_void_p(), None  # type: Any, Any, Optional[Moment]
         self._calls, self._ending, self._runs = Calls(), threading.Lock(), itertools.count()
         self._writers: Set[Writer] = set()
         # The arrays of the last moment, and what the calls of the end have answered.
         self._arrays, self._ends = None, []  # type: Any, List[int]
-        opening = Opening(counts, users, seats, room, hot, marks, lasts, period)
-        check(self._library.likes_service_open(opening.options, byref(self._at)), Status.OK)
-        self._pages, self._users = len(counts), users
+
+    def _begin(self) -> None:
+        """Once it is opened."""
+        self._pages = int(self._library.likes_service_pages(self._at))
+        self._users = int(self._library.likes_service_users(self._at))
         self._seats = int(self._library.likes_service_seats(self._at))
         self._rows = [threading.Lock() for _ in range(self._seats)]
 
@@ -227,6 +260,11 @@ class Likes:
         words = (counts, self._pages, lasts, self._users)
         check(self._call(self._library.likes_service_snapshot, *words), Status.COUNTED)
         return Moment(list(counts), [last_of(page) for page in lasts])
+
+    def save(self, path: str) -> None:
+        """Saves such a moment to a file. After a crash there is the old file or the new one. An OSError says why it
+        can't be written."""
+        check_file(self._call(self._library.likes_service_save, os.fsencode(path)), path)
 
     def statistics(self) -> Statistics:
         """What the service has done so far."""

@@ -94,9 +94,10 @@ class Header(unittest.TestCase):
             self.assertEqual(here, [(of, int(times or 1) * SIZES[it]) for it, of, times in told])
 
     def test_calls(self) -> None:
-        """Each call that the library exports."""
+        """Each call that the library exports, but those for which there is a service."""
         told = re.findall(r"^(?!static|typedef)[\w ]+?[ *]likes_(\w+)\(", self.text, re.M)
-        self.assertEqual(set(_library.CALLS), set(told))
+        others = {name for name in told if name.startswith(("shared_", "client_")) or name == "close"}
+        self.assertEqual(set(_library.CALLS), set(told) - others)
 
 
 if __name__ == "__main__":

@@ -1,10 +1,12 @@
 """The class Likes and its writers: right calls, wrong ones, calls after the end, services that go on, and threads."""
 
 import copy
+import os
 import pickle
 import random
 import signal
 import sys
+import tempfile
 import threading
 import time
 import unittest
@@ -187,6 +189,24 @@ class Service(unittest.TestCase):
             self.assertRaises(Closed, service.propose, pages)
         self.assertRaises(Closed, service.look_within, 4, 0, 1)
         self.assertEqual(writer.drop(), 0)
+
+    def test_files(self) -> None:
+        """A service that goes on from a file, also with more users and pages."""
+        with tempfile.TemporaryDirectory() as folder:
+            path = os.path.join(folder, "likes.saved")
+            with opened(users=3) as first:
+                first.like(2, 1)
+                first.save(path)
+                moment = first.snapshot()
+            with Likes.load(path) as same, Likes.load(path, users=4, pages=3, seats=2) as grown:
+                self.assertEqual(same.snapshot(), moment)
+                self.assertEqual(grown.snapshot(), Moment([*moment.counts, 0], [*moment.lasts, None]))
+            self.refused(Status.WRONG_LENGTH, Likes.load, path, 2)
+            with open(path, "ab") as file:
+                file.write(b"more")
+            self.refused(Status.WRONG_SIZE, Likes.load, path)
+            self.assertRaises(FileNotFoundError, Likes.load, path + "?")
+            self.assertRaises(Closed, first.save, path)
 
     def test_going_on(self) -> None:
         """A service that goes on from the last moment of another."""

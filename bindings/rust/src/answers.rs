@@ -153,6 +153,19 @@ statuses! {
         OpenWriter = OPEN_WRITER,
         /// Of [`Held::run`](crate::Held::run): the tag of a look is 2^63 or more.
         WrongTag = WRONG_TAG,
+        /// Of [`Service::load`](crate::Service::load): there are fewer pages or users than in the file.
+        WrongLength = WRONG_LENGTH,
+        /// A file of a [`Service`](crate::Service) can't be read or written, for the reason that
+        /// [`last_os_error`](std::io::Error::last_os_error) then gives.
+        FileFault = FILE_FAULT,
+        /// Of [`Service::load`](crate::Service::load): no service has written the file.
+        NotSaved = NOT_SAVED,
+        /// Of [`Service::load`](crate::Service::load): the file has a version that the library doesn't know.
+        OtherVersion = OTHER_VERSION,
+        /// Of [`Service::load`](crate::Service::load): the file is not whole.
+        WrongSize = WRONG_SIZE,
+        /// Of [`Service::load`](crate::Service::load): the file was changed since it was written.
+        WrongSum = WRONG_SUM,
     }
 }
 

@@ -125,7 +125,11 @@ extern "C" {
     pub fn likes_phase_free(phase: *mut Handle);
 
     pub fn likes_service_open(options: *const Numbers, service: *mut *mut RawService) -> u32;
+    pub fn likes_service_load(path: *const c_char, options: *const Numbers, service: *mut *mut RawService) -> u32;
+    pub fn likes_service_save(service: *mut RawService, path: *const c_char) -> u32;
     pub fn likes_service_seats(service: *const RawService) -> u32;
+    pub fn likes_service_pages(service: *const RawService) -> usize;
+    pub fn likes_service_users(service: *const RawService) -> u32;
     pub fn likes_service_close(service: *mut RawService) -> u32;
     pub fn likes_service_seat_fault(service: *const RawService, number: u32) -> u32;
     pub fn likes_service_like(service: *mut RawService, user: u32, page: u32) -> u32;

@@ -3,11 +3,14 @@
 mod held;
 mod writer;
 
+use std::ffi::CString;
+use std::os::unix::ffi::OsStrExt;
+use std::path::Path;
 use std::ptr;
 use std::time::Duration;
 
 use crate::answers::{check, error, wanted, Error, Last, Seen, Shown, Statistics};
-use crate::ffi::{self, RawService};
+use crate::ffi::{self, Numbers, RawService};
 use crate::options::{Options, MAX_SPLIT};
 use crate::rows::Answer;
 use crate::status;
@@ -60,9 +63,36 @@ impl Service {
         let mut at = ptr::null_mut();
         // SAFETY: each slice has the length that is told, and the pointer is NULL.
         check(unsafe { ffi::likes_service_open(&options.numbers(counts), &mut at) })?;
+        Ok(Self::of(at))
+    }
+
+    /// Opens a service that goes on from a file of [`save`](Self::save), with as many users and pages or more: 0 is as
+    /// many. The options have no last likes.
+    ///
+    /// # Errors
+    ///
+    /// [`Error::FileFault`], also where the path has a byte 0; [`Error::NotSaved`], [`Error::OtherVersion`],
+    /// [`Error::WrongSize`] and [`Error::WrongSum`]; [`Error::WrongLength`], where there are fewer users or pages than in
+    /// the file; [`Error::WrongLasts`], and those of [`open`](Self::open).
+    ///
+    /// # Panics
+    ///
+    /// If the library is of another version than this crate.
+    pub fn load(path: impl AsRef<Path>, options: &Options, pages: usize) -> Result<Self, Error> {
+        ffi::check_version();
+        let (path, mut at) = (path_of(path.as_ref())?, ptr::null_mut());
+        let numbers = Numbers { counts: ptr::null(), pages, ..options.numbers(&[]) };
+        // SAFETY: the path ends with a byte 0, there are no counts, and the pointer is NULL.
+        check(unsafe { ffi::likes_service_load(path.as_ptr(), &numbers, &mut at) })?;
+        Ok(Self::of(at))
+    }
+
+    /// A service that C has opened.
+    fn of(at: *mut RawService) -> Self {
         // SAFETY: the service was opened.
-        let seats = unsafe { ffi::likes_service_seats(at) };
-        Ok(Self { at, pages: counts.len(), users: options.users as usize, seats })
+        let (pages, users, seats) =
+            unsafe { (ffi::likes_service_pages(at), ffi::likes_service_users(at), ffi::likes_service_seats(at)) };
+        Self { at, pages, users: users as usize, seats }
     }
 
     /// Adds one like.
@@ -181,6 +211,18 @@ impl Service {
         Ok(moment)
     }
 
+    /// Saves such a moment to a file. After a crash there is the old file or the new one.
+    ///
+    /// # Errors
+    ///
+    /// Those of [`snapshot`](Self::snapshot), [`Error::NoMemory`], and [`Error::FileFault`], also where the path has a
+    /// byte 0.
+    pub fn save(&self, path: impl AsRef<Path>) -> Result<(), Error> {
+        let path = path_of(path.as_ref())?;
+        // SAFETY: the service is open as long as it is borrowed, and the path ends with a byte 0.
+        check(unsafe { ffi::likes_service_save(self.at, path.as_ptr()) })
+    }
+
     /// What the service has done so far.
     #[must_use]
     pub fn statistics(&self) -> Statistics {
@@ -287,6 +329,11 @@ impl Service {
         // SAFETY: the service is open as long as it is borrowed.
         error(unsafe { ffi::likes_service_seat_fault(self.at, number) })
     }
+}
+
+/// A path for C.
+fn path_of(path: &Path) -> Result<CString, Error> {
+    CString::new(path.as_os_str().as_bytes()).map_err(|_| Error::FileFault)
 }
 
 impl Drop for Service {

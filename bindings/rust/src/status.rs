@@ -38,6 +38,8 @@ statuses! {
     NOT_ENDED = 16;
     ALL_TAKEN = 17;
     GLIMPSED = 18;
+    BUSY = 19;
+    NONE = 20;
     EMPTY = 100;
     IN_USE = 101;
     NO_MEMORY = 102;
@@ -57,6 +59,7 @@ statuses! {
     WRONG_HOT = 116;
     WRONG_LASTS = 117;
     NULL = 118;
+    OPEN_CLIENT = 119;
     NO_THREAD = 1000;
     WRONG_PERIOD = 1001;
     NOT_STARTED = 1002;
@@ -68,4 +71,9 @@ statuses! {
     WRONG_TAG = 1008;
     STOPPED = 1009;
     WRONG_LENGTH = 1010;
+    FILE_FAULT = 1011;
+    NOT_SAVED = 1012;
+    OTHER_VERSION = 1013;
+    WRONG_SIZE = 1014;
+    WRONG_SUM = 1015;
 }

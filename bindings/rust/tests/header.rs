@@ -19,14 +19,14 @@ fn each_status_has_its_number_and_text() {
     let (core, service) = (header("likes.h"), header("likes_service.h"));
     let mut told = statuses(&core, "likes_status");
     told.extend(statuses(&service, "likes_service_status"));
-    assert_eq!(told.len(), 49);
+    assert_eq!(told.len(), 57);
     for (name, number) in told {
         assert!(include_str!("../src/status.rs").contains(&format!("    {name} = {number};\n")), "{name}");
         assert_ne!(status::text(number), "unknown status", "{name}");
     }
     assert_eq!(status::text(status::WRONG_ROOM), "room is 1 to 4096");
-    assert_eq!(status::text(19), "unknown status");
-    assert_eq!(status::text(119), "unknown status");
+    assert_eq!(status::text(21), "unknown status");
+    assert_eq!(status::text(120), "unknown status");
 }
 
 #[test]

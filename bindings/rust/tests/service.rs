@@ -320,3 +320,25 @@ fn a_panic_of_a_closure_harms_nobody() {
     service.look(0, 0).unwrap();
     assert_eq!(service.stop().unwrap().counts, [11, 0, 0]);
 }
+
+/// A service that goes on from a file, also with more users and pages.
+#[test]
+fn a_file_has_a_moment() {
+    let path = std::env::temp_dir().join(format!("likes-{}.saved", std::process::id()));
+    let first = open(2, 8, 16);
+    first.like(3, 2).unwrap();
+    first.save(&path).unwrap();
+    let moment = first.stop().unwrap();
+    let options = |users| Options { seats: Some(3), ..Options::new(users) };
+    let same = Service::load(&path, &options(0), 0).unwrap();
+    assert_eq!(same.stop(), Ok(moment.clone()));
+    let grown = Service::load(&path, &options(9), moment.counts.len() + 1).unwrap().stop().unwrap();
+    assert_eq!((grown.counts.len(), grown.lasts.len()), (moment.counts.len() + 1, 9));
+    assert_eq!((&grown.counts[..moment.counts.len()], &grown.lasts[..8]), (&moment.counts[..], &moment.lasts[..]));
+    assert!(matches!(Service::load(&path, &options(2), 0), Err(Error::WrongLength)));
+    std::fs::write(&path, "another file, of more bytes than a file of a service begins with").unwrap();
+    assert!(matches!(Service::load(&path, &options(0), 0), Err(Error::NotSaved)));
+    std::fs::remove_file(&path).unwrap();
+    assert!(matches!(Service::load(&path, &options(0), 0), Err(Error::FileFault)));
+    assert!(matches!(Service::load("a\0b", &options(0), 0), Err(Error::FileFault)));
+}

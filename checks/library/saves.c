@@ -1,0 +1,179 @@
+/* Counts and last likes of a service in a file: saved while threads like, loaded, grown, and refused where the file is
+ * wrong in each of its bytes, or can't be written.
+ *
+ * usage: saves FOLDER
+ *
+ * If something is wrong, it prints a line and exits with status 1. */
+#include "harness.h"
+
+#include <signal.h>
+#include <sys/resource.h>
+#include <sys/stat.h>
+
+enum { USERS = 7, PAGES = 3, SEATS = 2 };
+
+static char path[1000], beside[1010];
+static bool is_over;
+
+static likes_service *opened(void) {
+    likes_service *service = NULL;
+    likes_options options = {.pages = PAGES, .users = USERS, .seats = SEATS, .period_us = 100};
+    IS(likes_service_open(&options, &service), LIKES_OK);
+    return service;
+}
+
+/* How many likes each page has. */
+static void counts_are(likes_service *service, const uint64_t *right, size_t pages) {
+    uint64_t counts[2 * PAGES];
+    IS(likes_service_counts(service, counts, pages), LIKES_COUNTED);
+    for (size_t page = 0; page < pages; page++)
+        IS(counts[page], right[page]);
+}
+
+static void last_is(likes_service *service, uint32_t user, uint32_t right) {
+    uint32_t page;
+    IS(likes_service_last(service, user, &page), LIKES_OK);
+    IS(page, right);
+}
+
+/* As it was, and with more pages and users. */
+static void save_and_load(void) {
+    const uint64_t right[] = {0, 2, 1, 0, 0};
+    likes_service *service = opened(), *same = NULL, *grown = NULL;
+    likes_options none = {.seats = 3}, more = {.pages = PAGES + 2, .users = USERS + 1}, less = {.users = USERS - 1};
+    IS(likes_service_like(service, 0, 1), LIKES_LIKED);
+    IS(likes_service_like(service, 5, 1), LIKES_LIKED);
+    IS(likes_service_like(service, 5, 2), LIKES_LIKED);
+    IS(likes_service_save(service, path), LIKES_OK);
+    hold(access(beside, F_OK) == -1, "a file is left");
+    IS(likes_service_close(service), LIKES_OK);
+    IS(likes_service_load(path, &none, &same), LIKES_OK);
+    IS(likes_service_pages(same), PAGES);
+    IS(likes_service_users(same), USERS);
+    IS(likes_service_users(NULL) + likes_service_pages(NULL), 0);
+    counts_are(same, right, PAGES);
+    last_is(same, 0, 1);
+    last_is(same, 5, 2);
+    last_is(same, 6, LIKES_NO_PAGE);
+    IS(likes_service_load(path, &more, &same), LIKES_IN_USE);
+    IS(likes_service_load(path, &more, &grown), LIKES_OK);
+    counts_are(grown, right, PAGES + 2);
+    last_is(grown, 5, 2);
+    last_is(grown, USERS, LIKES_NO_PAGE);
+    IS(likes_service_like(grown, USERS, PAGES + 1), LIKES_LIKED);
+    IS(likes_service_close(same), LIKES_OK);
+    IS(likes_service_close(grown), LIKES_OK);
+    same = NULL;
+    IS(likes_service_load(path, &less, &same), LIKES_WRONG_LENGTH);
+    IS(same == NULL, true);
+}
+
+static void write_file(const char *bytes, size_t length) {
+    FILE *file = fopen(path, "wb");
+    hold(file != NULL && fwrite(bytes, 1, length, file) == length && fclose(file) == 0, "no file was written");
+}
+
+/* A file of another length, and one with another byte, wherever that is. */
+static void wrong_files(void) {
+    likes_options options = {.seats = 1};
+    likes_service *service = NULL;
+    char bytes[1000];
+    FILE *file = fopen(path, "rb");
+    size_t length = fread(bytes, 1, sizeof bytes - 1, file);
+    fclose(file);
+    for (size_t less = 0; less < length; less++) {
+        write_file(bytes, less);
+        IS(likes_service_load(path, &options, &service), less < 32 ? LIKES_NOT_SAVED : LIKES_WRONG_SIZE);
+    }
+    write_file(bytes, length + 1);
+    IS(likes_service_load(path, &options, &service), LIKES_WRONG_SIZE);
+    for (size_t at = 0; at < length; at++) {
+        bytes[at] ^= 1;
+        write_file(bytes, length);
+        uint32_t status = likes_service_load(path, &options, &service);
+        bytes[at] ^= 1;
+        hold(at >= 8 || status == LIKES_NOT_SAVED, "another file was loaded");
+        hold(at < 8 || at >= 16 || status == LIKES_OTHER_VERSION, "another version was loaded");
+        hold(at < 16 || status == LIKES_WRONG_SUM || status == LIKES_WRONG_SIZE, "a changed file was loaded");
+    }
+    IS(service == NULL, true);
+    write_file(bytes, length);
+    IS(likes_service_load(path, &options, &service), LIKES_OK);
+    IS(likes_service_close(service), LIKES_OK);
+}
+
+/* Where a file can't be read or written, errno has the reason, and the old one stays. */
+static void no_files(void) {
+    likes_service *service = opened(), *none = NULL;
+    likes_options options = {.seats = 1};
+    struct rlimit was, least = {64, 64};
+    uint64_t counts[1];
+    struct stat before, after;
+    hold(likes_service_save(service, "/no/such/folder/file") == LIKES_FILE_FAULT && errno == ENOENT, "no reason");
+    hold(likes_service_load("/no/such/file", &options, &none) == LIKES_FILE_FAULT && errno == ENOENT, "no reason");
+    IS(likes_service_save(service, NULL), LIKES_NULL);
+    IS(likes_service_save(NULL, path), LIKES_NOT_STARTED);
+    IS(likes_service_load(NULL, &options, &none), LIKES_NULL);
+    IS(likes_service_load(path, NULL, &none), LIKES_NULL);
+    IS(likes_service_load(path, &options, NULL), LIKES_NULL);
+    IS(likes_service_load(path, &(likes_options){.counts = counts, .pages = 1}, &none), LIKES_WRONG_COUNT);
+    IS(likes_service_load(path, &(likes_options){.lasts_len = 1}, &none), LIKES_WRONG_LASTS);
+    hold(stat(path, &before) == 0, "there is no file");
+    signal(SIGXFSZ, SIG_IGN);
+    getrlimit(RLIMIT_FSIZE, &was);
+    least.rlim_max = was.rlim_max;
+    setrlimit(RLIMIT_FSIZE, &least);
+    hold(likes_service_save(service, path) == LIKES_FILE_FAULT && errno == EFBIG, "a full disk is not told");
+    setrlimit(RLIMIT_FSIZE, &was);
+    hold(stat(path, &after) == 0, "there is no file");
+    hold(before.st_ino == after.st_ino && before.st_size == after.st_size, "the old file was changed");
+    hold(access(beside, F_OK) == -1, "a file is left");
+    IS(likes_service_close(service), LIKES_OK);
+}
+
+static void *like_on(void *at) {
+    likes_service *service = (likes_service *)at;
+    for (uint32_t n = 0; !is_set(&is_over); n++) {
+        IS(likes_service_like(service, 3, 0), LIKES_LIKED);
+        IS(likes_service_like(service, 3, 2), LIKES_LIKED);
+    }
+    return NULL;
+}
+
+/* A file is of one moment, also while a thread likes: its last like goes with the counts. */
+static void while_liked(void) {
+    likes_service *service = opened();
+    pthread_t thread;
+    is_over = false;
+    start_thread(&thread, like_on, service);
+    for (int times = 0; times < 20; times++) {
+        likes_options options = {.seats = 1};
+        likes_service *loaded = NULL;
+        uint64_t counts[PAGES];
+        uint32_t last;
+        IS(likes_service_save(service, path), LIKES_OK);
+        IS(likes_service_load(path, &options, &loaded), LIKES_OK);
+        IS(likes_service_counts(loaded, counts, PAGES), LIKES_COUNTED);
+        IS(likes_service_last(loaded, 3, &last), LIKES_OK);
+        hold(counts[0] == counts[2] ? last != 0 : counts[0] == counts[2] + 1 && last == 0, "not of one moment");
+        IS(likes_service_close(loaded), LIKES_OK);
+    }
+    set(&is_over);
+    pthread_join(thread, NULL);
+    IS(likes_service_close(service), LIKES_OK);
+}
+
+int main(int count, char **words) {
+    if (count != 2) {
+        fputs("usage: saves FOLDER\n", stderr);
+        return 2;
+    }
+    snprintf(path, sizeof path, "%s/saved", words[1]);
+    snprintf(beside, sizeof beside, "%s.new", path);
+    save_and_load();
+    wrong_files();
+    no_files();
+    while_liked();
+    puts("files held what was saved, and wrong ones were refused");
+    return 0;
+}

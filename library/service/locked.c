@@ -1,0 +1,122 @@
+/* Seats that a thread holds, for rows of requests. */
+#include "service.h"
+
+#include <sched.h>
+
+/* How long a thread lets others have a seat, before it holds it, in nanoseconds. */
+#define WAY UINT64_C(1000000)
+
+uint32_t likes_service_seat_fault(const likes_service *service, uint32_t number) {
+    uint32_t fault = likes_service_fault(service);
+    if (fault != LIKES_OK || number >= service->seats)
+        return fault != LIKES_OK ? fault : (uint32_t)LIKES_UNKNOWN_SEAT;
+    return inner_holds((likes_service *)service) ? (uint32_t)LIKES_HOLDS_SEAT : fault;
+}
+
+uint32_t inner_held_fault(likes_service *service, uint32_t number, inner_member **member) {
+    uint32_t fault = likes_service_seat_fault(service, number);
+    if (fault != LIKES_HOLDS_SEAT)
+        return fault == LIKES_OK ? (uint32_t)LIKES_NOT_LOCKED : fault;
+    *member = inner_member_of(service);
+    return (*member)->held == &service->places[number] ? LIKES_OK : LIKES_NOT_LOCKED;
+}
+
+/* Threads that wait for the seat already have it first, for a while. */
+likes_seat *likes_service_lock(likes_service *service, uint32_t number) {
+    inner_member *member;
+    if (likes_service_seat_fault(service, number) != LIKES_OK || inner_enter(service, false, &member) != LIKES_OK)
+        return NULL;
+    inner_note_use(service);
+    inner_place *place = &service->places[number];
+    uint64_t until = place->waiting > 0 ? inner_clock() + WAY : 0;
+    while (place->waiting > 0 && !inner_is_over(until))
+        sched_yield();
+    inner_hold(member, place, INNER_NEVER);
+    member->held = place;
+    inner_mine.held++;
+    inner_note_call(place, 1);
+    return &place->seat;
+}
+
+void likes_service_unlock(likes_service *service, uint32_t number) {
+    inner_member *member;
+    if (inner_held_fault(service, number, &member) != LIKES_OK)
+        return;
+    inner_note_call(member->held, 1);
+    inner_mine.held--;
+    member->held = NULL;
+    inner_unlock(member, &service->places[number]);
+}
+
+/* A look of the host's. No more of them wait, or are found and not taken, than the seat has room for. What isn't split, a
+ * glance shows also then. Looks that wait may take half of the room, which ends the phase, so a turn is made. */
+uint32_t inner_look(inner_member *member, inner_place *place, const likes_request *request, likes_answer *answer) {
+    uint32_t user = request->user, page = request->page;
+    if (request->tag >= INNER_TAGS)
+        return inner_refuse(answer, LIKES_WRONG_TAG);
+    uint32_t status = place->hosts < member->service->room
+                          ? likes_client_look(&member->client, place->number, user, page, request->tag, answer)
+                          : likes_client_glance(&member->client, place->number, user, page, answer);
+    place->hosts += status == LIKES_WAITS;
+    if (status == LIKES_WAITS)
+        inner_turns(member);
+    return status == LIKES_GLIMPSED ? inner_refuse(answer, LIKES_NO_ROOM) : status;
+}
+
+/* Answers a look, or runs what comes before the next one. The number of those done, and a status that tells if the next
+ * one is too early. */
+static size_t run_part(const inner_trial *it, const likes_request *requests, size_t length, likes_answer *answers,
+                       uint32_t *status) {
+    size_t part = 0, likes = 0;
+    while (part < length && (requests[part].op != LIKES_LOOK || requests[part].reserved != 0))
+        part++;
+    if (part == 0) {
+        *status = inner_look(it->member, it->place, requests, answers);
+        return *status != LIKES_BETWEEN && *status != LIKES_NO_ROOM;
+    }
+    size_t done = likes_client_run(&it->member->client, it->place->number, requests, part, answers, part);
+    for (size_t i = 0; i < done; i++)
+        likes += answers[i].status == LIKES_LIKED;
+    inner_add(&it->member->likes, likes);
+    *status = done < part ? answers[done].status : (uint32_t)LIKES_OK;
+    return done;
+}
+
+/* It doesn't wait where the host's own looks fill the seat. */
+size_t inner_run(inner_member *member, inner_place *place, const likes_request *requests, size_t length,
+                 likes_answer *answers, bool waits) {
+    size_t done = 0, part = 1;
+    uint32_t status;
+    while (done < length && part > 0) {
+        inner_trial it = inner_trial_of(member, place, INNER_NEVER);
+        do {
+            part = run_part(&it, requests + done, length - done, answers + done, &status);
+            done += part;
+            waits &= status != LIKES_NO_ROOM || place->hosts < member->service->room;
+        } while (waits && inner_again(&it, &status));
+    }
+    return done;
+}
+
+size_t likes_service_run(likes_service *service, uint32_t number, const likes_request *requests, size_t length,
+                         likes_answer *answers) {
+    inner_member *member;
+    uint32_t fault = inner_held_fault(service, number, &member);
+    if ((requests == NULL || answers == NULL) && length > 0)
+        fault = LIKES_NULL;
+    if (fault != LIKES_OK) {
+        inner_refuse(length > 0 ? answers : NULL, fault);
+        return 0;
+    }
+    inner_note_call(member->held, 1);
+    inner_note_use(service);
+    size_t done = inner_run(member, member->held, requests, length, answers, true);
+    inner_note_call(member->held, 1);
+    return done;
+}
+
+bool likes_service_take_found(likes_service *service, uint32_t number, likes_found *found) {
+    inner_member *member;
+    return found != NULL && inner_held_fault(service, number, &member) == LIKES_OK &&
+           likes_seat_take_found(&member->held->seat, found);
+}
