@@ -13,7 +13,7 @@ use Rattle.like_live.specs.declared.open_error.OpenError.TheVariants as open_err
 
 -- the version of likes.h
 abbrev pub version : ℕ
-version = 5
+version = 6
 
 abbrev pub ok : ℕ
 ok = 0
