@@ -3,6 +3,8 @@
  * Any other array that is NULL is refused, and no proved call is made.
  *
  * If something else is passed, it prints a line and exits with status 1. */
+/* As the library's sources are compiled. */
+#define _GNU_SOURCE
 #include <stdlib.h>
 
 /* In place of calloc in core.c, which gives this back: while `has_no_memory`, nothing is given. */

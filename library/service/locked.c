@@ -82,7 +82,6 @@ static size_t run_part(const inner_trial *it, const likes_request *requests, siz
     return done;
 }
 
-/* It doesn't wait where the host's own looks fill the seat. */
 size_t inner_run(inner_member *member, inner_place *place, const likes_request *requests, size_t length,
                  likes_answer *answers, bool waits) {
     size_t done = 0, part = 1;
@@ -92,7 +91,9 @@ size_t inner_run(inner_member *member, inner_place *place, const likes_request *
         do {
             part = run_part(&it, requests + done, length - done, answers + done, &status);
             done += part;
-            waits &= status != LIKES_NO_ROOM || place->hosts < member->service->room;
+            /* Where the host's own looks fill the seat, no phase makes room. */
+            if (status == LIKES_NO_ROOM && place->hosts == member->service->room)
+                status = LIKES_GLIMPSED;
         } while (waits && inner_again(&it, &status));
     }
     return done;
