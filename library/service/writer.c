@@ -9,16 +9,12 @@
 
 enum { ROW = 64 };
 
-typedef struct row {
-    uint32_t length;
-    likes_pair likes[ROW];
-} row;
-
 struct likes_writer {
     likes_service *service;
-    uint64_t pulse; /* at the last call */
-    uint64_t begun; /* the seats whose rows have likes. A bit for each */
-    row rows[];     /* one for each seat */
+    uint64_t pulse;                   /* at the last call */
+    uint64_t begun;                   /* the seats whose rows have likes. A bit for each */
+    uint8_t lengths[LIKES_MAX_SEATS]; /* of the rows */
+    likes_pair rows[][ROW];           /* one for each seat */
 };
 
 static inline size_t seat_of(const likes_writer *writer, uint32_t user) {
@@ -27,20 +23,19 @@ static inline size_t seat_of(const likes_writer *writer, uint32_t user) {
 
 /* Hands a row over: LIKES_OK, or why likes stay kept. */
 static uint32_t hand_over(likes_writer *writer, size_t seat) {
-    row *it = &writer->rows[seat];
+    likes_pair *row = writer->rows[seat];
     inner_trial trial;
-    size_t done = 0, counted;
-    if (it->length == 0)
+    size_t length = writer->lengths[seat], done = 0, counted;
+    if (length == 0)
         return LIKES_OK;
-    uint32_t status = inner_begin(&trial, writer->service, it->likes[0].user, false);
+    uint32_t status = inner_begin(&trial, writer->service, row->user, false);
     for (; inner_again(&trial, &status); done += counted)
-        status = likes_client_like_row(&trial.member->client, trial.place->number, it->likes + done, it->length - done,
-                                       &counted);
+        status = likes_client_like_row(&trial.member->client, trial.place->number, row + done, length - done, &counted);
     if (done > 0)
         inner_add(&trial.member->likes, done);
-    it->length -= (uint32_t)done;
-    memmove(it->likes, it->likes + done, it->length * sizeof *it->likes);
-    if (it->length == 0)
+    memmove(row, row + done, (length - done) * sizeof *row);
+    writer->lengths[seat] = (uint8_t)(length - done);
+    if (done == length)
         writer->begun &= ~(UINT64_C(1) << seat);
     return status == LIKES_LIKED ? (uint32_t)LIKES_OK : status;
 }
@@ -79,7 +74,7 @@ uint32_t likes_writer_open(likes_service *service, likes_writer **writer) {
     if (*writer != NULL)
         return LIKES_IN_USE;
     int error = errno;
-    likes_writer *made = (likes_writer *)calloc(1, sizeof *made + service->seats * sizeof(row));
+    likes_writer *made = (likes_writer *)calloc(1, sizeof *made + service->seats * sizeof *made->rows);
     /* clang takes calloc to leave errno, and would drop the line below. */
     atomic_signal_fence(memory_order_seq_cst);
     errno = error;
@@ -114,21 +109,21 @@ uint32_t likes_writer_like(likes_writer *writer, uint32_t user, uint32_t page) {
     if (writer->service->pulse != writer->pulse)
         notice(writer);
     size_t seat = seat_of(writer, user);
-    row *it = &writer->rows[seat];
-    if (it->length == ROW && (fault = hand_over_full(writer, seat)) != LIKES_OK)
+    if (writer->lengths[seat] == ROW && (fault = hand_over_full(writer, seat)) != LIKES_OK)
         return fault;
-    it->likes[it->length++] = (likes_pair){user, page};
-    if (it->length == 1)
+    uint8_t length = writer->lengths[seat]++;
+    writer->rows[seat][length] = (likes_pair){user, page};
+    if (length == 0)
         writer->begun |= UINT64_C(1) << seat;
-    else if (it->length == ROW)
+    else if (length == ROW - 1)
         hand_over_full(writer, seat);
     return LIKES_OK;
 }
 
-static bool has_page(const row *it, uint32_t page) {
+static bool has_page(const likes_writer *writer, size_t seat, uint32_t page) {
     uint32_t found = 0;
-    for (uint32_t i = 0; i < it->length; i++)
-        found |= it->likes[i].page == page;
+    for (size_t i = 0; i < writer->lengths[seat]; i++)
+        found |= writer->rows[seat][i].page == page;
     return found;
 }
 
@@ -137,7 +132,7 @@ static uint64_t seats_with(const likes_writer *writer, uint32_t user, uint32_t p
     uint64_t found = UINT64_C(1) << seat_of(writer, user);
     for (uint64_t seats = writer->begun; seats != 0; seats &= seats - 1) {
         size_t seat = (size_t)__builtin_ctzll(seats);
-        found |= (uint64_t)has_page(&writer->rows[seat], page) << seat;
+        found |= (uint64_t)has_page(writer, seat, page) << seat;
     }
     return found;
 }
@@ -163,8 +158,8 @@ uint32_t likes_writer_flush(likes_writer *writer) {
 size_t likes_writer_drop(likes_writer *writer) {
     size_t dropped = 0;
     for (size_t seat = 0; writer != NULL && seat < writer->service->seats; seat++) {
-        dropped += writer->rows[seat].length;
-        writer->rows[seat].length = 0;
+        dropped += writer->lengths[seat];
+        writer->lengths[seat] = 0;
         writer->begun = 0;
     }
     return dropped;

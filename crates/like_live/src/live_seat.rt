@@ -44,6 +44,8 @@ pub struct LiveSeat<P: Post> {
     /// Half of the room.
     half: u32,
     signals: Signals,
+    /// What a row read ahead.
+    read: u32,
 }
 
 impl<P: Post> Model for LiveSeat<P> {
@@ -94,6 +96,7 @@ impl<P: Post + Drop> LiveSeat<P> {
                 room: LookRoom::new(room),
                 half: room / 2,
                 signals,
+                read: 0,
             }),
             Err(_) => Err(AllocError),
         }

@@ -19,7 +19,10 @@ impl<P: SlotPost> LiveSeat<P> {
         ensures same { IsSameSeat self.old self.new }
     {
         match self.turn() {
-            TurnAnswer::Runs => self.like_all(likes),
+            TurnAnswer::Runs => {
+                self.read_ahead(likes);
+                self.like_all(likes)
+            }
             TurnAnswer::Between => RowAnswer {
                 counted: 0,
                 answer: LikeAnswer::Between,
@@ -30,6 +33,22 @@ impl<P: SlotPost> LiveSeat<P> {
             },
         }
     }
+    // Reads the last likes of a row's users, so that the lines of a cache that have them come side by side. What is read
+    // is kept, since a compiler leaves out what nothing keeps.
+    #[inline(always)]
+    fn read_ahead(&mut self, likes: &[LikePair])
+        ensures { self.new ≡ self.old }
+    {
+        let users = self.station.users();
+        let mut read = 0;
+        for like in likes.iter() {
+            if let Some(placed) = users.find(&self.home, like.user) {
+                read ^= users.last_at(placed).unwrap_or(0);
+            }
+        }
+        self.read = read;
+    }
+
     // Counts likes in their order, of a seat that runs a phase.
     #[inline(always)]
     fn like_all(&mut self, likes: &[LikePair]) -> RowAnswer
