@@ -1,9 +1,6 @@
-//! Hosts of a shared service. The contract of each ensures the theorem of what it did.
+//! Tests of a service that threads share: its hosts, and each call of a client and of a hub.
 #![tactic(auto)]
 
-mod calls;
-pub mod host;
-pub mod hub;
 #[cfg(test)]
 mod scenes;
 #[cfg(test)]

@@ -3,11 +3,11 @@ ghost use Rattle.std.specs.Prelude.{◌≡◌, IfOk, length};
 ghost use Rattle.told_lock.specs.Rights.{IsKeeper};
 ghost use Rattle.like_shared.specs.Shared.{IsServiceKeeper, pages_of};
 
-use crate::calls::retire_all;
-use crate::host::host;
-use crate::hub;
 use crate::scenes::{each_call, holding_a_seat};
 use crate::steps::{Part, first_wrong_part};
+use like_hosts::calls::retire_all;
+use like_hosts::host::host;
+use like_hosts::hub;
 use like_live::Opening;
 use like_shared::{Cards, Hub, NoClient, ServiceKeeper, SharedService};
 use std::alloc::{AllocError, Global};

@@ -1,8 +1,0 @@
-use Rattle.test_shared.proofs.Whole.{hosted}
-use Rattle.test_shared.proofs.hub.host.Goals as goal
-
-pub returns : goal.returns
-returns g c =
-    let it = c.in-Ok.ensures.closed in
-    λ is_closed. hosted c.args.opening.now c.in_ok-hub.hub.service it.keeper c.close.new.counts
-    c.in_ok-hub.ensures.opened it.closed

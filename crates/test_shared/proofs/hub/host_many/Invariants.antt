@@ -1,9 +1,0 @@
-use Rattle.std.proofs.Common.{◌≡◌}
-use Rattle.told_lock.specs.Rights.{IsKeeper}
-use Rattle.test_shared.proofs.hub.host_many.Given as goal
-
-abbrev pub invariant-loop : goal.invariant-loop
-invariant-loop l = record {
-  cards : IsKeeper l.hub.desk l.cards;
-  out : l.cards.out ≡ l.counter;
-}
