@@ -423,7 +423,7 @@ pub extern "C" fn likes_proved_seat_free(alloc: Global, seat: &mut SeatHandle)
 }
 
 /// The phase that the driver released last. It only reads, so C may call it from several threads at once. Its contract
-/// is of one call at a time: an export can't share what is behind a pointer (docs/DECISIONS.md).
+/// is of one call at a time: an export can't share what is behind a pointer (README.md).
 #[unsafe(no_mangle)]
 pub extern "C" fn likes_phase_now(phase: &mut PhaseHandle) -> u64
     ensures { PhaseNowAt phase.old.home result phase.new.home }

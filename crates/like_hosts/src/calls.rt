@@ -10,12 +10,7 @@ use like_shared::{Busy, Client, SharedService};
 const CALLS: u64 = 1 << 40;
 
 /// Likes a page for each of these users. How many likes are counted.
-pub fn like_all(
-    service: &SharedService,
-    client: &mut Client,
-    page: u32,
-    users: &[u32],
-) -> u64
+pub fn like_all(service: &SharedService, client: &mut Client, page: u32, users: &[u32]) -> u64
     requires { IsClient service.now client.old }
     ensures client { IsClient service.now client.new }
     ensures likes { likes_in page client.new ≡ likes_in page client.old + result }
