@@ -91,13 +91,21 @@ uint32_t likes_writer_open(likes_service *service, likes_writer **writer) {
 }
 
 /* Hands over a row that is full, and makes the driver's turn, if one is due: the writer may have the only processor. */
-INNER_SELDOM static uint32_t hand_over_full(likes_writer *writer, size_t seat) {
+static uint32_t hand_over_full(likes_writer *writer, size_t seat) {
     uint32_t status = hand_over(writer, seat);
     likes_service_tick(writer->service);
     return status;
 }
 
-uint32_t likes_writer_like(likes_writer *writer, uint32_t user, uint32_t page) {
+static inline void keep(likes_writer *writer, size_t seat, uint32_t user, uint32_t page) {
+    uint8_t length = writer->lengths[seat]++;
+    writer->rows[seat][length] = (likes_pair){user, page};
+    if (length == 0)
+        writer->begun |= UINT64_C(1) << seat;
+}
+
+/* A like with which there is more to do than to keep it. */
+INNER_SELDOM static uint32_t like_slowly(likes_writer *writer, uint32_t user, uint32_t page) {
     uint32_t fault = fault_of(writer);
     if (fault != LIKES_OK)
         return fault;
@@ -111,12 +119,22 @@ uint32_t likes_writer_like(likes_writer *writer, uint32_t user, uint32_t page) {
     size_t seat = seat_of(writer, user);
     if (writer->lengths[seat] == ROW && (fault = hand_over_full(writer, seat)) != LIKES_OK)
         return fault;
-    uint8_t length = writer->lengths[seat]++;
-    writer->rows[seat][length] = (likes_pair){user, page};
-    if (length == 0)
-        writer->begun |= UINT64_C(1) << seat;
-    else if (length == ROW - 1)
+    keep(writer, seat, user, page);
+    if (writer->lengths[seat] == ROW)
         hand_over_full(writer, seat);
+    return LIKES_OK;
+}
+
+uint32_t likes_writer_like(likes_writer *writer, uint32_t user, uint32_t page) {
+    if (writer == NULL)
+        return LIKES_NOT_STARTED;
+    const likes_service *service = writer->service;
+    size_t seat = seat_of(writer, user);
+    bool is_plain = inner_mine.held == 0 && user < service->users && page < service->pages && service->is_used &&
+                    service->pulse == writer->pulse && writer->lengths[seat] < ROW - 1;
+    if (!is_plain)
+        return like_slowly(writer, user, page);
+    keep(writer, seat, user, page);
     return LIKES_OK;
 }
 
@@ -168,7 +186,7 @@ size_t likes_writer_drop(likes_writer *writer) {
 uint32_t likes_writer_close(likes_writer *writer) {
     if (writer == NULL)
         return LIKES_OK;
-    uint32_t status = writer->begun != 0 ? likes_writer_flush(writer) : (uint32_t)LIKES_OK;
+    uint32_t status = hand_over_all(writer, writer->begun);
     if (status != LIKES_OK)
         return status;
     writer->service->writers -= 1;
