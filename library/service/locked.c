@@ -87,7 +87,8 @@ size_t inner_run(inner_member *member, inner_place *place, const likes_request *
     size_t done = 0, part = 1;
     uint32_t status;
     while (done < length && part > 0) {
-        inner_trial it = inner_trial_of(member, place, INNER_NEVER);
+        inner_trial it;
+        inner_start(&it, member, place, INNER_NEVER);
         do {
             part = run_part(&it, requests + done, length - done, answers + done, &status);
             done += part;

@@ -212,8 +212,12 @@ typedef struct inner_trial {
     uint64_t spins_until;
 } inner_trial;
 
-static inline inner_trial inner_trial_of(inner_member *member, inner_place *place, uint64_t until) {
-    return (inner_trial){.member = member, .place = place, .until = until, .phase = member->service->released};
+static inline void inner_start(inner_trial *it, inner_member *member, inner_place *place, uint64_t until) {
+    it->member = member;
+    it->place = place;
+    it->until = until;
+    it->phase = member->service->released;
+    it->has_waited = false;
 }
 
 /* The status of a call that wasn't made yet. */
@@ -228,7 +232,7 @@ static inline uint32_t inner_begin(inner_trial *it, likes_service *service, uint
         return fault;
     inner_note_use(service);
     size_t seat = inner_remainder(user, service->inverse, service->seats);
-    *it = inner_trial_of(member, &service->places[seat], INNER_NEVER);
+    inner_start(it, member, &service->places[seat], INNER_NEVER);
     return INNER_UNTRIED;
 }
 

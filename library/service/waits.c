@@ -76,7 +76,11 @@ static bool wait_for_seat(inner_trial *it) {
 /* A call that is too early waits for a phase: it is between two, or looks that wait fill the seat. */
 INNER_SELDOM bool inner_wait_and_try(inner_trial *it, uint32_t *status) {
     bool is_between = *status == LIKES_BETWEEN, is_early = is_between || *status == LIKES_NO_ROOM, has_time = true;
-    it->has_waited = true;
+    if (!it->has_waited) {
+        it->has_waited = true;
+        it->tries = it->misses = it->left = 0;
+        it->spins_until = 0;
+    }
     if (*status == LIKES_BUSY) {
         has_time = wait_for_seat(it);
     } else {
@@ -95,8 +99,9 @@ INNER_SELDOM bool inner_wait_and_try(inner_trial *it, uint32_t *status) {
 }
 
 bool inner_hold(inner_member *member, inner_place *place, uint64_t until) {
-    inner_trial it = inner_trial_of(member, place, until);
+    inner_trial it;
     uint32_t status = INNER_UNTRIED;
+    inner_start(&it, member, place, until);
     while (inner_again(&it, &status))
         status = inner_lock(member, place);
     return status == LIKES_OK;
