@@ -1,10 +1,11 @@
-/* likes_service.h: a service that threads share, with locks and a driver's thread, for hosts with POSIX threads.
+/* likes_service.h: a service that threads share, with locks and a driver's thread, for hosts on Linux with POSIX
+ * threads.
  *
  * Most programs need five calls: likes_service_open, likes_service_like, likes_service_look, likes_service_stop, which
  * gives the final counts, and likes_service_close.
  *
- * What counts a like or touches a seat is proved. The code here, which waits, is C and is tested, also under the address
- * and thread sanitizers.
+ * What counts a like or touches a seat is proved. The code here, which waits, keeps a writer's likes until they are
+ * handed over, and writes files, is C and is tested, also under the address and thread sanitizers.
  *
  * Calls keep time, as is tested: one that returned before another began comes first, on whatever threads. A writer's
  * likes come where they are handed over, and a glance may lack likes if it says so.
@@ -123,7 +124,7 @@ uint32_t likes_service_glance(likes_service *service, uint32_t user, uint32_t pa
  * time, so a thread flushes before it rests. The likes of a user by one writer are counted in their order. */
 
 /* Opens a writer: LIKES_OK, and then `writer`, which pointed to NULL, points to it. Else that stays as it is:
- * LIKES_NULL, NOT_STARTED, STOPPED, IN_USE or NO_MEMORY. A writer takes 4 KB, and 0.5 KB for each seat. */
+ * LIKES_NULL, NOT_STARTED, STOPPED, IN_USE or NO_MEMORY. A writer takes 0.1 KB, and 0.5 KB for each seat. */
 uint32_t likes_writer_open(likes_service *service, likes_writer **writer);
 
 /* Keeps a like, which will be counted: LIKES_OK. Or nothing is kept: LIKES_NOT_STARTED, where the writer is NULL, or
@@ -169,8 +170,9 @@ uint32_t likes_service_counts(likes_service *service, uint64_t *counts, size_t p
 uint32_t likes_service_snapshot(likes_service *service, uint64_t *counts, size_t pages, uint32_t *lasts, size_t users);
 
 /* Saves what likes_service_snapshot writes to a file: LIKES_OK. After a crash there is the file as it was, or the new one.
- * Meanwhile there is one of that name with ".new" behind it. Or nothing is changed: an answer of likes_service_snapshot,
- * LIKES_NO_MEMORY or LIKES_FILE_FAULT. */
+ * Meanwhile there is one of that name with ".new" behind it: make one call at a time that saves to a file. Or nothing is
+ * changed: an answer of likes_service_snapshot, LIKES_NO_MEMORY or LIKES_FILE_FAULT. (LIKES_FILE_FAULT also comes where
+ * there is the new file, but its folder can't be opened or brought to the disk.) */
 uint32_t likes_service_save(likes_service *service, const char *path);
 
 /* Opens a service that goes on from such a file: LIKES_OK. The options have no counts and no last likes. Where their
