@@ -170,7 +170,7 @@ uint32_t likes_service_counts(likes_service *service, uint64_t *counts, size_t p
 uint32_t likes_service_snapshot(likes_service *service, uint64_t *counts, size_t pages, uint32_t *lasts, size_t users);
 
 /* Saves what likes_service_snapshot writes to a file: LIKES_OK. After a crash there is the file as it was, or the new one.
- * Meanwhile there is one of that name with ".new" behind it: make one call at a time that saves to a file. Or nothing is
+ * Meanwhile there is one of that name with ".new" behind it: let one process at a time save to a file. Or nothing is
  * changed: an answer of likes_service_snapshot, LIKES_NO_MEMORY or LIKES_FILE_FAULT. (LIKES_FILE_FAULT also comes where
  * there is the new file, but its folder can't be opened or brought to the disk.) */
 uint32_t likes_service_save(likes_service *service, const char *path);

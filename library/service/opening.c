@@ -119,6 +119,7 @@ uint32_t likes_service_retire(likes_service *service) {
     return LIKES_OK;
 }
 
+/* The counts are written before the shared service is closed, which may get no memory. */
 uint32_t likes_service_stop(likes_service *service, uint64_t *counts, size_t pages) {
     uint32_t fault = likes_is_missing(counts, pages) ? (uint32_t)LIKES_NULL : end_fault(service);
     if (fault != LIKES_OK)
@@ -127,6 +128,7 @@ uint32_t likes_service_stop(likes_service *service, uint64_t *counts, size_t pag
         return LIKES_WRONG_LENGTH;
     likes_service_retire(service);
     likes_service_statistics(service, &service->ended);
+    likes_client_last_counts(&service->own->client, 0, counts, pages);
     end(service);
     likes_shared_close(&service->shared, counts, pages);
     return LIKES_OK;

@@ -74,6 +74,9 @@ static bool keep_name(const char *path) {
     return is_kept;
 }
 
+/* Only one thread at a time writes a file: two of them may save to the same one. */
+static pthread_mutex_t replacing = PTHREAD_MUTEX_INITIALIZER;
+
 /* Writes a file beside the old one, and then gives it the old one's name: so after a crash there is one of the two. */
 static bool replace(const char *path, const saved *it) {
     char beside[4096];
@@ -107,7 +110,9 @@ uint32_t likes_service_save(likes_service *service, const char *path) {
         status = likes_service_snapshot(service, it.counts, it.head.pages, it.lasts, it.head.users);
     if (status == LIKES_COUNTED) {
         it.sum = sum_of_all(&it);
+        pthread_mutex_lock(&replacing);
         status = replace(path, &it) ? (uint32_t)LIKES_OK : (uint32_t)LIKES_FILE_FAULT;
+        pthread_mutex_unlock(&replacing);
     }
     error = status == LIKES_FILE_FAULT ? errno : error;
     give_back(&it);
