@@ -7,6 +7,7 @@
  *     Each such opening must answer that it is out of memory, leave the driver empty, and give back what it took.
  *   - The same of a shared service, of a client, and of likes_shared_close, which takes memory meanwhile. Once the
  *     clients are closed, and the service is closed or freed, in any order, all is given back.
+ *   - likes_service_stop writes its counts also where it gets no memory.
  *
  * It replaces malloc and its kin, and calls those of the GNU C library by their other names. */
 #include "opening.h"
@@ -433,6 +434,23 @@ static void use_shared(bool is_closed) {
         fail(__LINE__, "the end of a shared service", "leaves blocks behind");
 }
 
+/* A service is stopped where there is no memory. */
+static void stop_without_memory(void) {
+    likes_options options = {.pages = PAGES, .users = USERS, .seats = SEATS};
+    uint64_t counts[PAGES] = {0};
+    likes_service *service = NULL;
+    if (likes_service_open(&options, &service) != LIKES_OK || likes_service_like(service, 1, 2) != LIKES_LIKED)
+        fail(__LINE__, "likes_service_open", "has failed");
+    made = 0;
+    first = 1;
+    last = SIZE_MAX;
+    uint32_t status = likes_service_stop(service, counts, PAGES);
+    first = last = 0;
+    if (status != LIKES_OK || counts[1] != 0 || counts[2] != 1)
+        fail(__LINE__, "likes_service_stop", "has the wrong counts");
+    likes_service_close(service);
+}
+
 int main(void) {
     for (int stage = OPENED; stage < STAGES; stage++)
         for (uint32_t driver_after = 0; driver_after <= SEATS; driver_after++)
@@ -451,6 +469,7 @@ int main(void) {
     refuse_sharing();
     use_shared(false);
     use_shared(true);
+    stop_without_memory();
     printf("each of %zu allocations refused\n", allocations);
     return 0;
 }

@@ -1,4 +1,4 @@
-/* Counts and last likes of a service in a file: saved while threads like, loaded, grown, and refused where the file is
+/* Counts and last likes of a service in a file: saved while threads like, and by two at once, loaded, grown, and refused where the file is
  * wrong in each of its bytes, or can't be written.
  *
  * usage: saves FOLDER
@@ -163,6 +163,26 @@ static void while_liked(void) {
     IS(likes_service_close(service), LIKES_OK);
 }
 
+static void *save_often(void *service) {
+    for (int i = 0; i < 100; i++)
+        IS(likes_service_save((likes_service *)service, path), LIKES_OK);
+    return NULL;
+}
+
+/* Two threads save to one file. */
+static void at_once(void) {
+    likes_service *service = opened(), *loaded = NULL;
+    likes_options none = {0};
+    pthread_t threads[2];
+    for (int i = 0; i < 2; i++)
+        hold(pthread_create(&threads[i], NULL, save_often, service) == 0, "no thread");
+    for (int i = 0; i < 2; i++)
+        pthread_join(threads[i], NULL);
+    IS(likes_service_load(path, &none, &loaded), LIKES_OK);
+    IS(likes_service_close(loaded), LIKES_OK);
+    IS(likes_service_close(service), LIKES_OK);
+}
+
 int main(int count, char **words) {
     if (count != 2) {
         fputs("usage: saves FOLDER\n", stderr);
@@ -174,6 +194,7 @@ int main(int count, char **words) {
     wrong_files();
     no_files();
     while_liked();
+    at_once();
     puts("files held what was saved, and wrong ones were refused");
     return 0;
 }

@@ -2,6 +2,7 @@ ghost use Rattle.std.specs.Prelude.{◌≡◌, ◌<◌, ◌≤◌, true, IfOk, I
 ghost use Rattle.like_core.specs.declared.worker_state.WorkerState.TheVariants.{Gone};
 ghost use Rattle.like_core.specs.PhaseMasks.{AreMasksOf};
 ghost use Rattle.like_requests.specs.Setup.{IsWithin};
+ghost use Rattle.like_seat.specs.StationView.{IsSliceInSplit};
 ghost use Rattle.like_roles.specs.worker.New.{IsNewAt, IsPostOf};
 ghost use Rattle.like_roles.specs.worker.Follows.{Follows, IsAskedBy, IsDone, IsWorkloadOf};
 ghost use Rattle.like_promises.specs.Workload.{Workload};
@@ -107,6 +108,7 @@ impl<P: Post> Worker<P> {
         ensures pending { Pends result self.new.worker }
         ensures retired { result ≡ Turn.Retired → self.new.worker.post.state ≡ Gone }
         ensures stash { 1 ≤ self.new.worker.held.capacity }
+        ensures slice { IsSliceInSplit self.new.worker.post self.new.worker.slice }
     {
         self.work.turn(&mut self.post, gate)
     }
@@ -130,6 +132,7 @@ impl<P: Post> Worker<P> {
         ensures takes { HasTaken self.old.worker taken self.new.worker }
         ensures settled { self.new.worker.pending ≡ None }
         ensures stash { 1 ≤ self.new.worker.held.capacity }
+        ensures slice { IsSliceInSplit self.new.worker.post self.new.worker.slice }
     {
         self.work.give(&mut self.post, gate, taken)
     }

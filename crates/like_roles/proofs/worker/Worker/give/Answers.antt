@@ -8,3 +8,6 @@ pub returns-clause-case : goal.returns-clause-case
 returns-clause-case g c =
     subst (λ (v : PostedWorker). Gives v.worker c.args.taken c.give.result
     (worker_at (g.P.Post.view c.give.new.post) c.give.new.self)) c.self.view_is c.give.ensures.case
+
+pub returns-clause-slice : goal.returns-clause-slice
+returns-clause-slice g c = c.give.ensures.ready.kept.seat.split

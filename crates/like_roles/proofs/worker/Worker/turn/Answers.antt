@@ -8,3 +8,6 @@ pub returns-clause-case : goal.returns-clause-case
 returns-clause-case g c =
     subst (λ (v : PostedWorker). Turns v.worker c.turn.result (worker_at (g.P.Post.view c.turn.new.post) c.turn.new.self))
     c.self.view_is c.turn.ensures.case
+
+pub returns-clause-slice : goal.returns-clause-slice
+returns-clause-slice g c = c.turn.ensures.ready.kept.seat.split
