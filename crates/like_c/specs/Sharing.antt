@@ -3,7 +3,7 @@ use Rattle.std.specs.Arc.{arc_value}
 use Rattle.std.specs.Global.{Global}
 use Rattle.std.specs.Prelude.{◌≡◌, ◌≢◌, ◌⊎◌, ℕ, false, length, replicate, List, [], IsSome, Option, Some, None}
 use Rattle.std_alloc.specs.declared.boxed.Box.{Box}
-use Rattle.told_lock.specs.Rights.{first_of}
+use Rattle.told_lock.specs.Rights.{first_of, told_of}
 use Rattle.like_live.specs.declared.open_error.OpenError.{OpenError}
 use Rattle.like_live.specs.declared.opening.Opening.{Opening}
 use Rattle.like_live.specs.Opening.{Asking, IsRefusedFor, asking}
@@ -25,12 +25,16 @@ use Rattle.like_c.specs.Status as status
 abbrev pub shared_hub : BoxedShared → Hub
 shared_hub b = arc_value b.hub
 
--- a service was opened as is asked for, no client has told anything, and its phase is there
+-- a service was opened as is asked for; no page was proposed; no client and no card is out, and none has told anything;
+-- and its phase is there
 pub record IsSharedAs (asked : Asking) (it : BoxedShared) : Type 0 where
   pub opening : Opening
   pub asks : asking opening ≡ asked
   pub opened : AreOpened opening (first_driver (shared_hub it).service) (first_seats (shared_hub it).service)
+  pub proposed : (first_driver (shared_hub it).service).splits.told ≡ []
   pub unused : IsUnused (first_of (shared_hub it).desk)
+  pub out : it.cards.out ≡ 0
+  pub told : told_of it.cards ≡ []
   pub phase : IsSome it.phase
 
 -- a shared service is opened as asked for, into an empty handle; or it is told what is wrong first, or that there is no
@@ -51,12 +55,13 @@ pub record KeepsShared (b c : BoxedShared) : Type 0 where
   pub hub : c.hub ≡ b.hub
   pub phase : c.phase ≡ b.phase
 
--- a new client of this service: it has told nothing, and holds no seat
+-- a new client of this service, with a card: it has told nothing, and holds no seat
 pub record IsNewClient (b : BoxedShared) (c : BoxedClient) : Type 0 where
   pub hub : hub_of c ≡ shared_hub b
   pub seats : seat_logs c.client ≡ replicate (seats_of (shared_hub b).service) []
   pub driver : driver_log c.client ≡ []
   pub held : held_by c.client ≡ replicate (seats_of (shared_hub b).service) false
+  pub card : IsSome c.card
 
 -- why no client is made: another thread is at the desk, or there is no memory
 abbrev pub IsNoClient : ℕ → Type 0
@@ -73,11 +78,11 @@ pub data OpensClient (from : Option BoxedShared) (to : Option BoxedClient) (resu
   client_made : (b d : BoxedShared) (c : BoxedClient) → to ≡ None → from ≡ Some b → KeepsShared b d → IsNewClient b c
       → result ≡ status.ok → left ≡ Some d → after ≡ Some c → OpensClient from to result left after
 
--- a client is parked, and its handle is empty; or another thread is at the desk, and the client stays
+-- a client is parked, and its handle is empty; or another thread is at the desk, and the client stays, with its card
 pub data ClosesClient (at : Option BoxedClient) (result : ℕ) (after : Option BoxedClient) : Type 0 where
   no_client : at ≡ None → result ≡ status.empty → after ≡ None → ClosesClient at result after
   stays : (b c : BoxedClient) → at ≡ Some b → result ≡ status.busy → c.hub ≡ b.hub → c.client ≡ b.client
-      → after ≡ Some c → ClosesClient at result after
+      → (IsSome b.card → IsSome c.card) → after ≡ Some c → ClosesClient at result after
   parks : (b : BoxedClient) → at ≡ Some b → result ≡ status.ok → after ≡ None → ClosesClient at result after
 
 -- the phase is taken, or it was taken before
@@ -98,6 +103,10 @@ pub data HandsSharedPhase (from : Option BoxedShared) (to : Option BoxedPhase) (
   phase_taken : (b d : BoxedShared) (p : BoxedPhase) → to ≡ None → from ≡ Some b → TakesSharedPhase b (Some p) d
       → result ≡ status.ok → left ≡ Some d → after ≡ Some p → HandsSharedPhase from to result left after
 
+-- why a service isn't closed: a client is open, not all seats are gone, or there is no memory
+abbrev pub IsNoEnd : ℕ → Type 0
+IsNoEnd result = (result ≡ status.open_client) ⊎ (result ≡ status.not_ended) ⊎ (result ≡ status.no_memory)
+
 -- a service is closed, with what is known of a closed hub; or it stays open, or is lost with a client, and the counts are
 -- as they were
 pub data ClosesShared (at : Option BoxedShared) (old : List ℕ) (result : ℕ) (counts : List ℕ)
@@ -106,9 +115,9 @@ pub data ClosesShared (at : Option BoxedShared) (old : List ℕ) (result : ℕ) 
       → ClosesShared at old result counts after
   close_pages : (b : BoxedShared) → at ≡ Some b → length old ≢ pages_of (shared_hub b).service
       → result ≡ status.wrong_pages → counts ≡ old → after ≡ at → ClosesShared at old result counts after
-  close_stays : (b d : BoxedShared) → at ≡ Some b → result ≢ status.counted → counts ≡ old → KeepsShared b d
+  close_stays : (b d : BoxedShared) → at ≡ Some b → IsNoEnd result → counts ≡ old → KeepsShared b d
       → after ≡ Some d → ClosesShared at old result counts after
-  close_lost : (b : BoxedShared) → at ≡ Some b → result ≢ status.counted → counts ≡ old → after ≡ None
+  close_lost : (b : BoxedShared) → at ≡ Some b → IsNoEnd result → counts ≡ old → after ≡ None
       → ClosesShared at old result counts after
   closes_hub : (b : BoxedShared) → at ≡ Some b → IsClosedHub (shared_hub b) counts → result ≡ status.counted
       → after ≡ None → ClosesShared at old result counts after

@@ -1,6 +1,6 @@
 //! A thread's client of a shared service, as it lies behind a handle.
 ghost use Rattle.std.specs.Arc.{arc_value};
-ghost use Rattle.std.specs.Prelude.{◌≡◌, ◌++◌, ◌+◌, ◌≤◌, ◌↔◌, [], ◌∷◌, IfErr, IfOk, IsTrue, MatchOption, MatchResult, length, ⊤};
+ghost use Rattle.std.specs.Prelude.{◌≡◌, ◌++◌, ◌+◌, ◌≤◌, ◌↔◌, [], ◌∷◌, IfErr, IfOk, IsSome, IsTrue, MatchOption, MatchResult, length};
 ghost use Rattle.told_lock.specs.Rights.{IsIdle, log_of};
 ghost use Rattle.like_shared.specs.declared.desk.DeskDeed.TheVariants.{Parked};
 ghost use Rattle.like_shared.specs.Hubs.{IsAtDesk};
@@ -40,6 +40,7 @@ impl BoxedClient {
         requires card { IsIdle (arc_value hub).desk card }
         ensures hub { IfOk result (λ b. hub_of b.value ≡ arc_value hub) }
         ensures client { IfOk result (λ b. b.value.client ≡ client) }
+        ensures card { IfOk result (λ b. IsSome b.value.card) }
         ensures refused { IfErr result IsNoClient }
     {
         let it = BoxedClient {
@@ -153,7 +154,8 @@ impl BoxedClient {
 
     /// The card, at the desk. `None`: another thread is there.
     pub(crate) fn enter(&mut self) -> Option<Card>
-        ensures card { MatchOption result ⊤ (λ card. IsAtDesk (hub_of self.old) card) }
+        ensures card { MatchOption result (IsSome self.old.card → IsSome self.new.card)
+            (λ card. IsAtDesk (hub_of self.old) card) }
         ensures client { self.new.client ≡ self.old.client }
         ensures hub { self.new.hub ≡ self.old.hub }
     {

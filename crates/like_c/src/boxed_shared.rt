@@ -1,6 +1,6 @@
 //! A service that threads share, as it lies behind a handle.
 ghost use Rattle.std.specs.Arc.{arc_value};
-ghost use Rattle.std.specs.Prelude.{◌≡◌, ◌≢◌, IfErr, IfOk, IsSome, OnOk, length};
+ghost use Rattle.std.specs.Prelude.{◌≡◌, IfErr, IfOk, IsSome, OnOk, length};
 ghost use Rattle.std.specs.Option.{option_map};
 ghost use Rattle.told_lock.specs.Rights.{IsKeeper};
 ghost use Rattle.like_live.specs.Opening.{IsRefusedFor};
@@ -29,8 +29,7 @@ pub struct BoxedShared {
 
 impl BoxedShared {
     ghost use Rattle.like_c.specs.Opened.{asked_of};
-    ghost use Rattle.like_c.specs.Sharing.{IsNewClient, IsNoClient, IsSharedAs, KeepsShared, TakesSharedPhase, shared_hub};
-    ghost use Rattle.like_c.specs.Status.{counted};
+    ghost use Rattle.like_c.specs.Sharing.{IsNewClient, IsNoClient, IsNoEnd, IsSharedAs, KeepsShared, TakesSharedPhase, shared_hub};
 
     /// Opens a service. Every number is tested before any memory is taken. The phase is boxed here, so that handing it
     /// out takes no memory.
@@ -57,7 +56,8 @@ impl BoxedShared {
     // What is behind the handle of a new hub.
     fn of_hub(alloc: Global, hub: Hub, cards: Cards) -> Result<Box<BoxedShared, Global>, OpenError>
         requires { IsKeeper hub.desk cards }
-        ensures opened { IfOk result (λ b. (shared_hub b.value ≡ hub) × IsSome b.value.phase) }
+        ensures opened { IfOk result (λ b. (shared_hub b.value ≡ hub) × (b.value.cards ≡ cards)
+            × IsSome b.value.phase) }
         ensures refused { IfErr result (λ error. error ≡ OpenError.Memory) }
     {
         let Ok(phase) = boxed_phase(alloc, hub.service().phase_now().share()) else {
@@ -113,7 +113,7 @@ impl BoxedShared {
 
     /// Whether its service can end, since no client is open, and all seats are gone. `Err`: a status says why not.
     pub(crate) fn check_end(&mut self, alloc: Global) -> Result<(), u32>
-        ensures refused { IfErr result (λ why. why ≢ counted) }
+        ensures refused { IfErr result IsNoEnd }
         ensures keeps { KeepsShared self.old self.new }
     {
         if Arc::strong_count(&self.hub) != 1 {
@@ -135,7 +135,7 @@ impl BoxedShared {
     pub(crate) fn end(self, counts: &mut [u64]) -> Result<(), u32>
         requires { length counts.old ≡ pages_of (shared_hub self).service }
         ensures closed { OnOk result (IsClosedHub (shared_hub self) counts.new) }
-        ensures refused { IfErr result (λ why. why ≢ counted) }
+        ensures refused { IfErr result IsNoEnd }
         ensures unchanged { IfErr result (λ _. counts.new ≡ counts.old) }
     {
         let BoxedShared { hub, .. } = self;

@@ -17,7 +17,7 @@ use Rattle.like_shared.specs.declared.service.ServiceKeeper.{ServiceKeeper}
 use Rattle.like_shared.specs.declared.service.SharedService.{SharedService}
 use Rattle.like_shared.specs.Closed.{AreEndsOf, IsClosedShared, LeadsTo, driver_end}
 use Rattle.like_shared.specs.Deeds.{DriverDoes, SeatDoes}
-use Rattle.like_shared.specs.Shared.{driver_told, first_driver, first_seats, seats_told}
+use Rattle.like_shared.specs.Shared.{AreBack, driver_told, first_driver, first_seats, seats_told}
 use Rattle.like_shared.specs.Strict.{SeatEnd, SharedServicesAreStrict, firsts, lasts}
 use Rattle.like_shared.proofs.Runs.{driver-runs, seat-runs}
 
@@ -53,14 +53,17 @@ leads-to keep s k driver back whole leads are = record {
 }
 
 pub closed-shared : SharedServicesAreStrict → (s : SharedService) (k : ServiceKeeper) (driver : DriverView)
-    (back : List LiveView) (counts : List ℕ) → LeadsTo s k driver back → IsClosedService driver back counts
-    → AreGone back → IsClosedShared s k counts
-closed-shared law s k driver back counts leads closed gone =
+    (back : List LiveView) (counts : List ℕ) → AreBack k → LeadsTo s k driver back
+    → IsClosedService driver back counts → AreGone back → IsClosedShared s k counts
+closed-shared law s k driver back counts are_back leads closed gone =
     let are = leads.seats_lead in
     record {
       driver = driver;
       seats = back;
+      back = are_back;
       leads = leads;
+      gone = gone;
+      closed = closed;
       strict = λ o opened.
           law o (driver_end leads) are.ends counts
           (subst (AreOpened o (first_driver s)) (sym are.firsts_are) opened)

@@ -1,23 +1,18 @@
 -- The end of a shared service.
-use Rattle.std.specs.Prelude.{◌≡◌, ℕ, All, List, map}
+use Rattle.std.specs.Prelude.{◌≡◌, ℕ, List, map}
 use Rattle.told_lock.specs.Deeds.{Leads, Named}
 use Rattle.like_live.specs.declared.opening.Opening.{Opening}
 use Rattle.like_live.specs.Driver.{DriverView}
 use Rattle.like_live.specs.LiveView.{LiveView}
-use Rattle.like_live.specs.Service.{AreGone, AreItsSeats, AreOpened}
+use Rattle.like_live.specs.Service.{AreGone, AreItsSeats, AreOpened, IsClosedService}
 use Rattle.like_shared.specs.declared.deed.SeatDeed.{SeatDeed}
 use Rattle.like_shared.specs.declared.service.NotClosed.{NotClosed}
 use Rattle.like_shared.specs.declared.service.NotClosed.TheVariants.{ClientOut, SeatNotGone}
 use Rattle.like_shared.specs.declared.service.ServiceKeeper.{ServiceKeeper}
 use Rattle.like_shared.specs.declared.service.SharedService.{SharedService}
 use Rattle.like_shared.specs.Deeds.{DriverDoes}
-use Rattle.like_shared.specs.Shared.{driver_told, first_driver, first_seats, seats_told}
+use Rattle.like_shared.specs.Shared.{AreBack, driver_told, first_driver, first_seats, seats_told}
 use Rattle.like_shared.specs.Strict.{DriverEnd, IsStrictlyShared, SeatEnd, firsts, lasts}
-
--- no client is out
-pub record AreBack (k : ServiceKeeper) : Type 0 where
-  pub driver : k.driver.out ≡ 0
-  pub seats : All (λ s. s.out ≡ 0) k.seats.items
 
 -- what clients told of seats leads from these to those
 pub record AreEndsOf (first : List LiveView) (told : List (Named SeatDeed)) (last : List LiveView) : Type 0 where
@@ -38,11 +33,15 @@ abbrev pub driver_end : {s : SharedService} {k : ServiceKeeper} {driver : Driver
 driver_end {s} {k} {driver} it =
     record { first = first_driver s; last = driver; told = driver_told k; leads = it.driver_leads }
 
--- a shared service is closed: however it was opened, one thread could have done all that its clients told
+-- a shared service is closed, with no client out and all seats gone: however it was opened, one thread could have done all
+-- that its clients told
 pub record IsClosedShared (s : SharedService) (k : ServiceKeeper) (counts : List ℕ) : Type 0 where
   pub driver : DriverView
   pub seats : List LiveView
+  pub back : AreBack k
   pub leads : LeadsTo s k driver seats
+  pub gone : AreGone seats
+  pub closed : IsClosedService driver seats counts
   pub strict : (o : Opening) → AreOpened o (first_driver s) (first_seats s)
       → IsStrictlyShared o (driver_end leads) leads.seats_lead.ends counts
 

@@ -105,7 +105,13 @@ with_logs (told ∷ rest) (p ∷ passes) = (told ++ named (name_of p.pass) (log_
 abbrev pub HasRoom : Keeper LiveView SeatDeed → Type 0
 HasRoom k = k.out + 1 < 2 ^ 64
 
--- no client has told anything yet
+-- no client is out
+pub record AreBack (k : ServiceKeeper) : Type 0 where
+  pub driver : k.driver.out ≡ 0
+  pub seats : All (λ s. s.out ≡ 0) k.seats.items
+
+-- no client is out, and none has told anything yet
 pub record IsUnused (k : ServiceKeeper) : Type 0 where
+  pub back : AreBack k
   pub seats : All (λ s. told_of s ≡ []) k.seats.items
   pub driver : driver_told k ≡ []

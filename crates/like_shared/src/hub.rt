@@ -52,6 +52,7 @@ impl Hub {
     pub fn open(alloc: Global, opening: &Opening) -> Result<(Hub, Cards), OpenError>
         ensures opened { IfOk result (λ r. AreOpened opening.now (first_driver r.0.service) (first_seats r.0.service)) }
         ensures unused { IfOk result (λ r. IsUnused (first_of r.0.desk)) }
+        ensures proposed { IfOk result (λ r. (first_driver r.0.service).splits.told ≡ []) }
         ensures cards { IfOk result (λ r. IsKeeper r.0.desk r.1) }
         ensures out { IfOk result (λ r. r.1.out ≡ 0) }
         ensures told { IfOk result (λ r. told_of r.1 ≡ []) }

@@ -62,6 +62,7 @@ impl SharedService {
         ensures opened { IfOk result (λ r. AreOpened opening.now (first_driver r.0) (first_seats r.0)) }
         ensures keeper { IfOk result (λ r. IsServiceKeeper r.0 r.1) }
         ensures unused { IfOk result (λ r. IsUnused r.1) }
+        ensures proposed { IfOk result (λ r. (first_driver r.0).splits.told ≡ []) }
         ensures refused { IfErr result (IsRefused opening.now) }
     {
         let Service { driver, seats } = Service::open(alloc, opening)?;
@@ -137,6 +138,7 @@ fn lock_all(
     ensures seats { IfOk result (λ locks. map first_of locks.items ≡ seats.items) }
     ensures keepers { IfOk result (λ locks. AllZip IsKeeper locks.items keepers.new.items) }
     ensures told { IfOk result (λ _. All (λ k. told_of k ≡ []) keepers.new.items) }
+    ensures out { IfOk result (λ _. All (λ k. k.out ≡ 0) keepers.new.items) }
 {
     let mut locks = Vec::new(alloc);
     for seat in seats {

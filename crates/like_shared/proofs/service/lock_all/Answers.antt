@@ -27,4 +27,6 @@ loop-seat-preserved c =
           c.in_ok-lock.ensures.keeper;
       told = subst (All (λ k. told_of k ≡ [])) (sym keepers)
           (All-push (λ k. told_of k ≡ []) l.keepers.items keeper l.invariant.told c.in_ok-lock.ensures.told);
+      out = subst (All (λ k. k.out ≡ 0)) (sym keepers)
+          (All-push (λ k. k.out ≡ 0) l.keepers.items keeper l.invariant.out c.in_ok-lock.ensures.out);
     }

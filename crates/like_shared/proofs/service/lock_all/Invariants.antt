@@ -8,4 +8,5 @@ invariant-loop-seat l = record {
   seats : map first_of l.locks.items ≡ l.yielded;
   keepers : AllZip IsKeeper l.locks.items l.keepers.items;
   told : All (λ k. told_of k ≡ []) l.keepers.items;
+  out : All (λ k. k.out ≡ 0) l.keepers.items;
 }

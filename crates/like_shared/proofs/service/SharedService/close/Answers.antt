@@ -25,7 +25,7 @@ returns-in-Ok-clause-closed c =
     let k = c.args.keeper in
     let driver = c.close-driver.result in
     let back = c.close_all.new.back.items in
-    closed-shared c.shared_services_are_strict.ensures s k driver back c.close.new.counts
+    closed-shared c.shared_services_are_strict.ensures s k driver back c.close.new.counts c.if-not-are_back.ensures
     (leads-to c.calls_keep_seats.ensures s k driver back c.requires.keeper.whole c.close-driver.ensures
     c.close_all.ensures)
     c.in-Ok.ensures.closed c.in-Ok.ensures.gone
