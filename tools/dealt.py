@@ -196,7 +196,7 @@ class Dealt:
                 self.read, whats = batch.read, whats_of[batch.reader]
                 whats += self.new_of(batch, len(whats))
                 columns = [list(map(whats.__getitem__, batch.numbers)), self.numbers_of(batch)]
-                columns += [batch.periods] if batch.periods else []
+                columns += [batch.periods] if batch.periods is not None else []
                 self.take(merged.add(batch, columns) if merged else columns)
         if merged:
             self.take(merged.ready())

@@ -410,6 +410,20 @@ CASES = {
         {"ann": "/b"},
         ["left out 1, before --since: ", "left out 1, at --until or later: ", "left out 1, no time that can be read: "],
     ),
+    "by hour, of two logs, where all that is read at first of one is left out": (
+        {"a.log": line("x - ann", "old") * 4000 + line("x - ann", "a", 3600), "b.log": line("x - ann", "b", 3601)},
+        f"{WEB} --since 2026-11-27T10:00 --by hour",
+        {"/a": 1, "/b": 1},
+        {"ann": "/b"},
+        ["2026-11-27T10,1,/a,1\n2026-11-27T10,2,/b,1\n", "left out 4000, before --since: "],
+    ),
+    "by day, with a page that is only looked at": (
+        {"a.log": line("x - ann") + line("x - ann", "b").replace("POST", "GET")},
+        f"{WEB} --look 'GET /like(/.)' --by day",
+        {"/a": 1, "/b": 0},
+        {"ann": "/a"},
+        ["likes 1, looks 1, "],
+    ),
 }
 
 # The likes of two hours, and how they are printed.
