@@ -379,8 +379,8 @@ class Json(Web):
         self.leave_out(NO_FIELD if is_object else TORN if text.lstrip().startswith("{") else NO_OBJECT, line, text)
 
     def time_of(self, block):
-        lines, end, _ = block[: reading.BLOCK >> 4].rpartition(b"\n")
-        _, _, times, *_ = self.columns_of((lines + end).decode(errors=reading.ESCAPED))
+        end = block.rfind(b"\n", 0, reading.BLOCK >> 4) + 1 or block.find(b"\n") + 1
+        _, _, times, *_ = self.columns_of(block[:end].decode(errors=reading.ESCAPED))
         return self.first_of(times)
 
 

@@ -369,6 +369,19 @@ CASES = {
         {"ann": "/a"},
         [],
     ),
+    "a long line of JSON in one of two logs": (
+        {
+            "a.log": "".join(
+                f'{{"ts": {1795770002 + n}, "uri": "{"x" * 20000 * (not n)}", "request": "POST /like/a", "user_id": "ann", "status": 200}}\n'
+                for n in range(2)
+            ),
+            "b.log": '{"ts": 1795770001, "request": "POST /like/b", "user_id": "ann", "status": 200}\n',
+        },
+        JSON,
+        {"/a": 2, "/b": 1},
+        {"ann": "/a"},
+        ["taken in the order of their first times: b.log, a.log\n"],
+    ),
     "JSON with other fields": (
         {"a.log": '{"who": {"name": "ann"}, "http.line": "POST /like/a", "code": 201}\n'},
         f"{JSON} --fields user=who.name,request=http.line,status=code",
