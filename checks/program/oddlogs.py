@@ -202,6 +202,16 @@ CASES = {
         {"ann": "new"},
         ["taken in the order of their first times: b.csv, a.csv\n"],
     ),
+    "CSV by the time of a database": (
+        {
+            "a.csv": "op,user,page,t\nlike,ann,new,2026-11-28 10:30:00+01\nlike,bob,new,9999-12-31 23:59:59.9999999\n",
+            "b.csv": "op,user,page,t\nlike,ann,old,2026-11-28 09:00:00.123456+00\n",
+        },
+        "--time t",
+        {"new": 2, "old": 1},
+        {"ann": "new", "bob": "new"},
+        ["kept 1, no time that can be read, so at the time before: the first is line 3 of a.csv, "],
+    ),
     "CSV by a time that can't be read": (
         {"a.csv": "op,user,page,t\nlike,ann,new,28.11.26\n", "b.csv": "op,user,page,t\nlike,ann,old,27.11.26\n"},
         "--time t",
