@@ -183,12 +183,16 @@ class Web(reading.Log):
     def begin(self):
         super().begin()
         self.meanings = Meanings(self)
+        self.note_files()
+
+    def note_files(self):
+        """Notes how the files are, if all are files: each process, and each reading, takes the same of them."""
+        if not self.stats and all(name != "-" and os.path.isfile(name) for name in self.names):
+            self.stats = {name: os.stat(name) for name in self.names}
 
     def readers(self):
-        if not all(name != "-" and os.path.isfile(name) for name in self.names):
-            return 1
-        self.sizes = {name: os.path.getsize(name) for name in self.names}
-        return max(1, min(reading.MOST, len(os.sched_getaffinity(0)) - 1))
+        self.note_files()
+        return max(1, min(reading.MOST, len(os.sched_getaffinity(0)) - 1)) if self.stats else 1
 
     def found(self):
         return {**super().found(), "matched": self.meanings.matched, "first": self.meanings.first}
