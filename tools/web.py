@@ -132,7 +132,7 @@ class Meanings(Cache):
 
     def page_of(self, match):
         """The page that a request names. Its query is taken off, or else what the page is without it is noted."""
-        begin, end = match.span("page" if "page" in match.re.groupindex else 1)
+        begin, end = match.span(page_group(match.re))
         asked = match.string.find("?", begin + 1, end)
         if asked < 0:
             return self.decoded(match.string, begin, end)
@@ -462,10 +462,16 @@ def expression(text):
         raise argparse.ArgumentTypeError(f"{shown(text)} is not a regular expression: {error}") from None
 
 
+def page_group(found):
+    """The group of a regular expression that is the page: the one named so, or else the first that isn't the user."""
+    numbers = (number for number in range(1, found.groups + 1) if number != found.groupindex.get("user"))
+    return found.groupindex.get("page") or next(numbers, None)
+
+
 def pattern(text):
     """A regular expression with a group for the page."""
     found = expression(text)
-    if not found.groups:
+    if page_group(found) is None:
         raise argparse.ArgumentTypeError(f"{shown(text)} has no group for the page, as in 'POST /like(/\\S*)'")
     return found
 

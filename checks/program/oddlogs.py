@@ -297,6 +297,13 @@ CASES = {
         {"ann": "/a"},
         ["2 of 7 pages differ from others by their query alone: --no-query takes it off\n"],
     ),
+    "a page behind its user": (
+        {"a.log": line("x - -", "?user=ann&to=%2Fa") + line("x - -", "?user=bob&to=b")},
+        r"--combined --like 'POST /like/\?user=(?P<user>[^& ]+)&to=([^& ]+)'",
+        {"/a": 1, "b": 1},
+        {"ann": "/a", "bob": "b"},
+        [],
+    ),
     "no queries": (
         {"a.log": line("x - ann", "a?utm_source=1") + line("x - ann", "a%3Fb") + line("x - ann")},
         WEB.replace("[^? ]*", r"\S*") + " --no-query",
