@@ -10,7 +10,7 @@ import re
 import ahead
 import merge
 import rows
-from command import Fault, shown, write
+from command import Fault, named, shown, write
 
 # The most pages, files, requests in a file and users that the program takes, and the most bytes in a page's name.
 PAGES, FILES, REQUESTS, USERS, NAME = 1024, 64, 1000000, 1000000, 64
@@ -208,7 +208,7 @@ class Dealt:
         numbers = list(map(self.users.__getitem__, batch.users))
         while len(self.users) > self.crowds * USERS:
             if not self.are_joined:
-                why = f"more than {USERS} users: take tools/log, which makes several runs"
+                why = named(f"more than {USERS} users: take tools/log, which makes several runs")
                 raise self.log.fault(self.line_past(batch), why)
             self.add_crowd()
         return numbers
