@@ -9,6 +9,7 @@ import os
 import signal
 
 from command import SIGNALS, Fault
+from reading import CHANGED
 
 # How many bytes the length of a batch has, and how many the pipe holds.
 LENGTH, ROOM = 8, 1 << 20
@@ -91,7 +92,7 @@ def taken(files, log):
     # There was no turn left for any of them.
     others = [take(file, log) for place, file in enumerate(files) if place != reader]
     if not all(isinstance(other, dict) for other in others):
-        raise Fault(f"{log}: it changed while it was read")
+        raise Fault(f"{log}: {CHANGED}")
     log.join([*others[:reader], value, *others[reader:]])
     log.judge()
 

@@ -11,6 +11,7 @@ import contextlib
 import errno
 import os
 import re
+import shlex
 import shutil
 import sys
 import threading
@@ -20,6 +21,9 @@ if sys.version_info < (3, 9):
 
 # The version of the release that the tools are of, which tools/release writes beside them.
 VERSION = f"{os.path.dirname(os.path.realpath(__file__))}/version"
+
+# The program, relative to this folder: in the repository, and in a release.
+PROGRAMS = ["../likes", "../../../bin/likes"]
 
 # The signals at which a tool cleans up before it ends, and the exit status at a closed pipe, as for that signal.
 SIGNALS = (signal.SIGHUP, signal.SIGINT, signal.SIGTERM)
@@ -51,8 +55,39 @@ def version():
         return "of the repository, not of a release"
 
 
+def is_release():
+    """Whether the tool has the name of a release's command."""
+    return os.path.basename(sys.argv[0]).startswith("likes-")
+
+
+def named(text):
+    """A text in which the tools have their names: a release has them under other ones."""
+    return re.sub(r"\btools/(?=[a-z])", "likes-", text) if is_release() else text
+
+
+def beside(tool):
+    """What calls another tool from where this one was called, as a shell's word."""
+    name = f"likes-{tool}" if is_release() else tool
+    if is_release() and shutil.which(name):
+        return name
+    path = f"{os.path.dirname(sys.argv[0]) or '.'}/{name}"
+    return shlex.quote(path if os.access(path, os.X_OK) else f"{os.path.dirname(os.path.realpath(__file__))}/{tool}")
+
+
+def program():
+    """The program beside the tools, or on the path, or none."""
+    here = os.path.dirname(os.path.realpath(__file__))
+    found = (shutil.which(os.path.normpath(f"{here}/{place}")) for place in PROGRAMS)
+    return next(filter(None, found), shutil.which("likes"))
+
+
 class Parser(argparse.ArgumentParser):
     """A parser whose help is output: a fault if it can't be printed."""
+
+    def add_argument(self, *names, **options):
+        if options.get("help"):
+            options["help"] = named(options["help"])
+        return super().add_argument(*names, **options)
 
     def _print_message(self, message, file=None):
         if file is sys.stdout:
@@ -62,10 +97,8 @@ class Parser(argparse.ArgumentParser):
 
 
 def options(text):
-    """The options of a tool, with its docstring as help. A release has the tools under other names."""
-    if os.path.basename(sys.argv[0]).startswith("likes-"):
-        text = re.sub(r"\btools/(?=[a-z])", "likes-", text)
-    parser = Parser(description=text, formatter_class=argparse.RawDescriptionHelpFormatter)
+    """The options of a tool, with its docstring as help."""
+    parser = Parser(description=named(text), formatter_class=argparse.RawDescriptionHelpFormatter)
     parser.add_argument("--version", action="version", version=f"%(prog)s {version()}", help="print the version")
     return parser
 

@@ -10,7 +10,7 @@ import re
 import ahead
 import merge
 import rows
-from command import Fault, shown, write
+from command import Fault, named, shown, write
 
 # The most pages, files, requests in a file and users that the program takes, and the most bytes in a page's name.
 PAGES, FILES, REQUESTS, USERS, NAME = 1024, 64, 1000000, 1000000, 64
@@ -196,7 +196,7 @@ class Dealt:
                 self.read, whats = batch.read, whats_of[batch.reader]
                 whats += self.new_of(batch, len(whats))
                 columns = [list(map(whats.__getitem__, batch.numbers)), self.numbers_of(batch)]
-                columns += [batch.periods] if batch.periods else []
+                columns += [batch.periods] if batch.periods is not None else []
                 self.take(merged.add(batch, columns) if merged else columns)
         if merged:
             self.take(merged.ready())
@@ -208,7 +208,7 @@ class Dealt:
         numbers = list(map(self.users.__getitem__, batch.users))
         while len(self.users) > self.crowds * USERS:
             if not self.are_joined:
-                why = f"more than {USERS} users: take tools/log, which makes several runs"
+                why = named(f"more than {USERS} users: take tools/log, which makes several runs")
                 raise self.log.fault(self.line_past(batch), why)
             self.add_crowd()
         return numbers

@@ -42,13 +42,13 @@ def add_options(parser):
         times, CSV files without --time in the order in which they are named"""
     parser.add_argument("log", metavar="LOG", nargs="+", help=logs)
     like = """which requests are likes. Of a web server's log a regular expression for the front of a request, such as
-        'POST /like(/[^? ]*)': the group named page, or else the first, is the page; a group named user is the user. Of
-        a CSV file the word for a like (default like)"""
+        'POST /like(/[^? ]*)': a group named user is the user; the one named page, or else the first other one, is the
+        page. Of a CSV file the word for a like (default like)"""
     parser.add_argument("--like", metavar="PATTERN", help=like)
     parser.add_argument("--look", metavar="PATTERN", help="which requests are looks, in the same way (default look)")
     parser.add_argument("--no-query", action="store_true", help="take off what follows a page's first question mark")
     since = """leave out requests before this time, such as 2026-11-27 or 2026-11-27T09:00. All times are those that
-        clocks showed where the log was written"""
+        clocks showed where the log was written, and in UTC where it has seconds since 1970"""
     parser.add_argument("--since", metavar="TIME", type=stamps.moment, help=since)
     parser.add_argument("--until", metavar="TIME", type=stamps.moment, help="leave out requests at this time or later")
     tables.add_options(parser)
@@ -82,8 +82,9 @@ def log_of(words, parser):
     columns = (words.columns or rows.REQUESTS).split(",")
     if len(columns) != 3:
         parser.error(f"--columns takes three names, not {shown(words.columns)}")
-    if all(name.isdigit() for name in columns) and "0" in columns:
-        parser.error("--columns are numbered from 1")
+    numbered = [*columns, *filter(None, [words.time])]
+    if all(name.isdecimal() for name in numbered) and not all(map(int, numbered)):
+        parser.error("--columns and --time are numbered from 1")
     if (words.like or "like") == (words.look or "look"):
         parser.error("--like and --look are the same word")
     if not words.time and any((words.by, words.since is not None, words.until is not None)):

@@ -37,6 +37,9 @@ NUL = "%00"
 LONG = f"a line of more than {LONGEST} bytes"
 NO_TIME, EARLY, LATE = "no time that can be read", "before --since", "at --until or later"
 
+# What is said of a log that isn't what it was when it was first read.
+CHANGED = "it changed while it was read"
+
 # What is told of lines without a time where only the order of logs needs it.
 TIMELESS = f"{NO_TIME}, so at the time before"
 
@@ -74,7 +77,7 @@ class Log:
         self.has_requests = False
         self.idle = []  # what is said of patterns that match no request
         self.turn = self.sharers = 1  # which of the processes that share the log this is, and how many there are
-        self.sizes = {}  # of logs that are shared, which may grow: how much of each is read
+        self.stats = {}  # of logs that may be shared: how each was at first, since it may grow, or be rotated
 
     def __str__(self):
         more = f" and {len(self.names) - 1} more" if len(self.names) > 1 else ""
@@ -143,7 +146,7 @@ class Log:
         """A log in pieces of whole lines, each with the number of its first. Of a line that is too long, the piece is
         its beginning, as text."""
         rest, line, is_long = b"", 1, False
-        left = self.sizes.get(self.name, math.inf) if rows.is_plain(file, self.file) else math.inf
+        left = self.stats[self.name].st_size if self.name in self.stats and rows.is_plain(file, self.file) else math.inf
         while block := file.read(min(BLOCK, left)):
             left -= len(block)
             block = block.removeprefix(codecs.BOM_UTF8) if line == 1 and not rest else block
@@ -165,6 +168,8 @@ class Log:
             if len(rest) > LONGEST:
                 yield line, shown_of(rest)
                 line, rest, is_long = line + 1, b"", True
+        if 0 < left < math.inf:
+            raise Fault(f"{self.name}: {CHANGED}")
         if rest:
             yield line, rest + b"\n"
 
@@ -176,6 +181,9 @@ class Log:
         """The pieces of a log, each after its time, or that of a piece before if it has none or an earlier one."""
         self.name = self.names[place]
         with rows.opened(self.name) as (file, self.file):
+            was = self.stats.get(self.name)
+            if was and not os.path.samestat(was, os.fstat(self.file.fileno())):
+                raise Fault(f"{self.name}: {CHANGED}")
             for line, piece in self.pieces_in(file):
                 if self.is_merged() and not isinstance(piece, str):
                     least = max(least, self.time_of(piece))

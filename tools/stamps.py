@@ -1,6 +1,7 @@
 """The times of requests, as logs write them."""
 
 import argparse
+import contextlib
 import datetime
 import math
 import re
@@ -8,10 +9,11 @@ import re
 from cache import Cache
 from command import shown
 
-# A web server's time, such as 27/Nov/2026:09:00:01 +0000, and one of ISO 8601, such as 2026-11-27T09:00:01.250Z.
+# A web server's time, such as 27/Nov/2026:09:00:01 +0000, and one of ISO 8601, such as 2026-11-27T09:00:01.250Z, whose
+# offset may have hours alone, as PostgreSQL writes it.
 SERVER = re.compile(r"(\d\d)/([A-Z][a-z]{2})/(\d{4}):(\d\d):(\d\d):(\d\d)(\.\d+)?(?: ?([+-]\d\d):?(\d\d))?")
 ISO = re.compile(
-    r"(\d{4})-(\d\d)-(\d\d)(?:[T ](\d\d):(\d\d)(?::(\d\d)(?:[.,](\d+))?)?)? ?(?:Z|UTC|([+-]\d\d):?(\d\d))?"
+    r"(\d{4})-(\d\d)-(\d\d)(?:[T ](\d\d):(\d\d)(?::(\d\d)(?:[.,](\d+))?)?)? ?(?:Z|UTC|([+-]\d\d)(?::?(\d\d))?)?"
 )
 # A time of a spreadsheet, such as 27.11.2026 09:00.
 DOTTED = re.compile(r"(\d\d?)\.(\d\d?)\.(\d{4})(?: (\d\d?):(\d\d)(?::(\d\d))?)?")
@@ -31,8 +33,8 @@ def seconds_of(day, clock, part, zone):
     """The seconds since 1970, and those that the wall clock shows."""
     hour, minute, second = (int(text or 0) for text in clock)
     wall = (datetime.datetime(*map(int, day), hour, minute, min(second, 59)) - EPOCH).total_seconds()
-    wall += float(f"0.{part or 0}")
-    hours, minutes = (int(text or 0) for text in zone)
+    wall += float(f"0.{(part or '0')[:6]}")  # a smaller part may round up to the next second
+    hours, minutes = (float(text or 0) for text in zone)  # -00 has a sign
     return wall - 3600 * hours - math.copysign(60 * minutes, hours), wall
 
 
@@ -42,7 +44,8 @@ def read(text):
         if found := SERVER.fullmatch(text):
             day, month, year, *clock, part, hours, minutes = found.groups()
             return seconds_of((year, MONTHS.index(month) + 1, day), clock, (part or "")[1:], (hours, minutes))
-        if found := ISO.fullmatch(text):
+        found = ISO.fullmatch(text)
+        if found and (found[4] or found[9] or not found[8]):  # behind a day alone, -09 may be an hour
             return seconds_of(found.groups()[:3], found.groups()[3:6], found[7], found.groups()[7:])
         if found := DOTTED.fullmatch(text):
             day, month, year, *clock = found.groups()
@@ -66,10 +69,14 @@ class Stamps(Cache):
         self.form = PERIODS.get(by, "")
 
     def __missing__(self, text):
-        at, wall = read(text) or (-math.inf, None)
-        period = (EPOCH + datetime.timedelta(seconds=wall)).strftime(self.form) if wall is not None else None
-        self[text] = at, wall, period
+        self[text] = self.known(text) or (-math.inf, None, None)
         return self[text]
+
+    def known(self, text):
+        """These of a time, or none. Its fraction may round up to the year 10000."""
+        found = read(text)
+        with contextlib.suppress(OverflowError):
+            return found and (*found, (EPOCH + datetime.timedelta(seconds=found[1])).strftime(self.form))
 
 
 def moment(text):

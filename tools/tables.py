@@ -137,7 +137,7 @@ class Table(reading.Log):
         self.columns = [*columns, words.time] if words.time else columns
         self.is_strict, self.delimiter = words.strict, words.delimiter
         self.has_times = words.time is not None
-        self.has_header = not all(name.isdigit() for name in self.columns)
+        self.has_header = not all(name.isdecimal() for name in self.columns)
         self.ops = {words.look or "look": "look", words.like or "like": "like"}
         self.wrong_op = f"{self.op} is not {words.like or 'like'} or {words.look or 'look'}"
         self.meanings = Meanings(self)

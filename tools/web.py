@@ -132,7 +132,7 @@ class Meanings(Cache):
 
     def page_of(self, match):
         """The page that a request names. Its query is taken off, or else what the page is without it is noted."""
-        begin, end = match.span("page" if "page" in match.re.groupindex else 1)
+        begin, end = match.span(page_group(match.re))
         asked = match.string.find("?", begin + 1, end)
         if asked < 0:
             return self.decoded(match.string, begin, end)
@@ -183,12 +183,16 @@ class Web(reading.Log):
     def begin(self):
         super().begin()
         self.meanings = Meanings(self)
+        self.note_files()
+
+    def note_files(self):
+        """Notes how the files are, if all are files: each process, and each reading, takes the same of them."""
+        if not self.stats and all(name != "-" and os.path.isfile(name) for name in self.names):
+            self.stats = {name: os.stat(name) for name in self.names}
 
     def readers(self):
-        if not all(name != "-" and os.path.isfile(name) for name in self.names):
-            return 1
-        self.sizes = {name: os.path.getsize(name) for name in self.names}
-        return max(1, min(reading.MOST, len(os.sched_getaffinity(0)) - 1))
+        self.note_files()
+        return max(1, min(reading.MOST, len(os.sched_getaffinity(0)) - 1)) if self.stats else 1
 
     def found(self):
         return {**super().found(), "matched": self.meanings.matched, "first": self.meanings.first}
@@ -379,8 +383,8 @@ class Json(Web):
         self.leave_out(NO_FIELD if is_object else TORN if text.lstrip().startswith("{") else NO_OBJECT, line, text)
 
     def time_of(self, block):
-        lines, end, _ = block[: reading.BLOCK >> 4].rpartition(b"\n")
-        _, _, times, *_ = self.columns_of((lines + end).decode(errors=reading.ESCAPED))
+        end = block.rfind(b"\n", 0, reading.BLOCK >> 4) + 1 or block.find(b"\n") + 1
+        _, _, times, *_ = self.columns_of(block[:end].decode(errors=reading.ESCAPED))
         return self.first_of(times)
 
 
@@ -458,10 +462,16 @@ def expression(text):
         raise argparse.ArgumentTypeError(f"{shown(text)} is not a regular expression: {error}") from None
 
 
+def page_group(found):
+    """The group of a regular expression that is the page: the one named so, or else the first that isn't the user."""
+    numbers = (number for number in range(1, found.groups + 1) if number != found.groupindex.get("user"))
+    return found.groupindex.get("page") or next(numbers, None)
+
+
 def pattern(text):
     """A regular expression with a group for the page."""
     found = expression(text)
-    if not found.groups:
+    if page_group(found) is None:
         raise argparse.ArgumentTypeError(f"{shown(text)} has no group for the page, as in 'POST /like(/\\S*)'")
     return found
 

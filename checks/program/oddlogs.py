@@ -202,6 +202,16 @@ CASES = {
         {"ann": "new"},
         ["taken in the order of their first times: b.csv, a.csv\n"],
     ),
+    "CSV by the time of a database": (
+        {
+            "a.csv": "op,user,page,t\nlike,ann,new,2026-11-28 10:30:00+01\nlike,bob,new,9999-12-31 23:59:59.9999999\n",
+            "b.csv": "op,user,page,t\nlike,ann,old,2026-11-28 09:00:00.123456+00\n",
+        },
+        "--time t",
+        {"new": 2, "old": 1},
+        {"ann": "new", "bob": "new"},
+        ["kept 1, no time that can be read, so at the time before: the first is line 3 of a.csv, "],
+    ),
     "CSV by a time that can't be read": (
         {"a.csv": "op,user,page,t\nlike,ann,new,28.11.26\n", "b.csv": "op,user,page,t\nlike,ann,old,27.11.26\n"},
         "--time t",
@@ -287,6 +297,13 @@ CASES = {
         {"ann": "/a"},
         ["2 of 7 pages differ from others by their query alone: --no-query takes it off\n"],
     ),
+    "a page behind its user": (
+        {"a.log": line("x - -", "?user=ann&to=%2Fa") + line("x - -", "?user=bob&to=b")},
+        r"--combined --like 'POST /like/\?user=(?P<user>[^& ]+)&to=([^& ]+)'",
+        {"/a": 1, "b": 1},
+        {"ann": "/a", "bob": "b"},
+        [],
+    ),
     "no queries": (
         {"a.log": line("x - ann", "a?utm_source=1") + line("x - ann", "a%3Fb") + line("x - ann")},
         WEB.replace("[^? ]*", r"\S*") + " --no-query",
@@ -369,6 +386,19 @@ CASES = {
         {"ann": "/a"},
         [],
     ),
+    "a long line of JSON in one of two logs": (
+        {
+            "a.log": "".join(
+                f'{{"ts": {1795770002 + n}, "uri": "{"x" * 20000 * (not n)}", "request": "POST /like/a", "user_id": "ann", "status": 200}}\n'
+                for n in range(2)
+            ),
+            "b.log": '{"ts": 1795770001, "request": "POST /like/b", "user_id": "ann", "status": 200}\n',
+        },
+        JSON,
+        {"/a": 2, "/b": 1},
+        {"ann": "/a"},
+        ["taken in the order of their first times: b.log, a.log\n"],
+    ),
     "JSON with other fields": (
         {"a.log": '{"who": {"name": "ann"}, "http.line": "POST /like/a", "code": 201}\n'},
         f"{JSON} --fields user=who.name,request=http.line,status=code",
@@ -409,6 +439,20 @@ CASES = {
         {"/b": 1},
         {"ann": "/b"},
         ["left out 1, before --since: ", "left out 1, at --until or later: ", "left out 1, no time that can be read: "],
+    ),
+    "by hour, of two logs, where all that is read at first of one is left out": (
+        {"a.log": line("x - ann", "old") * 4000 + line("x - ann", "a", 3600), "b.log": line("x - ann", "b", 3601)},
+        f"{WEB} --since 2026-11-27T10:00 --by hour",
+        {"/a": 1, "/b": 1},
+        {"ann": "/b"},
+        ["2026-11-27T10,1,/a,1\n2026-11-27T10,2,/b,1\n", "left out 4000, before --since: "],
+    ),
+    "by day, with a page that is only looked at": (
+        {"a.log": line("x - ann") + line("x - ann", "b").replace("POST", "GET")},
+        f"{WEB} --look 'GET /like(/.)' --by day",
+        {"/a": 1, "/b": 0},
+        {"ann": "/a"},
+        ["likes 1, looks 1, "],
     ),
 }
 
