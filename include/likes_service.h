@@ -201,7 +201,8 @@ size_t likes_service_split_pages(likes_service *service, uint32_t *pages, size_t
 
 /* Takes a seat's lock. Until likes_service_unlock, the seat is this thread's, which may make any call of likes_seat_* on
  * it: in another thread they answer LIKES_NOT_LOCKED. NULL, and nothing is done, where likes_service_seat_fault isn't
- * LIKES_OK: a thread holds one seat of a service at a time. */
+ * LIKES_OK: a thread holds one seat of a service at a time. It unlocks the seat before it ends, or no phase changes any
+ * more. */
 likes_seat *likes_service_lock(likes_service *service, uint32_t number);
 
 /* Gives the lock back. The thread that took it does so, before it waits for anything. Of a seat that it doesn't hold it

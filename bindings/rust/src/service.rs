@@ -110,8 +110,7 @@ impl Service {
     ///
     /// # Errors
     ///
-    /// Those of [`like`](Self::like) but [`Error::LikeLimit`], and [`Error::NoRoom`] where looks of held seats fill
-    /// the seat.
+    /// Those of [`like`](Self::like) but [`Error::LikeLimit`].
     pub fn look(&self, user: u32, page: u32) -> Result<Seen, Error> {
         let mut answer = Answer::NONE;
         // SAFETY: the service is open as long as it is borrowed, and the call writes the answer.
