@@ -8,7 +8,7 @@ use Rattle.like_c.specs.Sharing.{parks, stays}
 use Rattle.like_c.proofs.client_calls.likes_client_close.Goals as goal
 
 pub returns-in_default-enter : goal.returns-in_default-enter
-returns-in_default-enter c = 
+returns-in_default-enter c =
     stays _ _ c.in-Some.ensures.client refl c.enter.ensures.hub c.enter.ensures.client c.in_default-enter.ensures.card refl
 
 pub park-requires : goal.park-requires
