@@ -48,6 +48,7 @@ INNER_SELDOM static uint32_t held_like(const likes_seat *seat, uint32_t user, ui
 }
 
 INNER_SELDOM static uint32_t held_glance(const likes_seat *seat, uint32_t user, uint32_t page, likes_answer *answer) {
+    inner_refuse(answer, LIKES_NOT_LOCKED);
     HELD(glance(client, number, user, page, answer));
 }
 
@@ -187,4 +188,10 @@ uint64_t likes_seat_phase(likes_seat *seat) {
         return likes_proved_seat_phase(seat);
     held_phase(seat, &phase);
     return phase;
+}
+
+/* A seat of a service isn't the host's to free. */
+void likes_seat_free(likes_seat *seat) {
+    if (seat != NULL && !is_held(seat))
+        likes_proved_seat_free(seat);
 }
