@@ -311,6 +311,16 @@ static void snapshot(void) {
     take_snapshot(0);
 }
 
+/* It gives up, where a thread holds its seat and tries again and again between two phases. */
+static void snapshot_or_none(void) {
+    uint64_t counts[PAGES];
+    uint32_t lasts[USERS];
+    begin(1);
+    begin_call("snapshot", 200 * MS);
+    likes_service_snapshot(explored, counts, PAGES, lasts, USERS);
+    end_call();
+}
+
 static void snapshot_of_held(void) {
     begin(1);
     take_snapshot(150 * MS);
@@ -403,6 +413,16 @@ static void held_calls(void) {
     likes_seat_like(seat, 1, 1);
     likes_seat_turn(seat);
     likes_service_unlock(explored, 1);
+}
+
+/* A seat that is held, and called until a like is counted after some time. */
+static void hold_and_try(void) {
+    uint64_t until = model_time() + 2 * PERIOD;
+    begin(0);
+    likes_seat *seat = likes_service_lock(explored, 0);
+    while (likes_seat_like(seat, 0, 1) != LIKES_LIKED || model_time() < until)
+        nap(MS);
+    likes_service_unlock(explored, 0);
 }
 
 /* Seats that are held without a call: one for nearly a tenth of a second, and then the other one shortly. */
@@ -537,6 +557,7 @@ const explore_case explore_cases[] = {
     {"counts-row", roomy, {take_counts, row}, 2, false, NULL},
     {"snapshot", roomy, {snapshot, like_1}, 2, false, NULL},
     {"snapshot-row", roomy, {snapshot, row}, 2, false, NULL},
+    {"snapshot-between", roomy, {snapshot_or_none, hold_and_try}, 0, false, NULL},
     {"snapshot-held", roomy, {snapshot_of_held, hold_long, hold_soon}, 0, false, NULL},
     {"rest-like", rest, {like_0, like_1}, 2, false, NULL},
     {"rest-look", rest, {like_0, look_long}, 2, false, NULL},
