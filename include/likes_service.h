@@ -165,8 +165,8 @@ uint32_t likes_service_counts(likes_service *service, uint64_t *counts, size_t p
 
 /* The same, and all users' last likes at that moment, by user number: what a new service is opened with to go on from
  * it. All seats stand still until they are written. LIKES_NO_MOMENT: since this call first found that another thread holds
- * a seat, that thread has held it for a tenth of a second, in no call of the service. Then some numbers, or all, are not
- * written. */
+ * a seat, that thread has held it for a tenth of a second, in no call of the service but such that answer LIKES_BETWEEN.
+ * Then some numbers, or all, are not written. */
 uint32_t likes_service_snapshot(likes_service *service, uint64_t *counts, size_t pages, uint32_t *lasts, size_t users);
 
 /* Saves what likes_service_snapshot writes to a file: LIKES_OK. After a crash there is the file as it was, or the new one.

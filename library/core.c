@@ -150,11 +150,6 @@ uint32_t likes_close(likes_driver *driver, likes_seat *seats, size_t seats_len, 
     return status;
 }
 
-void likes_seat_free(likes_seat *seat) {
-    if (seat != NULL)
-        likes_proved_seat_free(seat);
-}
-
 void likes_driver_free(likes_driver *driver) {
     if (driver == NULL)
         return;

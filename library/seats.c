@@ -19,8 +19,10 @@ static inner_place *begin(const likes_seat *seat, inner_member **member) {
     return place;
 }
 
+/* A call that is between two phases did nothing: so a thread that tries again and again holds up no snapshot for ever,
+ * which keeps the phase from ending until it has all seats. */
 static uint32_t end(inner_member *member, inner_place *place, uint32_t status) {
-    inner_note_call(place, 2);
+    inner_note_call(place, status == LIKES_BETWEEN ? 0 : 2);
     inner_after(member, place);
     return status;
 }
@@ -48,6 +50,7 @@ INNER_SELDOM static uint32_t held_like(const likes_seat *seat, uint32_t user, ui
 }
 
 INNER_SELDOM static uint32_t held_glance(const likes_seat *seat, uint32_t user, uint32_t page, likes_answer *answer) {
+    inner_refuse(answer, LIKES_NOT_LOCKED);
     HELD(glance(client, number, user, page, answer));
 }
 
@@ -86,7 +89,7 @@ INNER_SELDOM static size_t held_run(const likes_seat *seat, const likes_request 
         return 0;
     }
     size_t done = inner_run(member, place, requests, length, answers, false);
-    end(member, place, LIKES_OK);
+    end(member, place, done == 0 && length > 0 ? answers[0].status : (uint32_t)LIKES_OK);
     return done;
 }
 
@@ -187,4 +190,10 @@ uint64_t likes_seat_phase(likes_seat *seat) {
         return likes_proved_seat_phase(seat);
     held_phase(seat, &phase);
     return phase;
+}
+
+/* A seat of a service isn't the host's to free. */
+void likes_seat_free(likes_seat *seat) {
+    if (seat != NULL && !is_held(seat))
+        likes_proved_seat_free(seat);
 }

@@ -13,30 +13,29 @@ static bool has_key;
 static inner_member *members;
 static uint64_t numbers; /* of threads and services */
 
-/* When a thread ends. A member that holds a seat is nobody's from now on. */
+/* When a thread ends. A member that holds a seat is nobody's from now on. Other keys' destructors may still call the
+ * service: the thread looks for a member again then. */
 static void end_thread(void *at) {
-    uint64_t thread = ((const inner_thread *)at)->number;
+    inner_thread *mine = (inner_thread *)at;
     pthread_mutex_lock(&lock);
     for (inner_member *member = members; member != NULL; member = member->next)
-        if (member->thread == thread && member->held == NULL)
+        if (member->thread == mine->number && member->held == NULL)
             member->thread = 0;
     pthread_mutex_unlock(&lock);
+    memset(mine->members, 0, sizeof mine->members);
 }
 
 static void make_key(void) {
     has_key = pthread_key_create(&key, end_thread) == 0;
 }
 
-/* A member with a new client. With the lock. */
+/* A member with a new client. With the lock: so no other thread opens or closes a client. */
 static inner_member *made(likes_service *service) {
     inner_member *member = (inner_member *)aligned_alloc(_Alignof(inner_member), sizeof *member);
     if (member == NULL)
         return NULL;
     *member = (inner_member){.service = service, .next = members};
-    uint32_t status = LIKES_BUSY;
-    while (status == LIKES_BUSY)
-        status = likes_client_open(&service->shared, &member->client);
-    if (status != LIKES_OK) {
+    if (likes_client_open(&service->shared, &member->client) != LIKES_OK) {
         free(member);
         return NULL;
     }
@@ -55,8 +54,10 @@ static inner_member *member_of(likes_service *service, uint64_t thread) {
 INNER_SELDOM inner_member *inner_member_find(likes_service *service) {
     int error = errno;
     pthread_once(&once, make_key);
-    if (!has_key || pthread_setspecific(key, &inner_mine) != 0)
+    if (!has_key || pthread_setspecific(key, &inner_mine) != 0) {
+        errno = error;
         return NULL;
+    }
     pthread_mutex_lock(&lock);
     if (inner_mine.number == 0)
         inner_mine.number = ++numbers;
@@ -90,8 +91,7 @@ static void free_member(inner_member *member) {
         next = wait->next;
         free(wait);
     }
-    while (likes_client_close(&member->client) == LIKES_BUSY)
-        inner_pause();
+    likes_client_close(&member->client);
     free(member);
 }
 

@@ -91,8 +91,7 @@ static uint32_t leave(inner_member *member) {
     inner_seats_work(member);
     pthread_mutex_lock(&service->turning);
     uint32_t status = inner_turn(member, LIKES_END_IF_IT_SERVES);
-    pthread_mutex_unlock(&service->turning);
-    inner_turns(member);
+    inner_stir(member);
     return status;
 }
 

@@ -70,20 +70,14 @@ static void work(inner_member *member, inner_place *place) {
         place->is_leaving = false;
 }
 
-/* Whether the thread holds a seat, and has it locked: then its own calls do the phase work. */
-static bool is_hosts(const inner_member *member, const inner_place *place) {
-    return member->held == place && has_locked(member, place);
-}
-
 /* Does what was left at a place, if the seat is this client's, or free: else the thread that has it sees what was left
  * after it has given it back. Whether there was phase work. Who sleeps until the seat is free sleeps on while this client
  * has it locked. */
 static bool serve(inner_member *member, inner_place *place) {
-    bool is_mine = has_locked(member, place), is_own = is_hosts(member, place), has_worked = false;
+    bool is_mine = has_locked(member, place), has_worked = false;
     while ((place->left & INNER_WORK) && (is_mine || inner_lock(member, place) == LIKES_OK)) {
         place->left &= ~(uint32_t)INNER_WORK;
-        if (!is_own)
-            work(member, place);
+        work(member, place);
         hand_out(member, place);
         if (!is_mine)
             unlock(member, place);
@@ -96,22 +90,21 @@ static bool serve(inner_member *member, inner_place *place) {
     return has_worked;
 }
 
-/* Where the thread holds the seat, the call that was made may have done the phase work. If not, it stays for the next
- * one. */
 INNER_SELDOM void inner_attend(inner_member *member, inner_place *place) {
     if (member->service->is_resting)
         inner_call(member->service);
-    if (serve(member, place) && inner_turns(member) == LIKES_NOT_ALL_IN && is_hosts(member, place))
-        place->left |= INNER_WORK;
+    if (serve(member, place))
+        inner_turns(member);
 }
 
+/* A seat that the thread holds is left to its next call there. */
 void inner_seats_work(inner_member *member) {
     likes_service *service = member->service;
     uint64_t steps = service->steps;
     for (uint32_t i = 0; i < service->seats; i++) {
         inner_place *place = &service->places[i];
         place->left |= INNER_WORK;
-        if (!is_hosts(member, place))
+        if (member->held != place || !has_locked(member, place))
             serve(member, place);
     }
     service->served = steps;

@@ -260,7 +260,8 @@ bool inner_await_phase(inner_member *member, uint64_t phase, uint64_t until);
 uint32_t inner_turns(inner_member *member);
 
 /* With `turning` locked: makes one turn; sleeps until there is a wish, or until a time; makes a turn due at once, and
- * lets the next two rounds count as some with calls. The last unlocks it, makes turns, and calls the driver's thread. */
+ * lets the next two rounds count as some with calls. The last wakes threads that wait for a phase, unlocks it, makes
+ * turns, and calls the driver's thread. */
 uint32_t inner_turn(inner_member *member, uint32_t end);
 void inner_await_wish(likes_service *service, uint64_t until);
 void inner_stir(inner_member *member);

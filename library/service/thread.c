@@ -38,7 +38,7 @@ static uint64_t pulse(likes_service *service, bool is_resting, uint64_t beat) {
     if (now < beat && !is_resting)
         return beat;
     service->pulse++;
-    return now < beat + service->period ? beat + service->period : now + service->period;
+    return now + service->period;
 }
 
 /* Whoever calls the thread after it has read `call` keeps it from its sleep. */

@@ -120,6 +120,8 @@ void inner_stir(inner_member *member) {
     service->quiet = 0;
     inner_note_use(service);
     service->due = 0;
+    /* Turns that are not driver_turn's wake nobody. */
+    inner_futex_wake((_Atomic uint32_t *)&service->released, INT_MAX);
     pthread_mutex_unlock(&service->turning);
     inner_turns(member);
     inner_call(service);

@@ -58,8 +58,9 @@ static void note_waiting(inner_trial *it, bool waits) {
     it->tries = 0;
 }
 
-/* The seat is busy: tries at once, then sets the bit and tries, then sleeps while the place's word is the same. Whether
- * there is time for another try. */
+/* The seat is busy: tries at once, then sets the bit and tries, then sleeps while the place's word is the same. No phase
+ * waits for a thread that sleeps so: who has the seat may wait for the next phase. Whether there is time for another try.
+ */
 static bool wait_for_seat(inner_trial *it) {
     if (it->left == 0 && it->tries < TRIES) {
         for (uint32_t pauses = it->tries++; pauses > 0; pauses--)
@@ -67,8 +68,10 @@ static bool wait_for_seat(inner_trial *it) {
         return true;
     }
     bool is_late = it->left != 0 && inner_is_over(it->until);
-    if (it->left != 0 && !is_late)
+    if (it->left != 0 && !is_late) {
+        note_miss(it, false);
         inner_futex_wait(&it->place->left, it->left, it->until);
+    }
     note_waiting(it, !is_late);
     return !is_late;
 }

@@ -36,12 +36,21 @@ static void roomy(void) {
 }
 
 /* In the last split phase: no page is split in the next. */
-static void last_split(void) {
-    const uint32_t page = 1;
-    open_with(8, false);
+static void go_to_last(uint32_t room) {
+    const uint32_t page = 0;
+    open_with(room, false);
     likes_service_propose(explored, &page, 1);
     go_to_split();
     likes_client_propose(&inner_member_of(explored)->client, &page, 0);
+}
+
+static void last_split(void) {
+    go_to_last(8);
+}
+
+/* The same, where a look that waits takes half of the room. */
+static void last_early(void) {
+    go_to_last(2);
 }
 
 /* Just before the phase is due. */
@@ -65,6 +74,15 @@ static void quiet(void) {
     while (explored->quiet < 1 || explored->is_used)
         nap(100 * US);
     nap(explored->due - model_time() - US);
+}
+
+/* Nothing is split, and the service has rested again and again, for less than a period each time. */
+static void rests(void) {
+    open_with(2, false);
+    for (int times = 0; times < 8; times++) {
+        likes_service_like(explored, 0, 1);
+        nap(PERIOD / 2);
+    }
 }
 
 /* All seats have left. */
@@ -143,6 +161,31 @@ static void look_after_misses(void) {
     begin_call("a look after misses", 2 * PERIOD);
     while (inner_again(&it, &status))
         status = likes_client_look(&it.member->client, 0, 0, 0, 3, &answers[0]);
+    end_call();
+}
+
+/* A like whose thread has missed phases, and now finds its seat busy. */
+static void like_after_misses(void) {
+    inner_trial it = {begin(USERS), &explored->places[0], INNER_NEVER, .misses = 8, .has_waited = true};
+    uint32_t status = LIKES_BUSY;
+    __atomic_fetch_add(&explored->starving, 1, __ATOMIC_SEQ_CST);
+    while (inner_again(&it, &status))
+        status = likes_client_like(&it.member->client, 0, 0, 1);
+}
+
+/* A thread holds its seat, and calls it, until a look of its own is found. */
+static void hold_until_found(void) {
+    likes_answer answer;
+    likes_found found;
+    begin(0);
+    begin_call("a look of a held seat", 2 * PERIOD);
+    likes_seat *seat = likes_service_lock(explored, 0);
+    if (likes_seat_look(seat, 0, 0, 7, &answer) == LIKES_WAITS)
+        while (!likes_seat_take_found(seat, &found)) {
+            likes_seat_turn(seat);
+            nap(PERIOD / 4);
+        }
+    likes_service_unlock(explored, 0);
     end_call();
 }
 
@@ -268,6 +311,16 @@ static void snapshot(void) {
     take_snapshot(0);
 }
 
+/* It gives up, where a thread holds its seat and tries again and again between two phases. */
+static void snapshot_or_none(void) {
+    uint64_t counts[PAGES];
+    uint32_t lasts[USERS];
+    begin(1);
+    begin_call("snapshot", 200 * MS);
+    likes_service_snapshot(explored, counts, PAGES, lasts, USERS);
+    end_call();
+}
+
 static void snapshot_of_held(void) {
     begin(1);
     take_snapshot(150 * MS);
@@ -325,6 +378,19 @@ static void row(void) {
     end_call();
 }
 
+/* Likes of a held seat, through a change of phases. The thread takes no found looks. */
+static void row_of_likes(void) {
+    likes_request requests[2] = {{.user = 1, .page = 1}, {.user = 1, .page = 1}};
+    likes_answer told[2];
+    begin(1);
+    begin_call("row", 0);
+    likes_service_lock(explored, 1);
+    if (likes_service_run(explored, 1, requests, 2, told) != 2)
+        fail("a row stopped");
+    likes_service_unlock(explored, 1);
+    end_call();
+}
+
 /* Looks of a held seat, which has no room for the last of them. */
 static void row_of_looks(void) {
     likes_request requests[2] = {{.tag = 5, .user = 1, .op = LIKES_LOOK}, {.tag = 6, .user = 1, .op = LIKES_LOOK}};
@@ -347,6 +413,16 @@ static void held_calls(void) {
     likes_seat_like(seat, 1, 1);
     likes_seat_turn(seat);
     likes_service_unlock(explored, 1);
+}
+
+/* A seat that is held, and called until a like is counted after some time. */
+static void hold_and_try(void) {
+    uint64_t until = model_time() + 2 * PERIOD;
+    begin(0);
+    likes_seat *seat = likes_service_lock(explored, 0);
+    while (likes_seat_like(seat, 0, 1) != LIKES_LIKED || model_time() < until)
+        nap(MS);
+    likes_service_unlock(explored, 0);
 }
 
 /* Seats that are held without a call: one for nearly a tenth of a second, and then the other one shortly. */
@@ -416,6 +492,24 @@ static void writer_for_long(void) {
     likes_writer_close(writer);
 }
 
+/* The same where the service doesn't rest, for other calls are made. */
+static void writer_beside_likes(void) {
+    likes_writer *writer = NULL;
+    uint64_t singles = 0;
+    begin(0);
+    likes_writer_open(explored, &writer);
+    likes_writer_like(writer, 0, 1);
+    uint64_t before = handed_over();
+    for (; singles * (PERIOD / 8) <= PERIOD; singles++) {
+        likes_service_like(explored, 1, 1);
+        nap(PERIOD / 8);
+    }
+    likes_writer_like(writer, 0, 1);
+    if (handed_over() == before + singles)
+        fail("a row is kept for longer than a period");
+    likes_writer_close(writer);
+}
+
 static void stop(void) {
     uint64_t counts[PAGES];
     begin(1);
@@ -436,6 +530,7 @@ const explore_case explore_cases[] = {
     {"phase", split, {await_phase, stir}, 3, true, NULL},
     {"rest", quiet, {like_soon}, -1, false, NULL},
     {"misses", full, {look_after_misses}, 2, false, NULL},
+    {"misses-held", roomy, {like_after_misses, hold_until_found}, 1, false, NULL},
 
     {"early", split, {look_0, like_1}, 2, false, NULL},
     {"early-last", split, {look_0, last_1}, 2, false, NULL},
@@ -452,6 +547,7 @@ const explore_case explore_cases[] = {
     {"early-pages", split, {look_0, split_pages}, 2, false, NULL},
     {"long", roomy, {look_long, like_1}, 2, false, NULL},
     {"last-split", last_split, {look_long, like_1}, 2, false, NULL},
+    {"last-row", last_early, {look_1, row_of_likes}, 2, false, NULL},
     {"last-held", last_split, {hold_past_due, like_0_between}, 1, false, NULL},
     {"due", due, {tick, like_1}, 2, false, NULL},
     {"due-held", due, {hold_past_due, like_0_later}, 1, false, NULL},
@@ -461,6 +557,7 @@ const explore_case explore_cases[] = {
     {"counts-row", roomy, {take_counts, row}, 2, false, NULL},
     {"snapshot", roomy, {snapshot, like_1}, 2, false, NULL},
     {"snapshot-row", roomy, {snapshot, row}, 2, false, NULL},
+    {"snapshot-between", roomy, {snapshot_or_none, hold_and_try}, 0, false, NULL},
     {"snapshot-held", roomy, {snapshot_of_held, hold_long, hold_soon}, 0, false, NULL},
     {"rest-like", rest, {like_0, like_1}, 2, false, NULL},
     {"rest-look", rest, {like_0, look_long}, 2, false, NULL},
@@ -471,6 +568,7 @@ const explore_case explore_cases[] = {
     {"quiet-held", quiet, {hold_tick, like_soon}, 2, false, NULL},
     {"writer-rest", rest, {writer_through_rest}, 2, false, NULL},
     {"writer-quiet", quiet, {writer_through_rest}, 1, false, NULL},
+    {"writer-rests", rests, {writer_beside_likes}, 0, false, NULL},
     {"writer-long", rest, {writer_for_long, like_1}, 1, false, NULL},
     {"retire", split, {retire_0, like_1}, 2, false, NULL},
     {"retire-two", split, {retire_0, look_long}, 1, false, NULL},
