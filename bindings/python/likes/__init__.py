@@ -15,6 +15,8 @@ from ._rows import Asked, Glimpsed, Seen, Shown, Told
 from ._service import Likes, Moment, Statistics, Writer
 from ._statuses import GLANCE, LIKE, LIKED, LOOK, MAX_SPLIT, NO_HOT, End, Op, Status
 
+__version__ = "0.6.0"
+
 __all__ = [
     "GLANCE",
     "LIKE",
