@@ -13,9 +13,12 @@ static bool has_key;
 static inner_member *members;
 static uint64_t numbers; /* of threads and services */
 
-/* When a thread ends. A member that holds a seat is nobody's from now on. */
+/* When a thread ends. A member that holds a seat is nobody's from now on. A destructor of the host's that comes later may
+ * call the service again: then the thread looks for a member anew, and this is called again. */
 static void end_thread(void *at) {
-    uint64_t thread = ((const inner_thread *)at)->number;
+    inner_thread *mine = (inner_thread *)at;
+    uint64_t thread = mine->number;
+    memset(mine->members, 0, sizeof mine->members);
     pthread_mutex_lock(&lock);
     for (inner_member *member = members; member != NULL; member = member->next)
         if (member->thread == thread && member->held == NULL)
