@@ -58,8 +58,10 @@ static inner_member *member_of(likes_service *service, uint64_t thread) {
 INNER_SELDOM inner_member *inner_member_find(likes_service *service) {
     int error = errno;
     pthread_once(&once, make_key);
-    if (!has_key || pthread_setspecific(key, &inner_mine) != 0)
+    if (!has_key || pthread_setspecific(key, &inner_mine) != 0) {
+        errno = error;
         return NULL;
+    }
     pthread_mutex_lock(&lock);
     if (inner_mine.number == 0)
         inner_mine.number = ++numbers;
