@@ -17,6 +17,7 @@ from typing import Any, List, NamedTuple, Optional, Sequence, Set, Type
 from ._errors import Closed, Refused, check, check_file, lock_fault
 from ._library import MOST, Answer, FoundLook, Opening, last_of, load, microseconds, path_of, row_of, whole
 from ._library import Statistics as StatisticsOfC
+from ._pool import LEAST, Pool
 from ._rows import Asked, Row, Seen, Shown, Told, seen, shown
 from ._statuses import MAX_SPLIT, Status
 
@@ -104,7 +105,7 @@ class Likes:
         self._prepare()
         opening = Opening(counts, users, seats, room, hot, marks, lasts, period)
         check(self._library.likes_service_open(opening.options, byref(self._at)), Status.OK)
-        self._begin()
+        self._begin(period)
 
     @classmethod
     def load(
@@ -126,7 +127,7 @@ class Likes:
         opening = Opening((), users, seats, room, hot, marks, None, period)
         opening.options.counts, opening.options.pages = None, whole("pages", pages)
         check_file(service._library.likes_service_load(path_of(path), opening.options, byref(service._at)), path)
-        service._begin()
+        service._begin(period)
         return service
 
     def _prepare(self) -> None:
@@ -137,8 +138,9 @@ class Likes:
         # The arrays of the last moment, and what the calls of the end have answered.
         self._arrays, self._ends = None, []  # type: Any, List[int]
 
-    def _begin(self) -> None:
+    def _begin(self, period: Optional[float]) -> None:
         """Once it is opened."""
+        self._period = LEAST if period is None else period
         self._pages = int(self._library.likes_service_pages(self._at))
         self._users = int(self._library.likes_service_users(self._at))
         self._seats = int(self._library.likes_service_seats(self._at))
@@ -212,6 +214,10 @@ class Likes:
             writer.close()
             raise
         return writer
+
+    def pool(self) -> Pool:
+        """Opens a pool of writers, for likes of any threads. It is closed before the service."""
+        return Pool(self, self._period)
 
     def run(self, number: int, requests: Sequence[Asked]) -> List[Told]:
         """Runs rows of (op, user, page) at a seat. Gives an answer for each: for a look what it shows, for a like

@@ -303,6 +303,64 @@ class Service(unittest.TestCase):
             writer.close()
         self.assertEqual(sum(service.stop().counts), threads * each)
 
+    def test_pool(self) -> None:
+        """A pool counts likes by itself, shows each user its own at once, and ends with all of them."""
+        threads, each, wrong = 8, 200, []
+        with opened(users=80, seats=8, marks=[0], period=0.0002) as service:
+            pool = service.pool()
+
+            def work(number: int) -> None:
+                for i in range(each):
+                    user, page = number + threads * (i % 10), i % 2
+                    pool.like(user, page)
+                    if i % 50 == 0 and pool.look(user, 0).last != page:
+                        wrong.append((number, i))
+
+            in_threads(work, threads)
+            while sum(service.counts()) != 5 + threads * each:
+                time.sleep(0.001)
+            self.refused(Status.OPEN_WRITER, service.stop)
+            self.refused(Status.UNKNOWN_USER, pool.like, 80, 0)
+            for value in OUTSIDE:
+                self.assertRaises(ValueError, pool.like, value, 0)
+            pool.like(0, 1)
+            pool.close()
+            pool.close()
+            calls: List[Callable[[], object]]
+            calls = [pool.flush, lambda: pool.like(0, 1), lambda: pool.look(0, 1)]
+            for call in calls:
+                self.assertRaises(Closed, call)
+            self.assertEqual(pool.drop(), 0)
+        self.assertEqual((wrong, sum(service.stop().counts)), ([], 6 + threads * each))
+
+    def test_pools_of_seats_that_leave(self) -> None:
+        with opened(users=4) as service, service.pool() as pool:
+            service.retire_seat(1)
+            pool.like(1, 0)
+            pool.like(2, 0)
+            for call in (pool.flush, pool.close):
+                self.refused(Status.GONE, call)
+            self.assertEqual(pool.look(2, 0), Seen(0, 6))
+            self.refused(Status.GONE, pool.look, 1, 0)
+            service.bring_back_seat(1)
+            self.assertEqual(pool.look(1, 0), Seen(0, 7))
+            service.retire_seat(1)
+            pool.like(1, 0)
+            self.assertEqual(pool.drop(), 1)
+        self.assertEqual(service.stop().counts, [7, 0])
+
+    def test_dropped_pools(self) -> None:
+        """A pool that nobody has any more keeps no service open."""
+        service = opened(period=0.0002)
+        service.pool().like(4, 1)
+        while True:
+            try:
+                self.assertEqual(service.stop().counts, [5, 1])
+                break
+            except Refused as why:
+                self.assertEqual(why.status, Status.OPEN_WRITER)
+                time.sleep(0.001)
+
     def test_looks_of_a_writer(self) -> None:
         """A look through a writer shows each like of its page that the writer was told, by whichever user."""
         with opened(users=8, counts=[0, 0], seats=4, period=100) as service, service.writer() as writer:
