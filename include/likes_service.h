@@ -96,7 +96,7 @@ uint32_t likes_service_close(likes_service *service);
 uint32_t likes_service_fault(const likes_service *service);
 
 /* Why likes_service_lock gives NULL: the same, or LIKES_UNKNOWN_SEAT, or LIKES_HOLDS_SEAT, where the calling thread
- * holds a seat of the service. */
+ * holds a seat of the service. Where it is LIKES_OK and NULL was given, there was no memory for the thread. */
 uint32_t likes_service_seat_fault(const likes_service *service, uint32_t number);
 
 /* Adds one like: an answer of likes_seat_like, but never LIKES_BETWEEN. Any thread may call it. */

@@ -8,6 +8,7 @@
 #include <likes_service.h>
 
 #include <algorithm>
+#include <cerrno>
 #include <string>
 
 #include "likes_core.hpp"
@@ -20,12 +21,24 @@ inline void expect(std::uint32_t status, std::uint32_t wanted) {
         throw Error(status);
 }
 
+// A path for C, which would take what is before a byte 0 for the whole of it.
+inline const char *path_of(const std::string &path) {
+    if (path.find('\0') != std::string::npos) {
+        errno = EINVAL;
+        throw Error(LIKES_FILE_FAULT);
+    }
+    return path.c_str();
+}
+
 // A seat of a service that this thread holds, until the end of the scope. It waits for nothing meanwhile.
 class [[nodiscard]] Held {
 public:
     Held(likes_service *service, std::uint32_t number) : service_(service), number_(number) {
-        if (likes_service_lock(service, number) == nullptr)
-            throw Error(likes_service_seat_fault(service, number));
+        if (likes_service_lock(service, number) == nullptr) {
+            std::uint32_t why = likes_service_seat_fault(service, number);
+            // Where nothing is wrong with the seat, there is no memory for the thread.
+            throw Error(why == LIKES_OK ? std::uint32_t{LIKES_NO_MEMORY} : why);
+        }
     }
     ~Held() { likes_service_unlock(service_, number_); }
     Held(const Held &) = delete;
@@ -142,7 +155,7 @@ public:
         likes_options numbers = *opening.numbers();
         numbers.counts = nullptr;
         numbers.pages = pages;
-        expect(likes_service_load(path.c_str(), &numbers, &service_), LIKES_OK);
+        expect(likes_service_load(path_of(path), &numbers, &service_), LIKES_OK);
         pages_ = likes_service_pages(service_);
         users_ = likes_service_users(service_);
         seats_ = likes_service_seats(service_);
@@ -214,7 +227,7 @@ public:
     }
 
     // Saves such a moment to a file. After a crash there is the old file or the new one.
-    void save(const std::string &path) { expect(likes_service_save(service_, path.c_str()), LIKES_OK); }
+    void save(const std::string &path) { expect(likes_service_save(service_, path_of(path)), LIKES_OK); }
 
     Statistics statistics() {
         likes_statistics told;

@@ -23,7 +23,7 @@ func (s *Service) WithSeat(number uint32, work func(*Held) error) error {
 		runtime.LockOSThread()
 		defer runtime.UnlockOSThread()
 		if C.likes_service_lock(s.c, C.uint32_t(number)) == nil {
-			return Error(C.likes_service_seat_fault(s.c, C.uint32_t(number)))
+			return lockError(C.likes_service_seat_fault(s.c, C.uint32_t(number)))
 		}
 		defer C.likes_service_unlock(s.c, C.uint32_t(number))
 		return work(&Held{s, C.uint32_t(number)})

@@ -28,8 +28,11 @@ static uint32_t load_service(const char *path, const likes_options *numbers, siz
 import "C"
 
 import (
+	"runtime"
+	"strings"
 	"sync"
 	"sync/atomic"
+	"syscall"
 	"time"
 	"unsafe"
 )
@@ -76,6 +79,9 @@ func Open(options Options, counts []uint64) (*Service, error) {
 // have no last likes. Of a wrong file it gives ErrFile, ErrNotSaved, ErrOtherVersion, ErrWrongSize or ErrWrongSum, and
 // ErrWrongLength where there would be fewer users or pages.
 func Load(path string, options Options, pages int) (*Service, error) {
+	if err := checkPath(path); err != nil {
+		return nil, err
+	}
 	s, numbers, name := &Service{}, options.numbers(), C.CString(path)
 	defer C.free(unsafe.Pointer(name))
 	told, reason := C.load_service(name, &numbers, C.size_t(pages), pagesAt(options.Marks), C.size_t(len(options.Marks)),
@@ -110,6 +116,14 @@ func (e *FileError) Is(err error) bool {
 
 func (e *FileError) Unwrap() error {
 	return e.Reason
+}
+
+// checkPath refuses a path that C would cut at a byte 0.
+func checkPath(path string) error {
+	if strings.IndexByte(path, 0) >= 0 {
+		return &FileError{syscall.EINVAL}
+	}
+	return nil
 }
 
 // fileError is the error of a call that reads or writes a file.
@@ -270,6 +284,9 @@ func (s *Service) ReadSnapshot(m *Moment) error {
 
 // Save saves such a moment to a file. After a crash there is the old file or the new one.
 func (s *Service) Save(path string) error {
+	if err := checkPath(path); err != nil {
+		return err
+	}
 	name := C.CString(path)
 	defer C.free(unsafe.Pointer(name))
 	return s.call(0, func() error {
@@ -361,7 +378,15 @@ func (s *Service) Stop() (*Moment, error) {
 		return nil, ErrClosed
 	}
 	s.gate.shut()
-	if err := wanted(C.likes_service_retire(s.c), OK); err != nil {
+	// In C, a thread's first call takes memory for it. After the first one here, none is refused for that.
+	runtime.LockOSThread()
+	defer runtime.UnlockOSThread()
+	var page C.uint32_t
+	err := wanted(C.likes_service_last(s.c, 0, &page), OK)
+	if err == nil {
+		err = wanted(C.likes_service_retire(s.c), OK)
+	}
+	if err != nil {
 		s.gate.open()
 		return nil, err
 	}

@@ -140,6 +140,13 @@ func TestFiles(t *testing.T) {
 	if err := first.Save(path); !errors.Is(err, ErrClosed) {
 		t.Error(err)
 	}
+	// A byte 0 would cut the path.
+	if _, err := Load(path+"\x00?", Options{}, 0); !errors.Is(err, ErrFile) {
+		t.Error(err)
+	}
+	if err := first.Save(path + "\x00?"); !errors.Is(err, ErrFile) {
+		t.Error(err)
+	}
 }
 
 func TestSnapshots(t *testing.T) {

@@ -108,6 +108,14 @@ func wanted(told C.uint32_t, right Status) error {
 	return Error(told)
 }
 
+// lockError is why a seat can't be locked. Where nothing is wrong with it, C has no memory for the thread.
+func lockError(told C.uint32_t) error {
+	if told == C.LIKES_OK {
+		return ErrNoMemory
+	}
+	return Error(told)
+}
+
 // ignoreClosed takes it for no error that something is closed already.
 func ignoreClosed(err error) error {
 	if err == ErrClosed {

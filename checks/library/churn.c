@@ -1,6 +1,7 @@
 /* Threads that come and go, at services that come and go, with every kind of call: single calls, looks with deadlines,
  * rows and calls through seats that they hold, writers, counts, snapshots, proposals, and seats that leave and come
- * back. Each call is answered as it may be, no call waits for ever, and each total is what all threads were told.
+ * back. Each call is answered as it may be, no call waits for ever, and each total is what all threads were told. At
+ * first, a thread calls a service while it ends, from a destructor of its own.
  *
  * usage: churn SEED SECONDS
  *
@@ -220,6 +221,54 @@ static void play(uint64_t *random) {
     service = NULL;
 }
 
+/* A destructor calls the service again, after that of the library was called, and another thread begins to call it
+ * meanwhile: neither has what the other has. */
+static bool is_held, is_called;
+
+static void hold_late(void *at) {
+    (void)at;
+    hold(likes_service_lock(service, 0) != NULL, "a destructor holds no seat");
+    set(&is_held);
+    while (!is_set(&is_called))
+        sched_yield();
+    likes_service_unlock(service, 0);
+}
+
+static void *call_and_end(void *key) {
+    IS(likes_service_like(service, 0, 0), LIKES_LIKED);
+    hold(pthread_setspecific(*(pthread_key_t *)key, key) == 0, "a thread has no value of a key");
+    return NULL;
+}
+
+static void *call_meanwhile(void *at) {
+    while (!is_set(&is_held))
+        sched_yield();
+    IS(likes_service_like(service, 1, 0), LIKES_LIKED);
+    set(&is_called);
+    return at;
+}
+
+static void end_late(void) {
+    static const uint64_t none[PAGES];
+    uint64_t totals[PAGES];
+    likes_options options = {.seats = 2, .users = USERS};
+    pthread_key_t key;
+    pthread_t threads[2];
+    hold(open_shared(options, none, PAGES, NULL, 0, NULL, 0, 1000, &service) == LIKES_OK, "not opened");
+    /* Destructors are called in the order of their keys: after this call, the library has its own. */
+    IS(likes_service_like(service, 1, 0), LIKES_LIKED);
+    hold(pthread_key_create(&key, hold_late) == 0, "there is no key");
+    start_thread(&threads[0], call_and_end, &key);
+    start_thread(&threads[1], call_meanwhile, NULL);
+    for (int i = 0; i < 2; i++)
+        pthread_join(threads[i], NULL);
+    pthread_key_delete(key);
+    IS(likes_service_stop(service, totals, PAGES), LIKES_OK);
+    IS(totals[0], 3);
+    IS(likes_service_close(service), LIKES_OK);
+    service = NULL;
+}
+
 int main(int count, char **words) {
     if (count != 3) {
         fputs("usage: churn SEED SECONDS\n", stderr);
@@ -228,6 +277,7 @@ int main(int count, char **words) {
     uint64_t random = strtoull(words[1], NULL, 10), seconds = strtoull(words[2], NULL, 10), services = 0;
     uint64_t end = clock_now() + seconds * UINT64_C(1000000000);
     alarm((unsigned)(30 + seconds));
+    end_late();
     for (; clock_now() < end; services++)
         play(&random);
     printf("totals held, of %llu services with %llu calls\n", (unsigned long long)services, (unsigned long long)calls);

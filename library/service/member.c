@@ -13,8 +13,8 @@ static bool has_key;
 static inner_member *members;
 static uint64_t numbers; /* of threads and services */
 
-/* When a thread ends. A member that holds a seat is nobody's from now on. Other keys' destructors may still call the
- * service: the thread looks for a member again then. */
+/* When a thread ends. A member that holds a seat is nobody's from now on. A destructor of the host's that comes later may
+ * call the service again: then the thread looks for a member anew, and this is called again. */
 static void end_thread(void *at) {
     inner_thread *mine = (inner_thread *)at;
     pthread_mutex_lock(&lock);

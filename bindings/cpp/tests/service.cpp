@@ -254,6 +254,9 @@ static void files() {
     hold(same.counts() == std::vector<std::uint64_t>({5, 8}) && same.last(2) == 1u, "a service from a file");
     hold(grown.counts() == std::vector<std::uint64_t>({5, 8, 0}) && !grown.last(3), "a larger service from a file");
     hold(thrown([&] { likes::Service less(path, two_seats(1)); }) == LIKES_WRONG_LENGTH, "fewer users than in a file");
+    const std::string cut = path + std::string("\0?", 2);
+    hold(thrown([&] { likes::Service none(cut, two_seats(0)); }) == LIKES_FILE_FAULT, "a path with a byte 0");
+    hold(thrown([&] { same.save(cut); }) == LIKES_FILE_FAULT, "a file at a path with a byte 0");
     std::remove(path.c_str());
     hold(thrown([&] { likes::Service none(path, two_seats(0)); }) == LIKES_FILE_FAULT, "no file");
 }

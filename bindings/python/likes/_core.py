@@ -26,10 +26,10 @@ class Found(NamedTuple):
 
 
 class _Handled:
-    """A handle, for one call at a time."""
+    """A handle, for one call at a time. A signal handler may make another one in the middle of a call."""
 
     def __init__(self, handle: Any = None) -> None:
-        self._library, self._handle, self._lock = load(), handle or Handle(), threading.Lock()
+        self._library, self._handle, self._lock = load(), handle or Handle(), threading.RLock()
         self._at = byref(self._handle)
 
     def _call(self, call: Any, *words: Any) -> Any:
@@ -135,7 +135,7 @@ class Phase(_Handled):
 class Driver(_Handled):
     """The coordinator of a service, which it opens. What isn't given has the default of likes.h; with NO_HOT as hot, no
     page gets hot by itself. marks has the pages that are split in every split phase, and lasts the page of each user's
-    last like, or None; if it is empty, nobody has one."""
+    last like, or None; if it is None or empty, nobody has one."""
 
     def __init__(
         self,
@@ -145,7 +145,7 @@ class Driver(_Handled):
         room: Optional[int] = None,
         hot: Optional[int] = None,
         marks: Sequence[int] = (),
-        lasts: Sequence[Optional[int]] = (),
+        lasts: Optional[Sequence[Optional[int]]] = None,
     ) -> None:
         super().__init__(DriverHandle())
         self._pages = len(counts)

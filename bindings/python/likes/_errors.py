@@ -45,6 +45,11 @@ def check(number: int, wanted: Status) -> None:
     raise Refused(number)
 
 
+def lock_fault(number: int) -> int:
+    """Why a seat can't be locked, where nothing is wrong with it: C has no memory for the thread."""
+    return Status.NO_MEMORY if number == Status.OK else number
+
+
 def check_file(number: int, path: str) -> None:
     """The same of a call that reads or writes a file."""
     if number == Status.FILE_FAULT:

@@ -145,12 +145,13 @@ def load() -> Any:
     """The library: the file that LIKES_LIBRARY names, or the one of this version."""
     path = os.environ.get("LIKES_LIBRARY", SHARED)
     library, quick, files = ctypes.CDLL(path), ctypes.PyDLL(path), ctypes.CDLL(path, use_errno=True)
+    # First: another version may lack calls.
+    if library.likes_version() != VERSION:
+        raise ImportError(f"the library is version {library.likes_version()}, and this package is for {VERSION}")
     for name, (takes, gives) in CALLS.items():
         call = getattr(quick if name in QUICK else files if name in FILES else library, f"likes_{name}")
         call.argtypes, call.restype = takes, gives
         setattr(library, f"likes_{name}", call)
-    if library.likes_version() != VERSION:
-        raise ImportError(f"the library is version {library.likes_version()}, and this package is for {VERSION}")
     return library
 
 
@@ -165,6 +166,14 @@ def whole(name: str, value: Any, most: int = MOST) -> int:
 def row_of(name: str, values: Sequence[Any]) -> Any:
     """An array of page numbers, with a place more."""
     return (c_uint32 * (len(values) + 1))(*(whole(name, value) for value in values))
+
+
+def path_of(path: str) -> bytes:
+    """A path for C, which would take what is before a byte 0 for the whole of it."""
+    name = os.fsencode(path)
+    if b"\0" in name:
+        raise ValueError("embedded null byte")
+    return name
 
 
 def last_of(page: int) -> Optional[int]:
@@ -200,9 +209,10 @@ class Opening:
         room: Optional[int],
         hot: Optional[int],
         marks: Sequence[int],
-        lasts: Sequence[Optional[int]],
+        lasts: Optional[Sequence[Optional[int]]],
         period: Optional[float],
     ) -> None:
+        lasts = () if lasts is None else lasts
         row = (c_uint64 * (len(counts) + 1))(*(whole("count", it, MOST_64) for it in counts))
         marked, last = row_of("mark", marks), row_of("last like", [number_of(it) for it in lasts])
         if period is not None and not period > 0:

@@ -5,16 +5,19 @@ A call from Python takes about a microsecond by itself. Other threads run meanwh
 
 import itertools
 import os
+import sys
 import threading
 import time
+import warnings
 import weakref
 from ctypes import byref, c_uint32, c_uint64, c_void_p
 from types import TracebackType
 from typing import Any, List, NamedTuple, Optional, Sequence, Set, Type
 
-from ._errors import Closed, Refused, check, check_file
-from ._library import MOST, Answer, FoundLook, Opening, last_of, load, microseconds, row_of, whole
+from ._errors import Closed, Refused, check, check_file, lock_fault
+from ._library import MOST, Answer, FoundLook, Opening, last_of, load, microseconds, path_of, row_of, whole
 from ._library import Statistics as StatisticsOfC
+from ._pool import LEAST, Pool
 from ._rows import Asked, Row, Seen, Shown, Told, seen, shown
 from ._statuses import MAX_SPLIT, Status
 
@@ -84,8 +87,8 @@ class Likes:
 
     What isn't given has the default of likes.h; with NO_HOT as hot, no page gets hot by itself. marks has the numbers
     of the pages that are split in every split phase. period is the time from the end of one split phase to that of the
-    next, in seconds. lasts has the page of each user's last like, or None; if it is empty, nobody has one. With the
-    Moment of another service, a service goes on from there.
+    next, in seconds. lasts has the page of each user's last like, or None; if it is None or empty, nobody has one. With
+    the Moment of another service, a service goes on from there.
     """
 
     def __init__(
@@ -97,12 +100,12 @@ class Likes:
         hot: Optional[int] = None,
         marks: Sequence[int] = (),
         period: Optional[float] = None,
-        lasts: Sequence[Optional[int]] = (),
+        lasts: Optional[Sequence[Optional[int]]] = None,
     ) -> None:
         self._prepare()
         opening = Opening(counts, users, seats, room, hot, marks, lasts, period)
         check(self._library.likes_service_open(opening.options, byref(self._at)), Status.OK)
-        self._begin()
+        self._begin(period)
 
     @classmethod
     def load(
@@ -121,32 +124,41 @@ class Likes:
         WRONG_SUM, and WRONG_LENGTH where there would be fewer users or pages."""
         service = cls.__new__(cls)
         service._prepare()
-        opening = Opening((), users, seats, room, hot, marks, (), period)
+        opening = Opening((), users, seats, room, hot, marks, None, period)
         opening.options.counts, opening.options.pages = None, whole("pages", pages)
-        check_file(service._library.likes_service_load(os.fsencode(path), opening.options, byref(service._at)), path)
-        service._begin()
+        check_file(service._library.likes_service_load(path_of(path), opening.options, byref(service._at)), path)
+        service._begin(period)
         return service
 
     def _prepare(self) -> None:
         """What it has before it is opened."""
         self._library, self._at, self._end = load(), c_void_p(), None  # type: Any, Any, Optional[Moment]
-        self._calls, self._ending, self._runs = Calls(), threading.Lock(), itertools.count()
-        self._writers: Set[Writer] = set()
+        self._calls, self._ending, self._runs = Calls(), threading.RLock(), itertools.count()
+        self._writers: Set[Kept] = set()
         # The arrays of the last moment, and what the calls of the end have answered.
         self._arrays, self._ends = None, []  # type: Any, List[int]
 
-    def _begin(self) -> None:
+    def _begin(self, period: Optional[float]) -> None:
         """Once it is opened."""
+        self._period = LEAST if period is None else period
         self._pages = int(self._library.likes_service_pages(self._at))
         self._users = int(self._library.likes_service_users(self._at))
         self._seats = int(self._library.likes_service_seats(self._at))
-        self._rows = [threading.Lock() for _ in range(self._seats)]
+        self._rows = [threading.RLock() for _ in range(self._seats)]
 
     def __enter__(self) -> "Likes":
         return self
 
-    def __exit__(self, *_: object) -> None:
-        self.close()
+    def __exit__(
+        self, kind: Optional[Type[BaseException]], error: Optional[BaseException], trace: Optional[TracebackType]
+    ) -> None:
+        try:
+            self.close()
+        except Refused as why:
+            # An error in the block is the one that comes out.
+            if error is None:
+                raise
+            warnings.warn(f"a service stays open: {why}", RuntimeWarning, stacklevel=2)
 
     def _call(self, call: Any, *words: Any) -> Any:
         with self._calls.own():
@@ -192,8 +204,9 @@ class Likes:
 
     def writer(self) -> "Writer":
         """Opens a writer, for a thread's likes. It is closed before the service."""
-        writer = Writer(self._writers)
+        writer = Writer(Kept(self._writers))
         try:
+            refuse_again(self._ending, "ends the service, or opens a writer")
             # Not while the service ends: that has seen which writers are open.
             with self._ending:
                 check(self._call(self._library.likes_writer_open, byref(writer._at)), Status.OK)
@@ -201,6 +214,10 @@ class Likes:
             writer.close()
             raise
         return writer
+
+    def pool(self) -> Pool:
+        """Opens a pool of writers, for likes of any threads. It is closed before the service."""
+        return Pool(self, self._period)
 
     def run(self, number: int, requests: Sequence[Asked]) -> List[Told]:
         """Runs rows of (op, user, page) at a seat. Gives an answer for each: for a look what it shows, for a like
@@ -210,6 +227,8 @@ class Likes:
         with self._calls.own():
             self._calls.check()
             number = whole("seat", number, self._seats - 1)
+            # Else it would take what was found of the row that it is in.
+            refuse_again(self._rows[number], "runs a row at the seat")
             with self._rows[number]:
                 while not self._run_on(number, row, told):
                     self._library.likes_service_drive(self._at)
@@ -222,7 +241,7 @@ class Likes:
         # To unlock a seat that isn't held does nothing. So the lock is taken in here, where no exception can keep it.
         try:
             if not library.likes_service_lock(at, number):
-                raise Refused(library.likes_service_seat_fault(at, number))
+                raise Refused(lock_fault(library.likes_service_seat_fault(at, number)))
             done = library.likes_service_run(at, number, *row.left()[:3])
             while library.likes_service_take_found(at, number, byref(found)):
                 looks.append((found.tag, seen(found)))
@@ -264,7 +283,7 @@ class Likes:
     def save(self, path: str) -> None:
         """Saves such a moment to a file. After a crash there is the old file or the new one. An OSError says why it
         can't be written."""
-        check_file(self._call(self._library.likes_service_save, os.fsencode(path)), path)
+        check_file(self._call(self._library.likes_service_save, path_of(path)), path)
 
     def statistics(self) -> Statistics:
         """What the service has done so far."""
@@ -306,18 +325,22 @@ class Likes:
         """Ends the service, and gives its last moment, each time the same. It waits for calls that have begun, and
         later ones raise Closed. Where a writer is open it raises Refused, with OPEN_WRITER, and nothing is done. A
         signal handler in the middle of a call can't end the service: RuntimeError."""
+        refuse_again(self._ending, "ends the service, or opens a writer")
         with self._ending:
             if self._end is None:
+                for kept in list(self._writers):
+                    kept.end_dropped()
                 # Asked before calls are kept out: a refusal disturbs none of them.
-                if any(writer._is_open() for writer in list(self._writers)):
+                if any(kept.is_open() for kept in list(self._writers)):
                     raise Refused(Status.OPEN_WRITER)
                 self._calls.shut()
                 self._end, self._arrays = self._last_moment(), None
             return self._end
 
     def _last_moment(self) -> Moment:
-        """Makes the calls that end the service. None is refused. After an exception of a signal handler the next end
-        goes on with the next of them, so it frees nothing twice: a call is made and noted in one step of C."""
+        """Makes the calls that end the service. None is refused, unless there is no memory. After an exception, also of
+        a signal handler, the next end goes on with the next of them, so it frees nothing twice: a call is made and
+        noted in one step of C."""
         if self._arrays is None:
             self._arrays = (c_uint64 * self._pages)(), (c_uint32 * self._users)()
         library, at, (counts, lasts) = self._library, self._at, self._arrays
@@ -329,11 +352,67 @@ class Likes:
         ]
         for call, words in steps[len(self._ends) :]:
             self._ends.extend(itertools.starmap(call, [words]))
+            if self._ends[-1] != OK:
+                raise Refused(self._ends.pop())
         return Moment(list(counts), [last_of(page) for page in lasts])
 
     def close(self) -> None:
         """Ends the service. It may be called again."""
         self.stop()
+
+
+def refuse_again(lock: Any, what: str) -> None:
+    """Refuses a signal handler a call that would wait for the one in whose middle it is."""
+    if lock._is_owned():
+        raise RuntimeError(f"this thread {what}")
+
+
+class Kept:
+    """A writer as C has it. Its service knows it until it is closed, also if nobody has its Writer any more."""
+
+    def __init__(self, writers: Set["Kept"]) -> None:
+        self.library, self.at, self.lock = load(), c_void_p(), threading.RLock()
+        self.ends: List[int] = []  # what the last close has answered
+        self._is_dropped, self._process = False, os.getpid()
+        self._writers = writers  # those of the service that may be open
+        writers.add(self)
+
+    def is_open(self) -> bool:
+        return bool(self.at) and OK not in self.ends
+
+    def close(self) -> None:
+        """Flushes the writer and ends it, or raises why likes stay kept."""
+        refuse_again(self.lock, "is in a call of the writer")
+        with self.lock:
+            if OK not in self.ends:
+                # Made and noted in one step of C: no exception gets in between, so nothing is freed twice.
+                self.ends[:] = map(self.library.likes_writer_close, (self.at,))
+            check(self.ends[0], Status.OK)
+            self._writers.discard(self)
+
+    def drop(self) -> None:
+        """Nobody has its Writer any more: it is flushed, or the end of the service tries again."""
+        self._is_dropped = True
+        # In the child of a fork, and at the end of the program, other threads may never give back what it waits for.
+        if self.is_open() and self._process == os.getpid() and not sys.is_finalizing():
+            try:
+                self.close()
+            except Refused:
+                pass
+
+    def end_dropped(self) -> None:
+        """Ends it at the end of its service, if nobody has its Writer any more. Likes that nobody counts are told."""
+        if not self._is_dropped:
+            return
+        try:
+            self.close()
+        except Refused as why:
+            if why.status == Status.HOLDS_SEAT:
+                raise
+            with self.lock:
+                lost = self.library.likes_writer_drop(self.at)
+            self.close()
+            warnings.warn(f"{lost} likes of a writer that wasn't closed are lost: {why}", RuntimeWarning, stacklevel=3)
 
 
 class Writer:
@@ -343,13 +422,17 @@ class Writer:
     Others see a like once its row of 64 is full, by a call about a period after the row was begun, or by flush, look
     and close. Without calls there is no bound in time, so a thread flushes before it rests. Likes of a user by one
     writer are counted in their order.
+
+    A writer that nobody has any more is flushed and ended. What a seat doesn't take then is handed over at the end of
+    the service, or lost with a RuntimeWarning.
     """
 
-    def __init__(self, writers: Set["Writer"]) -> None:
-        self._library, self._at, self._lock = load(), c_void_p(), threading.Lock()
-        self._ends: List[int] = []  # what the last close has answered
-        self._writers = writers  # those of the service that may be open
-        writers.add(self)
+    def __init__(self, kept: Kept) -> None:
+        self._kept, self._library, self._lock = kept, kept.library, kept.lock
+        self._at, self._ends = kept.at, kept.ends
+
+    def __del__(self) -> None:
+        self._kept.drop()
 
     def __enter__(self) -> "Writer":
         return self
@@ -357,10 +440,13 @@ class Writer:
     def __exit__(
         self, kind: Optional[Type[BaseException]], error: Optional[BaseException], trace: Optional[TracebackType]
     ) -> None:
-        self.close()
-
-    def _is_open(self) -> bool:
-        return bool(self._at) and OK not in self._ends
+        try:
+            self.close()
+        except Refused as why:
+            # An error in the block is the one that comes out.
+            if error is None:
+                raise
+            warnings.warn(f"a writer stays open: {why}", RuntimeWarning, stacklevel=2)
 
     def _call(self, call: Any, *words: Any) -> Any:
         with self._lock:
@@ -393,10 +479,5 @@ class Writer:
 
     def close(self) -> None:
         """Flushes the writer and ends it. Where likes stay kept it raises what flush does, and stays open. It may be
-        called again."""
-        with self._lock:
-            if OK not in self._ends:
-                # Made and noted in one step of C: no exception gets in between, so nothing is freed twice.
-                self._ends[:] = map(self._library.likes_writer_close, (self._at,))
-            check(self._ends[0], Status.OK)
-            self._writers.discard(self)
+        called again. A signal handler in the middle of a call of the writer can't end it: RuntimeError."""
+        self._kept.close()

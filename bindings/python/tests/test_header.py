@@ -8,6 +8,7 @@ import subprocess
 import unittest
 from typing import Dict
 
+import likes
 from likes import Status, _library, _statuses
 
 SIZES = {"void *": 8, "const uint64_t *": 8, "const uint32_t *": 8, "size_t ": 8, "uint64_t ": 8, "uint32_t ": 4}
@@ -60,6 +61,7 @@ class Header(unittest.TestCase):
         self.assertIn(f"#define LIKES_VERSION {_library.VERSION}\n", self.text)
         abi, minor = divmod(_library.VERSION, 1000)
         self.assertEqual(_library.SHARED, f"liblikes.so.{abi or f'0.{minor}'}")
+        self.assertTrue(likes.__version__.startswith(f"{abi}.{minor}."), likes.__version__)
         self.assertIn(f"#define LIKES_MAX_SPLIT {_statuses.MAX_SPLIT}u", self.text)
         self.assertIn(f"#define LIKES_MAX_PERIOD_US {_statuses.MAX_PERIOD_US}u", self.text)
         self.assertEqual(_statuses.NO_HOT, 2**32 - 1)
@@ -74,6 +76,7 @@ class Header(unittest.TestCase):
         except importlib.metadata.PackageNotFoundError:
             self.skipTest("it isn't installed")
         self.assertTrue(version.startswith(f"{abi}.{minor}."), version)
+        self.assertEqual(version, likes.__version__)
 
     def test_statuses(self) -> None:
         told = {**self.numbers("likes_status"), **self.numbers("likes_service_status")}

@@ -1,6 +1,7 @@
 """The class Likes and its writers: right calls, wrong ones, calls after the end, services that go on, and threads."""
 
 import copy
+import gc
 import os
 import pickle
 import random
@@ -10,6 +11,7 @@ import tempfile
 import threading
 import time
 import unittest
+import warnings
 from typing import Any, Callable, Dict, List, Tuple
 from unittest import mock
 
@@ -106,6 +108,11 @@ class Openings(unittest.TestCase):
             with self.assertRaises(Refused) as caught:
                 Likes(**{**RIGHT, **words})
             self.assertEqual(caught.exception.status, status)
+
+    def test_no_lasts(self) -> None:
+        for lasts in (None, ()):
+            with opened(lasts=lasts) as service:
+                self.assertEqual(service.lasts(), [None] * 9)
 
     def test_defaults(self) -> None:
         """A page that many like is found, and split."""
@@ -207,6 +214,9 @@ class Service(unittest.TestCase):
             self.refused(Status.WRONG_SIZE, Likes.load, path)
             self.assertRaises(FileNotFoundError, Likes.load, path + "?")
             self.assertRaises(Closed, first.save, path)
+            calls: List[Callable[[str], object]] = [Likes.load, first.save]
+            for call in calls:
+                self.assertRaises(ValueError, call, path + "\0?")
 
     def test_going_on(self) -> None:
         """A service that goes on from the last moment of another."""
@@ -293,6 +303,64 @@ class Service(unittest.TestCase):
             writer.close()
         self.assertEqual(sum(service.stop().counts), threads * each)
 
+    def test_pool(self) -> None:
+        """A pool counts likes by itself, shows each user its own at once, and ends with all of them."""
+        threads, each, wrong = 8, 200, []
+        with opened(users=80, seats=8, marks=[0], period=0.0002) as service:
+            pool = service.pool()
+
+            def work(number: int) -> None:
+                for i in range(each):
+                    user, page = number + threads * (i % 10), i % 2
+                    pool.like(user, page)
+                    if i % 50 == 0 and pool.look(user, 0).last != page:
+                        wrong.append((number, i))
+
+            in_threads(work, threads)
+            while sum(service.counts()) != 5 + threads * each:
+                time.sleep(0.001)
+            self.refused(Status.OPEN_WRITER, service.stop)
+            self.refused(Status.UNKNOWN_USER, pool.like, 80, 0)
+            for value in OUTSIDE:
+                self.assertRaises(ValueError, pool.like, value, 0)
+            pool.like(0, 1)
+            pool.close()
+            pool.close()
+            calls: List[Callable[[], object]]
+            calls = [pool.flush, lambda: pool.like(0, 1), lambda: pool.look(0, 1)]
+            for call in calls:
+                self.assertRaises(Closed, call)
+            self.assertEqual(pool.drop(), 0)
+        self.assertEqual((wrong, sum(service.stop().counts)), ([], 6 + threads * each))
+
+    def test_pools_of_seats_that_leave(self) -> None:
+        with opened(users=4) as service, service.pool() as pool:
+            service.retire_seat(1)
+            pool.like(1, 0)
+            pool.like(2, 0)
+            for call in (pool.flush, pool.close):
+                self.refused(Status.GONE, call)
+            self.assertEqual(pool.look(2, 0), Seen(0, 6))
+            self.refused(Status.GONE, pool.look, 1, 0)
+            service.bring_back_seat(1)
+            self.assertEqual(pool.look(1, 0), Seen(0, 7))
+            service.retire_seat(1)
+            pool.like(1, 0)
+            self.assertEqual(pool.drop(), 1)
+        self.assertEqual(service.stop().counts, [7, 0])
+
+    def test_dropped_pools(self) -> None:
+        """A pool that nobody has any more keeps no service open."""
+        service = opened(period=0.0002)
+        service.pool().like(4, 1)
+        while True:
+            try:
+                self.assertEqual(service.stop().counts, [5, 1])
+                break
+            except Refused as why:
+                self.assertEqual(why.status, Status.OPEN_WRITER)
+                time.sleep(0.001)
+
     def test_looks_of_a_writer(self) -> None:
         """A look through a writer shows each like of its page that the writer was told, by whichever user."""
         with opened(users=8, counts=[0, 0], seats=4, period=100) as service, service.writer() as writer:
@@ -319,6 +387,45 @@ class Service(unittest.TestCase):
             service.bring_back_seat(1)
             writer.close()
             self.assertEqual(service.look(1, 0), Seen(0, 7))
+
+    def test_dropped_writers(self) -> None:
+        """A writer that nobody has any more, also since its thread ended, is flushed, and keeps no service open."""
+        with opened() as service:
+
+            def work(number: int) -> None:
+                service.writer().like(number, 1)
+
+            service.writer().like(4, 0)
+            in_threads(work, 3)
+            gc.collect()
+            self.assertEqual(service.counts(), [6, 3])
+            service.retire_seat(0)
+            service.writer().like(4, 0)
+            service.bring_back_seat(0)
+        self.assertEqual(service.stop().counts, [7, 3])
+
+    def test_lost_likes(self) -> None:
+        """What a dropped writer keeps for a seat that has left for good is told."""
+        service = opened()
+        service.retire_seat(0)
+        service.writer().like(4, 0)
+        gc.collect()
+        with self.assertWarnsRegex(RuntimeWarning, "^1 likes of a writer"):
+            self.assertEqual(service.stop().counts, [5, 0])
+
+    def test_errors_in_blocks(self) -> None:
+        """An error in a block is the one that comes out, also where the end of the block is refused."""
+        with warnings.catch_warnings(record=True) as told:
+            warnings.simplefilter("always")
+            with self.assertRaises(KeyError), opened() as service:
+                with service.writer() as writer:
+                    service.retire_seat(0)
+                    writer.like(4, 0)
+                    raise KeyError
+        self.assertEqual([it.category for it in told].count(RuntimeWarning), 2)
+        self.assertEqual(writer.drop(), 1)
+        writer.close()
+        self.assertEqual(service.stop().counts, [5, 0])
 
     def test_threads(self) -> None:
         """Likes, looks and counts of several threads, page 0 split in every split phase."""
@@ -436,6 +543,37 @@ class Breaks(unittest.TestCase):
                 while True:
                     service.run(0, [(LOOK, 4, 0)])
             self.assertEqual(service.look(4, 1), Seen(1, 1))
+
+    def test_handlers_of_writers(self) -> None:
+        """A handler in the middle of a call of a writer makes others, but doesn't end the writer."""
+        with opened() as service, service.writer() as writer:
+
+            def handle(*_: object) -> None:
+                self.assertEqual(writer.drop(), 1)
+                self.assertRaises(RuntimeError, writer.close)
+                raise Late
+
+            with mock.patch.object(_service, "check", handle):
+                self.assertRaises(Late, writer.like, 4, 0)
+            self.assertRaises(RuntimeError, self.end_in_end, service)
+
+    def end_in_end(self, service: Likes) -> None:
+        """Ends a service while this thread ends it."""
+        with service._ending:
+            service.stop()
+
+    def test_rows_in_rows(self) -> None:
+        """A handler in the middle of a row runs one at another seat, and none at this one."""
+        with opened(room=64, marks=[0], period=0.001) as service:
+
+            def handle(_: float) -> None:
+                self.assertEqual(service.run(1, [(LIKE, 1, 1)]), [LIKED])
+                self.assertRaises(RuntimeError, service.run, 0, [(LIKE, 4, 1)])
+                raise Late
+
+            with mock.patch.object(time, "sleep", handle), self.assertRaises(Late):
+                while True:
+                    service.run(0, [(LOOK, 4, 0)])
 
     def test_ends(self) -> None:
         """A writer and a service are freed once, also where an exception comes just after."""

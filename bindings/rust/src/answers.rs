@@ -226,9 +226,16 @@ impl From<RawStatistics> for Statistics {
 }
 
 /// The page of a user's last like, or none.
-#[derive(Clone, Copy, Debug, PartialEq, Eq, Hash)]
+#[derive(Clone, Copy, PartialEq, Eq, Hash)]
 #[repr(transparent)]
 pub struct Last(u32);
+
+/// As `Some(page)` or `None`.
+impl fmt::Debug for Last {
+    fn fmt(&self, to: &mut fmt::Formatter) -> fmt::Result {
+        self.page().fmt(to)
+    }
+}
 
 impl Last {
     /// The user has no last like.

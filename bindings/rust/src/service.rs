@@ -276,7 +276,7 @@ impl Service {
     ///
     /// # Errors
     ///
-    /// [`Error::UnknownSeat`], and [`Error::HoldsSeat`] where the thread holds a seat already.
+    /// [`Error::UnknownSeat`], [`Error::HoldsSeat`] where the thread holds a seat already, and [`Error::NoMemory`].
     pub fn with_seat<R>(&self, number: u32, work: impl FnOnce(&mut Held) -> R) -> Result<R, Error> {
         Ok(work(&mut Held::lock(self, number)?))
     }
@@ -323,10 +323,13 @@ impl Service {
         Ok(Moment { counts, lasts })
     }
 
-    /// Why a seat can't be held.
+    /// Why a seat can't be held. Where nothing is wrong with it, there is no memory for the thread.
     fn seat_fault(&self, number: u32) -> Error {
         // SAFETY: the service is open as long as it is borrowed.
-        error(unsafe { ffi::likes_service_seat_fault(self.at, number) })
+        match unsafe { ffi::likes_service_seat_fault(self.at, number) } {
+            status::OK => Error::NoMemory,
+            number => error(number),
+        }
     }
 }
 

@@ -220,6 +220,23 @@ fn a_writer_keeps_likes_of_a_seat_that_has_left() {
     assert_eq!(service.stop().unwrap().counts, [12, 0, 0]);
 }
 
+#[test]
+fn a_close_may_be_asked() {
+    fn like(service: &Service) -> Result<(), Error> {
+        let mut writer = service.writer()?;
+        writer.like(1, 0)?;
+        writer.close()?;
+        Ok(())
+    }
+    let service = open(2, 4, 4);
+    assert_eq!(like(&service), Ok(()));
+    assert_eq!(format!("{:?}", service.look(1, 0)), "Ok(Seen { last: Some(0), count: 11 })");
+    assert_eq!(format!("{:?}", service.last(0)), "Ok(None)");
+    service.retire_seat(1).unwrap();
+    assert_eq!(like(&service), Err(Error::Gone));
+    assert_eq!(service.stop().unwrap().counts, [11, 0, 0]);
+}
+
 /// A writer goes to another thread, and is flushed where it is dropped.
 #[test]
 fn a_writer_is_send() {

@@ -39,11 +39,18 @@ func check() error {
 	return nil
 }
 
-// client is what a client has done.
+// client is what a client has done: likes of each page, and of each user its last like and likes of each page.
 type client struct {
 	number int
 	liked  map[string]uint64
 	last   map[int]string
+	own    map[pair]uint64
+}
+
+// pair is a user and a page.
+type pair struct {
+	user int
+	page string
 }
 
 // get reads an answer in JSON.
@@ -71,6 +78,7 @@ func (c *client) like(web *http.Client, user int, page string) error {
 	}
 	c.liked[page]++
 	c.last[user] = page
+	c.own[pair{user, page}]++
 	return nil
 }
 
@@ -86,8 +94,9 @@ func (c *client) look(web *http.Client, user int, page string) error {
 	if last, isKnown := c.last[user]; isKnown && seen.Last != last {
 		return fmt.Errorf("user %d last liked %s, and not %s", user, last, seen.Last)
 	}
-	if seen.Count < c.liked[page] {
-		return fmt.Errorf("page %s has %d likes, of %d and more", page, seen.Count, c.liked[page])
+	// Likes of other users may not be counted yet.
+	if own := c.own[pair{user, page}]; seen.Count < own {
+		return fmt.Errorf("page %s has %d likes, of %d and more", page, seen.Count, own)
 	}
 	return nil
 }
@@ -147,7 +156,7 @@ func load() error {
 	errs, all := make(chan error, *clients), make([]*client, *clients)
 	var done sync.WaitGroup
 	for number := range all {
-		all[number] = &client{number, map[string]uint64{}, map[int]string{}}
+		all[number] = &client{number, map[string]uint64{}, map[int]string{}, map[pair]uint64{}}
 		done.Add(1)
 		go func(c *client) {
 			defer done.Done()

@@ -90,7 +90,8 @@ impl<'a> Writer<'a> {
     ///
     /// # Errors
     ///
-    /// Those of [`flush`](Self::flush), with the writer, which stays open.
+    /// Those of [`flush`](Self::flush), with the writer, which stays open. With `?`, in a function whose error is an
+    /// [`Error`], it is dropped.
     pub fn close(mut self) -> Result<(), (Self, Error)> {
         // SAFETY: the writer is this thread's own.
         match check(unsafe { ffi::likes_writer_close(self.at) }) {
@@ -100,6 +101,12 @@ impl<'a> Writer<'a> {
             }
             Err(error) => Err((self, error)),
         }
+    }
+}
+
+impl From<(Writer<'_>, Error)> for Error {
+    fn from((_, error): (Writer, Error)) -> Self {
+        error
     }
 }
 
