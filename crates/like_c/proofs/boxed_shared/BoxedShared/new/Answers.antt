@@ -26,9 +26,9 @@ returns-clause-opened c =
           subst (λ (h : Hub). AreOpened o (first_driver h.service) (first_seats h.service)) (sym is.0) opened.opened;
       proposed = subst (λ (h : Hub). (first_driver h.service).splits.told ≡ []) (sym is.0) opened.proposed;
       unused = subst (λ (h : Hub). IsUnused (first_of h.desk)) (sym is.0) opened.unused;
-      out = subst (λ (k : Cards). k.out ≡ 0) (sym is.1.0) opened.out;
-      told = subst (λ (k : Cards). told_of k ≡ []) (sym is.1.0) opened.told;
-      phase = is.1.1;
+      out = subst (λ (k : Cards). k.out ≡ 0) (sym is.1) opened.out;
+      told = subst (λ (k : Cards). told_of k ≡ []) (sym is.1) opened.told;
+      phase = is.2;
     })
     c.of_hub.ensures.opened
 
