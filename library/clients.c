@@ -3,6 +3,8 @@
 #include "missing.h"
 #include "proved.h"
 
+#include <errno.h>
+
 static const uint32_t no_page;
 static const likes_pair no_like;
 static const likes_request no_request;
@@ -13,11 +15,13 @@ uint32_t likes_shared_seats(const likes_shared *shared) {
 
 uint32_t likes_shared_close(likes_shared *shared, uint64_t *counts, size_t counts_len) {
     uint64_t count;
+    int error = errno;
     if (likes_is_missing(counts, counts_len))
         return LIKES_NULL;
     uint32_t status = likes_proved_shared_close(shared, counts_len == 0 ? &count : counts, counts_len);
     if (shared->at == NULL)
         shared->seats = 0;
+    errno = error;
     return status;
 }
 

@@ -425,8 +425,9 @@ static void use_shared(bool is_closed) {
     FREES(likes_client_close(&two));
     if (is_closed) {
         size_t held = blocks;
-        if (close_shared(1, SIZE_MAX) != LIKES_NO_MEMORY || blocks != held)
-            fail(__LINE__, "likes_shared_close", "has the wrong answer, or leaves blocks behind");
+        errno = 0;
+        if (close_shared(1, SIZE_MAX) != LIKES_NO_MEMORY || blocks != held || errno != 0)
+            fail(__LINE__, "likes_shared_close", "has the wrong answer, leaves blocks behind or changes errno");
         if (close_shared(0, 0) != LIKES_COUNTED)
             fail(__LINE__, "likes_shared_close", "has the wrong answer");
     }
@@ -444,10 +445,11 @@ static void stop_without_memory(void) {
     made = 0;
     first = 1;
     last = SIZE_MAX;
+    errno = 0;
     uint32_t status = likes_service_stop(service, counts, PAGES);
     first = last = 0;
-    if (status != LIKES_OK || counts[1] != 0 || counts[2] != 1)
-        fail(__LINE__, "likes_service_stop", "has the wrong counts");
+    if (status != LIKES_OK || counts[1] != 0 || counts[2] != 1 || errno != 0)
+        fail(__LINE__, "likes_service_stop", "has the wrong counts, or changes errno");
     likes_service_close(service);
 }
 
