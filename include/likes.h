@@ -227,9 +227,10 @@ typedef struct likes_found {
  * likes_seat_lasts do no phase work, so they answer neither GONE nor BETWEEN.)
  *
  * One thread could have done all that the seats did, one request after the other, with each seat's requests in their
- * order and phases that never fall. A call that returned before another began comes first, on whatever threads. A look
- * that waits has its place where it is found. Each count of LIKES_SEEN is the one that this thread would see. That of
- * LIKES_GLIMPSED need not be: it may lack likes. This holds while the service runs, too. */
+ * order and phases that never fall. The order is that of each call's step on shared memory; so a call that returned
+ * before another began comes first, on whatever threads. A look that waits has its place where it is found. Each count
+ * of LIKES_SEEN is the one that this thread would see. That of LIKES_GLIMPSED need not be: it may lack likes. What is
+ * proved of all seats together is said of a service that has ended (likes_close, likes_shared_close). */
 
 /* Adds one like: LIKES_LIKED, BETWEEN, GONE, LIKE_LIMIT, EMPTY, UNKNOWN_USER, OTHER_SEAT or UNKNOWN_PAGE. */
 uint32_t likes_seat_like(likes_seat *seat, uint32_t user, uint32_t page);
