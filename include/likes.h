@@ -5,7 +5,7 @@
  * likes_driver_turn when a phase is due. likes_service.h does that part for you: begin there. EMBEDDING.md is the
  * guide.
  *
- * No call changes errno, but likes_client_open where it answers NO_MEMORY.
+ * No call changes errno.
  *
  * Rules for the host
  *   - Pointers. Every pointer is valid and aligned for its type, and an array has the stated length. What two pointers

@@ -1,5 +1,5 @@
-/* The calls of shared services and of clients that take NULL, over the proved ones. The others of likes.h are the proved
- * ones themselves. */
+/* The calls of shared services and of clients that take NULL, or memory, over the proved ones. The others of likes.h are
+ * the proved ones themselves. */
 #include "missing.h"
 #include "proved.h"
 
@@ -30,6 +30,13 @@ void likes_shared_free(likes_shared *shared) {
         return;
     likes_proved_shared_free(shared);
     shared->seats = 0;
+}
+
+uint32_t likes_client_open(likes_shared *shared, likes_client *client) {
+    int error = errno;
+    uint32_t status = likes_proved_client_open(shared, client);
+    errno = error;
+    return status;
 }
 
 uint32_t likes_client_lasts(likes_client *client, uint32_t seat, uint32_t from, uint32_t *pages, size_t pages_len) {

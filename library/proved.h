@@ -39,6 +39,7 @@ uint32_t likes_proved_shared_open(const likes_proved_options *options, const uin
                                   likes_shared *shared);
 uint32_t likes_proved_shared_close(likes_shared *shared, uint64_t *counts, size_t counts_len);
 void likes_proved_shared_free(likes_shared *shared);
+uint32_t likes_proved_client_open(likes_shared *shared, likes_client *client);
 uint32_t likes_proved_client_lasts(likes_client *client, uint32_t seat, uint32_t from, uint32_t *pages,
                                    size_t pages_len);
 size_t likes_proved_client_run(likes_client *client, uint32_t seat, const likes_request *requests, size_t requests_len,

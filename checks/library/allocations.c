@@ -357,17 +357,18 @@ static void refuse_sharing(void) {
     share(0, 0);
     size_t of_shared = made, held;
     likes_shared_free(&shared);
+    errno = 0;
     for (size_t number = 1; number <= of_shared; number++)
-        if (share(number, number) != LIKES_NO_MEMORY || shared.at != NULL || blocks != 0)
-            fail(__LINE__, "likes_shared_open", "has the wrong answer, or leaves blocks behind");
+        if (share(number, number) != LIKES_NO_MEMORY || shared.at != NULL || blocks != 0 || errno != 0)
+            fail(__LINE__, "likes_shared_open", "has the wrong answer, leaves blocks behind or changes errno");
     share(0, 0);
     held = blocks;
     open_client(&client, 0, 0);
     size_t of_client = made;
     FREES(likes_client_close(&client));
     for (size_t number = 1; number <= of_client; number++)
-        if (open_client(&client, number, number) != LIKES_NO_MEMORY || client.at != NULL || blocks != held)
-            fail(__LINE__, "likes_client_open", "has the wrong answer, or leaves blocks behind");
+        if (open_client(&client, number, number) != LIKES_NO_MEMORY || client.at != NULL || blocks != held || errno != 0)
+            fail(__LINE__, "likes_client_open", "has the wrong answer, leaves blocks behind or changes errno");
     FREES(likes_shared_free(&shared));
     if (blocks != 0)
         fail(__LINE__, "likes_shared_free", "leaves blocks behind");

@@ -63,12 +63,33 @@ uint32_t inner_look(inner_member *member, inner_place *place, const likes_reques
     return status == LIKES_GLIMPSED ? inner_refuse(answer, LIKES_NO_ROOM) : status;
 }
 
-/* Answers a look, or runs what comes before the next one. The number of those done, and a status that tells if the next
- * one is too early. */
+static bool asks(const likes_request *request, uint32_t op) {
+    return request->op == op && request->reserved == 0;
+}
+
+/* Counts the likes that come first, as a row: how many, and a status that says why no more. */
+static size_t run_likes(const inner_trial *it, const likes_request *requests, size_t length, likes_answer *answers,
+                        uint32_t *status) {
+    likes_pair likes[INNER_ROW];
+    size_t many = 0, done = 0;
+    for (; many < length && many < INNER_ROW && asks(&requests[many], LIKES_LIKE); many++)
+        likes[many] = (likes_pair){requests[many].user, requests[many].page};
+    if (many > 0)
+        *status = likes_client_like_row(&it->member->client, it->place->number, likes, many, &done);
+    for (size_t i = 0; i < done; i++)
+        answers[i] = (likes_answer){.status = LIKES_LIKED};
+    inner_add(&it->member->likes, done);
+    return done;
+}
+
+/* Counts a row of likes. Where the first request is none, or isn't counted, answers a look, or runs what comes before the
+ * next one. The number of those done, and a status that tells if the next one is too early. */
 static size_t run_part(const inner_trial *it, const likes_request *requests, size_t length, likes_answer *answers,
                        uint32_t *status) {
-    size_t part = 0, likes = 0;
-    while (part < length && (requests[part].op != LIKES_LOOK || requests[part].reserved != 0))
+    size_t part = 0, likes = run_likes(it, requests, length, answers, status);
+    if (likes > 0)
+        return likes;
+    while (part < length && part < INNER_ROW && !asks(&requests[part], LIKES_LOOK))
         part++;
     if (part == 0) {
         *status = inner_look(it->member, it->place, requests, answers);

@@ -40,6 +40,9 @@ enum { INNER_WORK = 1, INNER_ASLEEP = 2 };
 /* A service's `wished`, or 0: a turn is wanted; the thread that makes turns sleeps until one is. */
 enum { INNER_WISHED = 1, INNER_WATCHED = 2 };
 
+/* The most likes of a row. */
+enum { INNER_ROW = 64 };
+
 /* Tags of a host's looks are below these, which are the service's own. */
 #define INNER_TAGS (UINT64_C(1) << 63)
 

@@ -7,14 +7,12 @@
 
 #include <stdlib.h>
 
-enum { ROW = 64 };
-
 struct likes_writer {
     likes_service *service;
     uint64_t pulse;                   /* at the last call */
     uint64_t begun;                   /* the seats whose rows have likes. A bit for each */
     uint8_t lengths[LIKES_MAX_SEATS]; /* of the rows */
-    likes_pair rows[][ROW];           /* one for each seat */
+    likes_pair rows[][INNER_ROW];     /* one for each seat */
 };
 
 static inline size_t seat_of(const likes_writer *writer, uint32_t user) {
@@ -117,10 +115,10 @@ INNER_SELDOM static uint32_t like_slowly(likes_writer *writer, uint32_t user, ui
     if (writer->service->pulse != writer->pulse)
         notice(writer);
     size_t seat = seat_of(writer, user);
-    if (writer->lengths[seat] == ROW && (fault = hand_over_full(writer, seat)) != LIKES_OK)
+    if (writer->lengths[seat] == INNER_ROW && (fault = hand_over_full(writer, seat)) != LIKES_OK)
         return fault;
     keep(writer, seat, user, page);
-    if (writer->lengths[seat] == ROW)
+    if (writer->lengths[seat] == INNER_ROW)
         hand_over_full(writer, seat);
     return LIKES_OK;
 }
@@ -131,7 +129,7 @@ uint32_t likes_writer_like(likes_writer *writer, uint32_t user, uint32_t page) {
     const likes_service *service = writer->service;
     size_t seat = seat_of(writer, user);
     bool is_plain = inner_mine.held == 0 && user < service->users && page < service->pages && service->is_used &&
-                    service->pulse == writer->pulse && writer->lengths[seat] < ROW - 1;
+                    service->pulse == writer->pulse && writer->lengths[seat] < INNER_ROW - 1;
     if (!is_plain)
         return like_slowly(writer, user, page);
     keep(writer, seat, user, page);

@@ -695,7 +695,7 @@ uint32_t likes_proved_shared_open(const likes_proved_options *options, const uin
     return LIKES_OK;
 }
 
-uint32_t likes_client_open(likes_shared *shared, likes_client *client) {
+uint32_t likes_proved_client_open(likes_shared *shared, likes_client *client) {
     if (client->at != NULL)
         return LIKES_IN_USE;
     if (shared->at == NULL)

@@ -59,7 +59,7 @@ pub extern "C" fn likes_shared_take_phase(shared: &mut SharedHandle, phase: &mut
 
 /// Makes a client. Its handle has to be empty, and is full after `OK`.
 #[unsafe(no_mangle)]
-pub extern "C" fn likes_client_open(
+pub extern "C" fn likes_proved_client_open(
     alloc: Global,
     shared: &mut SharedHandle,
     client: &mut ClientHandle,

@@ -14,8 +14,9 @@ use Rattle.like_core.specs.views.Posts.{posts_of}
 use Rattle.like_core.proofs.core.Moved.{reached_is_exclusive}
 use Rattle.like_core.proofs.views.Ordered.{all_fit, moments_are_ordered}
 use Rattle.like_live.specs.Opening.{board_opening}
-use Rattle.like_live.specs.StrictService.{MomentsAreStrict, SeatHistory}
+use Rattle.like_live.specs.StrictService.{MomentsAreStrict, MomentsFitEarlier, SeatHistory, deeds_in}
 use Rattle.like_live.proofs.Closing.{all-of-map, post_at}
+use Rattle.like_live.proofs.Earlier.{deeds_fit_earlier}
 use Rattle.like_live.proofs.OneThread.{in_one_order}
 
 -- a worker that runs a split phase runs the present one
@@ -51,3 +52,8 @@ moments_are_strict o factor board hs m opened at =
           (moments_are_ordered z m);
     }) in
     (one.0, one.1.0, one.1.1)
+
+pub moments_fit_earlier : MomentsFitEarlier
+moments_fit_earlier o factor board hs m opened at =
+    let strict = moments_are_strict o factor board hs m opened at in
+    deeds_fit_earlier o (map deeds_in hs) strict.0 strict.1.0

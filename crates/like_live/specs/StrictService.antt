@@ -50,14 +50,17 @@ pub record IsStrictService (o : Opening) (deeds : List (List Deed)) (serial : Li
   pub fits : (i : ℕ) (d : Deed) → slice_get serial i ≡ Some d
       → Fits (store_after (opened o) (take i serial)) d.user d.page d.act
 
--- the law of numbers, which a host reads without the list: of a strict service, each deed fits the store after all
--- deeds with lesser numbers, of whichever seats
+-- what a host reads without the list, of the deeds of each seat: each deed fits the store after all deeds with lesser
+-- numbers, of whichever seats
+abbrev pub FitEarlier : Opening → List (List Deed) → Type 0
+FitEarlier o deeds =
+    let all = flat_map (λ ds. ds) deeds in
+    All (λ d. Fits (store_after (opened o) (filter (λ e. nat_lt e.number d.number) all)) d.user d.page d.act) all
+
+-- the law of numbers: so it is in a strict service
 abbrev pub DeedsFitEarlier : Type 0
 DeedsFitEarlier =
-    (o : Opening) (deeds : List (List Deed)) (serial : List Deed) → IsStrictService o deeds serial
-    → All (λ d. Fits (store_after (opened o) (filter (λ e. nat_lt e.number d.number) (flat_map (λ ds. ds) deeds)))
-    d.user d.page d.act)
-    (flat_map (λ ds. ds) deeds)
+    (o : Opening) (deeds : List (List Deed)) (serial : List Deed) → IsStrictService o deeds serial → FitEarlier o deeds
 
 -- a snapshot is the store at the end of its phase: each count that the driver read in a phase is its page's after all
 -- deeds of the phase and of earlier ones
@@ -107,3 +110,11 @@ MomentsAreStrict =
     → AreSeatsAt (board_opening o factor) m (map (λ h. h.last) histories)
     → (serial : List Deed) × IsStrictService o (map deeds_in histories) serial
     × HasLastLikes o (map (λ h. h.last) histories) serial
+
+-- and so each deed so far fits the store after all with lesser numbers
+abbrev pub MomentsFitEarlier : Type 0
+MomentsFitEarlier =
+    (o : Opening) (factor : ℕ) (board : BoardId) (histories : List SeatHistory) (m : Moment (board_opening o factor))
+    → AreOpenedSeats o factor board (map (λ h. h.first) histories)
+    → AreSeatsAt (board_opening o factor) m (map (λ h. h.last) histories)
+    → FitEarlier o (map deeds_in histories)

@@ -7,7 +7,7 @@ ghost use Rattle.like_live.specs.Deeds.{DeedsHaveEntries, FoundAreTaken};
 ghost use Rattle.like_live.specs.Driver.{LastCountsStay};
 ghost use Rattle.like_live.specs.History.{HistoriesAreCounted, NoneWaitsOnceGone};
 ghost use Rattle.like_live.specs.LikeRow.{RowsAreLikes};
-ghost use Rattle.like_live.specs.StrictService.{DeedsFitEarlier, MomentsAreStrict, SeatsRise, ServicesAreStrict};
+ghost use Rattle.like_live.specs.StrictService.{DeedsFitEarlier, MomentsAreStrict, MomentsFitEarlier, SeatsRise, ServicesAreStrict};
 ghost use Rattle.like_live.specs.Moments.{LastCountsAreTallies, MarkedKeepSlots, SeatsAreExclusive, SlicesAreSlots};
 
 /// Whatever calls a fresh seat is asked: a page's tally is the number of its likes that were told `Liked`. A user's
@@ -122,4 +122,10 @@ pub fn crossed_looks_are_not_serial()
 /// that are in slices still are in it.
 pub fn moments_are_strict()
     ensures { MomentsAreStrict }
+{}
+
+/// What the seats of a running service were told so far has one order: each look shows what all deeds so far with lesser
+/// numbers leave, of whichever seats, but for what is glimpsed.
+pub fn moments_fit_earlier()
+    ensures { MomentsFitEarlier }
 {}

@@ -32,8 +32,8 @@ pub use laws::{
     answers_are_bounded, answers_are_reads, crossed_looks_are_not_serial, deeds_fit_earlier,
     deeds_have_entries, deeds_show_lasts, found_are_taken, histories_are_counted,
     last_counts_are_tallies, last_counts_stay, marked_keep_slots, moments_are_strict,
-    none_waits_once_gone, rows_are_likes, seats_are_exclusive, seats_rise, services_are_strict,
-    slices_are_slots,
+    moments_fit_earlier, none_waits_once_gone, rows_are_likes, seats_are_exclusive, seats_rise,
+    services_are_strict, slices_are_slots,
 };
 pub use like_pair::{LikePair, RowAnswer};
 pub use like_tables::NO_PAGE;

@@ -144,14 +144,20 @@ module _ (P : PageCount → Type 0) where
       let one = deed-alike v run.0 d run.1.0 rest.0 in
       (one.0, All-cons Written d ds one.1 rest.1)
 
--- so the counts that a driver has read stay among those that it knows
-module _ (v w : DriverView) (d : DriverDeed) (does : DriverDoes v d w) where
-  stays : All (Contains (counted w)) (counted v) × Written (Contains (counted w)) d
-  stays = deed-alike (Contains (counted w)) v w d does.0 (All-contains_itself (counted w))
+-- so the counts that a driver has read, and those that were written, stay among those that it knows
+module _ (v w : DriverView) (ds : List DriverDeed) (run : HasRun DriverDoes v ds w) where
+  abbrev IsKnown : PageCount → Type 0
+  IsKnown = Contains (counted w)
+
+  stays : All IsKnown (counted v) × All (Written IsKnown) ds
+  stays = all-written IsKnown v w ds run (All-contains_itself (counted w))
+
+  written : (d : DriverDeed) → Contains ds d → Written IsKnown d
+  written d has = subst (Written IsKnown) has.2 (stays.1 has.0 d has.1)
 
 pub counts-stay : CountsStay
 counts-stay = record {
-  kept = λ v w d does. (stays v w d does).0;
-  snapshots = λ v w from phase counts does. (stays v w (driver.Snapshot from counts (Some phase)) does).1;
-  lasts = λ v w from counts does. (stays v w (driver.LastCounts from counts true) does).1;
+  kept = λ v w ds run. (stays v w ds run).0;
+  snapshots = λ v w ds from phase counts run has. written v w ds run (driver.Snapshot from counts (Some phase)) has;
+  lasts = λ v w ds from counts run has. written v w ds run (driver.LastCounts from counts true) has;
 }

@@ -1,5 +1,6 @@
 -- What stays along all calls of a service.
 use Rattle.std.specs.Prelude.{ℕ, ◌+◌, ◌<◌, All, Contains, List, length, slice_index, Some, true}
+use Rattle.told_lock.specs.Deeds.{HasRun}
 use Rattle.like_core.specs.declared.view.PageCount.{PageCount}
 use Rattle.like_live.specs.Driver.{DriverView, IsSameDriver}
 use Rattle.like_live.specs.LiveView.{IsSameSeat, LiveView}
@@ -28,11 +29,12 @@ KnowsCounts v phase from counts =
     (i : ℕ) → i < length counts
     → Contains (counted v) (record { phase = phase; page = from + i; count = slice_index counts i })
 
--- the law of counts: a driver's calls keep the counts that it has read, and it then knows those that a snapshot wrote, as
--- counts of the snapshot's phase, and those that were written as last ones
+-- the law of counts: whatever calls a driver is asked, it keeps the counts that it has read, and at the end it knows those
+-- that a snapshot among these calls wrote, as counts of the snapshot's phase, and those that were written as last ones
 pub record CountsStay : Type 0 where
-  pub kept : (v w : DriverView) (d : DriverDeed) → DriverDoes v d w → KeepsCounts v w
-  pub snapshots : (v w : DriverView) (from phase : ℕ) (counts : List ℕ)
-      → DriverDoes v (Snapshot from counts (Some phase)) w → KnowsCounts w phase from counts
-  pub lasts : (v w : DriverView) (from : ℕ) (counts : List ℕ)
-      → DriverDoes v (LastCounts from counts true) w → (phase : ℕ) × KnowsCounts w phase from counts
+  pub kept : (v w : DriverView) (ds : List DriverDeed) → HasRun DriverDoes v ds w → KeepsCounts v w
+  pub snapshots : (v w : DriverView) (ds : List DriverDeed) (from phase : ℕ) (counts : List ℕ)
+      → HasRun DriverDoes v ds w → Contains ds (Snapshot from counts (Some phase)) → KnowsCounts w phase from counts
+  pub lasts : (v w : DriverView) (ds : List DriverDeed) (from : ℕ) (counts : List ℕ)
+      → HasRun DriverDoes v ds w → Contains ds (LastCounts from counts true)
+      → (phase : ℕ) × KnowsCounts w phase from counts

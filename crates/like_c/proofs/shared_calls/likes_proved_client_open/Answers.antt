@@ -1,6 +1,6 @@
 use Rattle.std.proofs.Common.{refl, rules}
 use Rattle.like_c.specs.Sharing.{client_made, client_none}
-use Rattle.like_c.proofs.shared_calls.likes_client_open.Goals as goal
+use Rattle.like_c.proofs.shared_calls.likes_proved_client_open.Goals as goal
 
 pub returns-in-Ok : goal.returns-in-Ok
 returns-in-Ok c =
