@@ -3,29 +3,50 @@
 
 #include <stdlib.h>
 
+/* Makes a call of a client at a place, until it is answered. Most are at once, so the first try is without a trial. */
+#define MAKE(status, until, call)                                                                                      \
+    do {                                                                                                               \
+        status = (call);                                                                                               \
+        if (status != LIKES_BUSY)                                                                                      \
+            inner_after(member, place);                                                                                \
+        if (__builtin_expect(inner_is_answered(status), true))                                                         \
+            break;                                                                                                     \
+        inner_trial it;                                                                                                \
+        uint32_t told = INNER_UNTRIED;                                                                                 \
+        inner_start(&it, member, place, until);                                                                        \
+        while (inner_again(&it, &told))                                                                                \
+            told = (call);                                                                                             \
+        status = told;                                                                                                 \
+    } while (0)
+
 uint32_t likes_service_like(likes_service *service, uint32_t user, uint32_t page) {
-    inner_trial it;
-    uint32_t status = inner_begin(&it, service, user, false);
-    while (inner_again(&it, &status))
-        status = likes_client_like(&it.member->client, it.place->number, user, page);
-    if (status == LIKES_LIKED)
-        inner_add(&it.member->likes, 1);
+    inner_member *member;
+    inner_place *place;
+    uint32_t status = inner_begin(service, user, false, &member, &place);
+    if (status != LIKES_OK)
+        return status;
+    MAKE(status, INNER_NEVER, likes_client_like(&member->client, place->number, user, page));
+    inner_add(&member->likes, status == LIKES_LIKED);
     return status;
 }
 
 uint32_t likes_service_glance(likes_service *service, uint32_t user, uint32_t page, likes_answer *answer) {
-    inner_trial it;
-    uint32_t status = inner_begin(&it, service, user, answer == NULL);
-    while (inner_again(&it, &status))
-        status = likes_client_glance(&it.member->client, it.place->number, user, page, answer);
-    return it.place == NULL ? inner_refuse(answer, status) : status;
+    inner_member *member;
+    inner_place *place;
+    uint32_t status = inner_begin(service, user, answer == NULL, &member, &place);
+    if (status != LIKES_OK)
+        return inner_refuse(answer, status);
+    MAKE(status, INNER_NEVER, likes_client_glance(&member->client, place->number, user, page, answer));
+    return status;
 }
 
 uint32_t likes_service_last(likes_service *service, uint32_t user, uint32_t *page) {
-    inner_trial it;
-    uint32_t status = inner_begin(&it, service, user, page == NULL);
-    while (inner_again(&it, &status))
-        status = likes_client_last(&it.member->client, it.place->number, user, page);
+    inner_member *member;
+    inner_place *place;
+    uint32_t status = inner_begin(service, user, page == NULL, &member, &place);
+    if (status != LIKES_OK)
+        return status;
+    MAKE(status, INNER_NEVER, likes_client_last(&member->client, place->number, user, page));
     return status;
 }
 
@@ -62,22 +83,21 @@ static uint32_t await_found(inner_member *member, inner_wait *wait, uint64_t unt
 }
 
 static uint32_t look_until(likes_service *service, uint32_t user, uint32_t page, uint64_t until, likes_answer *answer) {
-    inner_trial it;
-    uint32_t status = inner_begin(&it, service, user, answer == NULL);
-    inner_wait *wait = it.place != NULL ? wait_of(it.member) : NULL;
+    inner_member *member;
+    inner_place *place;
+    uint32_t status = inner_begin(service, user, answer == NULL, &member, &place);
+    inner_wait *wait = status == LIKES_OK ? wait_of(member) : NULL;
     if (wait == NULL)
-        return inner_refuse(answer, it.place == NULL ? status : (uint32_t)LIKES_NO_MEMORY);
-    it.until = until;
+        return inner_refuse(answer, status != LIKES_OK ? status : (uint32_t)LIKES_NO_MEMORY);
     wait->state = INNER_ASKED;
-    while (inner_again(&it, &status))
-        status = likes_client_look(&it.member->client, it.place->number, user, page,
-                                   INNER_TAGS | (uint64_t)(uintptr_t)wait, answer);
+    MAKE(status, until,
+         likes_client_look(&member->client, place->number, user, page, INNER_TAGS | (uint64_t)(uintptr_t)wait, answer));
     if (status == LIKES_WAITS)
-        status = await_found(it.member, wait, until, answer);
+        status = await_found(member, wait, until, answer);
     else
         wait->state = INNER_UNUSED;
-    inner_add(&it.member->looks, status == LIKES_SEEN);
-    inner_add(&it.member->late, status == LIKES_LATE);
+    inner_add(&member->looks, status == LIKES_SEEN);
+    inner_add(&member->late, status == LIKES_LATE);
     return status == LIKES_LATE ? inner_refuse(answer, status) : status;
 }
 

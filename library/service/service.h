@@ -226,17 +226,10 @@ static inline void inner_start(inner_trial *it, inner_member *member, inner_plac
 /* The status of a call that wasn't made yet. */
 #define INNER_UNTRIED UINT32_MAX
 
-/* Begins a call of a user, by a thread that may not hold a seat: INNER_UNTRIED, or what is wrong with it. */
-static inline uint32_t inner_begin(inner_trial *it, likes_service *service, uint32_t user, bool has_null) {
-    inner_member *member;
-    uint32_t fault = inner_enter(service, has_null, &member);
-    it->place = NULL;
-    if (fault != LIKES_OK)
-        return fault;
-    inner_note_use(service);
-    size_t seat = inner_remainder(user, service->inverse, service->seats);
-    inner_start(it, member, &service->places[seat], INNER_NEVER);
-    return INNER_UNTRIED;
+/* Whether a call has its answer. Else it has to be made again: the seat is busy, or between two phases, or looks fill it.
+ */
+static inline bool inner_is_answered(uint32_t status) {
+    return status != LIKES_BUSY && status != LIKES_BETWEEN && status != LIKES_NO_ROOM;
 }
 
 /* Waits, where a call wasn't answered. Whether it has to be made again. Or it is too late: LIKES_LATE. */
@@ -244,12 +237,23 @@ bool inner_wait_and_try(inner_trial *it, uint32_t *status);
 
 /* Whether a call has to be made, the first time or again. */
 static inline bool inner_again(inner_trial *it, uint32_t *status) {
-    if (*status == INNER_UNTRIED || it->place == NULL)
-        return it->place != NULL;
+    if (*status == INNER_UNTRIED)
+        return true;
     if (*status != LIKES_BUSY)
         inner_after(it->member, it->place);
-    bool is_early = *status == LIKES_BUSY || *status == LIKES_BETWEEN || *status == LIKES_NO_ROOM;
-    return __builtin_expect(is_early || it->has_waited, false) && inner_wait_and_try(it, status);
+    return __builtin_expect(!inner_is_answered(*status) || it->has_waited, false) && inner_wait_and_try(it, status);
+}
+
+/* Begins a call of a user, by a thread that may not hold a seat: LIKES_OK, and its member and the user's place; or what
+ * is wrong with it. */
+static inline uint32_t inner_begin(likes_service *service, uint32_t user, bool has_null, inner_member **member,
+                                   inner_place **place) {
+    uint32_t fault = inner_enter(service, has_null, member);
+    if (fault != LIKES_OK)
+        return fault;
+    inner_note_use(service);
+    *place = &service->places[inner_remainder(user, service->inverse, service->seats)];
+    return LIKES_OK;
 }
 
 /* Locks a seat for this client, until a time. Whether it could. */

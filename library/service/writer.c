@@ -22,15 +22,20 @@ static inline size_t seat_of(const likes_writer *writer, uint32_t user) {
 /* Hands a row over: LIKES_OK, or why likes stay kept. */
 static uint32_t hand_over(likes_writer *writer, size_t seat) {
     likes_pair *row = writer->rows[seat];
+    inner_member *member;
+    inner_place *place;
     inner_trial trial;
     size_t length = writer->lengths[seat], done = 0, counted;
     if (length == 0)
         return LIKES_OK;
-    uint32_t status = inner_begin(&trial, writer->service, row->user, false);
+    uint32_t status = inner_begin(writer->service, row->user, false, &member, &place);
+    if (status != LIKES_OK)
+        return status;
+    status = INNER_UNTRIED;
+    inner_start(&trial, member, place, INNER_NEVER);
     for (; inner_again(&trial, &status); done += counted)
-        status = likes_client_like_row(&trial.member->client, trial.place->number, row + done, length - done, &counted);
-    if (done > 0)
-        inner_add(&trial.member->likes, done);
+        status = likes_client_like_row(&member->client, place->number, row + done, length - done, &counted);
+    inner_add(&member->likes, done);
     memmove(row, row + done, (length - done) * sizeof *row);
     writer->lengths[seat] = (uint8_t)(length - done);
     if (done == length)
