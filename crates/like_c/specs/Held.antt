@@ -4,7 +4,7 @@ use Rattle.std.specs.Global.{Global}
 use Rattle.std_alloc.specs.declared.boxed.Box.{Box}
 use Rattle.like_choice.specs.Slots.{pages_in_use}
 use Rattle.like_limits.specs.Limits.{hot_pages}
-use Rattle.like_live.specs.LiveView.{LiveView, RanNext}
+use Rattle.like_live.specs.LiveView.{IsSameSeat, LiveView, RanNext}
 use Rattle.like_live.specs.declared.answer.GlanceAnswer.{GlanceAnswer}
 use Rattle.like_live.specs.declared.answer.LikeAnswer.{LikeAnswer}
 use Rattle.like_live.specs.declared.answer.LookAnswer.{LookAnswer}
@@ -15,7 +15,7 @@ use Rattle.like_live.specs.declared.driver_end.End.{End}
 use Rattle.like_live.specs.declared.driver_end.End.TheVariants.{No, IfItServes, Always}
 use Rattle.like_live.specs.Batch.{RunCase}
 use Rattle.like_live.specs.Calls.{ComeBackCase, GlanceCase, LikeCase, LookCase, RetireCase, TakesFound}
-use Rattle.like_live.specs.Driver.{DriverTurns, TakesLast, TakesSnapshot}
+use Rattle.like_live.specs.Driver.{DriverTurns, IsSameDriver, TakesLast, TakesSnapshot}
 use Rattle.like_live.specs.Lasts.{AreLastsAt, TellsLast, users_of}
 use Rattle.like_live.specs.Moves.{Moves}
 use Rattle.like_requests.specs.declared.verdict.Verdict.{Verdict}
@@ -40,35 +40,39 @@ pub data At {A : Type 0} (empty : Type 0) (does : A → A → Type 0) (at after 
   at_none : at ≡ None → empty → after ≡ None → At empty does at after
   at_some : (x y : A) → at ≡ Some x → does x y → after ≡ Some y → At empty does at after
 
+-- the same of a seat, which stays the same seat
+abbrev pub SeatAt : Type 0 → (LiveView → LiveView → Type 0) → Option BoxedSeat → Option BoxedSeat → Type 0
+SeatAt empty does at after = At empty (λ s t. does s.live t.live × IsSameSeat s.live t.live) at after
+
 abbrev pub LikesAt : ℕ → ℕ → Option BoxedSeat → ℕ → Option BoxedSeat → Type 0
 LikesAt user page at result after =
-    At (result ≡ status.empty) (λ s t. (answer : LikeAnswer)
-    × LikeCase s.live user page answer t.live × (result ≡ like_status answer)) at after
+    SeatAt (result ≡ status.empty) (λ v w. (answer : LikeAnswer)
+    × LikeCase v user page answer w × (result ≡ like_status answer)) at after
 
 abbrev pub LooksAt : ℕ → ℕ → ℕ → Option BoxedSeat → AnswerRow → Option BoxedSeat → Type 0
 LooksAt user page tag at row after =
-    At (row ≡ status_row status.empty) (λ s t. (answer : LookAnswer)
-    × LookCase s.live user page tag answer t.live × (row ≡ look_row answer)) at after
+    SeatAt (row ≡ status_row status.empty) (λ v w. (answer : LookAnswer)
+    × LookCase v user page tag answer w × (row ≡ look_row answer)) at after
 
 abbrev pub GlancesAt : ℕ → ℕ → Option BoxedSeat → AnswerRow → Option BoxedSeat → Type 0
 GlancesAt user page at row after =
-    At (row ≡ status_row status.empty) (λ s t. (answer : GlanceAnswer)
-    × GlanceCase s.live user page answer t.live × (row ≡ glance_row answer)) at after
+    SeatAt (row ≡ status_row status.empty) (λ v w. (answer : GlanceAnswer)
+    × GlanceCase v user page answer w × (row ≡ glance_row answer)) at after
 
 abbrev pub TurnsAt : Option BoxedSeat → ℕ → Option BoxedSeat → Type 0
 TurnsAt at result after =
-    At (result ≡ status.empty) (λ s t. (answer : TurnAnswer)
-    × Moves s.live answer t.live × (result ≡ turn_status answer)) at after
+    SeatAt (result ≡ status.empty) (λ v w. (answer : TurnAnswer)
+    × Moves v answer w × (result ≡ turn_status answer)) at after
 
 abbrev pub RetiresAt : Option BoxedSeat → ℕ → Option BoxedSeat → Type 0
 RetiresAt at result after =
-    At (result ≡ status.empty) (λ s t. (answer : TurnAnswer)
-    × RetireCase s.live answer t.live × (result ≡ turn_status answer)) at after
+    SeatAt (result ≡ status.empty) (λ v w. (answer : TurnAnswer)
+    × RetireCase v answer w × (result ≡ turn_status answer)) at after
 
 abbrev pub ComesBackAt : Option BoxedSeat → ℕ → Option BoxedSeat → Type 0
 ComesBackAt at result after =
-    At (result ≡ status.empty) (λ s t. (answer : TurnAnswer)
-    × ComeBackCase s.live answer t.live × (result ≡ turn_status answer)) at after
+    SeatAt (result ≡ status.empty) (λ v w. (answer : TurnAnswer)
+    × ComeBackCase v answer w × (result ≡ turn_status answer)) at after
 
 -- a phase is asked for, and nothing changes
 abbrev pub PhaseAt : Option BoxedSeat → ℕ → Option BoxedSeat → Type 0
@@ -99,14 +103,14 @@ ProposesAt pages at result after =
 
 -- a found look is taken, and its row is written: it ran in the phase after the one in which it was asked. If there is
 -- none, the row stays as it was
-pub data WritesFound (old : FoundRow) (is_found : Bool) (row : FoundRow) (s t : BoxedSeat) : Type 0 where
-  none_found : TakesFound s.live None t.live → is_found ≡ false → row ≡ old → WritesFound old is_found row s t
-  found : (it : Found) → TakesFound s.live (Some it) t.live → RanNext it → is_found ≡ true → row ≡ found_row it
-      → WritesFound old is_found row s t
+pub data WritesFound (old : FoundRow) (is_found : Bool) (row : FoundRow) (v w : LiveView) : Type 0 where
+  none_found : TakesFound v None w → is_found ≡ false → row ≡ old → WritesFound old is_found row v w
+  found : (it : Found) → TakesFound v (Some it) w → RanNext it → is_found ≡ true → row ≡ found_row it
+      → WritesFound old is_found row v w
 
 abbrev pub TakesFoundAt : Option BoxedSeat → FoundRow → Bool → FoundRow → Option BoxedSeat → Type 0
 TakesFoundAt at old is_found row after =
-    At ((is_found ≡ false) × (row ≡ old)) (WritesFound old is_found row) at after
+    SeatAt ((is_found ≡ false) × (row ≡ old)) (WritesFound old is_found row) at after
 
 -- what is written of a user's last like: the page, or `no_page`; for a user who is refused, nothing
 abbrev pub GivesLast : Result (Option ℕ) Verdict → (old result page : ℕ) → Type 0
@@ -144,12 +148,13 @@ KeepsUnasked requests old rows = (i : ℕ) → length requests ≤ i → slice_g
 abbrev pub RunsAt :
     Option BoxedSeat → List RequestRow → List AnswerRow → List AnswerRow → ℕ → Option BoxedSeat → Type 0
 RunsAt at requests old rows done after =
-    At ((done ≡ 0) × (rows ≡ with_empty old))
-    (λ s t. RunCase call_of row_of s.live requests rows done t.live × KeepsUnasked requests old rows) at after
+    SeatAt ((done ≡ 0) × (rows ≡ with_empty old))
+    (λ v w. RunCase call_of row_of v requests rows done w × KeepsUnasked requests old rows) at after
 
--- nothing but the driver has changed
-abbrev pub KeepsRest : Opened → Opened → Type 0
-KeepsRest o p = p ≡ record o { driver = p.driver }
+-- nothing but the driver has changed, which is the same one
+pub record KeepsRest (o p : Opened) : Type 0 where
+  pub rest : p ≡ record o { driver = p.driver }
+  pub same : IsSameDriver o.driver p.driver
 
 -- whether a turn may end the phase, if the number says it
 abbrev pub end_of : ℕ → Option End

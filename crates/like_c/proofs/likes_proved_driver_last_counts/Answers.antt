@@ -11,9 +11,11 @@ returns-then-not-has_pages c =
 pub returns-then-last_counts : goal.returns-then-last_counts
 returns-then-last_counts c =
     at_some _ _ c.in-Some.ensures.driver
-    (last_counts true (c.if-not-has_pages.ensures.0 refl) c.if-last_counts.ensures.case refl refl) refl
+    (last_counts true (c.if-not-has_pages.ensures.0 refl) c.if-last_counts.ensures.case refl
+    (record { rest = refl; same = c.if-last_counts.ensures.same })) refl
 
 pub returns-else-last_counts : goal.returns-else-last_counts
 returns-else-last_counts c =
     at_some _ _ c.in-Some.ensures.driver
-    (last_counts false (c.if-not-has_pages.ensures.0 refl) c.if-last_counts.ensures.case refl refl) refl
+    (last_counts false (c.if-not-has_pages.ensures.0 refl) c.if-last_counts.ensures.case refl
+    (record { rest = refl; same = c.if-last_counts.ensures.same })) refl

@@ -11,9 +11,11 @@ returns-then-not-has_pages c =
 pub returns-in-Some-snapshot : goal.returns-in-Some-snapshot
 returns-in-Some-snapshot c =
     at_some _ _ c.in-Some.ensures.driver
-    (snapshots (Some c.in-Some-snapshot.field-0) (c.if-not-has_pages.ensures.0 refl) c.in-Some-snapshot.ensures.case refl refl) refl
+    (snapshots (Some c.in-Some-snapshot.field-0) (c.if-not-has_pages.ensures.0 refl) c.in-Some-snapshot.ensures.case refl
+    (record { rest = refl; same = c.in-Some-snapshot.ensures.same })) refl
 
 pub returns-in-None : goal.returns-in-None
 returns-in-None c =
     at_some _ _ c.in-Some.ensures.driver
-    (snapshots None (c.if-not-has_pages.ensures.0 refl) c.in-None.ensures.case refl refl) refl
+    (snapshots None (c.if-not-has_pages.ensures.0 refl) c.in-None.ensures.case refl
+    (record { rest = refl; same = c.in-None.ensures.same })) refl

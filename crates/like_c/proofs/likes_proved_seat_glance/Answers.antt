@@ -3,4 +3,4 @@ use Rattle.like_c.specs.Held.{at_some}
 use Rattle.like_c.proofs.likes_proved_seat_glance.Goals as goal
 
 pub returns-clause-case : goal.returns-clause-case
-returns-clause-case c = at_some _ _ c.in-Some.ensures.seat (c.glance.result, c.glance.ensures.case, c.of_glance.ensures) refl
+returns-clause-case c = at_some _ _ c.in-Some.ensures.seat ((c.glance.result, c.glance.ensures.case, c.of_glance.ensures), c.glance.ensures.same) refl
