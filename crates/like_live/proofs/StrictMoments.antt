@@ -56,4 +56,4 @@ moments_are_strict o factor board hs m opened at =
 pub moments_fit_earlier : MomentsFitEarlier
 moments_fit_earlier o factor board hs m opened at =
     let strict = moments_are_strict o factor board hs m opened at in
-    deeds_fit_earlier o (map deeds_in hs) strict.0 strict.1.0
+    deeds_fit_earlier o (map deeds_in hs) strict.0 strict.1
