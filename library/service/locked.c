@@ -63,21 +63,18 @@ uint32_t inner_look(inner_member *member, inner_place *place, const likes_reques
     return status == LIKES_GLIMPSED ? inner_refuse(answer, LIKES_NO_ROOM) : status;
 }
 
-static bool asks(const likes_request *request, uint32_t op) {
-    return request->op == op && request->reserved == 0;
-}
-
 /* Counts the likes that come first, as a row: how many, and a status that says why no more. */
 static size_t run_likes(const inner_trial *it, const likes_request *requests, size_t length, likes_answer *answers,
                         uint32_t *status) {
+    const likes_answer liked = {.status = LIKES_LIKED};
     likes_pair likes[INNER_ROW];
-    size_t many = 0, done = 0;
-    for (; many < length && many < INNER_ROW && asks(&requests[many], LIKES_LIKE); many++)
+    size_t most = length < INNER_ROW ? length : INNER_ROW, many = 0, done = 0;
+    for (; many < most && (requests[many].op | requests[many].reserved) == LIKES_LIKE; many++)
         likes[many] = (likes_pair){requests[many].user, requests[many].page};
     if (many > 0)
         *status = likes_client_like_row(&it->member->client, it->place->number, likes, many, &done);
     for (size_t i = 0; i < done; i++)
-        answers[i] = (likes_answer){.status = LIKES_LIKED};
+        answers[i] = liked;
     inner_add(&it->member->likes, done);
     return done;
 }
@@ -89,7 +86,7 @@ static size_t run_part(const inner_trial *it, const likes_request *requests, siz
     size_t part = 0, likes = run_likes(it, requests, length, answers, status);
     if (likes > 0)
         return likes;
-    while (part < length && part < INNER_ROW && !asks(&requests[part], LIKES_LOOK))
+    while (part < length && part < INNER_ROW && (requests[part].op != LIKES_LOOK || requests[part].reserved != 0))
         part++;
     if (part == 0) {
         *status = inner_look(it->member, it->place, requests, answers);
