@@ -1,4 +1,5 @@
 -- What a client's calls do, and what likes.h tells of them.
+use denote.RawPtr.{Ptr}
 use Rattle.std.specs.Arc.{arc_value}
 use Rattle.std.specs.Prelude.{◌≡◌, ◌≢◌, ℕ, ◌+◌, ◌≤◌, Bool, true, false, drop, length, slice_set, List, [], ◌∷◌, Option, Some, None, Result, Ok, Err, ⊤}
 use Rattle.like_live.specs.declared.answer.TurnAnswer.{TurnAnswer}
@@ -141,6 +142,12 @@ abbrev pub ClientPhase : ℕ → Option BoxedClient → (old result phase : ℕ)
 ClientPhase seat at old result phase after =
     At ((result ≡ status.empty) × (phase ≡ old))
     (λ b c. (told : Result ℕ ℕ) × Calls seat (λ _. []) told b c × TellsPhase old result phase told) at after
+
+-- where the last likes of a seat's users lie is asked for, and nothing is done there. No clause says where they lie
+abbrev pub ClientLines : ℕ → Option BoxedClient → ℕ → Option BoxedClient → Type 0
+ClientLines seat at result after =
+    At (result ≡ status.empty) (λ b c. (told : Result Ptr ℕ) × Calls seat (λ _. []) told b c
+    × (result ≡ told_status (λ _. status.ok) told)) at after
 
 abbrev pub ClientLocks : ℕ → Option BoxedClient → ℕ → Option BoxedClient → Type 0
 ClientLocks seat at result after =

@@ -14,6 +14,7 @@ mod client_handle;
 mod client_run;
 mod closing;
 mod driver_handle;
+mod lines_row;
 mod opened;
 mod parts;
 mod phase_handle;

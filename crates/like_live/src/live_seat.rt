@@ -44,8 +44,6 @@ pub struct LiveSeat<P: Post> {
     /// Half of the room.
     half: u32,
     signals: Signals,
-    /// What a row read ahead.
-    read: u32,
 }
 
 impl<P: Post> Model for LiveSeat<P> {
@@ -96,7 +94,6 @@ impl<P: Post + Drop> LiveSeat<P> {
                 room: LookRoom::new(room),
                 half: room / 2,
                 signals,
-                read: 0,
             }),
             Err(_) => Err(AllocError),
         }

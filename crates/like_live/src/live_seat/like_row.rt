@@ -19,10 +19,7 @@ impl<P: SlotPost> LiveSeat<P> {
         ensures same { IsSameSeat self.old self.new }
     {
         match self.turn() {
-            TurnAnswer::Runs => {
-                self.read_ahead(likes);
-                self.like_all(likes)
-            }
+            TurnAnswer::Runs => self.like_all(likes),
             TurnAnswer::Between => RowAnswer {
                 counted: 0,
                 answer: LikeAnswer::Between,
@@ -32,21 +29,6 @@ impl<P: SlotPost> LiveSeat<P> {
                 answer: LikeAnswer::Gone,
             },
         }
-    }
-    // Reads the last likes of a row's users, so that the lines of a cache that have them come side by side. What is read
-    // is kept, since a compiler leaves out what nothing keeps.
-    #[inline(always)]
-    fn read_ahead(&mut self, likes: &[LikePair])
-        ensures { self.new ≡ self.old }
-    {
-        let users = self.station.users();
-        let mut read = 0;
-        for like in likes.iter() {
-            if let Some(placed) = users.find(&self.home, like.user) {
-                read ^= users.last_at(placed).unwrap_or(0);
-            }
-        }
-        self.read = read;
     }
 
     // Counts likes in their order, of a seat that runs a phase.
