@@ -9,6 +9,12 @@ typedef struct likes_proved_options {
     uint64_t reserved[6];
 } likes_proved_options;
 
+/* Where the last likes of a seat's users lie, four bytes for each place. Nothing may be done there but to have the processor
+ * fetch them. */
+typedef struct likes_address {
+    const void *at;
+} likes_address;
+
 uint32_t likes_proved_open(const likes_proved_options *options, const uint64_t *counts, size_t pages,
                            const uint32_t *marks, size_t marks_len, const uint32_t *lasts, size_t lasts_len,
                            likes_driver *driver);
@@ -40,6 +46,7 @@ uint32_t likes_proved_shared_open(const likes_proved_options *options, const uin
 uint32_t likes_proved_shared_close(likes_shared *shared, uint64_t *counts, size_t counts_len);
 void likes_proved_shared_free(likes_shared *shared);
 uint32_t likes_proved_client_open(likes_shared *shared, likes_client *client);
+uint32_t likes_proved_client_address(likes_client *client, uint32_t seat, likes_address *to);
 uint32_t likes_proved_client_lasts(likes_client *client, uint32_t seat, uint32_t from, uint32_t *pages,
                                    size_t pages_len);
 size_t likes_proved_client_run(likes_client *client, uint32_t seat, const likes_request *requests, size_t requests_len,

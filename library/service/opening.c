@@ -48,6 +48,11 @@ static uint32_t begin(likes_service *service) {
     service->is_open = true;
     if (!inner_members_open(service))
         return LIKES_NO_MEMORY;
+    for (uint32_t i = 0; i < service->seats; i++) {
+        likes_address lasts = {0};
+        likes_proved_client_address(&service->own->client, i, &lasts);
+        service->places[i].lasts = (uintptr_t)lasts.at;
+    }
     service->has_thread = pthread_create(&service->thread, NULL, inner_driver, service) == 0;
     return service->has_thread ? LIKES_OK : LIKES_NO_THREAD;
 }

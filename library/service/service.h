@@ -53,6 +53,7 @@ typedef struct inner_place {
     _Atomic uint32_t holds;            /* odd while a thread holds it and is in no call; goes up with each such call */
     _Atomic bool is_leaving;           /* who does the seat's phase work retires it, if it can */
     likes_service *service;
+    uintptr_t lasts; /* where the last likes of its users lie, four bytes for each */
     likes_seat seat; /* of the thread that holds it: the address of this place, and 1 */
     /* Of who has the seat locked: how many looks of the host's were asked and not taken, and a ring of found ones. */
     uint32_t hosts, first, length;
@@ -121,6 +122,21 @@ struct likes_service {
 static inline size_t inner_remainder(uint32_t number, uint64_t inverse, uint64_t divisor) {
     __extension__ typedef unsigned __int128 wide;
     return (size_t)(((wide)(inverse * number) * divisor) >> 64);
+}
+
+/* Has the processor fetch the lines of a cache that have the last likes of a row's users, all at once. (A processor that
+ * can't does nothing.) User u is in place u / seats. */
+static inline void inner_fetch(uintptr_t lasts, uint64_t inverse, const likes_pair *likes, size_t many) {
+    __extension__ typedef unsigned __int128 wide;
+    for (size_t i = 0; i < many; i++) {
+        uint64_t user = likes[i].user, place = inverse == 0 ? user : (uint64_t)(((wide)inverse * user) >> 64);
+        const char *at = (const char *)(lasts + 4 * place);
+#if defined(__x86_64__)
+        __asm__ volatile("prefetchw %0" ::"m"(*at));
+#else
+        __builtin_prefetch(at, 1);
+#endif
+    }
 }
 
 /* Adds to a number that one thread writes, and others read. */

@@ -497,6 +497,13 @@ uint32_t likes_client_phase(likes_client *client, uint32_t number, uint64_t *to)
     AT_SEAT(phase(seat, to));
 }
 
+uint32_t likes_proved_client_address(likes_client *client, uint32_t number, likes_address *to) {
+    (void)client;
+    (void)number;
+    to->at = NULL;
+    return LIKES_OK;
+}
+
 uint32_t likes_client_turn(likes_client *client, uint32_t number) {
     AT_SEAT(advance(seat));
 }

@@ -144,8 +144,8 @@ ClientPhase seat at old result phase after =
     (λ b c. (told : Result ℕ ℕ) × Calls seat (λ _. []) told b c × TellsPhase old result phase told) at after
 
 -- where the last likes of a seat's users lie is asked for, and nothing is done there. No clause says where they lie
-abbrev pub ClientLines : ℕ → Option BoxedClient → ℕ → Option BoxedClient → Type 0
-ClientLines seat at result after =
+abbrev pub ClientAddress : ℕ → Option BoxedClient → ℕ → Option BoxedClient → Type 0
+ClientAddress seat at result after =
     At (result ≡ status.empty) (λ b c. (told : Result Ptr ℕ) × Calls seat (λ _. []) told b c
     × (result ≡ told_status (λ _. status.ok) told)) at after
 

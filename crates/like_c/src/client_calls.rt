@@ -3,11 +3,11 @@
 ghost use Rattle.std.specs.Prelude.{◌≡◌, ◌<◌, ◌≤◌, ℕ, length, slice_get};
 ghost use Rattle.like_shared.specs.declared.deed.SeatDeed.TheVariants.{ComeBack, Retire, Turn};
 ghost use Rattle.like_c.specs.ClientRows.{ClientRuns};
-ghost use Rattle.like_c.specs.Clients.{ClientDrives, ClientGlances, ClientLast, ClientLastCounts, ClientLasts, ClientLikes, ClientLikesRow, ClientLines, ClientLocks, ClientLooks, ClientPhase, ClientProposes, ClientSnapshots, ClientSplitPages, ClientTakesFound, ClientTurns, ClientUnlocks};
+ghost use Rattle.like_c.specs.Clients.{ClientAddress, ClientDrives, ClientGlances, ClientLast, ClientLastCounts, ClientLasts, ClientLikes, ClientLikesRow, ClientLocks, ClientLooks, ClientPhase, ClientProposes, ClientSnapshots, ClientSplitPages, ClientTakesFound, ClientTurns, ClientUnlocks};
 ghost use Rattle.like_c.specs.Sharing.{ClosesClient};
 
+use crate::address_row::{Address, AddressRow};
 use crate::client_handle::ClientHandle;
-use crate::lines_row::{Lines, LinesRow};
 use crate::phase_row::PhaseRow;
 use crate::rows::{AnswerRow, FoundRow, RequestRow, page_or_none};
 use crate::{end_of, status};
@@ -249,19 +249,19 @@ pub extern "C" fn likes_client_phase(client: &mut ClientHandle, seat: u32, phase
 /// Tells where the last likes of a seat's users lie in memory, four bytes for each place, so that C can have the
 /// processor fetch them early. No contract says where.
 #[unsafe(no_mangle)]
-pub extern "C" fn likes_proved_client_lines(
+pub extern "C" fn likes_proved_client_address(
     client: &mut ClientHandle,
     seat: u32,
-    lines: &mut Lines,
+    to: &mut Address,
 ) -> u32
-    ensures { ClientLines seat client.old.home result client.new.home }
+    ensures { ClientAddress seat client.old.home result client.new.home }
 {
     let Some(boxed) = client.get() else {
         return status::EMPTY;
     };
-    match boxed.row(seat, &LinesRow, &mut []) {
+    match boxed.row(seat, &AddressRow, &mut []) {
         Ok(at) => {
-            lines.at = at;
+            to.at = at;
             status::OK
         }
         Err(refused) => refused,

@@ -7,6 +7,7 @@ ghost use Rattle.like_c.specs.Closes.{ClosesAt, HoldItsSeats};
 ghost use Rattle.like_c.specs.Held.{ComesBackAt, DriverPhaseAt, DrivesAt, GlancesAt, HandsPhase, HandsSeat, LastAt, LastLikeAt, LastLikesAt, LikesAt, LooksAt, OpensAt, PhaseAt, PhaseNowAt, ProposesAt, RetiresAt, RunsAt, SnapshotAt, SplitPagesAt, TakesFoundAt, TurnsAt, end_of};
 ghost use Rattle.like_c.specs.Status.{version};
 
+mod address_row;
 mod boxed_client;
 mod boxed_shared;
 mod client_calls;
@@ -14,7 +15,6 @@ mod client_handle;
 mod client_run;
 mod closing;
 mod driver_handle;
-mod lines_row;
 mod opened;
 mod parts;
 mod phase_handle;

@@ -202,7 +202,7 @@ impl Users {
 
     /// Where the last likes lie in memory, four bytes for each place, so that a host can have the processor fetch them
     /// early. No contract says where.
-    pub fn lines(&self) -> *const u8 {
+    pub fn address(&self) -> *const u8 {
         self.pages.as_ptr() as *const u8
     }
 

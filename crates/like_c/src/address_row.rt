@@ -7,15 +7,15 @@ use like_shared::SeatRow;
 
 /// An address, as C takes it.
 #[repr(C)]
-pub struct Lines {
+pub struct Address {
     pub at: *const u8,
 }
 
 /// Where the last likes of a seat's users lie in memory.
 #[derive(Clone, Copy)]
-pub struct LinesRow;
+pub struct AddressRow;
 
-impl SeatRow for LinesRow {
+impl SeatRow for AddressRow {
     type Answer = *const u8;
 
     type Written = u64;
@@ -25,6 +25,6 @@ impl SeatRow for LinesRow {
     ghost writes = { λ _ _ _ _. ⊤ };
 
     fn make(&self, seat: &mut LiveSeat<SharedPost>, _places: &mut [u64]) -> *const u8 {
-        seat.users().lines()
+        seat.users().address()
     }
 }
