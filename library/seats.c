@@ -5,12 +5,15 @@
 
 static const likes_request no_request;
 
+/* Of a call at a seat that a thread holds: it stays apart from the call of likes.h. */
+#define HELD static __attribute__((noinline))
+
 static inline bool is_held(const likes_seat *seat) {
     return __builtin_expect(((uintptr_t)seat->at & 1) != 0, false);
 }
 
 /* The place of a seat that the thread holds. NULL: it doesn't hold it. A call of it counts, as others do. */
-static inner_place *begin(const likes_seat *seat, inner_member **member) {
+static inline inner_place *begin(const likes_seat *seat, inner_member **member) {
     inner_place *place = (inner_place *)((uintptr_t)seat->at - 1);
     *member = inner_member_of(place->service);
     if (*member == NULL || (*member)->held != place)
@@ -21,14 +24,14 @@ static inner_place *begin(const likes_seat *seat, inner_member **member) {
 
 /* A call that is between two phases did nothing: so a thread that tries again and again holds up no snapshot for ever,
  * which keeps the phase from ending until it has all seats. */
-static uint32_t end(inner_member *member, inner_place *place, uint32_t status) {
+static inline uint32_t end(inner_member *member, inner_place *place, uint32_t status) {
     inner_note_call(place, status == LIKES_BETWEEN ? 0 : 2);
     inner_after(member, place);
     return status;
 }
 
 /* A call of a client, if the thread holds the seat. */
-#define HELD(call)                                                                                                     \
+#define MAKE(call)                                                                                                     \
     do {                                                                                                               \
         inner_member *member;                                                                                          \
         inner_place *place = begin(seat, &member);                                                                     \
@@ -39,7 +42,7 @@ static uint32_t end(inner_member *member, inner_place *place, uint32_t status) {
         return end(member, place, likes_client_##call);                                                                \
     } while (0)
 
-INNER_SELDOM static uint32_t held_like(const likes_seat *seat, uint32_t user, uint32_t page) {
+HELD uint32_t held_like(const likes_seat *seat, uint32_t user, uint32_t page) {
     inner_member *member;
     inner_place *place = begin(seat, &member);
     if (place == NULL)
@@ -49,36 +52,36 @@ INNER_SELDOM static uint32_t held_like(const likes_seat *seat, uint32_t user, ui
     return end(member, place, status);
 }
 
-INNER_SELDOM static uint32_t held_glance(const likes_seat *seat, uint32_t user, uint32_t page, likes_answer *answer) {
+HELD uint32_t held_glance(const likes_seat *seat, uint32_t user, uint32_t page, likes_answer *answer) {
     inner_refuse(answer, LIKES_NOT_LOCKED);
-    HELD(glance(client, number, user, page, answer));
+    MAKE(glance(client, number, user, page, answer));
 }
 
-INNER_SELDOM static uint32_t held_last(const likes_seat *seat, uint32_t user, uint32_t *page) {
-    HELD(last(client, number, user, page));
+HELD uint32_t held_last(const likes_seat *seat, uint32_t user, uint32_t *page) {
+    MAKE(last(client, number, user, page));
 }
 
-INNER_SELDOM static uint32_t held_lasts(const likes_seat *seat, uint32_t from, uint32_t *pages, size_t pages_len) {
-    HELD(lasts(client, number, from, pages, pages_len));
+HELD uint32_t held_lasts(const likes_seat *seat, uint32_t from, uint32_t *pages, size_t pages_len) {
+    MAKE(lasts(client, number, from, pages, pages_len));
 }
 
-INNER_SELDOM static uint32_t held_turn(const likes_seat *seat) {
-    HELD(turn(client, number));
+HELD uint32_t held_turn(const likes_seat *seat) {
+    MAKE(turn(client, number));
 }
 
-INNER_SELDOM static uint32_t held_retire(const likes_seat *seat) {
-    HELD(retire(client, number));
+HELD uint32_t held_retire(const likes_seat *seat) {
+    MAKE(retire(client, number));
 }
 
-INNER_SELDOM static uint32_t held_come_back(const likes_seat *seat) {
-    HELD(come_back(client, number));
+HELD uint32_t held_come_back(const likes_seat *seat) {
+    MAKE(come_back(client, number));
 }
 
-INNER_SELDOM static uint32_t held_phase(const likes_seat *seat, uint64_t *phase) {
-    HELD(phase(client, number, phase));
+HELD uint32_t held_phase(const likes_seat *seat, uint64_t *phase) {
+    MAKE(phase(client, number, phase));
 }
 
-INNER_SELDOM static size_t held_run(const likes_seat *seat, const likes_request *requests, size_t requests_len,
+HELD size_t held_run(const likes_seat *seat, const likes_request *requests, size_t requests_len,
                                     likes_answer *answers, size_t answers_len) {
     inner_member *member;
     inner_place *place = begin(seat, &member);
@@ -93,7 +96,7 @@ INNER_SELDOM static size_t held_run(const likes_seat *seat, const likes_request 
     return done;
 }
 
-INNER_SELDOM static uint32_t held_look(const likes_seat *seat, uint32_t user, uint32_t page, uint64_t tag,
+HELD uint32_t held_look(const likes_seat *seat, uint32_t user, uint32_t page, uint64_t tag,
                                        likes_answer *answer) {
     likes_request request = {.tag = tag, .user = user, .page = page, .op = LIKES_LOOK};
     inner_member *member;
@@ -102,7 +105,7 @@ INNER_SELDOM static uint32_t held_look(const likes_seat *seat, uint32_t user, ui
                          : end(member, place, inner_look(member, place, &request, answer));
 }
 
-INNER_SELDOM static bool held_take_found(const likes_seat *seat, likes_found *found) {
+HELD bool held_take_found(const likes_seat *seat, likes_found *found) {
     inner_member *member;
     inner_place *place = begin(seat, &member);
     bool has = place != NULL && inner_take_found(member, place, found);
