@@ -124,7 +124,7 @@ static inline size_t inner_remainder(uint32_t number, uint64_t inverse, uint64_t
     return (size_t)(((wide)(inverse * number) * divisor) >> 64);
 }
 
-/* Has the processor fetch the lines of a cache that have the last likes of a row's users, all at once. (A processor that
+/* Has the processor fetch the lines of a cache that have the last likes of these users, all at once. (A processor that
  * can't does nothing.) User u is in place u / seats. */
 static inline void inner_fetch(uintptr_t lasts, uint64_t inverse, const likes_pair *likes, size_t many) {
     __extension__ typedef unsigned __int128 wide;
