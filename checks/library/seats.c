@@ -1,5 +1,6 @@
 /* Seats of a service that leave and come back, all of them too, by hand and by its calls, at any period; counts and
- * snapshots meanwhile; and calls by a thread that holds a seat, each of which must answer that.
+ * snapshots meanwhile; calls by a thread that holds a seat, each of which must answer that; and rows beside the same
+ * requests one by one.
  *
  * If something is wrong, it prints a line and exits with status 1. After 100 seconds a signal ends it: a call waits for
  * ever. */
@@ -394,10 +395,64 @@ static void holding(void) {
     stop(2);
 }
 
+/* A request of a row: mostly a like, and sometimes one that is refused. */
+static likes_request drawn_request(uint64_t *random) {
+    uint64_t kind = below(random, 20);
+    likes_request request = {.user = (uint32_t)below(random, USERS + 1), .page = (uint32_t)below(random, PAGES + 1)};
+    if (below(random, 4) > 0)
+        request.user = SEATS * (uint32_t)below(random, USERS / SEATS) + 1;
+    if (below(random, 8) > 0)
+        request.page %= PAGES;
+    request.op = kind < 15 ? LIKES_LIKE : kind == 15 ? LIKES_LOOK : kind == 16 ? LIKES_GLANCE : 7 * (kind == 17);
+    request.reserved = kind == 18;
+    return request;
+}
+
+/* A row of requests at a seat is answered as they are one by one. */
+static void rows_are_calls(void) {
+    static const uint64_t none[PAGES];
+    enum { LONGEST = 200 };
+    likes_options options = {.seats = SEATS, .users = USERS, .room = 8, .hot = LIKES_NO_HOT};
+    likes_request row[LONGEST];
+    likes_answer answers[LONGEST], answer;
+    likes_service *one_by_one = NULL;
+    uint64_t random = 1, sum = 0, counts[2][PAGES];
+    IS(open_shared(options, none, PAGES, NULL, 0, NULL, 0, 1000, &service), LIKES_OK);
+    IS(open_shared(options, none, PAGES, NULL, 0, NULL, 0, 1000, &one_by_one), LIKES_OK);
+    IS(likes_service_lock(service, 1) != NULL, true);
+    IS(likes_service_lock(one_by_one, 1) != NULL, true);
+    for (int n = 0; n < 2000; n++) {
+        size_t length = below(&random, LONGEST + 1);
+        for (size_t i = 0; i < length; i++)
+            row[i] = drawn_request(&random);
+        IS(likes_service_run(service, 1, row, length, answers), length);
+        for (size_t i = 0; i < length; i++) {
+            IS(likes_service_run(one_by_one, 1, &row[i], 1, &answer), 1);
+            hold(memcmp(&answer, &answers[i], sizeof answer) == 0, "a row is answered otherwise than its requests");
+        }
+    }
+    likes_service_unlock(service, 1);
+    likes_service_unlock(one_by_one, 1);
+    IS(likes_service_stop(service, counts[0], PAGES), LIKES_OK);
+    IS(likes_service_stop(one_by_one, counts[1], PAGES), LIKES_OK);
+    for (uint32_t page = 0; page < PAGES; page++) {
+        sum += counts[0][page];
+        IS(counts[0][page], counts[1][page]);
+    }
+    for (likes_service **it = &service; it != NULL; it = it == &service ? &one_by_one : NULL) {
+        likes_statistics told;
+        IS(likes_service_statistics(*it, &told), LIKES_OK);
+        IS(told.likes, sum);
+        IS(likes_service_close(*it), LIKES_OK);
+    }
+    service = NULL;
+}
+
 int main(void) {
     static const uint32_t periods[] = {1, 1000, 10000};
     alarm(100);
     holding();
+    rows_are_calls();
     look_after_rest();
     counts_of_held();
     for (int n = 0; n < 3; n++) {
