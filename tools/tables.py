@@ -2,6 +2,7 @@
 
 import argparse
 import csv
+import operator
 
 import reading
 import rows
@@ -47,8 +48,8 @@ class Header:
         return bool(self.names) and len(row) > len(self.names)
 
     def odd(self, lines):
-        """The places of lines that have quotes, too few fields or too many: without the rest, they aren't a gap. All, if
-        a field may be too long."""
+        """The places of lines that have quotes, too few fields or too many: without the rest, they aren't a gap. All
+        places, if a field may be too long."""
         if max(map(len, lines)) > rows.LONGEST:
             return range(len(lines))
         shapes = b"\n".join(lines).translate(None, self.rest).split(b"\n")
@@ -56,8 +57,8 @@ class Header:
 
 
 class Lines:
-    """The lines of a file as bytes, a piece at a time. A record that goes on behind the piece makes it longer. Only those
-    of a block with CR keep their ends, which a record may have within quotes."""
+    """The lines of a file as bytes, a piece at a time. A record that goes on behind the piece makes it longer. Only
+    those of a block with CR keep their ends, which a record may have within quotes."""
 
     def __init__(self, blocks):
         self.blocks = blocks
@@ -134,17 +135,36 @@ class Rows:
 
 
 class Meanings(Cache):
-    """What rows mean, by their op and page as bytes: the number of op and page, or 0."""
+    """What rows with an op mean, by their page as bytes: the number of op and page, or 0 if they are no requests."""
+
+    def __init__(self, log, op):
+        super().__init__()
+        self.op, self.page_of, self.number_of = op, log.page_of, log.number_of
+
+    def __missing__(self, page):
+        text = text_of(page)
+        if not (self.op and text):
+            return 0
+        self[page] = self.number_of((self.op, self.page_of(text)))
+        return self[page]
+
+
+class Ops(Cache):
+    """What rows mean, by their op as bytes: then by their page. A look-up for each is cheaper than one for the pair."""
 
     def __init__(self, log):
         super().__init__()
-        self.ops, self.page_of, self.number_of = log.ops, log.page_of, log.number_of
+        self.ops = log.ops
+        self.meanings = {op: Meanings(log, op) for op in (None, *log.ops.values())}
 
-    def __missing__(self, what):
-        op, page = map(text_of, what)
-        is_request = op in self.ops and page
-        self[what] = self.number_of((self.ops[op], self.page_of(page))) if is_request else 0
-        return self[what]
+    def __missing__(self, op):
+        self[op] = self.meanings[self.ops.get(text_of(op))]
+        return self[op]
+
+    def make_room(self):
+        super().make_room()
+        for meanings in self.meanings.values():
+            meanings.make_room()
 
 
 class Table(reading.Log):
@@ -160,7 +180,7 @@ class Table(reading.Log):
         self.ops = {words.look or "look": "look", words.like or "like": "like"}
         self.wrong_op = f"{self.op} is not {words.like or 'like'} or {words.look or 'look'}"
         self.no_page = f"{self.page} is empty"
-        self.meanings = Meanings(self)
+        self.meanings = Ops(self)
 
     def cut(self, block):
         """Cuts a block behind its last line, which CR may end."""
@@ -237,7 +257,7 @@ class Table(reading.Log):
     def requests_in(self, first, piece):
         ops, users, pages, *times = piece.columns()
         self.meanings.make_room()
-        numbers = list(map(self.meanings.__getitem__, zip(ops, pages)))
+        numbers = list(map(operator.getitem, map(self.meanings.__getitem__, ops), pages))
         for at in reading.places(numbers, 0):
             if row := piece.row(at):
                 self.leave_out_row(first + at, row, piece.header)
