@@ -30,6 +30,11 @@ def texts_of(fields):
     return text_of(b"\0".join(fields)).split("\0")
 
 
+def is_long(line):
+    """Whether a field of a line may be too long: a byte that isn't UTF-8 is escaped by three characters."""
+    return 3 * len(line) > rows.LONGEST
+
+
 class Header:
     """Where the columns of a file are, how its fields are separated, and how many most rows have."""
 
@@ -50,7 +55,7 @@ class Header:
     def odd(self, lines):
         """The places of lines that have quotes, too few fields or too many: without the rest, they aren't a gap. All
         places, if a field may be too long."""
-        if max(map(len, lines)) > rows.LONGEST:
+        if is_long(max(lines, key=len)):
             return range(len(lines))
         shapes = b"\n".join(lines).translate(None, self.rest).split(b"\n")
         return [at for at, shape in enumerate(shapes) if shape != self.gap]
@@ -246,7 +251,7 @@ class Table(reading.Log):
                 at, line = begin + place, bare[place]
                 if at in found:
                     continue  # within a record
-                if b'"' in line or len(line) > rows.LONGEST:
+                if b'"' in line or is_long(line):
                     found[at] = self.record_in(lines, first, at, header.delimiter)
                     found.update(dict.fromkeys(range(at + 1, lines.at), []))
                 else:
