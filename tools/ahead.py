@@ -14,6 +14,9 @@ from reading import CHANGED
 # How many bytes the length of a batch has, and how many the pipe holds.
 LENGTH, ROOM = 8, 1 << 20
 
+# The most characters of what an exception says.
+MOST = 200
+
 # The fields of a batch.
 FIELDS = "first others numbers users times periods end least place new name read reader"
 
@@ -54,13 +57,23 @@ def batches(log):
 
 
 def send(log, out):
-    """Sends the batches of a log, and at the end what was found, or its fault."""
+    """Sends the batches of a log, and at the end what was found, or what went wrong."""
     try:
         for batch in batches(log):
             put(out, batch)
         put(out, log.found())
     except Fault as fault:
         put(out, str(fault))
+    except Exception as error:
+        put(out, f"{log}: the process that reads it failed: {cause(error)}")
+
+
+def cause(error):
+    """What an exception says, in a line."""
+    if isinstance(error, MemoryError):
+        return "out of memory"
+    said = " ".join(str(error).split())
+    return f"{type(error).__name__}: {said[:MOST]}{'..' * (len(said) > MOST)}"
 
 
 def put(out, value):

@@ -10,6 +10,9 @@ import tables
 import web
 from command import Fault, shown
 
+# How the names of packed logs end.
+ENDS = (".gz", ".xz", ".zst")
+
 
 def judge_names(names, parser):
     """Refuses logs that can't be there, and one that is named twice, before work begins."""
@@ -20,6 +23,25 @@ def judge_names(names, parser):
         same = seen.setdefault(file_of(name), place)
         if same != place:
             raise Fault(f"{name} is {'named twice' if name == names[same] else f'the same file as {names[same]}'}")
+
+
+def take_names(words, parser):
+    """Judges the logs, and leaves out copies."""
+    judge_names(words.log, parser)
+    words.copies = dict(copies_in(words.log))
+    words.log = [name for name in words.log if name not in words.copies]
+
+
+def copies_in(names):
+    """Packed logs that have nothing but what a plain one has that is named too, as while logrotate packs it; each with
+    that one."""
+    files = {file_of(name): name for name in names}
+    for name in names:
+        front, end = os.path.splitext(name)
+        if end in ENDS and os.path.isfile(name) and os.path.isfile(front):
+            plain = files.get(key_of(os.stat(front)))
+            if plain and rows.begins(plain, name):
+                yield name, plain
 
 
 def file_of(name):
@@ -33,13 +55,18 @@ def file_of(name):
     is_folder = stat.S_ISDIR(found.st_mode)
     if is_folder or not os.access(name, os.R_OK):
         raise Fault(f"{name}: {'Is a directory' if is_folder else 'Permission denied'}")
+    return key_of(found)
+
+
+def key_of(found):
     return found.st_dev, found.st_ino
 
 
 def add_options(parser):
     """Adds the options for a log."""
     logs = """the log, plain or packed by gzip, xz or zstd; - is standard input. Several are taken in the order of their
-        times, CSV files without --time in the order in which they are named"""
+        times, CSV files without --time in the order in which they are named. A packed log such as access.log.1.gz is
+        left out if access.log.1 is named too and has all of its lines, as while logrotate packs it"""
     parser.add_argument("log", metavar="LOG", nargs="+", help=logs)
     like = """which requests are likes. Of a web server's log a regular expression for the front of a request, such as
         'POST /like(/[^? ]*)': a group named user is the user; the one named page, or else the first other one, is the
@@ -77,7 +104,7 @@ def log_of(words, parser):
             patterns = {op: web.pattern(text) for op, text in (("like", words.like), ("look", words.look)) if text}
         except argparse.ArgumentTypeError as error:
             parser.error(str(error))
-        judge_names(words.log, parser)
+        take_names(words, parser)
         return (web.Combined if words.combined else web.Json)(words, patterns)
     columns = (words.columns or rows.REQUESTS).split(",")
     if len(columns) != 3:
@@ -89,5 +116,5 @@ def log_of(words, parser):
         parser.error("--like and --look are the same word")
     if not words.time and any((words.by, words.since is not None, words.until is not None)):
         parser.error("--since, --until and --by need --time, the column of a CSV file with the time")
-    judge_names(words.log, parser)
+    take_names(words, parser)
     return tables.Table(words, columns)

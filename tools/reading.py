@@ -63,7 +63,7 @@ class Log:
     has_times = False
 
     def __init__(self, words):
-        self.names = words.log
+        self.names, self.copies = words.log, words.copies
         self.name, self.file = self.names[0], None  # the one that is being read
         self.has_queries, self.by = not words.no_query, words.by
         self.since, self.until = words.since, words.until
@@ -121,6 +121,8 @@ class Log:
             hours = round(seconds / FAR)
             back = f"{rows.called(self.names[place])}: the times fall back by {hours} hour{'s' * (hours > 1)}"
             yield f"{back} before line {line}, so last likes may be old: name logs one by one to sort them"
+        for name, plain in self.copies.items():
+            yield f"left out {name}: {rows.called(plain)} has all of its lines"
         found = self.left_out.items()
         for why, (count, name, line, text) in sorted(found, key=lambda entry: self.place(entry[1][1:])):
             place = f"line {line}" + (f" of {rows.called(name)}" if len(self.names) > 1 else "")

@@ -155,6 +155,19 @@ def is_plain(file, raw):
     return getattr(file, "raw", None) is raw
 
 
+def blocks_of(name):
+    """What a file has, in blocks, up to where a packed one ends that isn't complete."""
+    with opened(name) as (file, _), contextlib.suppress(EOFError):
+        while block := file.read(BLOCK):
+            yield block
+
+
+def begins(name, other):
+    """Whether a file begins with all that another one has."""
+    with contextlib.closing(blocks_of(name)) as blocks, contextlib.closing(blocks_of(other)) as others:
+        return all(next(blocks, b"").startswith(block) for block in others)
+
+
 @contextlib.contextmanager
 def kept(name):
     """The name of a file that can be read again: this one, or a copy of what a pipe or standard input gives."""

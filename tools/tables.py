@@ -2,8 +2,7 @@
 
 import argparse
 import csv
-import io
-import itertools
+import operator
 
 import reading
 import rows
@@ -17,6 +16,24 @@ NAMED = {"tab": "\t", "\\t": "\t"}
 # Why rows are left out.
 FEWER, MORE, SHORT = "fewer fields than the header", "more fields than the header", "fewer fields than --columns"
 
+# A NUL as bytes of a log, and what stands in its place.
+NUL = b"\0", reading.NUL.encode()
+
+
+def text_of(data):
+    """Bytes of a log as text."""
+    return data.decode(errors=reading.ESCAPED)
+
+
+def texts_of(fields):
+    """Fields as texts. They have no NUL."""
+    return text_of(b"\0".join(fields)).split("\0")
+
+
+def is_long(line):
+    """Whether a field of a line may be too long: a byte that isn't UTF-8 is escaped by three characters."""
+    return 3 * len(line) > rows.LONGEST
+
 
 class Header:
     """Where the columns of a file are, how its fields are separated, and how many most rows have."""
@@ -25,6 +42,8 @@ class Header:
         self.names, self.delimiter, self.places = names, delimiter, places
         self.least = max(places) + 1
         self.width = max(width, self.least)
+        self.gap = delimiter.encode() * (self.width - 1)  # a row whose fields are empty
+        self.rest = bytes({*range(256)} - {*f'{delimiter}"\n'.encode()})
 
     def lacks(self, row):
         """Whether a row has fewer fields than are needed: those of the header, or without one the columns."""
@@ -33,10 +52,18 @@ class Header:
     def exceeds(self, row):
         return bool(self.names) and len(row) > len(self.names)
 
+    def odd(self, lines):
+        """The places of lines that have quotes, too few fields or too many: without the rest, they aren't a gap. All
+        places, if a field may be too long."""
+        if is_long(max(lines, key=len)):
+            return range(len(lines))
+        shapes = b"\n".join(lines).translate(None, self.rest).split(b"\n")
+        return [at for at, shape in enumerate(shapes) if shape != self.gap]
+
 
 class Lines:
-    """The lines of a file, a piece at a time. A record that goes on behind the piece makes it longer. Only those of a
-    block with CR keep their ends, which a record may have within quotes."""
+    """The lines of a file as bytes, a piece at a time. A record that goes on behind the piece makes it longer. Only
+    those of a block with CR keep their ends, which a record may have within quotes."""
 
     def __init__(self, blocks):
         self.blocks = blocks
@@ -53,40 +80,40 @@ class Lines:
         """Adds a block. In place of a line that is too long there is an empty one."""
         if isinstance(block, str):
             self.long[len(self.piece)] = block
-            self.piece.append("")
+            self.piece.append(b"")
         else:
-            text = block.decode(errors=reading.ESCAPED).replace("\0", reading.NUL)
-            self.has_ends = self.has_ends or "\r" in text
-            self.piece += io.StringIO(text, newline="") if self.has_ends else text[:-1].split("\n")
+            block = block.replace(*NUL)
+            self.has_ends = self.has_ends or b"\r" in block
+            self.piece += block.splitlines(keepends=True) if self.has_ends else block[:-1].split(b"\n")
 
     def bare(self):
         """The lines without their ends."""
-        return [line.rstrip("\r\n") for line in self.piece] if self.has_ends else self.piece
+        return [line.rstrip(b"\r\n") for line in self.piece] if self.has_ends else self.piece
 
     def __iter__(self):
         return self
 
     def __next__(self):
-        """The next line of a record."""
+        """The next line of a record, as text."""
         if self.at == len(self.piece):
             self.add(next(self.blocks)[1])
         self.at += 1
-        line = self.piece[self.at - 1]
+        line = text_of(self.piece[self.at - 1])
         return line if line.endswith(("\r", "\n")) else f"{line}\n"
 
     def read(self, at, delimiter):
         """The record that begins at a place. It leaves its lines empty."""
         self.at = at
         record = next(rows.reader_of(self, delimiter))
-        self.piece[at : self.at] = [""] * (self.at - at)
+        self.piece[at : self.at] = [b""] * (self.at - at)
         return record
 
 
 class Rows:
-    """The rows of a piece: lines without quotes, empty ones where there is no such row, and records by their places."""
+    """The rows of a piece: plain lines, and the fields of all others by their places, none where there is no row."""
 
-    def __init__(self, header, lines, records):
-        self.header, self.lines, self.records = header, lines, records
+    def __init__(self, header, lines, others):
+        self.header, self.lines, self.others = header, lines, others
 
     def __getitem__(self, at):
         """A row, as text."""
@@ -94,38 +121,55 @@ class Rows:
 
     def row(self, at):
         """The fields of a row, or none."""
-        line = self.lines[at]
-        return line.split(self.header.delimiter) if line else self.records.get(at, [])
+        if at in self.others or not self.lines[at]:
+            return self.others.get(at, [])
+        return text_of(self.lines[at]).split(self.header.delimiter)
 
     def columns(self):
-        """The columns that are needed. In rows with too few fields or too many they are empty."""
-        header, delimiter = self.header, self.header.delimiter
-        counts = map(str.count, self.lines, itertools.repeat(delimiter))
-        others = {at: self.row(at) for at, count in enumerate(counts) if count != header.width - 1}
-        others |= self.records
-        lines = self.lines.copy()
-        for at in others:
-            lines[at] = delimiter * (header.width - 1)
+        """The columns that are needed, as bytes. In rows with too few fields or too many they are empty."""
+        header, delimiter, lines = self.header, self.header.delimiter.encode(), self.lines.copy()
+        for at in self.others:
+            lines[at] = header.gap
         fields = delimiter.join(lines).split(delimiter)
         columns = [fields[place :: header.width] for place in header.places]
-        for at, row in others.items():
+        for at, row in self.others.items():
             if not header.lacks(row) and not header.exceeds(row):
                 for column, place in zip(columns, header.places):
-                    column[at] = row[place]
+                    column[at] = row[place].encode()
         return columns
 
 
 class Meanings(Cache):
-    """What rows mean, by their op and page: the number of op and page, or 0."""
+    """What rows with an op mean, by their page as bytes: the number of op and page, or 0 if they are no requests."""
+
+    def __init__(self, log, op):
+        super().__init__()
+        self.op, self.page_of, self.number_of = op, log.page_of, log.number_of
+
+    def __missing__(self, page):
+        text = text_of(page)
+        if not (self.op and text):
+            return 0
+        self[page] = self.number_of((self.op, self.page_of(text)))
+        return self[page]
+
+
+class Ops(Cache):
+    """What rows mean, by their op as bytes: then by their page. A look-up for each is cheaper than one for the pair."""
 
     def __init__(self, log):
         super().__init__()
-        self.page_of, self.number_of = log.page_of, log.number_of
+        self.ops = log.ops
+        self.meanings = {op: Meanings(log, op) for op in (None, *log.ops.values())}
 
-    def __missing__(self, what):
-        op, page = what
-        self[what] = self.number_of((op, self.page_of(page))) if op and page else 0
-        return self[what]
+    def __missing__(self, op):
+        self[op] = self.meanings[self.ops.get(text_of(op))]
+        return self[op]
+
+    def make_room(self):
+        super().make_room()
+        for meanings in self.meanings.values():
+            meanings.make_room()
 
 
 class Table(reading.Log):
@@ -140,7 +184,8 @@ class Table(reading.Log):
         self.has_header = not all(name.isdecimal() for name in self.columns)
         self.ops = {words.look or "look": "look", words.like or "like": "like"}
         self.wrong_op = f"{self.op} is not {words.like or 'like'} or {words.look or 'look'}"
-        self.meanings = Meanings(self)
+        self.no_page = f"{self.page} is empty"
+        self.meanings = Ops(self)
 
     def cut(self, block):
         """Cuts a block behind its last line, which CR may end."""
@@ -151,11 +196,11 @@ class Table(reading.Log):
         lines = Lines(blocks)
         for _, block in blocks:
             lines.begin(block)
-            if header is None and any(map(str.strip, lines.piece)):
+            if header is None and any(map(str.strip, map(text_of, lines.piece))):
                 header = self.header_of(lines, first)
             if header is not None:
-                records = self.records_in(lines, first, header)
-                yield first, Rows(header, lines.bare(), records)
+                others = self.others_in(lines, first, header)
+                yield first, Rows(header, lines.bare(), others)
             yield from ((first + at, text) for at, text in lines.long.items())
             first += len(lines.piece)
         if header is None:
@@ -163,8 +208,8 @@ class Table(reading.Log):
 
     def header_of(self, lines, first):
         """The header of a file, or without one the columns by their numbers."""
-        at, front = next((at, line) for at, line in enumerate(lines.piece) if line.strip())
-        lines.piece[:at] = [""] * at
+        at, front = next((at, line) for at, line in enumerate(map(text_of, lines.piece)) if line.strip())
+        lines.piece[:at] = [b""] * at
         delimiter = self.delimiter or max(DELIMITERS, key=lambda one: self.fit(front, one))
         names = self.record_in(lines, first, at, delimiter) if self.has_header else []
         places = self.places_of(names, delimiter, first + at)
@@ -196,22 +241,32 @@ class Table(reading.Log):
         except csv.Error as error:
             raise self.fault(first + at, rows.why(error)) from None
 
-    def records_in(self, lines, first, header):
-        """The records that have quotes in a piece, by their places, or that may have a field that is too long."""
-        found = {}
-        for at, line in enumerate(lines.piece):  # and those that a record adds
-            if at >= lines.at and ('"' in line or len(line) > rows.LONGEST):
-                found[at] = self.record_in(lines, first, at, header.delimiter)
+    def others_in(self, lines, first, header):
+        """The rows of a piece that aren't plain lines, by their places: records that have quotes, or that may have a
+        field that is too long, and rows with too few fields or too many."""
+        found, begin = {}, 0
+        while begin < len(lines.piece):  # and those that a record adds
+            bare = lines.bare()[begin:]
+            for place in header.odd(bare):
+                at, line = begin + place, bare[place]
+                if at in found:
+                    continue  # within a record
+                if b'"' in line or is_long(line):
+                    found[at] = self.record_in(lines, first, at, header.delimiter)
+                    found.update(dict.fromkeys(range(at + 1, lines.at), []))
+                else:
+                    found[at] = text_of(line).split(header.delimiter) if line else []
+            begin += len(bare)
         return found
 
     def requests_in(self, first, piece):
         ops, users, pages, *times = piece.columns()
         self.meanings.make_room()
-        numbers = list(map(self.meanings.__getitem__, zip(map(self.ops.get, ops), pages)))
+        numbers = list(map(operator.getitem, map(self.meanings.__getitem__, ops), pages))
         for at in reading.places(numbers, 0):
             if row := piece.row(at):
                 self.leave_out_row(first + at, row, piece.header)
-        return range(first, first + len(numbers)), numbers, users, times[0] if times else [], piece
+        return range(first, first + len(numbers)), numbers, texts_of(users), texts_of(*times) if times else [], piece
 
     def page_of(self, page):
         """A page, without its query if that is taken off."""
@@ -225,18 +280,26 @@ class Table(reading.Log):
 
     def leave_out_row(self, line, row, header):
         """Leaves out a row, or stops at it."""
-        text = header.delimiter.join(row)
-        if header.lacks(row) or header.exceeds(row):
-            why = MORE if header.exceeds(row) else FEWER if header.names else SHORT
-            fault = f"{len(row)} fields, not {len(header.names) or header.least}: {shown(text)}"
-        elif row[header.places[0]] not in self.ops:
-            why = self.wrong_op
-            fault = why.replace(" is ", f" is {shown(row[header.places[0]])}, ", 1)
-        else:
-            why, fault = f"{self.page} is empty", f"{self.page} is empty: {shown(text)}"
+        why, text = self.why(row, header), header.delimiter.join(row)
         if self.is_strict:
-            raise self.fault(line, fault)
+            raise self.fault(line, self.fault_of(why, row, text, header))
         self.leave_out(why, line, text)
+
+    def why(self, row, header):
+        """Why a row is left out."""
+        if header.exceeds(row):
+            return MORE
+        if header.lacks(row):
+            return FEWER if header.names else SHORT
+        return self.no_page if row[header.places[0]] in self.ops else self.wrong_op
+
+    def fault_of(self, why, row, text, header):
+        """What is wrong with a row that isn't left out."""
+        if why == self.wrong_op:
+            return why.replace(" is ", f" is {shown(row[header.places[0]])}, ", 1)
+        if why == self.no_page:
+            return f"{why}: {shown(text)}"
+        return f"{len(row)} fields, not {len(header.names) or header.least}: {shown(text)}"
 
     def time_of(self, piece):
         place = piece.header.places[3]
