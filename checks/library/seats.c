@@ -403,8 +403,8 @@ static likes_request drawn_request(uint64_t *random) {
         request.user = SEATS * (uint32_t)below(random, USERS / SEATS) + 1;
     if (below(random, 8) > 0)
         request.page %= PAGES;
-    request.op = kind < 15 ? LIKES_LIKE : kind == 15 ? LIKES_LOOK : kind == 16 ? LIKES_GLANCE : 7 * (kind == 17);
-    request.reserved = kind == 18;
+    request.op = kind < 16 ? LIKES_LIKE : kind < 18 ? LIKES_LOOK : kind == 18 ? LIKES_GLANCE : 7;
+    request.reserved = kind % 15 == 2;
     return request;
 }
 
