@@ -429,6 +429,8 @@ static void rows_are_calls(void) {
         for (size_t i = 0; i < length; i++) {
             IS(likes_service_run(one_by_one, 1, &row[i], 1, &answer), 1);
             hold(memcmp(&answer, &answers[i], sizeof answer) == 0, "a row is answered otherwise than its requests");
+            hold((answer.status == LIKES_UNKNOWN_OP) == (row[i].reserved != 0 || row[i].op > LIKES_GLANCE),
+                 "a request is taken for another");
         }
     }
     likes_service_unlock(service, 1);
