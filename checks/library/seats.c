@@ -109,14 +109,17 @@ static void moments_of_none(uint32_t period) {
     stop(likes);
 }
 
-/* The same with the seat unlocked between tries, so that a snapshot can read its last likes. */
+/* The same with the seat unlocked between tries, so that a snapshot can read its last likes. On one processor another
+ * thread may take the seat through each joined phase between two tries: then the service's call has it leave. */
 static void leave_by_tries(uint32_t number) {
-    uint32_t status;
+    uint32_t status, tries = 0;
     do {
         status = likes_seat_retire(likes_service_lock(service, number));
         likes_service_unlock(service, number);
         sched_yield();
-    } while (status != LIKES_GONE);
+    } while (status != LIKES_GONE && ++tries < 1000);
+    if (status != LIKES_GONE)
+        IS(likes_service_retire_seat(service, number), LIKES_OK);
 }
 
 static void come_back_by_tries(uint32_t number) {
