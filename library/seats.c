@@ -101,8 +101,12 @@ HELD uint32_t held_look(const likes_seat *seat, uint32_t user, uint32_t page, ui
     likes_request request = {.tag = tag, .user = user, .page = page, .op = LIKES_LOOK};
     inner_member *member;
     inner_place *place = begin(seat, &member);
-    return place == NULL ? inner_refuse(answer, LIKES_NOT_LOCKED)
-                         : end(member, place, inner_look(member, place, &request, answer));
+    if (place == NULL)
+        return inner_refuse(answer, LIKES_NOT_LOCKED);
+    uint32_t status = inner_look(member, place, &request, answer);
+    if (status == LIKES_WAITS)
+        inner_turns(member);
+    return end(member, place, status);
 }
 
 HELD bool held_take_found(const likes_seat *seat, likes_found *found) {

@@ -49,7 +49,7 @@ void likes_service_unlock(likes_service *service, uint32_t number) {
 }
 
 /* A look of the host's. No more of them wait, or are found and not taken, than the seat has room for. What isn't split, a
- * glance shows also then. Looks that wait may take half of the room, which ends the phase, so a turn is made. */
+ * glance shows also then. Looks that wait may take half of the room, which ends the phase: its caller makes a turn. */
 uint32_t inner_look(inner_member *member, inner_place *place, const likes_request *request, likes_answer *answer) {
     uint32_t user = request->user, page = request->page;
     if (request->tag >= INNER_TAGS)
@@ -58,8 +58,6 @@ uint32_t inner_look(inner_member *member, inner_place *place, const likes_reques
                           ? likes_client_look(&member->client, place->number, user, page, request->tag, answer)
                           : likes_client_glance(&member->client, place->number, user, page, answer);
     place->hosts += status == LIKES_WAITS;
-    if (status == LIKES_WAITS)
-        inner_turns(member);
     return status == LIKES_GLIMPSED ? inner_refuse(answer, LIKES_NO_ROOM) : status;
 }
 
@@ -103,7 +101,7 @@ static size_t run_part(const inner_trial *it, const likes_request *requests, siz
 size_t inner_run(inner_member *member, inner_place *place, const likes_request *requests, size_t length,
                  likes_answer *answers, bool waits) {
     size_t done = 0, part = 1;
-    uint32_t status;
+    uint32_t status, hosts = place->hosts;
     while (done < length && part > 0) {
         inner_trial it;
         inner_start(&it, member, place, INNER_NEVER);
@@ -115,6 +113,8 @@ size_t inner_run(inner_member *member, inner_place *place, const likes_request *
                 status = LIKES_GLIMPSED;
         } while (waits && inner_again(&it, &status));
     }
+    if (place->hosts > hosts)
+        inner_turns(member);
     return done;
 }
 
