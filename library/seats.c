@@ -31,7 +31,7 @@ static inline uint32_t end(inner_member *member, inner_place *place, uint32_t st
 }
 
 /* A call of a client, if the thread holds the seat. */
-#define MAKE(call)                                                                                                     \
+#define AT_SEAT(call)                                                                                                  \
     do {                                                                                                               \
         inner_member *member;                                                                                          \
         inner_place *place = begin(seat, &member);                                                                     \
@@ -54,35 +54,35 @@ HELD uint32_t held_like(const likes_seat *seat, uint32_t user, uint32_t page) {
 
 HELD uint32_t held_glance(const likes_seat *seat, uint32_t user, uint32_t page, likes_answer *answer) {
     inner_refuse(answer, LIKES_NOT_LOCKED);
-    MAKE(glance(client, number, user, page, answer));
+    AT_SEAT(glance(client, number, user, page, answer));
 }
 
 HELD uint32_t held_last(const likes_seat *seat, uint32_t user, uint32_t *page) {
-    MAKE(last(client, number, user, page));
+    AT_SEAT(last(client, number, user, page));
 }
 
 HELD uint32_t held_lasts(const likes_seat *seat, uint32_t from, uint32_t *pages, size_t pages_len) {
-    MAKE(lasts(client, number, from, pages, pages_len));
+    AT_SEAT(lasts(client, number, from, pages, pages_len));
 }
 
 HELD uint32_t held_turn(const likes_seat *seat) {
-    MAKE(turn(client, number));
+    AT_SEAT(turn(client, number));
 }
 
 HELD uint32_t held_retire(const likes_seat *seat) {
-    MAKE(retire(client, number));
+    AT_SEAT(retire(client, number));
 }
 
 HELD uint32_t held_come_back(const likes_seat *seat) {
-    MAKE(come_back(client, number));
+    AT_SEAT(come_back(client, number));
 }
 
 HELD uint32_t held_phase(const likes_seat *seat, uint64_t *phase) {
-    MAKE(phase(client, number, phase));
+    AT_SEAT(phase(client, number, phase));
 }
 
 HELD size_t held_run(const likes_seat *seat, const likes_request *requests, size_t requests_len,
-                                    likes_answer *answers, size_t answers_len) {
+                     likes_answer *answers, size_t answers_len) {
     inner_member *member;
     inner_place *place = begin(seat, &member);
     size_t length = requests_len < answers_len ? requests_len : answers_len;
@@ -96,8 +96,7 @@ HELD size_t held_run(const likes_seat *seat, const likes_request *requests, size
     return done;
 }
 
-HELD uint32_t held_look(const likes_seat *seat, uint32_t user, uint32_t page, uint64_t tag,
-                                       likes_answer *answer) {
+HELD uint32_t held_look(const likes_seat *seat, uint32_t user, uint32_t page, uint64_t tag, likes_answer *answer) {
     likes_request request = {.tag = tag, .user = user, .page = page, .op = LIKES_LOOK};
     inner_member *member;
     inner_place *place = begin(seat, &member);

@@ -19,7 +19,7 @@
         status = told;                                                                                                 \
     } while (0)
 
-/* The user's last like comes while the call takes the seat's lock: to give that back waits for it. */
+/* The line of the user's last like is fetched while the call takes the seat's lock: to give that back waits for it. */
 uint32_t likes_service_like(likes_service *service, uint32_t user, uint32_t page) {
     const likes_pair like = {user, page};
     inner_member *member;
