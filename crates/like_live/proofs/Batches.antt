@@ -35,8 +35,8 @@ pub row-answered : {R T : Type 0} (asks : R → Result Call T) (tells : Answer �
     → asks row ≡ Ok call
     → AnswersRow Ok tells v call told put_off after
     → AnswersRow asks tells v row told put_off after
-row-answered asks tells v after row call told put_off asked (makes_call c a is made written again) =
-    makes_call c a (asked ∙ is) made written again
+row-answered asks tells v after row call told put_off asked (makes_call c a is made page written again) =
+    makes_call c a (asked ∙ is) made page written again
 row-answered asks tells v after row call told put_off asked (has_no_call none no_more same) = cc none
 
 -- an element that was written is there

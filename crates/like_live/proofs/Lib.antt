@@ -24,6 +24,7 @@ pub mod Gone
 pub mod Histories
 pub mod Keeping
 pub mod LastCounts
+pub mod LastPages
 pub mod Lasting
 pub mod LikeRows
 pub mod Looking

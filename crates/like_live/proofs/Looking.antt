@@ -4,11 +4,12 @@ use Rattle.std.specs.List.{All}
 use Rattle.std.proofs.lemmas.List.{length-append, length-map}
 use Rattle.std.proofs.lemmas.List.Elements.{All-nil}
 use Rattle.like_core.specs.declared.log.Logged.{Logged}
+use Rattle.like_core.specs.declared.opening.Opening.{Opening}
 use Rattle.like_core.specs.declared.sight.Sight.{Sight}
 use Rattle.like_core.specs.declared.worker_state.WorkerState.{WorkerState}
 use Rattle.like_core.specs.declared.worker_state.WorkerState.TheVariants as state
 use Rattle.like_core.specs.Phase.{IsJoined, IsSplit}
-use Rattle.like_core.specs.Post.{answered, number_of}
+use Rattle.like_core.specs.Post.{answered, number_of, pages_of}
 use Rattle.like_core.specs.WorkerState.{IsRunning, IsSightOf, phase_of, seen}
 use Rattle.like_core.specs.declared.view.WorkerSeatView.{WorkerSeatView}
 use Rattle.like_seat.specs.Merge.{MergesAndReports, merged}
@@ -20,7 +21,7 @@ use Rattle.like_tables.specs.Waiting.{Waiting}
 use Rattle.like_live.specs.declared.asked.Asked.{Asked}
 use Rattle.like_live.specs.declared.asked.Found.{Found}
 use Rattle.like_live.specs.Kept.{AreLiveSeatParts, HasLooked}
-use Rattle.like_live.specs.LiveView.{IsLive, IsOwn, LiveView, RanNext, live_of, room_of, waiting, with_station}
+use Rattle.like_live.specs.LiveView.{HasLastsWithin, IsLive, IsOwn, LiveView, RanNext, live_of, room_of, waiting, with_station}
 use Rattle.like_live.specs.LookRoom.{RoomView}
 use Rattle.like_live.specs.Moves.{FindsAll}
 use Rattle.like_live.proofs.Moving.{Leaves, Leaves-both, Leaves-looked, after-leaves}
@@ -60,6 +61,7 @@ after-looked s u found home pages room half sight parts looks same =
         station = subst (λ x. IsStation x) is looks.seat;
         limits = live.limits;
         home = live.home;
+        lasts = live.lasts;
         split = λ joined. live.split (subst IsJoined phase joined);
         own = λ k d below. (let o = live.own k d below in record { there = o.there; owned = o.owned });
         asked = λ k d below. live.asked k d below ∙ sym phase;
@@ -98,6 +100,7 @@ has-looked s u found home pages room half sight parts looks on =
       runs = subst (λ (x : StationView Asked). IsRunning x.post.state) is (looks.runs on);
       limits = live.limits;
       home = live.home;
+      lasts = live.lasts;
       own = λ k d below. (let o = live.own k d below in record { there = o.there; owned = o.owned });
       asked = λ odd. elim at [
         | inl same ↦ λ k d below. live.asked k d below ∙ sym same
@@ -122,6 +125,7 @@ looked-live s found looked odd = record {
   station = looked.station;
   limits = looked.limits;
   home = looked.home;
+  lasts = looked.lasts;
   split = λ even. absurd (omega (arith, odd, even));
   own = looked.own;
   asked = looked.asked odd;
@@ -145,6 +149,7 @@ merged-live s t found looked odd m kept =
       station = subst (λ (x : StationView Asked). IsStation x) is kept;
       limits = live.limits;
       home = live.home;
+      lasts = live.lasts;
       split = λ even. absurd (omega (arith, odd, even));
       own = λ k d below. (let o = live.own k d below in record { there = o.there; owned = o.owned });
       asked = live.asked;
@@ -168,6 +173,7 @@ found-live s t found now looked finds next kept =
       station = kept;
       limits = ap (λ (v : LiveView). v.station.post.opening.limits) is ∙ looked.limits;
       home = subst (λ (x : Share). x.submitters ≡ x.workers) (sym (ap (λ (v : LiveView). v.station.last.share) is)) looked.home;
+      lasts = subst (λ (v : LiveView). HasLastsWithin (pages_of v.station.post) v.station.last) (sym is) looked.lasts;
       split = λ joined. none;
       own = all-none (IsOwn t) t.held.held none;
       asked = all-none (λ (a : Asked). a.phase ≡ phase_at t) t.held.held none;
@@ -189,15 +195,16 @@ found-live s t found now looked finds next kept =
 pub stopped-live : (v : LiveView) (post : WorkerSeatView)
     → IsLive v
     → waiting v ≡ []
-    → post.opening.limits ≡ v.station.post.opening.limits
+    → post.opening ≡ v.station.post.opening
     → IsStation (record v.station { post = post })
     → IsLive (with_station v (record v.station { post = post }))
 stopped-live v post live none same kept =
     let s : StationView Asked = record v.station { post = post } in
     record {
       station = kept;
-      limits = same ∙ live.limits;
+      limits = ap (λ (o : Opening). o.limits) same ∙ live.limits;
       home = live.home;
+      lasts = subst (λ (o : Opening). HasLastsWithin (length o.marks) v.station.last) (sym same) live.lasts;
       split = λ joined. none;
       own = all-none (IsOwn s) v.station.held.held none;
       asked = all-none (λ (a : Asked). a.phase ≡ phase_at s) v.station.held.held none;
@@ -234,6 +241,7 @@ after-back s u found home pages room half parts gone back kept =
         station = subst (λ x. IsStation x) is kept;
         limits = live.limits;
         home = live.home;
+        lasts = live.lasts;
         split = λ joined. none;
         own = λ k d below. (let o = live.own k d below in record { there = o.there; owned = o.owned });
         asked = all-none (λ (a : Asked). a.phase ≡ back.0) s.held.held none;

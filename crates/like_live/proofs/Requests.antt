@@ -29,8 +29,9 @@ use Rattle.like_live.specs.declared.asked.Asked.{Asked}
 use Rattle.like_live.specs.declared.asked.Found.{Found}
 use Rattle.like_live.specs.Calls.{IsAccepted, PutsBy, verdict_at}
 use Rattle.like_live.specs.Kept.{AreLiveSeatParts}
-use Rattle.like_live.specs.LiveView.{IsOwn, LiveView, RanNext, live_of}
+use Rattle.like_live.specs.LiveView.{HasLastsWithin, IsOwn, LiveView, RanNext, live_of}
 use Rattle.like_live.specs.LookRoom.{RoomView}
+use Rattle.like_live.proofs.LastPages.{liked-within}
 
 -- the user of a request that is accepted exists, the seat is the user's home, and the page is there
 pub passes_at : (s : StationView Asked) (user page : ℕ) → verdict_at s user page ≡ Accepted
@@ -102,15 +103,17 @@ liked_in s did logged slice likes lasts = record s {
 after-like : (s : StationView Asked) (found : Waiting Found) (home : Home) (pages : ℕ) (room : RoomView) (half : ℕ)
     (did : List PageStep) (logged : List Logged) (slice : List ℕ) (likes : List SlicedLike) (lasts : List (Option ℕ))
     → AreLiveSeatParts s found home pages room half
+    → HasLastsWithin (pages_of s.post) (record s.last { last = lasts })
     → IsStation (liked_in s did logged slice likes lasts)
     → AreLiveSeatParts (liked_in s did logged slice likes lasts) found home pages room half
-after-like s found home pages room half did logged slice likes lasts parts kept =
+after-like s found home pages room half did logged slice likes lasts parts within kept =
     let live = parts.live in
     record {
       live = record {
         station = kept;
         limits = live.limits;
         home = live.home;
+        lasts = within;
         split = live.split;
         own = λ k d below. (let o = live.own k d below in record { there = o.there; owned = o.owned });
         asked = live.asked;
@@ -129,20 +132,23 @@ after-like s found home pages room half did logged slice likes lasts parts kept 
 pub after-counted : (s t : StationView Asked) (found : Waiting Found) (home : Home)
     (pages : ℕ) (room : RoomView) (half user page : ℕ) (old : Option ℕ)
     → AreLiveSeatParts s found home pages room half
+    → page < pages_of s.post
     → CountsLike s user page old t
     → IsStation t
     → AreLiveSeatParts t found home pages room half
-after-counted s t found home pages room half user page None parts c kept =
+after-counted s t found home pages room half user page None parts there c kept =
     let lasts = (with_last s.last user page).last in
     let new : StationView Asked = liked_last (sliced s page) user page in
     subst (λ x. AreLiveSeatParts x found home pages room half) (sym c.1)
     (after-like s found home pages room half s.post.did s.post.logged new.slice new.sliced lasts parts
+    (liked-within (pages_of s.post) s.last user page parts.live.lasts there)
     (subst (λ x. IsStation x) c.1 kept))
-after-counted s t found home pages room half user page (Some count) parts c kept =
+after-counted s t found home pages room half user page (Some count) parts there c kept =
     let lasts = (with_last s.last user page).last in
     let new : StationView Asked = liked_last (with_addition s page count 1 (number_of t.post)) user page in
     subst (λ x. AreLiveSeatParts x found home pages room half) (sym c.1)
     (after-like s found home pages room half new.post.did new.post.logged s.slice s.sliced lasts parts
+    (liked-within (pages_of s.post) s.last user page parts.live.lasts there)
     (subst (λ x. IsStation x) c.1 kept))
 
 -- so they do after a seat has some other reads and glances, and has done something else at pages
@@ -159,6 +165,7 @@ after-shown s t found home pages room half did logged parts is kept =
         station = subst (λ x. IsStation x) is kept;
         limits = live.limits;
         home = live.home;
+        lasts = live.lasts;
         split = live.split;
         own = λ k d below. (let o = live.own k d below in record { there = o.there; owned = o.owned });
         asked = live.asked;
@@ -217,6 +224,7 @@ after-held s t found home pages room left half a parts split own asked one early
         station = subst (λ x. IsStation x) is kept;
         limits = live.limits;
         home = live.home;
+        lasts = live.lasts;
         split = λ joined. absurd (not-joined s.post.state split joined);
         own = All-push (IsOwn (holding s a)) s.held.held a
             (λ k d below. (let o = live.own k d below in record { there = o.there; owned = o.owned }))
@@ -257,6 +265,7 @@ after-taken s found now home pages room left half parts is more free =
         station = live.station;
         limits = live.limits;
         home = live.home;
+        lasts = live.lasts;
         split = live.split;
         own = live.own;
         asked = live.asked;

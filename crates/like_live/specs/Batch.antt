@@ -1,5 +1,6 @@
 -- A batch of rows, each of which asks for a call and has a place for its answer.
-use Rattle.std.specs.Prelude.{◌≡◌, ◌⊎◌, ◌↔◌, ℕ, Bool, false, true, IsTrue, List, [], ◌∷◌, length, min, slice_get, take, Result, Ok, Err, Some}
+use Rattle.std.specs.Prelude.{◌≡◌, ◌≢◌, ◌⊎◌, ◌↔◌, ℕ, Bool, false, true, IsTrue, List, [], ◌∷◌, length, min, slice_get, take, Result, Ok, Err, Some, ⊤}
+use Rattle.like_tables.specs.LastLike.{no_page}
 use Rattle.like_live.specs.declared.answer.GlanceAnswer.TheVariants as glanced
 use Rattle.like_live.specs.declared.answer.LikeAnswer.TheVariants as liked
 use Rattle.like_live.specs.declared.answer.LookAnswer.TheVariants as looked
@@ -23,11 +24,18 @@ IsPutOff (answer.Like a) = a ≡ liked.Between
 IsPutOff (answer.Look a) = (a ≡ looked.Between) ⊎ (a ≡ looked.NoRoom)
 IsPutOff (answer.Glance a) = a ≡ glanced.Between
 
+-- a last like that is told is of a page
+abbrev pub TellsPage : Answer → Type 0
+TellsPage (answer.Look (looked.Seen shown)) = shown.last ≢ Some no_page
+TellsPage (answer.Glance (glanced.Seen shown)) = shown.last ≢ Some no_page
+TellsPage (answer.Glance (glanced.Glimpsed shown)) = shown.last ≢ Some no_page
+TellsPage a = ⊤
+
 -- a row is answered: the call that it asks for is made, and its answer is written; or it asks for none, and is told so;
 -- and whether the call must be made again
 pub data AnswersRow {R T : Type 0} (asks : R → Result Call T) (tells : Answer → T) (v : LiveView) (row : R) (told : T)
     (put_off : Bool) (after : LiveView) : Type 0 where
-  makes_call : (c : Call) (a : Answer) → asks row ≡ Ok c → Makes v c a after → told ≡ tells a
+  makes_call : (c : Call) (a : Answer) → asks row ≡ Ok c → Makes v c a after → TellsPage a → told ≡ tells a
       → (IsTrue put_off ↔ IsPutOff a) → AnswersRow asks tells v row told put_off after
   has_no_call : asks row ≡ Err told → put_off ≡ false → after ≡ v → AnswersRow asks tells v row told put_off after
 

@@ -9,7 +9,7 @@ use Rattle.like_tables.specs.Home.{Home, IsHomeOf}
 use Rattle.like_tables.specs.Waiting.{Waiting}
 use Rattle.like_live.specs.declared.asked.Asked.{Asked}
 use Rattle.like_live.specs.declared.asked.Found.{Found}
-use Rattle.like_live.specs.LiveView.{IsLive, IsOwn, RanNext, live_of}
+use Rattle.like_live.specs.LiveView.{HasLastsWithin, IsLive, IsOwn, RanNext, live_of}
 use Rattle.like_live.specs.LookRoom.{RoomView}
 
 -- a live seat's parts agree: a worker's seat, a stash of found looks, where its users have their places, the number of
@@ -32,6 +32,7 @@ pub record HasLooked (s : StationView Asked) (found : Waiting Found) : Type 0 wh
   pub runs : IsRunning s.post.state
   pub limits : s.post.opening.limits ≡ service_limits
   pub home : s.last.share.submitters ≡ s.last.share.workers
+  pub lasts : HasLastsWithin (pages_of s.post) s.last
   pub own : All (IsOwn s) s.held.held
   pub asked : IsSplit (phase_at s) → All (λ a. a.phase ≡ phase_at s) s.held.held
   pub before : IsJoined (phase_at s) → All (λ a. phase_at s ≡ a.phase + 1) s.held.held

@@ -1,12 +1,12 @@
 -- What a live seat is, as contracts see it.
-use Rattle.std.specs.Prelude.{◌≡◌, ℕ, ◌+◌, ◌<◌, ◌≤◌, IsTrue, List, [], length, replicate, All}
+use Rattle.std.specs.Prelude.{◌≡◌, ℕ, ◌+◌, ◌<◌, ◌≤◌, IsTrue, List, [], length, replicate, All, Some}
 use Rattle.like_core.specs.OpeningLimits.{service_limits}
 use Rattle.like_core.specs.Phase.{IsJoined}
 use Rattle.like_core.specs.Post.{pages_of}
 use Rattle.like_core.specs.declared.view.WorkerSeatView.{WorkerSeatView}
 use Rattle.like_seat.specs.StationView.{IsStation, StationView, phase_at, tally_of}
 use Rattle.like_tables.specs.Share.{owns}
-use Rattle.like_tables.specs.UserTable.{UserTable}
+use Rattle.like_tables.specs.UserTable.{UserTable, last_of}
 use Rattle.like_tables.specs.Waiting.{Waiting}
 use Rattle.like_live.specs.declared.asked.Asked.{Asked}
 use Rattle.like_live.specs.declared.asked.Found.{Found}
@@ -52,17 +52,22 @@ pub record IsOwn (s : StationView Asked) (a : Asked) : Type 0 where
   pub there : a.page < pages_of s.post
   pub owned : IsTrue (owns s.last.share a.user)
 
+-- each last like is of one of so many pages
+abbrev pub HasLastsWithin : ℕ → UserTable → Type 0
+HasLastsWithin pages users = (user page : ℕ) → last_of users user ≡ Some page → page < pages
+
 -- a found look ran in the phase after the one in which it was asked
 abbrev pub RanNext : Found → Type 0
 RanNext f = f.phase ≡ f.asked.phase + 1
 
 -- what is true of every live seat: its board is a service's; its users are those whose number modulo the number of
--- seats is its own; nothing waits unless it runs or has answered a split phase, and what waits was asked in that phase;
+-- seats is its own, and their last likes are of pages that there are; nothing waits unless it runs or has answered a split phase, and what waits was asked in that phase;
 -- what was found ran in the next phase; and no more looks wait or were found than there is room for
 pub record IsLive (v : LiveView) : Type 0 where
   pub station : IsStation v.station
   pub limits : v.station.post.opening.limits ≡ service_limits
   pub home : v.station.last.share.submitters ≡ v.station.last.share.workers
+  pub lasts : HasLastsWithin (pages_of v.station.post) v.station.last
   pub split : IsJoined (phase_at v.station) → waiting v ≡ []
   pub own : All (IsOwn v.station) (waiting v)
   pub asked : All (λ a. a.phase ≡ phase_at v.station) (waiting v)

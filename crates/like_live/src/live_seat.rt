@@ -5,7 +5,7 @@ ghost use Rattle.like_core.specs.OpeningLimits.{service_limits};
 ghost use Rattle.like_core.specs.Post.{IsFresh, additions_of};
 ghost use Rattle.like_core.specs.WorkerState.{IsRunning};
 ghost use Rattle.like_seat.specs.StationView.{phase_at};
-ghost use Rattle.like_live.specs.LiveView.{IsLive, IsNewLive, IsSameSeat, KeepsTallies, RanNext, tally};
+ghost use Rattle.like_live.specs.LiveView.{HasLastsWithin, IsLive, IsNewLive, IsSameSeat, KeepsTallies, RanNext, tally};
 ghost use Rattle.like_live.specs.Moves.{Moves};
 ghost use Rattle.like_live.specs.Calls.{ComeBackCase, GlanceCase, LikeCase, LookCase, RetireCase, TakesFound, TalliesLike, TellsIfSplit, last_after};
 
@@ -80,6 +80,7 @@ impl<P: Post + Drop> LiveSeat<P> {
         requires few { room ≤ max_stash }
         requires home { last.share.submitters ≡ last.share.workers }
         requires there { last.share.worker < last.share.workers }
+        requires lasts { HasLastsWithin pages last }
         ensures new { IfOk result (IsNewLive (P.board post) (P.view post) room last) }
         ensures live { IfOk result (λ seat. IsLive seat) }
     {

@@ -5,7 +5,7 @@ use Rattle.like_live.specs.declared.asked.Asked.{Asked}
 use Rattle.like_live.specs.Kept.{AreLiveSeatParts}
 use Rattle.like_live.specs.Calls.{full, liked}
 use Rattle.like_live.specs.LiveView.{LiveView, with_station}
-use Rattle.like_live.proofs.Requests.{after-counted, is-full, not-full}
+use Rattle.like_live.proofs.Requests.{accepted_in, after-counted, is-full, not-full}
 use Rattle.like_live.proofs.live_seat.LiveSeat.like_late.Goals as goal
 
 pub invariant_of-self : goal.invariant_of-self
@@ -13,7 +13,9 @@ invariant_of-self g c =
     let i = c.self.inside in
     subst (λ (t : StationView Asked). AreLiveSeatParts t i.found i.home i.pages i.room i.half) (sym c.store.ensures)
     (after-counted i.station c.count_like_at.new.self i.found i.home i.pages i.room i.half c.args.placed.user c.args.page
-    c.count_like_at.result c.self.invariant c.count_like_at.ensures.counts c.count_like_at.ensures.seat)
+    c.count_like_at.result c.self.invariant
+    (accepted_in _ i.station i.station i.found c.args.placed.user c.args.page c.args.placed c.self.view_is refl c.requires.accepted).there
+    c.count_like_at.ensures.counts c.count_like_at.ensures.seat)
 
 pub returns-clause-keeps : goal.returns-clause-keeps
 returns-clause-keeps g c = (invariant_of-self g c).live

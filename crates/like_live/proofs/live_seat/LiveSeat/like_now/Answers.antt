@@ -63,7 +63,9 @@ pub invariant_of-self : goal.invariant_of-self
 invariant_of-self g c =
     let i = c.self.inside in
     after-counted i.station c.try_sliced_at.new.self i.found i.home i.pages i.room i.half c.in-Some.accepted.placed.user
-    c.args.page None c.self.invariant (c.try_sliced_at.ensures.counts c.if-try_sliced_at.true)
+    c.args.page None c.self.invariant
+    (accepted_in _ i.station i.station i.found c.args.user c.args.page _ c.self.view_is refl c.in-Some.ensures.accepted).there
+    (c.try_sliced_at.ensures.counts c.if-try_sliced_at.true)
     c.try_sliced_at.ensures.seat
 
 pub returns-then-try_sliced_at-clause-keeps : goal.returns-then-try_sliced_at-clause-keeps
@@ -80,7 +82,9 @@ invariant_of-self-then-try_plain_at g c =
     let i = c.self.inside in
     let counts = c.try_plain_at.ensures.counts c.if-try_plain_at.true in
     after-counted i.station c.try_plain_at.new.self i.found i.home i.pages i.room i.half c.in-Some.accepted.placed.user
-    c.args.page (Some counts.0) c.self.invariant counts.1 c.try_plain_at.ensures.seat
+    c.args.page (Some counts.0) c.self.invariant
+    (accepted_in _ i.station i.station i.found c.args.user c.args.page _ c.self.view_is refl c.in-Some.ensures.accepted).there
+    counts.1 c.try_plain_at.ensures.seat
 
 pub returns-then-try_plain_at-clause-keeps : goal.returns-then-try_plain_at-clause-keeps
 returns-then-try_plain_at-clause-keeps g c = (invariant_of-self-then-try_plain_at g c).live

@@ -1,11 +1,12 @@
-use Rattle.std.proofs.Common.{◌<◌, ℕ, List, false, replicate, ap, refl, sym, subst, ◌∙◌, arith}
+use Rattle.std.proofs.Common.{◌<◌, ℕ, List, false, length, replicate, ap, refl, sym, subst, ◌∙◌, arith}
 use Rattle.like_core.specs.Post.{IsFresh, fresh}
 use Rattle.like_core.specs.declared.view.WorkerSeatView.{WorkerSeatView}
 use Rattle.like_board.specs.Seats.{board_id, board_numbers, post_board, post_view}
 use Rattle.like_tables.specs.Share.{share_of}
 use Rattle.like_tables.specs.UserTable.{UserTable, table_with_lasts}
-use Rattle.like_live.specs.LiveView.{IsNewLive}
+use Rattle.like_live.specs.LiveView.{HasLastsWithin, IsNewLive}
 use Rattle.like_live.specs.Opening.{board_opening}
+use Rattle.like_live.proofs.LastPages.{opened-within}
 use Rattle.like_live.proofs.service.parts.new_seat.Goals as goal
 
 pub at_shared-post-requires : goal.at_shared-post-requires
@@ -34,6 +35,14 @@ new-requires-clause-limits c =
 pub new-requires-clause-there : goal.new-requires-clause-there
 new-requires-clause-there c =
     subst (λ (t : UserTable). t.share.worker < t.share.workers) (sym c.in_ok-board.ensures.users) c.requires.there
+
+pub new-requires-clause-lasts : goal.new-requires-clause-lasts
+new-requires-clause-lasts c =
+    let o = c.args.opening.now in
+    subst (λ (t : UserTable). HasLastsWithin c.len-pages.result t) (sym c.in_ok-board.ensures.users)
+    (subst (λ n. HasLastsWithin n (table_with_lasts (share_of o.users o.seats o.seats c.args.number) o.lasts.items))
+    (sym (c.len-pages.ensures ∙ c.args.opening.now.counts.ok.0))
+    (opened-within (length o.counts.items) o.users (share_of o.users o.seats o.seats c.args.number) o.lasts.items c.requires.within.1.1.1.1.1.0))
 
 pub returns-in-Ok : goal.returns-in-Ok
 returns-in-Ok c =
