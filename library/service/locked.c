@@ -61,38 +61,30 @@ uint32_t inner_look(inner_member *member, inner_place *place, const likes_reques
     return status == LIKES_GLIMPSED ? inner_refuse(answer, LIKES_NO_ROOM) : status;
 }
 
-/* Counts the likes that come first, as a row: how many, and a status that says why no more. */
-static size_t run_likes(const inner_trial *it, const likes_request *requests, size_t length, likes_answer *answers,
-                        uint32_t *status) {
-    const likes_answer liked = {.status = LIKES_LIKED};
-    likes_pair likes[INNER_ROW];
-    size_t most = length < INNER_ROW ? length : INNER_ROW, many = 0, done = 0;
-    for (; many < most && (requests[many].op | requests[many].reserved) == LIKES_LIKE; many++)
-        likes[many] = (likes_pair){requests[many].user, requests[many].page};
-    if (many > 0)
-        *status = likes_client_like_row(&it->member->client, it->place->number, likes, many, &done);
-    for (size_t i = 0; i < done; i++)
-        answers[i] = liked;
-    inner_add(&it->member->likes, done);
-    return done;
+/* How many requests come before a look that has a wrong tag, or for which the seat may have no room. */
+static size_t part_of(const inner_place *place, uint32_t room, const likes_request *requests, size_t length) {
+    size_t part = 0, most = length < INNER_ROW ? length : INNER_ROW;
+    for (uint32_t hosts = place->hosts; part < most; part++)
+        if (requests[part].op == LIKES_LOOK && requests[part].reserved == 0 &&
+            (requests[part].tag >= INNER_TAGS || hosts++ == room))
+            break;
+    return part;
 }
 
-/* Counts a row of likes. Where the first request is none, or isn't counted, answers a look, or runs what comes before the
- * next one. The number of those done, and a status that tells if the next one is too early. */
+/* Runs a row of requests, or answers a look. The number of those done, and a status that tells if the next one is too
+ * early. */
 static size_t run_part(const inner_trial *it, const likes_request *requests, size_t length, likes_answer *answers,
                        uint32_t *status) {
-    size_t part = 0, likes = run_likes(it, requests, length, answers, status);
-    if (likes > 0)
-        return likes;
-    while (part < length && part < INNER_ROW && (requests[part].op != LIKES_LOOK || requests[part].reserved != 0))
-        part++;
+    size_t likes = 0, part = part_of(it->place, it->member->service->room, requests, length);
     if (part == 0) {
         *status = inner_look(it->member, it->place, requests, answers);
         return *status != LIKES_BETWEEN && *status != LIKES_NO_ROOM;
     }
     size_t done = likes_client_run(&it->member->client, it->place->number, requests, part, answers, part);
-    for (size_t i = 0; i < done; i++)
+    for (size_t i = 0; i < done; i++) {
         likes += answers[i].status == LIKES_LIKED;
+        it->place->hosts += answers[i].status == LIKES_WAITS;
+    }
     inner_add(&it->member->likes, likes);
     *status = done < part ? answers[done].status : (uint32_t)LIKES_OK;
     return done;
