@@ -1,6 +1,6 @@
 /* Seats of a service that leave and come back, all of them too, by hand and by its calls, at any period; counts and
- * snapshots meanwhile; calls by a thread that holds a seat, each of which must answer that; and rows beside the same
- * requests one by one.
+ * snapshots meanwhile; calls by a thread that holds a seat, each of which must answer that; rows beside the same
+ * requests one by one; and rows of looks that wait.
  *
  * If something is wrong, it prints a line and exits with status 1. After 100 seconds a signal ends it: a call waits for
  * ever. */
@@ -453,11 +453,52 @@ static void rows_are_calls(void) {
     service = NULL;
 }
 
+/* Looks at a split page in rows, longer than the seat has room: what waits is found once, in the order of asking, and
+ * as many of them as there is room for may be asked and not taken. */
+static void rows_of_looks(void) {
+    enum { LONGEST = 30, ROOM = 8, ROWS = 2000 };
+    static uint64_t waiting[ROWS * LONGEST];
+    likes_request row[LONGEST];
+    likes_answer answers[LONGEST];
+    likes_found found;
+    uint64_t random = 1, tag = 0, likes = 0, asked = 0, taken = 0, full = 0;
+    start(100);
+    likes_seat *seat = likes_service_lock(service, 1);
+    for (int n = 0; n < ROWS || taken < asked || full == 0; n++) {
+        size_t length = n < ROWS ? below(&random, LONGEST + 1) : 0;
+        for (size_t i = 0; i < length; i++) {
+            uint32_t kind = (uint32_t)below(&random, 8);
+            row[i] = (likes_request){.tag = tag++, .user = 1, .page = kind == 7};
+            row[i].op = kind < 4 ? LIKES_LOOK : kind == 4 ? LIKES_GLANCE : LIKES_LIKE;
+        }
+        size_t done = likes_service_run(service, 1, row, length, answers);
+        for (size_t i = 0; i < done; i++) {
+            likes += answers[i].status == LIKES_LIKED;
+            if (answers[i].status == LIKES_WAITS)
+                waiting[asked++] = row[i].tag;
+        }
+        if (done < length) {
+            IS(answers[done].status, LIKES_NO_ROOM);
+            IS(asked - taken, ROOM);
+            full++;
+        }
+        hold(asked - taken <= ROOM, "more looks wait than there is room for");
+        likes_service_drive(service);
+        likes_seat_turn(seat);
+        if (n >= ROWS || below(&random, 4) == 0)
+            while (likes_service_take_found(service, 1, &found))
+                IS(found.tag, waiting[taken++]);
+    }
+    likes_service_unlock(service, 1);
+    stop(likes);
+}
+
 int main(void) {
     static const uint32_t periods[] = {1, 1000, 10000};
     alarm(100);
     holding();
     rows_are_calls();
+    rows_of_looks();
     look_after_rest();
     counts_of_held();
     for (int n = 0; n < 3; n++) {
